@@ -4,9 +4,11 @@
 mod list;
 mod memory;
 mod outside;
+mod stream;
 mod text;
 
 pub use list::{Blob, List};
 pub use memory::NoMemory;
 pub use outside::{Entry, Happening, OpenFailed, SendFailed, Side, Wires};
+pub use stream::StreamBuffer;
 pub use text::{Text, TextFault, Word};
