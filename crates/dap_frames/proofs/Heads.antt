@@ -1,0 +1,74 @@
+-- Reading a header byte by byte, and on behind what was read.
+use Rattle.std.proofs.Common.{◌≡◌, ℕ, suc, ◌+◌, ◌-◌, ◌<◌, ◌≤◌, List, [], ◌∷◌, ◌++◌, length, get_or, take, drop, refl, sym, ap, ◌∙◌, arith, add-zero}
+use Rattle.std.proofs.lemmas.List.{drop_more, drop_all, take-append-drop}
+use Rattle.dap_frames.specs.declared.header.Reading.{Reading}
+use Rattle.dap_frames.specs.declared.header.Step.{Step}
+use Rattle.dap_frames.specs.declared.header.Step.TheVariants.{Goes, Ends, Refused}
+use Rattle.dap_frames.specs.declared.header.Head.{Head}
+use Rattle.dap_frames.specs.declared.header.Head.TheVariants as heads
+use Rattle.dap_frames.specs.Reading.{step, after_step, head, later, onward}
+
+pub later-later : (j k : ℕ) (h : Head) → later j (later k h) ≡ later (j + k) h
+later-later j k (heads.Reads r) = refl
+later-later j k (heads.Ends n h) = ap (λ (m : ℕ). heads.Ends n m) (omega arith)
+later-later j k heads.Refused = refl
+
+pub later-zero : (h : Head) → later 0 h ≡ h
+later-zero (heads.Reads r) = refl
+later-zero (heads.Ends n h) = ap (λ (m : ℕ). heads.Ends n m) (omega arith)
+later-zero heads.Refused = refl
+
+-- The first i bytes lead from start to r: what is left says what all say.
+module _ (start r : Reading) (bytes : List ℕ) (i : ℕ) (so_far : later i (head r (drop i bytes)) ≡ head start bytes) where
+  -- the byte at i, and what is behind it
+  at : i < length bytes → later i (after_step (step r (get_or bytes i 0)) (λ t. head t (drop (i + 1) bytes))) ≡ head start bytes
+  at inside = ap (λ (bs : List ℕ). later i (head r bs)) (sym (drop_more bytes i 0 inside)) ∙ so_far
+
+  pub walk_goes : (t : Reading) → i < length bytes → step r (get_or bytes i 0) ≡ Goes t
+      → later (i + 1) (head t (drop (i + 1) bytes)) ≡ head start bytes
+  walk_goes t inside e =
+      sym (later-later i 1 (head t (drop (i + 1) bytes)))
+      ∙ ap (λ s. later i (after_step s (λ t. head t (drop (i + 1) bytes)))) (sym e) ∙ at inside
+
+  pub walk_ends : (n : ℕ) → i < length bytes → step r (get_or bytes i 0) ≡ Ends n → heads.Ends n (i + 1) ≡ head start bytes
+  walk_ends n inside e = ap (λ s. later i (after_step s (λ t. head t (drop (i + 1) bytes)))) (sym e) ∙ at inside
+
+  pub walk_refused : i < length bytes → step r (get_or bytes i 0) ≡ Refused → heads.Refused ≡ head start bytes
+  walk_refused inside e = ap (λ s. later i (after_step s (λ t. head t (drop (i + 1) bytes)))) (sym e) ∙ at inside
+
+  pub walk_done : length bytes ≤ i → heads.Reads r ≡ head start bytes
+  walk_done over = ap (λ (bs : List ℕ). later i (head r bs)) (sym (drop_all i bytes over)) ∙ so_far
+
+-- What is said of bytes in two parts is what the first says, read on.
+pub head-append : (r : Reading) (xs ys : List ℕ) → head r (xs ++ ys) ≡ onward (length xs) (head r xs) ys
+head-append r [] ys = sym (later-zero (head r ys))
+head-append r (x ∷ xs) ys = by (step r x) (λ t. head-append t xs ys)
+  where
+    through : (h : Head) → later 1 (onward (length xs) h ys) ≡ onward (suc (length xs)) (later 1 h) ys
+    through (heads.Reads t) = later-later 1 (length xs) (head t ys) ∙ ap (λ (k : ℕ). later k (head t ys)) (omega arith)
+    through (heads.Ends n h) = refl
+    through heads.Refused = refl
+    by : (s : Step) → ((t : Reading) → head t (xs ++ ys) ≡ onward (length xs) (head t xs) ys)
+        → after_step s (λ t. head t (xs ++ ys)) ≡ onward (suc (length xs)) (after_step s (λ t. head t xs)) ys
+    by (Goes t) rest = ap (later 1) (rest t) ∙ through (head t xs)
+    by (Ends n) rest = refl
+    by Refused rest = refl
+
+-- a header lies within its bytes
+pub head-within : (r : Reading) (xs : List ℕ) (n h : ℕ) → head r xs ≡ heads.Ends n h → (0 < h) × (h ≤ length xs)
+head-within r [] n h e = absurd cc
+head-within r (x ∷ xs) n h e = by (step r x) (λ t m k. head-within t xs m k) e
+  where
+    through : (rest : Head) → ((m k : ℕ) → rest ≡ heads.Ends m k → (0 < k) × (k ≤ length xs)) → later 1 rest ≡ heads.Ends n h
+        → (0 < h) × (h ≤ suc (length xs))
+    through (heads.Reads t) inside e = absurd cc
+    through (heads.Ends m k) inside e =
+        let same : 1 + k ≡ h = cc in
+        let below = inside m k refl in
+        (omega arith, omega (arith, below.1))
+    through heads.Refused inside e = absurd cc
+    by : (s : Step) → ((t : Reading) (m k : ℕ) → head t xs ≡ heads.Ends m k → (0 < k) × (k ≤ length xs))
+        → after_step s (λ t. head t xs) ≡ heads.Ends n h → (0 < h) × (h ≤ suc (length xs))
+    by (Goes t) inside e = through (head t xs) (inside t) e
+    by (Ends m) inside e = let same : 1 ≡ h = cc in (omega arith, omega arith)
+    by Refused inside e = absurd cc

@@ -1,0 +1,8 @@
+-- a header lies within its bytes, whose number fits
+use Rattle.std.proofs.Common.{sym, arith}
+use Rattle.dap_frames.proofs.Heads.{head-within}
+use Rattle.dap_frames.proofs.header.read_on.Goals as goal
+
+pub overflow_add-result : goal.overflow_add-result
+overflow_add-result c =
+    omega (arith, head-within c.in-Reads.reading c.args.bytes.now c.in-Ends-head_of.length c.in-Ends-head_of.header (sym c.in-Ends-head_of.ensures))
