@@ -1,0 +1,2 @@
+-- What is still read can go on to be a frame.
+use Rattle.std.proofs.Common.{◌≡◌, ℕ}
