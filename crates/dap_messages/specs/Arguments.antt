@@ -1,0 +1,100 @@
+-- The arguments of a request, each by its rule. (DAP specification, Requests)
+use Rattle.std.specs.Prelude.{◌≡◌, ℕ, List, Bool, true, false, if◌then◌else◌, codes, bytes_eq, Option, Some, None}
+use Rattle.std.specs.Prelude.{option_and_then, Result, Ok, Err, ⊤}
+use Rattle.serde_json.specs.Data.{Data, null, boolean, number, string, array, object}
+use Rattle.serde_json.specs.Find.{get, as_bool, as_str}
+use Rattle.dap_messages.specs.declared.arguments.Argument.{Argument}
+use Rattle.dap_messages.specs.declared.arguments.Argument.TheVariants.{Arguments, AdapterId, LinesStartAt1}
+use Rattle.dap_messages.specs.declared.arguments.Argument.TheVariants.{ColumnsStartAt1, PathFormat}
+use Rattle.dap_messages.specs.declared.arguments.Argument.TheVariants.{SupportsVariableType, TerminateDebuggee}
+use Rattle.dap_messages.specs.declared.arguments.Refused.{Refused}
+use Rattle.dap_messages.specs.declared.arguments.Refused.TheVariants.{NoMemory, Broken}
+use Rattle.dap_messages.specs.declared.requests.InitializeArguments.{InitializeArguments}
+use Rattle.dap_messages.specs.declared.requests.DisconnectArguments.{DisconnectArguments}
+
+-- the name under which an argument stands
+abbrev pub argument_name : Argument → List ℕ
+argument_name Arguments = codes "arguments"
+argument_name AdapterId = codes "adapterID"
+argument_name LinesStartAt1 = codes "linesStartAt1"
+argument_name ColumnsStartAt1 = codes "columnsStartAt1"
+argument_name PathFormat = codes "pathFormat"
+argument_name SupportsVariableType = codes "supportsVariableType"
+argument_name TerminateDebuggee = codes "terminateDebuggee"
+
+-- null counts as missing
+abbrev pub unless_null : Data → Option Data
+unless_null null = None
+unless_null (boolean b) = Some (boolean b)
+unless_null (number n) = Some (number n)
+unless_null (string s) = Some (string s)
+unless_null (array ds) = Some (array ds)
+unless_null (object ms) = Some (object ms)
+
+-- the argument, where it isn't missing
+abbrev pub given : Argument → Data → Option Data
+given argument arguments = option_and_then unless_null (get (argument_name argument) arguments)
+
+-- a value, or the argument that breaks its rule
+abbrev pub unless_broken : {A : Type 0} → Argument → Option A → Result A Argument
+unless_broken which (Some value) = Ok value
+unless_broken which None = Err which
+
+-- what stands for a missing argument, or what a given one is read as
+abbrev pub or_missing : {A : Type 0} → A → (Data → Result A Argument) → Option Data → Result A Argument
+or_missing missing read None = Ok missing
+or_missing missing read (Some value) = read value
+
+-- a text that must be there
+abbrev pub text_at : Argument → Data → Result (List ℕ) Argument
+text_at argument arguments = unless_broken argument (option_and_then as_str (given argument arguments))
+
+-- a truth value, which may be missing
+abbrev pub flag_at : Argument → Bool → Data → Result Bool Argument
+flag_at argument missing arguments =
+    or_missing missing (λ value. unless_broken argument (as_bool value)) (given argument arguments)
+
+-- the one form of paths
+abbrev pub is_path_format : List ℕ → Option ⊤
+is_path_format format = if bytes_eq format (codes "path") then Some tt else None
+
+abbrev pub as_path_format : Data → Option ⊤
+as_path_format value = option_and_then is_path_format (as_str value)
+
+-- the form of paths, which may be missing, and is `path` where it is given
+abbrev pub path_format_at : Argument → Data → Result ⊤ Argument
+path_format_at argument arguments =
+    or_missing tt (λ value. unless_broken argument (as_path_format value)) (given argument arguments)
+
+-- the first argument that breaks its rule decides
+infixl 10 ◌>>=◌
+abbrev pub ◌>>=◌ : {A B : Type 0} → Result A Argument → (A → Result B Argument) → Result B Argument
+Ok value >>= next = next value
+Err broken >>= next = Err broken
+
+-- InitializeRequestArguments
+abbrev pub initialize_of : Data → Result InitializeArguments Argument
+initialize_of arguments = do
+  adapter_id ← text_at AdapterId arguments
+  lines_start_at1 ← flag_at LinesStartAt1 true arguments
+  columns_start_at1 ← flag_at ColumnsStartAt1 true arguments
+  path_format ← path_format_at PathFormat arguments
+  supports_variable_type ← flag_at SupportsVariableType false arguments
+  Ok (record {
+    adapter_id = adapter_id;
+    lines_start_at1 = lines_start_at1;
+    columns_start_at1 = columns_start_at1;
+    supports_variable_type = supports_variable_type;
+  })
+
+-- DisconnectArguments
+abbrev pub disconnect_of : Data → Result DisconnectArguments Argument
+disconnect_of arguments = do
+  terminate_debuggee ← flag_at TerminateDebuggee false arguments
+  Ok (record { terminate_debuggee = terminate_debuggee })
+
+-- the result is this one, unless memory was refused
+abbrev pub IsRead : {A : Type 0} → Result A Refused → Result A Argument → Type 0
+IsRead (Ok value) reading = reading ≡ Ok value
+IsRead (Err NoMemory) reading = Unit {0}
+IsRead (Err (Broken argument)) reading = reading ≡ Err argument

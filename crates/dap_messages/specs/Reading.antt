@@ -1,0 +1,101 @@
+-- What the body of a frame says. (DAP overview, Base protocol; DAP specification, Base Protocol)
+use Rattle.std.specs.Prelude.{◌≡◌, ℕ, ◌^◌, List, ◌||◌, nat_lt, if◌then◌else◌, codes, bytes_eq, Option, Some, None}
+use Rattle.std.specs.Prelude.{is_some, unwrap_or, option_and_then, Result, Ok, Err}
+use Rattle.std.specs.Str.{is_utf8}
+use Rattle.serde_json.specs.Data.{Data, null}
+use Rattle.serde_json.specs.Read.{read}
+use Rattle.serde_json.specs.Find.{get, as_null, as_number, as_object, as_str, as_u64}
+use Rattle.dap_messages.specs.Arguments.{◌>>=◌, argument_name, initialize_of, disconnect_of}
+use Rattle.dap_messages.specs.declared.arguments.Argument.{Argument}
+use Rattle.dap_messages.specs.declared.arguments.Argument.TheVariants.{Arguments}
+use Rattle.dap_messages.specs.declared.rows.Row.{Row}
+use Rattle.dap_messages.specs.declared.rows.Row.TheVariants as row
+use Rattle.dap_messages.specs.declared.requests.Command.{Command}
+use Rattle.dap_messages.specs.declared.requests.Command.TheVariants.{Initialize, Disconnect, Unsupported, BadArguments}
+use Rattle.dap_messages.specs.declared.requests.Incoming.{Incoming}
+use Rattle.dap_messages.specs.declared.requests.Incoming.TheVariants.{Request, Ignored}
+use Rattle.dap_messages.specs.declared.requests.ReadFault.{ReadFault}
+use Rattle.dap_messages.specs.declared.requests.ReadFault.TheVariants.{NoMemory, NotJson, NotAMessage}
+
+-- which command a name is
+abbrev pub row_of : List ℕ → Row
+row_of name =
+    if bytes_eq name (codes "initialize") then row.Initialize else
+    (if bytes_eq name (codes "disconnect") then row.Disconnect else
+    row.Unsupported)
+
+abbrev pub object_or_null : Data → Result Data Argument
+object_or_null value = if is_some (as_object value) || is_some (as_null value) then Ok value else Err Arguments
+
+-- missing arguments count as null; null has no members, like the empty object
+abbrev pub arguments_of : Data → Result Data Argument
+arguments_of request = object_or_null (unwrap_or (get (codes "arguments") request) null)
+
+-- the arguments of an unsupported command don't matter
+abbrev pub row_command : Row → Data → Result Command Argument
+row_command row.Initialize request = do
+  arguments ← arguments_of request
+  initialize ← initialize_of arguments
+  Ok (Initialize initialize)
+row_command row.Disconnect request = do
+  arguments ← arguments_of request
+  disconnect ← disconnect_of arguments
+  Ok (Disconnect disconnect)
+row_command row.Unsupported request = Ok Unsupported
+
+abbrev pub unless_bad : Result Command Argument → Command
+unless_bad (Ok command) = command
+unless_bad (Err argument) = BadArguments (argument_name argument)
+
+-- the command of a request, by its name
+abbrev pub command_of : List ℕ → Data → Command
+command_of name request = unless_bad (row_command (row_of name) request)
+
+abbrev pub in_sequence : ℕ → Option ℕ
+in_sequence seq = if nat_lt seq (2 ^ 53) then Some seq else None
+
+-- a sequence number is an integer that every reader of JSON keeps exactly
+abbrev pub sequence : Data → Option ℕ
+sequence message =
+    option_and_then in_sequence (option_and_then as_u64 (option_and_then as_number (get (codes "seq") message)))
+
+abbrev pub numbered_request : Option ℕ → Option (List ℕ) → Data → Result Incoming ReadFault
+numbered_request (Some seq) (Some name) message =
+    Ok (Request (record { seq = seq; name = name; command = command_of name message }))
+numbered_request (Some seq) None message = Err NotAMessage
+numbered_request None name message = Err NotAMessage
+
+-- Request
+abbrev pub request_of : Data → Result Incoming ReadFault
+request_of message =
+    numbered_request (sequence message) (option_and_then as_str (get (codes "command") message)) message
+
+abbrev pub message_of_type : Option (List ℕ) → Data → Result Incoming ReadFault
+message_of_type None message = Err NotAMessage
+message_of_type (Some kind) message =
+    if bytes_eq kind (codes "request") then request_of message else
+    (if bytes_eq kind (codes "response") || bytes_eq kind (codes "event") then Ok Ignored else
+    Err NotAMessage)
+
+-- ProtocolMessage
+abbrev pub incoming_of : Data → Result Incoming ReadFault
+incoming_of message = message_of_type (option_and_then as_str (get (codes "type") message)) message
+
+abbrev pub reading_of_value : Option Data → Result Incoming ReadFault
+reading_of_value None = Err NotJson
+reading_of_value (Some message) = incoming_of message
+
+-- what a body says: JSON in UTF-8, and then a message
+unfoldable pub reading_of : List ℕ → Result Incoming ReadFault
+reading_of body = if is_utf8 body then reading_of_value (read body) else Err NotJson
+
+-- the result is this one, unless memory was refused
+abbrev pub IsIncoming : Result Incoming ReadFault → Result Incoming ReadFault → Type 0
+IsIncoming (Ok incoming) reading = reading ≡ Ok incoming
+IsIncoming (Err NoMemory) reading = Unit {0}
+IsIncoming (Err NotJson) reading = reading ≡ Err NotJson
+IsIncoming (Err NotAMessage) reading = reading ≡ Err NotAMessage
+
+-- a body's reading, unless memory was refused
+abbrev pub IsReading : List ℕ → Result Incoming ReadFault → Type 0
+IsReading body result = IsIncoming result (reading_of body)

@@ -1,0 +1,146 @@
+-- The JSON of a told message. (DAP specification, Base Protocol, Events and Responses)
+use Rattle.std.specs.Prelude.{ℕ, ◌==◌, List, [], ◌∷◌, ◌++◌, true, false, if◌then◌else◌, codes, decimal, Option, Some}
+use Rattle.std.specs.Prelude.{None}
+use Rattle.serde_json.specs.Data.{Data, number, unsigned, string, boolean, array, object, Items, no_items, item}
+use Rattle.serde_json.specs.Data.{Members, no_members, member}
+use Rattle.serde_json.specs.Written.{compact_text}
+use Rattle.dap_messages.specs.declared.told.Told.{Told}
+use Rattle.dap_messages.specs.declared.told.Told.TheVariants as told
+use Rattle.dap_messages.specs.declared.told.Response.{Response}
+use Rattle.dap_messages.specs.declared.told.Outcome.{Outcome}
+use Rattle.dap_messages.specs.declared.told.Outcome.TheVariants.{Success, Failure as Failed}
+use Rattle.dap_messages.specs.declared.told.Shape.{Shape}
+use Rattle.dap_messages.specs.declared.told.Shape.TheVariants.{Nothing, Capabilities}
+use Rattle.dap_messages.specs.declared.told.Failure.{Failure}
+use Rattle.dap_messages.specs.declared.told.Detail.{Detail}
+use Rattle.dap_messages.specs.declared.told.Detail.TheVariants.{Plain, Number, Name}
+use Rattle.dap_messages.specs.declared.told.Event.{Event}
+use Rattle.dap_messages.specs.declared.told.Event.TheVariants.{Initialized, Terminated}
+
+-- the failures of requests
+abbrev pub unsupported : Failure
+unsupported = record { code = 1; detail = Plain }
+
+abbrev pub bad_arguments : List ℕ → Failure
+bad_arguments name = record { code = 2; detail = Name name }
+
+-- an object of these members, and an array of these items
+abbrev pub members_of : List (List ℕ × Data) → Members
+members_of [] = no_members
+members_of (m ∷ ms) = member m.0 m.1 (members_of ms)
+
+abbrev pub object_of : List (List ℕ × Data) → Data
+object_of members = object (members_of members)
+
+abbrev pub items_of : List Data → Items
+items_of [] = no_items
+items_of (d ∷ ds) = item d (items_of ds)
+
+abbrev pub count : ℕ → Data
+count n = number (unsigned n)
+
+-- ---- bodies of responses
+
+-- ExceptionBreakpointsFilter
+abbrev pub filter_data : List ℕ → List ℕ → Data
+filter_data filter label = object_of ((codes "filter", string filter) ∷ (codes "label", string label) ∷ [])
+
+abbrev pub filters_data : Data
+filters_data = array (items_of (
+    filter_data (codes "caught") (codes "Caught exceptions") ∷
+    filter_data (codes "uncaught") (codes "Uncaught exceptions") ∷ []))
+
+-- Capabilities
+abbrev pub capabilities_data : Data
+capabilities_data = object_of (
+    (codes "exceptionBreakpointFilters", filters_data) ∷
+    (codes "supportTerminateDebuggee", boolean true) ∷
+    (codes "supportsConfigurationDoneRequest", boolean true) ∷
+    (codes "supportsEvaluateForHovers", boolean true) ∷
+    (codes "supportsExceptionInfoRequest", boolean true) ∷
+    (codes "supportsFunctionBreakpoints", boolean true) ∷
+    (codes "supportsSetVariable", boolean true) ∷ [])
+
+-- the body, where there is one
+abbrev pub shape_data : Shape → Option Data
+shape_data Nothing = None
+shape_data Capabilities = Some capabilities_data
+
+-- the member `body`, which stands before all others of a message
+abbrev pub body_member : Option Data → List (List ℕ × Data)
+body_member None = []
+body_member (Some body) = (codes "body", body) ∷ []
+
+-- ---- failures
+
+-- the message of a code; a code that no failure has says nothing
+abbrev pub message_of : ℕ → List ℕ
+message_of code =
+    if code == 1 then codes "unsupported" else
+    (if code == 2 then codes "badArguments" else [])
+
+abbrev pub detail_text : Detail → List ℕ
+detail_text Plain = []
+detail_text (Number n) = 32 ∷ decimal n
+detail_text (Name name) = 32 ∷ name
+
+-- the message and its detail, with a space between them
+abbrev pub format_of : Failure → List ℕ
+format_of failure = message_of failure.code ++ detail_text failure.detail
+
+-- Message, in the body of an ErrorResponse
+abbrev pub error_data : Failure → Data
+error_data failure = object_of ((
+  codes "error",
+  object_of (
+      (codes "format", string (format_of failure)) ∷
+      (codes "id", count failure.code) ∷ []),
+) ∷ [])
+
+-- ---- messages
+
+-- Response
+abbrev pub answer_data : ℕ → ℕ → List ℕ → Option Data → Data
+answer_data seq request_seq command body = object_of (body_member body ++
+    (codes "command", string command) ∷
+    (codes "request_seq", count request_seq) ∷
+    (codes "seq", count seq) ∷
+    (codes "success", boolean true) ∷
+    (codes "type", string (codes "response")) ∷ [])
+
+-- ErrorResponse
+abbrev pub failure_data : ℕ → ℕ → List ℕ → Failure → Data
+failure_data seq request_seq command failure = object_of (
+    (codes "body", error_data failure) ∷
+    (codes "command", string command) ∷
+    (codes "message", string (message_of failure.code)) ∷
+    (codes "request_seq", count request_seq) ∷
+    (codes "seq", count seq) ∷
+    (codes "success", boolean false) ∷
+    (codes "type", string (codes "response")) ∷ [])
+
+abbrev pub outcome_data : ℕ → ℕ → List ℕ → Outcome → Data
+outcome_data seq request_seq command (Success shape) = answer_data seq request_seq command (shape_data shape)
+outcome_data seq request_seq command (Failed failure) = failure_data seq request_seq command failure
+
+abbrev pub response_data : ℕ → Response → Data
+response_data seq response = outcome_data seq response.request_seq response.command response.outcome
+
+abbrev pub event_name : Event → List ℕ
+event_name Initialized = codes "initialized"
+event_name Terminated = codes "terminated"
+
+-- Event
+abbrev pub event_data : ℕ → Event → Data
+event_data seq event = object_of (
+    (codes "event", string (event_name event)) ∷
+    (codes "seq", count seq) ∷
+    (codes "type", string (codes "event")) ∷ [])
+
+abbrev pub told_data : ℕ → Told → Data
+told_data seq (told.Response response) = response_data seq response
+told_data seq (told.Event event) = event_data seq event
+
+-- the text of a told message: compact, with the members of each object in byte order of their names
+unfoldable pub told_text : ℕ → Told → List ℕ
+told_text seq message = compact_text (told_data seq message)

@@ -1,0 +1,106 @@
+ghost use Rattle.std.specs.Prelude.{◌≡◌, option_map};
+ghost use Rattle.serde_json.specs.View.{view};
+ghost use Rattle.dap_messages.specs.Arguments.{argument_name, given, text_at, flag_at, path_format_at, IsRead};
+
+use serde_json::Value;
+use std::alloc::Global;
+use wire_core::{NoMemory, Text};
+
+/// An argument that can break its rule, or the member that holds them all.
+#[derive(Clone, Copy, Debug, Drop, PartialEq, Eq)]
+pub(crate) enum Argument {
+    Arguments,
+    AdapterId,
+    LinesStartAt1,
+    ColumnsStartAt1,
+    PathFormat,
+    SupportsVariableType,
+    TerminateDebuggee,
+}
+
+impl Argument {
+    pub(crate) fn name(self) -> &'static str
+        ensures { result.now ≡ argument_name self }
+    {
+        match self {
+            Argument::Arguments => "arguments",
+            Argument::AdapterId => "adapterID",
+            Argument::LinesStartAt1 => "linesStartAt1",
+            Argument::ColumnsStartAt1 => "columnsStartAt1",
+            Argument::PathFormat => "pathFormat",
+            Argument::SupportsVariableType => "supportsVariableType",
+            Argument::TerminateDebuggee => "terminateDebuggee",
+        }
+    }
+}
+
+/// Why arguments were not read.
+#[derive(Clone, Copy, Debug, Drop, PartialEq, Eq)]
+pub(crate) enum Refused {
+    NoMemory,
+    Broken(Argument),
+}
+
+impl From<NoMemory> for Refused {
+    ghost use Rattle.std.specs.Prelude.{◌≡◌};
+    ghost use Rattle.dap_messages.specs.declared.arguments.Refused.TheVariants.{NoMemory as refused_memory};
+
+    ghost from_gives = { λ _ refused. refused ≡ refused_memory };
+
+    fn from(_refused: NoMemory) -> Refused {
+        Refused::NoMemory
+    }
+}
+
+/// The argument, unless it is missing or null.
+fn given<'v>(arguments: &'v Value, argument: Argument) -> Option<&'v Value>
+    ensures { option_map (λ v. view v.now) result ≡ given argument (view arguments.now) }
+{
+    match arguments.get(argument.name()) {
+        Some(value) => if value.is_null() { None } else { Some(value) },
+        None => None,
+    }
+}
+
+/// A text that must be there.
+pub(crate) fn text_at(alloc: Global, arguments: &Value, argument: Argument) -> Result<Text, Refused>
+    ensures { IsRead result (text_at argument (view arguments.now)) }
+{
+    match given(arguments, argument) {
+        Some(value) => match value.as_str() {
+            Some(text) => Ok(Text::from_str(alloc, text)?),
+            None => Err(Refused::Broken(argument)),
+        },
+        None => Err(Refused::Broken(argument)),
+    }
+}
+
+/// A truth value, or `missing` where it isn't given.
+pub(crate) fn flag_at(arguments: &Value, argument: Argument, missing: bool) -> Result<bool, Refused>
+    ensures { IsRead result (flag_at argument missing (view arguments.now)) }
+{
+    match given(arguments, argument) {
+        Some(value) => match value.as_bool() {
+            Some(flag) => Ok(flag),
+            None => Err(Refused::Broken(argument)),
+        },
+        None => Ok(missing),
+    }
+}
+
+/// The form of paths, of which there is one, `path`.
+pub(crate) fn path_format_at(arguments: &Value, argument: Argument) -> Result<(), Refused>
+    ensures { IsRead result (path_format_at argument (view arguments.now)) }
+{
+    match given(arguments, argument) {
+        Some(value) => match value.as_str() {
+            Some(format) => if format == "path" {
+                Ok(())
+            } else {
+                Err(Refused::Broken(argument))
+            },
+            None => Err(Refused::Broken(argument)),
+        },
+        None => Ok(()),
+    }
+}

@@ -1,0 +1,18 @@
+//! Messages of the Debug Adapter Protocol: requests read from JSON bodies, responses and events written as JSON text.
+#![tactic(auto)]
+
+mod arguments;
+mod read;
+mod requests;
+mod rows;
+#[cfg(test)]
+mod tests;
+mod told;
+mod write;
+
+pub use read::read_request;
+pub use requests::{
+    Command, DisconnectArguments, Incoming, InitializeArguments, ReadFault, Request,
+};
+pub use told::{Detail, Event, Failure, Outcome, Response, Shape, Told};
+pub use write::text_of;

@@ -1,0 +1,85 @@
+ghost use Rattle.std.specs.Prelude.{◌≡◌, IfOk};
+ghost use Rattle.serde_json.specs.View.{view};
+ghost use Rattle.dap_messages.specs.Arguments.{initialize_of, disconnect_of, IsRead};
+ghost use Rattle.dap_messages.specs.Reading.{row_of, row_command, command_of};
+
+use crate::arguments::{Argument, Refused, flag_at, path_format_at, text_at};
+use crate::requests::{Command, DisconnectArguments, InitializeArguments};
+use serde_json::Value;
+use std::alloc::Global;
+use wire_core::{NoMemory, Text};
+
+/// The row of a command's name, before its arguments are looked at.
+#[derive(Clone, Copy, Debug, Drop, PartialEq, Eq)]
+pub(crate) enum Row {
+    Initialize,
+    Disconnect,
+    Unsupported,
+}
+
+fn row_of(name: &str) -> Row
+    ensures { result ≡ row_of name.now }
+{
+    if name == "initialize" {
+        Row::Initialize
+    } else if name == "disconnect" {
+        Row::Disconnect
+    } else {
+        Row::Unsupported
+    }
+}
+
+/// The command of a request's name and arguments.
+pub(crate) fn command_of(alloc: Global, name: &str, request: &Value) -> Result<Command, NoMemory>
+    ensures { IfOk result (λ command. command ≡ command_of name.now (view request.now)) }
+{
+    match row_command(alloc, row_of(name), request) {
+        Ok(command) => Ok(command),
+        Err(Refused::NoMemory) => Err(NoMemory),
+        Err(Refused::Broken(argument)) => {
+            let name = Text::from_str(alloc, argument.name())?;
+            Ok(Command::BadArguments(name))
+        }
+    }
+}
+
+fn row_command(alloc: Global, row: Row, request: &Value) -> Result<Command, Refused>
+    ensures { IsRead result (row_command row (view request.now)) }
+{
+    if row == Row::Unsupported {
+        return Ok(Command::Unsupported);
+    }
+    let missing = Value::Null;
+    let arguments = request.get("arguments").unwrap_or(&missing);
+    if !arguments.is_object() && !arguments.is_null() {
+        return Err(Refused::Broken(Argument::Arguments));
+    }
+    match row {
+        Row::Initialize => Ok(Command::Initialize(initialize_of(alloc, arguments)?)),
+        Row::Disconnect => Ok(Command::Disconnect(disconnect_of(arguments)?)),
+        Row::Unsupported => Ok(Command::Unsupported),
+    }
+}
+
+fn initialize_of(alloc: Global, arguments: &Value) -> Result<InitializeArguments, Refused>
+    ensures { IsRead result (initialize_of (view arguments.now)) }
+{
+    let adapter_id = text_at(alloc, arguments, Argument::AdapterId)?;
+    let lines_start_at1 = flag_at(arguments, Argument::LinesStartAt1, true)?;
+    let columns_start_at1 = flag_at(arguments, Argument::ColumnsStartAt1, true)?;
+    path_format_at(arguments, Argument::PathFormat)?;
+    let supports_variable_type = flag_at(arguments, Argument::SupportsVariableType, false)?;
+    Ok(InitializeArguments {
+        adapter_id,
+        lines_start_at1,
+        columns_start_at1,
+        supports_variable_type,
+    })
+}
+
+fn disconnect_of(arguments: &Value) -> Result<DisconnectArguments, Refused>
+    ensures { IsRead result (disconnect_of (view arguments.now)) }
+{
+    let terminate_debuggee = flag_at(arguments, Argument::TerminateDebuggee, false)?;
+    Ok(DisconnectArguments { terminate_debuggee })
+}

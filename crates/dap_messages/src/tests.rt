@@ -1,0 +1,279 @@
+use crate::{
+    Command, Event, Failure, Incoming, Outcome, ReadFault, Request, Response, Shape, Told,
+    read_request, text_of,
+};
+use std::alloc::{AllocError, Global};
+use std::test::Fail;
+use wire_core::Text;
+
+// What a body says, in a few words.
+fn summary(alloc: Global, body: &[u8]) -> Result<String, AllocError> {
+    match read_request(alloc, body) {
+        Ok(Incoming::Request(request)) => request_summary(alloc, request),
+        Ok(Incoming::Ignored) => String::from_str(alloc, "ignored"),
+        Err(ReadFault::NotJson) => String::from_str(alloc, "not JSON"),
+        Err(ReadFault::NotAMessage) => String::from_str(alloc, "not a message"),
+        Err(ReadFault::NoMemory) => Err(AllocError),
+    }
+}
+
+fn request_summary(alloc: Global, request: Request) -> Result<String, AllocError> {
+    let Request { seq, name, command } = request;
+    let name = name.as_str();
+    match command {
+        Command::Initialize(arguments) => {
+            let adapter = arguments.adapter_id.as_str();
+            let lines = arguments.lines_start_at1;
+            let columns = arguments.columns_start_at1;
+            let types = arguments.supports_variable_type;
+            format!(in alloc; "{seq} {name} {adapter} {lines} {columns} {types}")
+        }
+        Command::Disconnect(arguments) => {
+            let terminate = arguments.terminate_debuggee;
+            format!(in alloc; "{seq} {name} {terminate}")
+        }
+        Command::Unsupported => format!(in alloc; "{seq} {name} unsupported"),
+        Command::BadArguments(argument) => {
+            let argument = argument.as_str();
+            format!(in alloc; "{seq} {name} bad {argument}")
+        }
+    }
+}
+
+#[test]
+fn bodies_are_judged(rt: HostRuntime) -> Result<(), Fail> {
+    let table = [
+        // no message
+        ("", "not JSON"),
+        ("{\"seq\":1,", "not JSON"),
+        ("{\"seq\":1}{}", "not JSON"),
+        (
+            "{\"seq\":1,\"type\":\"request\",\"command\":\"\\ud800\"}",
+            "not JSON",
+        ),
+        ("[1]", "not a message"),
+        ("null", "not a message"),
+        ("{\"seq\":1,\"command\":\"disconnect\"}", "not a message"),
+        (
+            "{\"seq\":1,\"type\":7,\"command\":\"disconnect\"}",
+            "not a message",
+        ),
+        (
+            "{\"seq\":1,\"type\":\"Request\",\"command\":\"disconnect\"}",
+            "not a message",
+        ),
+        ("{\"seq\":1,\"type\":\"request\"}", "not a message"),
+        (
+            "{\"seq\":1,\"type\":\"request\",\"command\":null}",
+            "not a message",
+        ),
+        (
+            "{\"type\":\"request\",\"command\":\"disconnect\"}",
+            "not a message",
+        ),
+        (
+            "{\"seq\":\"1\",\"type\":\"request\",\"command\":\"disconnect\"}",
+            "not a message",
+        ),
+        ("{\"type\":\"response\"}", "ignored"),
+        ("{\"seq\":-1,\"type\":\"event\"}", "ignored"),
+        // sequence numbers
+        (
+            "{\"seq\":0,\"type\":\"request\",\"command\":\"f\"}",
+            "0 f unsupported",
+        ),
+        (
+            "{\"seq\":9007199254740991,\"type\":\"request\",\"command\":\"f\"}",
+            "9007199254740991 f unsupported",
+        ),
+        (
+            "{\"seq\":9007199254740992,\"type\":\"request\",\"command\":\"f\"}",
+            "not a message",
+        ),
+        (
+            "{\"seq\":18446744073709551617,\"type\":\"request\",\"command\":\"f\"}",
+            "not a message",
+        ),
+        (
+            "{\"seq\":-1,\"type\":\"request\",\"command\":\"f\"}",
+            "not a message",
+        ),
+        (
+            "{\"seq\":-0,\"type\":\"request\",\"command\":\"f\"}",
+            "not a message",
+        ),
+        (
+            "{\"seq\":1.0,\"type\":\"request\",\"command\":\"f\"}",
+            "not a message",
+        ),
+        (
+            "{\"seq\":1e0,\"type\":\"request\",\"command\":\"f\"}",
+            "not a message",
+        ),
+        // members: the last of a repeated one counts, escapes are read, others are passed over
+        (
+            "{\"seq\":1,\"seq\":2,\"type\":\"request\",\"command\":\"f\"}",
+            "2 f unsupported",
+        ),
+        (
+            "{\"\\u0073eq\":3,\"type\":\"requ\\u0065st\",\"command\":\"\\u0066\",\"x\":[]}",
+            "3 f unsupported",
+        ),
+        (
+            "{\"seq\":1,\"type\":\"request\",\"command\":\"Initialize\",\"arguments\":7}",
+            "1 Initialize unsupported",
+        ),
+    ];
+    for (body, wanted) in table {
+        let said = summary(rt.alloc(), body.as_bytes())?;
+        assert!(rt; said.as_str() == wanted, "{body}: {said}");
+    }
+    assert!(rt; summary(rt.alloc(), b"{\"type\":\"event\"\xff}")?.as_str() == "not JSON");
+    Ok(())
+}
+
+#[test]
+fn arguments_are_judged_in_order(rt: HostRuntime) -> Result<(), Fail> {
+    let table = [
+        (
+            "initialize",
+            "{\"adapterID\":\"jdwp\"}",
+            "1 initialize jdwp true true false",
+        ),
+        (
+            "initialize",
+            "{\"adapterID\":\"\",\"linesStartAt1\":false,\"columnsStartAt1\":false,\"pathFormat\":\"path\",\
+            \"supportsVariableType\":true,\"clientID\":7}",
+            "1 initialize  false false true",
+        ),
+        (
+            "initialize",
+            "{\"adapterID\":\"a\",\"linesStartAt1\":null,\"columnsStartAt1\":null,\"pathFormat\":null,\
+            \"supportsVariableType\":null}",
+            "1 initialize a true true false",
+        ),
+        ("initialize", "null", "1 initialize bad adapterID"),
+        ("initialize", "{}", "1 initialize bad adapterID"),
+        ("initialize", "[]", "1 initialize bad arguments"),
+        (
+            "initialize",
+            "{\"adapterID\":null,\"linesStartAt1\":1}",
+            "1 initialize bad adapterID",
+        ),
+        (
+            "initialize",
+            "{\"adapterID\":\"a\",\"columnsStartAt1\":1,\"linesStartAt1\":1}",
+            "1 initialize bad linesStartAt1",
+        ),
+        (
+            "initialize",
+            "{\"adapterID\":\"a\",\"pathFormat\":\"uri\",\"columnsStartAt1\":\"\"}",
+            "1 initialize bad columnsStartAt1",
+        ),
+        (
+            "initialize",
+            "{\"adapterID\":\"a\",\"pathFormat\":\"uri\",\"supportsVariableType\":0}",
+            "1 initialize bad pathFormat",
+        ),
+        (
+            "initialize",
+            "{\"adapterID\":\"a\",\"supportsVariableType\":0}",
+            "1 initialize bad supportsVariableType",
+        ),
+        ("disconnect", "null", "1 disconnect false"),
+        (
+            "disconnect",
+            "{\"terminateDebuggee\":true,\"restart\":7}",
+            "1 disconnect true",
+        ),
+        (
+            "disconnect",
+            "{\"terminateDebuggee\":1}",
+            "1 disconnect bad terminateDebuggee",
+        ),
+        ("disconnect", "false", "1 disconnect bad arguments"),
+        ("launch", "false", "1 launch unsupported"),
+    ];
+    for (command, arguments, wanted) in table {
+        let alloc = rt.alloc();
+        let body = format!(in alloc;
+            "{{\"arguments\":{arguments},\"command\":\"{command}\",\"seq\":1,\"type\":\"request\"}}"
+        )?;
+        let said = summary(alloc, body.as_bytes())?;
+        assert!(rt; said.as_str() == wanted, "{command} {arguments}: {said}");
+    }
+    Ok(())
+}
+
+fn response(
+    alloc: Global,
+    request_seq: u64,
+    command: &str,
+    outcome: Outcome,
+) -> Result<Told, Fail> {
+    Ok(Told::Response(Response {
+        request_seq,
+        command: Text::from_str(alloc, command)?,
+        outcome,
+    }))
+}
+
+#[test]
+fn messages_are_told(rt: HostRuntime) -> Result<(), Fail> {
+    let alloc = rt.alloc();
+    let name = Text::from_str(alloc, "a \"b\"")?;
+    let table = [
+        (
+            1,
+            response(
+                alloc,
+                1,
+                "initialize",
+                Outcome::Success(Shape::Capabilities),
+            )?,
+            "{\"body\":{\"exceptionBreakpointFilters\":[{\"filter\":\"caught\",\"label\":\"Caught exceptions\"},\
+            {\"filter\":\"uncaught\",\"label\":\"Uncaught exceptions\"}],\"supportTerminateDebuggee\":true,\
+            \"supportsConfigurationDoneRequest\":true,\"supportsEvaluateForHovers\":true,\
+            \"supportsExceptionInfoRequest\":true,\"supportsFunctionBreakpoints\":true,\
+            \"supportsSetVariable\":true},\"command\":\"initialize\",\"request_seq\":1,\"seq\":1,\"success\":true,\
+            \"type\":\"response\"}",
+        ),
+        (
+            2,
+            response(alloc, 2, "disconnect", Outcome::Success(Shape::Nothing))?,
+            "{\"command\":\"disconnect\",\"request_seq\":2,\"seq\":2,\"success\":true,\"type\":\"response\"}",
+        ),
+        (
+            1,
+            response(alloc, 1, "é", Outcome::Failure(Failure::unsupported()))?,
+            "{\"body\":{\"error\":{\"format\":\"unsupported\",\"id\":1}},\"command\":\"é\",\
+            \"message\":\"unsupported\",\"request_seq\":1,\"seq\":1,\"success\":false,\"type\":\"response\"}",
+        ),
+        (
+            7,
+            response(
+                alloc,
+                9,
+                "c",
+                Outcome::Failure(Failure::bad_arguments(name)),
+            )?,
+            "{\"body\":{\"error\":{\"format\":\"badArguments a \\\"b\\\"\",\"id\":2}},\"command\":\"c\",\
+            \"message\":\"badArguments\",\"request_seq\":9,\"seq\":7,\"success\":false,\"type\":\"response\"}",
+        ),
+        (
+            1,
+            Told::Event(Event::Terminated),
+            "{\"event\":\"terminated\",\"seq\":1,\"type\":\"event\"}",
+        ),
+        (
+            3,
+            Told::Event(Event::Initialized),
+            "{\"event\":\"initialized\",\"seq\":3,\"type\":\"event\"}",
+        ),
+    ];
+    for (seq, told, wanted) in table {
+        let text = text_of(alloc, seq, &told)?;
+        assert!(rt; text.as_slice() == wanted.as_bytes(), "{wanted}");
+    }
+    Ok(())
+}
