@@ -1,8 +1,7 @@
 -- However a stream is cut into pieces, the same messages are handed out.
-use Rattle.std.proofs.Common.{◌≡◌, ℕ, ◌+◌, ◌-◌, ◌<◌, ◌≤◌, List, [], ◌∷◌, ◌++◌, length, drop, refl, sym, ap, subst, ◌∙◌, arith, append_assoc}
-use Rattle.std.proofs.lemmas.List.{append-nil, drop-append-le}
-use Rattle.std.specs.List.{flat_map}
-use Rattle.wire_core.specs.Streams.{Front, waits, whole, faulty, Uncut, fed, past, HasNoWhole, IsSteady, Hands, Cuts, Reads, joined}
+use Rattle.std.proofs.Common.{◌≡◌, ℕ, ◌+◌, ◌≤◌, List, [], ◌∷◌, ◌++◌, length, refl, sym, ap, subst, ◌∙◌, arith, append_assoc}
+use Rattle.std.proofs.lemmas.List.{append-nil, drop-append-le, length-drop}
+use Rattle.wire_core.specs.Streams.{Front, waits, whole, faulty, Uncut, fed, past, left, HasNoWhole, IsSteady, Hands, Cuts, Reads, joined}
 
 module _ {M F : Type 0} (front : List ℕ → Front M F) where
   -- what is handed out of a stream is handed out of it whatever follows
@@ -13,7 +12,7 @@ module _ {M F : Type 0} (front : List ℕ → Front M F) where
       let inside : n ≤ length old.pending = (steady.takes old.pending m.1 n here).1 in
       let moved : Hands front (fed (past old n) more) ms (fed new more) = Hands-fed steady (past old n) ms new more rest in
       let same : fed (past old n) more ≡ past (fed old more) n
-          = ap (λ (p : List ℕ). record { at = old.at + n; pending = p }) (sym (drop-append-le n old.pending more inside)) in
+      = ap (λ (p : List ℕ). record { at = old.at + n; pending = p }) (sym (drop-append-le n old.pending more inside)) in
       (n, steady.stays_whole old.pending more m.1 n here, at, subst (λ (u : Uncut). Hands front u ms (fed new more)) same moved)
 
   -- what is handed out first, and then what is handed out of what is left
@@ -61,7 +60,7 @@ module _ {M F : Type 0} (front : List ℕ → Front M F) where
       let message : m.1 ≡ n.1 = cc in
       let second : Hands front (past old p.hands.0) ns v = subst (λ (k : ℕ). Hands front (past old k) ns v) (sym len) q.hands.3 in
       let rest : (ms ≡ ns) × (u ≡ v) = Cuts-one (past old p.hands.0) ms u ns v (record { hands = p.hands.3; rest = p.rest })
-          (record { hands = second; rest = q.rest }) in
+      (record { hands = second; rest = q.rest }) in
       let head : m ≡ n = ap (λ (x : ℕ × M). x) (pair m n (p.hands.2 ∙ sym q.hands.2) message) in
       (ap (λ (x : ℕ × M). x ∷ ms) head ∙ ap (λ (xs : List (ℕ × M)). n ∷ xs) rest.0, rest.1)
     where
@@ -74,3 +73,15 @@ module _ {M F : Type 0} (front : List ℕ → Front M F) where
       → Cuts front (fed old (joined pieces)) ns v → (ms ≡ ns) × (u ≡ v)
   any_cutting steady old pieces ms u ns v reads rest cuts =
       Cuts-one (fed old (joined pieces)) ms u ns v (record { hands = Hands-pieces steady old pieces ms u reads; rest = rest }) cuts
+
+  -- Taking moves the front: as many bytes were fed as before.
+  pub left_size : IsSteady front → (u : Uncut)
+      → (left (front u.pending) u).at + length (left (front u.pending) u).pending ≡ u.at + length u.pending
+  left_size steady u = by (front u.pending) refl
+    where
+      by : (f : Front M F) → front u.pending ≡ f → (left f u).at + length (left f u).pending ≡ u.at + length u.pending
+      by waits e = refl
+      by (whole m n) e =
+          let inside : n ≤ length u.pending = (steady.takes u.pending m n e).1 in
+          omega (arith, length-drop n u.pending)
+      by (faulty f d) e = refl

@@ -1,2 +1,13 @@
+pub mod Entries
+pub mod Files
+pub mod Links
+pub mod Log
+pub mod MemoryFiles
+pub mod MemoryOutput
+pub mod MemoryWires
+pub mod Names
+pub mod Output
 pub mod Outside
+pub mod Script
+pub mod SendCounts
 pub mod Streams

@@ -1,5 +1,5 @@
 ghost use Rattle.std.specs.Prelude.{◌≡◌, ◌<◌, [], length, OnOk, OnErr, IsTrue, ◌⊎◌};
-ghost use Rattle.wire_core.specs.Outside.{Outside, IsOpen, HasOpen, Connects, FailsToConnect, Hears, Sends, FailsToSend};
+ghost use Rattle.wire_core.specs.Outside.{Outside, other_side, IsOpen, HasOpen, Connects, FailsToConnect, Hears, Sends, FailsToSend};
 
 use crate::list::Blob;
 use crate::text::Text;
@@ -9,6 +9,18 @@ use crate::text::Text;
 pub enum Side {
     Client,
     Target,
+}
+
+impl Side {
+    /// The other side.
+    pub fn other(self) -> Side
+        ensures { result ≡ other_side self }
+    {
+        match self {
+            Side::Client => Side::Target,
+            Side::Target => Side::Client,
+        }
+    }
 }
 
 /// What came from the outside: so many bytes of a side, which stand at the front of the buffer; the end of a side's

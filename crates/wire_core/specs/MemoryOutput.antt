@@ -1,0 +1,22 @@
+-- An output in memory.
+use Rattle.std.specs.Prelude.{ℕ, ◌≡◌, List, [], Some}
+use Rattle.wire_core.specs.declared.memory_output.MemoryOutput.{MemoryOutput}
+use Rattle.wire_core.specs.Output.{Printed}
+
+abbrev pub printed_of : MemoryOutput → Printed
+printed_of m = record { bytes = Some m.bytes; faults = m.faults }
+
+-- the numbers of the calls that are faults
+abbrev pub failing_calls : MemoryOutput → List ℕ
+failing_calls m = m.failing
+
+-- how many calls there were
+abbrev pub calls_of : MemoryOutput → ℕ
+calls_of m = m.calls
+
+-- an output with nothing written, and no call so far
+pub record IsNewOutput (m : MemoryOutput) (failing : List ℕ) : Type 0 where
+  pub bytes : (printed_of m).bytes ≡ Some []
+  pub faults : (printed_of m).faults ≡ 0
+  pub calls : calls_of m ≡ 0
+  pub failing_is : failing_calls m ≡ failing
