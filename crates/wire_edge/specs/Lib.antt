@@ -1,0 +1,4 @@
+pub mod DiskFiles
+pub mod Polled
+pub mod StdOutput
+pub mod Tally

@@ -1,0 +1,20 @@
+use Rattle.std.specs.Prelude.{ℕ, ◌≡◌, ◌<◌, ◌≤◌}
+use Rattle.wire_core.specs.declared.outside.Side.{Side}
+use Rattle.wire_core.specs.declared.outside.Happening.{Happening}
+use Rattle.wire_core.specs.declared.outside.Happening.TheVariants.{Bytes as came, Shut, Failed}
+use Rattle.wire_edge.specs.declared.tcp_wires.Polled.{Polled}
+use Rattle.wire_edge.specs.declared.tcp_wires.Polled.TheVariants.{Bytes, Ended, Broken, Nothing}
+
+-- some bytes came, as many as fit; or none
+abbrev pub IsWithinPoll : ℕ → Polled → Type 0
+IsWithinPoll room (Bytes n) = (0 < n) × (n ≤ room)
+IsWithinPoll room Ended = Unit {0}
+IsWithinPoll room Broken = Unit {0}
+IsWithinPoll room Nothing = Unit {0}
+
+-- what comes of a side that was asked
+abbrev pub IsHeard : Side → Polled → Happening → Type 0
+IsHeard side (Bytes n) happening = happening ≡ came side n
+IsHeard side Ended happening = happening ≡ Shut side
+IsHeard side Broken happening = happening ≡ Failed side
+IsHeard side Nothing happening = ⊥

@@ -1,0 +1,9 @@
+-- What wires without a log tell of themselves.
+use Rattle.std.specs.Prelude.{None}
+use Rattle.wire_core.specs.Outside.{Outside}
+use Rattle.wire_core.specs.Links.{outside_with}
+use Rattle.wire_core.specs.Names.{names_of}
+use Rattle.wire_edge.specs.declared.tcp_wires.Tally.{Tally}
+
+abbrev pub told_by : Tally → Outside
+told_by tally = outside_with None tally.links tally.open_faults (names_of tally.asked)

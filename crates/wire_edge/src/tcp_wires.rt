@@ -1,0 +1,533 @@
+ghost use Rattle.std.specs.Prelude.{◌≡◌, ◌<◌, false, [], length, IfOk, IfSome};
+ghost use Rattle.wire_core.specs.Links.{IsFresh, IsPossible};
+ghost use Rattle.wire_edge.specs.Polled.{IsWithinPoll, IsHeard};
+ghost use Rattle.wire_edge.specs.Tally.{told_by};
+
+use std::io::{self, ErrorKind, Read, Write};
+use std::net::{Net, OpenListener, OpenStream, TcpListener, TcpStream};
+use std::thread;
+use std::time::{Clock, Duration, Instant};
+use wire_core::{Happening, Links, Names, OpenFailed, SendFailed, Side, Text, Wires, raise};
+
+// How often both sides are asked again at once, after something came, before a call sleeps.
+const POLLS_AFTER_TRAFFIC: u32 = 1000;
+
+// How long a call sleeps where both sides are silent, in microseconds. With what the system adds, a wait in vain
+// takes 2 ms.
+const SLEEP_MICROS: u64 = 1900;
+
+// How old a link to the target may be when the first bytes go out on it, in milliseconds: a Java machine drops one
+// that has not shaken hands within two seconds.
+const FRESH_MILLIS: u64 = 1500;
+
+/// Wires over two TCP streams of the system. They tell no log, and a count stands still at its last value.
+///
+/// - `next` asks both sides without blocking, and sleeps only where both are silent.
+/// - A reset by the peer is the end of its stream. What is sent to a target that has ended counts as sent.
+/// - A link to the target on which nothing went yet doesn't end: where the target dropped it, or it is older than
+///   1.5 seconds, the first send dials again.
+/// - The client is the first connection that sends a byte; one that ends before is passed over.
+#[derive(Drop)]
+pub struct TcpWires<R: Net> {
+    rt: R,
+    tally: Tally,
+    client: Option<R::Stream>,
+    target: Option<R::Stream>,
+    // when the target was dialled
+    dialled: Option<Instant>,
+    // nothing went to the target or came from it
+    is_fresh: bool,
+    // the side that is asked first
+    turn: Side,
+    // how often both sides are asked before a call sleeps
+    polls: u32,
+}
+
+/// What the wires tell of themselves.
+#[derive(Drop)]
+struct Tally {
+    links: Links,
+    open_faults: u64,
+    asked: Option<Names>,
+}
+
+/// What a side that was asked had: some bytes, its end, a fault, or nothing.
+#[derive(Clone, Copy, Debug, PartialEq, Eq)]
+enum Polled {
+    Bytes(usize),
+    Ended,
+    Broken,
+    Nothing,
+}
+
+/// How a send ended: all bytes went out, the peer has closed the stream, or the stream is broken.
+#[derive(Clone, Copy, Debug, PartialEq, Eq)]
+enum Sent {
+    Whole,
+    Closed,
+    Broken,
+}
+
+impl<R: Net + Clock + Drop> TcpWires<R> {
+    /// Wires that are closed until `connect` opens them.
+    pub fn new(rt: R) -> TcpWires<R>
+        ensures links { IsFresh result.tally.links false }
+        ensures open_faults { result.tally.open_faults ≡ 0 }
+        ensures asked { (told_by result.tally).asked ≡ [] }
+    {
+        TcpWires {
+            rt,
+            tally: Tally {
+                links: Links::new(false),
+                open_faults: 0,
+                asked: None,
+            },
+            client: None,
+            target: None,
+            dialled: None,
+            is_fresh: true,
+            turn: Side::Client,
+            polls: 1,
+        }
+    }
+
+    // Opens both streams, the target's first.
+    fn open(&mut self, listen: &Text, target: &Text) -> io::Result<()>
+        ensures { self.new.tally ≡ self.old.tally }
+    {
+        self.dialled = Instant::now(&self.rt).ok();
+        self.target = Some(dial(&self.rt, target)?);
+        let listener = TcpListener::bind(&self.rt, listen.as_str())?;
+        self.client = Some(accept(&self.rt, &listener)?);
+        Ok(())
+    }
+
+    // Whether the target's link, on which nothing went so far, is still there and young.
+    fn is_young(&self) -> bool {
+        let Some(dialled) = self.dialled else {
+            return false;
+        };
+        let Ok(age) = dialled.elapsed(&self.rt) else {
+            return false;
+        };
+        age < Duration::from_millis(FRESH_MILLIS) && is_alive(&self.target)
+    }
+
+    // Dials the target again where the link, on which nothing went so far, is gone or old.
+    fn redial(&mut self) -> io::Result<()>
+        ensures { self.new.tally ≡ self.old.tally }
+    {
+        if self.is_young() {
+            return Ok(());
+        }
+        // The old link first: a Java machine takes one at a time.
+        self.target = None;
+        let Some(names) = &self.tally.asked else {
+            return Err(io::Error::from(ErrorKind::NotConnected));
+        };
+        self.dialled = Instant::now(&self.rt).ok();
+        self.target = Some(dial(&self.rt, &names.target)?);
+        Ok(())
+    }
+
+    // Sends to the target, by a new link where nothing was sent yet and the old one is gone.
+    fn send_target(&mut self, bytes: &[u8]) -> bool
+        ensures { self.new.tally ≡ self.old.tally }
+    {
+        if self.is_fresh && self.redial().is_err() {
+            return false;
+        }
+        self.is_fresh = false;
+        match send_all(&self.rt, &mut self.target, bytes) {
+            // The end of the target's stream is read next.
+            Sent::Whole | Sent::Closed => true,
+            Sent::Broken => false,
+        }
+    }
+
+    // Asks a side, where it is open.
+    fn ask(&mut self, side: Side, buffer: &mut [u8]) -> Option<Happening>
+        ensures tally { self.new.tally ≡ self.old.tally }
+        ensures possible { IfSome result (IsPossible self.old.tally.links (length buffer.old)) }
+    {
+        if !self.tally.links.is_open(side) {
+            return None;
+        }
+        match side {
+            Side::Client => heard(Side::Client, poll(&mut self.client, buffer)),
+            Side::Target => {
+                let polled = poll(&mut self.target, buffer);
+                if self.is_fresh && matches!(polled, Polled::Ended | Polled::Broken) {
+                    self.target = None;
+                    return None;
+                }
+                self.is_fresh = self.is_fresh && polled == Polled::Nothing;
+                heard(Side::Target, polled)
+            }
+        }
+    }
+
+    // Asks both sides once.
+    fn ask_both(&mut self, buffer: &mut [u8]) -> Option<Happening>
+        ensures tally { self.new.tally ≡ self.old.tally }
+        ensures possible { IfSome result (IsPossible self.old.tally.links (length buffer.old)) }
+    {
+        let first = self.turn;
+        let second = first.other();
+        self.turn = second;
+        match self.ask(first, buffer) {
+            Some(happening) => Some(happening),
+            None => self.ask(second, buffer),
+        }
+    }
+
+    // What comes next; after a while of silence, nothing.
+    fn wait(&mut self, buffer: &mut [u8]) -> Happening
+        ensures tally { self.new.tally ≡ self.old.tally }
+        ensures possible { IsPossible self.old.tally.links (length buffer.old) result }
+    {
+        for _ in 0..self.polls {
+            if let Some(happening) = self.ask_both(buffer) {
+                self.polls = POLLS_AFTER_TRAFFIC;
+                return happening;
+            }
+        }
+        thread::sleep(&self.rt, Duration::from_micros(SLEEP_MICROS));
+        match self.ask_both(buffer) {
+            Some(happening) => {
+                self.polls = POLLS_AFTER_TRAFFIC;
+                happening
+            }
+            None => {
+                self.polls = 1;
+                Happening::Quiet
+            }
+        }
+    }
+}
+
+// A stream to this address that answers at once, and sends what it is given at once.
+fn dial<R: Net>(rt: &R, address: &Text) -> io::Result<R::Stream> {
+    ready(TcpStream::connect(rt, address.as_str())?)
+}
+
+fn ready<S: OpenStream + Drop>(stream: S) -> io::Result<S> {
+    stream.set_nodelay(true)?;
+    stream.set_nonblocking(true)?;
+    Ok(stream)
+}
+
+// The first connection that sends a byte. Two may be silent at a time; a third waits at the listener meanwhile.
+fn accept<L: OpenListener>(clock: &impl Clock, listener: &L) -> io::Result<L::Stream>
+where
+    L::Stream: OpenStream,
+{
+    listener.set_nonblocking(true)?;
+    let mut older = None;
+    let mut newer = None;
+    for _ in 0..u64::MAX {
+        if older.is_none() {
+            older = newer.take();
+        }
+        if newer.is_none() {
+            newer = connection(listener)?;
+        }
+        if let Some(stream) = speaker(&mut older) {
+            return Ok(stream);
+        }
+        if let Some(stream) = speaker(&mut newer) {
+            return Ok(stream);
+        }
+        thread::sleep(clock, Duration::from_micros(SLEEP_MICROS));
+    }
+    Err(io::Error::from(ErrorKind::NotConnected))
+}
+
+// A connection that waits at the listener, if there is one.
+fn connection<L: OpenListener>(listener: &L) -> io::Result<Option<L::Stream>>
+where
+    L::Stream: OpenStream,
+{
+    match listener.accept() {
+        Ok((stream, _)) => Ok(ready(stream).ok()),
+        Err(e) => {
+            if is_wait(e.kind()) || is_closed(e.kind()) {
+                Ok(None)
+            } else {
+                Err(e)
+            }
+        }
+    }
+}
+
+// The stream, where it has sent a byte; one that has ended is let go.
+fn speaker<S: OpenStream + Drop>(slot: &mut Option<S>) -> Option<S> {
+    let stream = slot.take()?;
+    match stream.peek(&mut [0]) {
+        Ok(1) => Some(stream),
+        Ok(_) => None,
+        Err(e) => {
+            if is_wait(e.kind()) {
+                *slot = Some(stream);
+            }
+            None
+        }
+    }
+}
+
+// Whether a stream is there that has not ended.
+fn is_alive<S: OpenStream>(stream: &Option<S>) -> bool {
+    let Some(stream) = stream else {
+        return false;
+    };
+    match stream.peek(&mut [0]) {
+        Ok(n) => n > 0,
+        Err(e) => is_wait(e.kind()),
+    }
+}
+
+// Whether an error says that a call would have to wait, or was disturbed.
+fn is_wait(kind: ErrorKind) -> bool {
+    matches!(
+        kind,
+        ErrorKind::WouldBlock | ErrorKind::TimedOut | ErrorKind::Interrupted
+    )
+}
+
+// Whether an error says that the peer closed the stream.
+fn is_closed(kind: ErrorKind) -> bool {
+    matches!(
+        kind,
+        ErrorKind::ConnectionReset | ErrorKind::ConnectionAborted | ErrorKind::BrokenPipe
+    )
+}
+
+// What comes of a side that was asked.
+fn heard(side: Side, polled: Polled) -> Option<Happening>
+    ensures { IfSome result (IsHeard side polled) }
+{
+    match polled {
+        Polled::Bytes(n) => Some(Happening::Bytes(side, n)),
+        Polled::Ended => Some(Happening::Shut(side)),
+        Polled::Broken => Some(Happening::Failed(side)),
+        Polled::Nothing => None,
+    }
+}
+
+// Asks a stream for bytes.
+fn poll<S: Read>(stream: &mut Option<S>, buffer: &mut [u8]) -> Polled
+    ensures { IsWithinPoll (length buffer.old) result }
+{
+    let Some(stream) = stream else {
+        return Polled::Nothing;
+    };
+    match stream.read(buffer) {
+        Ok(0) => Polled::Ended,
+        Ok(n) => Polled::Bytes(n),
+        Err(e) => {
+            if is_wait(e.kind()) {
+                Polled::Nothing
+            } else if is_closed(e.kind()) {
+                Polled::Ended
+            } else {
+                Polled::Broken
+            }
+        }
+    }
+}
+
+// Sends all bytes, in one write where the system takes them.
+fn send_all<S: Write>(clock: &impl Clock, stream: &mut Option<S>, bytes: &[u8]) -> Sent {
+    let Some(stream) = stream else {
+        return Sent::Broken;
+    };
+    let mut rest = bytes;
+    for _ in 0..u64::MAX {
+        match stream.write(rest) {
+            Ok(n) => rest = &rest[n..],
+            Err(e) => {
+                if is_closed(e.kind()) {
+                    return Sent::Closed;
+                }
+                if !is_wait(e.kind()) {
+                    return Sent::Broken;
+                }
+                thread::sleep(clock, Duration::from_micros(SLEEP_MICROS));
+            }
+        }
+        if rest.is_empty() {
+            return Sent::Whole;
+        }
+    }
+    Sent::Broken
+}
+
+impl<R: Net + Clock + Drop> Wires for TcpWires<R> {
+    ghost outside = { λ w. told_by w.tally };
+
+    fn connect(&mut self, listen: Text, target: Text) -> Result<(), OpenFailed> {
+        let opened = self.open(&listen, &target);
+        self.tally.asked = Some(Names { listen, target });
+        match opened {
+            Ok(()) => {
+                self.tally.links = self.tally.links.opened();
+                Ok(())
+            }
+            Err(_) => {
+                self.tally.open_faults = raise(self.tally.open_faults);
+                Err(OpenFailed)
+            }
+        }
+    }
+
+    fn next(&mut self, buffer: &mut [u8]) -> Happening {
+        let happening = self.wait(buffer);
+        self.tally.links = self.tally.links.after(happening);
+        happening
+    }
+
+    fn send(&mut self, side: Side, bytes: &[u8]) -> Result<(), SendFailed> {
+        let sent = match side {
+            Side::Client => send_all(&self.rt, &mut self.client, bytes) == Sent::Whole,
+            Side::Target => self.send_target(bytes),
+        };
+        if sent {
+            return Ok(());
+        }
+        self.tally.links = self.tally.links.after(Happening::Failed(side));
+        Err(SendFailed)
+    }
+}
+
+#[cfg(test)]
+mod tests {
+    use super::*;
+    use std::alloc::{AllocError, Global};
+    use std::process::Abort;
+    use std::test::Fail;
+
+    // Wires over these streams, opened just now.
+    fn over<R: Net + Clock + Drop>(
+        rt: R,
+        names: Names,
+        client: R::Stream,
+        target: R::Stream,
+    ) -> io::Result<TcpWires<R>> {
+        let mut wires = TcpWires::new(rt);
+        wires.tally.links = wires.tally.links.opened();
+        wires.tally.asked = Some(names);
+        wires.dialled = Some(Instant::now(&wires.rt)?);
+        wires.client = Some(ready(client)?);
+        wires.target = Some(ready(target)?);
+        Ok(wires)
+    }
+
+    fn next<R: Net + Clock + Drop>(
+        rt: &impl Abort,
+        wires: &mut TcpWires<R>,
+        buffer: &mut [u8],
+    ) -> Happening
+        requires { length buffer.old ≡ 65536 }
+    {
+        let side = wires.tally.links.first();
+        assert!(rt; wires.tally.links.is_open(side));
+        wires.next(buffer)
+    }
+
+    // What is heard next, waits in vain left out.
+    fn hear<R: Net + Clock + Drop>(
+        rt: &impl Abort,
+        wires: &mut TcpWires<R>,
+        buffer: &mut [u8],
+    ) -> Happening
+        requires { length buffer.old ≡ 65536 }
+    {
+        for _ in 0..1000 {
+            let happening = next(rt, wires, buffer);
+            if happening != Happening::Quiet {
+                return happening;
+            }
+        }
+        Happening::Quiet
+    }
+
+    fn send<R: Net + Clock + Drop>(
+        rt: &impl Abort,
+        wires: &mut TcpWires<R>,
+        side: Side,
+        bytes: &[u8],
+    )
+        requires { 0 < length bytes.now }
+    {
+        assert!(rt; wires.tally.links.is_open(side));
+        assert!(rt; wires.send(side, bytes).is_ok());
+    }
+
+    #[test]
+    fn bytes_go_both_ways(rt: HostRuntime) -> Result<(), Fail> {
+        let alloc = rt.alloc();
+        let listener = TcpListener::bind(&rt, "127.0.0.1:0")?;
+        let address = listener.local_addr()?;
+        let dropped = TcpStream::connect(&rt, address)?;
+        let (first, _) = listener.accept()?;
+
+        // A connection that ends at once and a silent one are passed over.
+        drop(TcpStream::connect(&rt, address)?);
+        let _silent = TcpStream::connect(&rt, address)?;
+        let mut editor = TcpStream::connect(&rt, address)?;
+        editor.write_all(b"abc")?;
+        let client = accept(&rt, &listener)?;
+        listener.set_nonblocking(false)?;
+        let names = Names {
+            listen: Text::from_str(alloc, "127.0.0.1:0")?,
+            target: Text::from_string(address.to_string(alloc)?),
+        };
+        let mut wires = over(&rt, names, client, dropped)?;
+        let mut buffer = zeros(alloc, 65_536)?;
+
+        // The target drops the link on which nothing went: nobody hears of it, and the first send dials again.
+        drop(first);
+        assert_eq!(rt;
+            hear(&rt, &mut wires, &mut buffer),
+            Happening::Bytes(Side::Client, 3)
+        );
+        send(&rt, &mut wires, Side::Target, b"JDWP-Handshake");
+        let (mut machine, _) = listener.accept()?;
+        let mut got = [0; 16];
+        assert_eq!(rt; machine.read(&mut got)?, 14);
+        machine.write_all(b"JDWP-Handshake")?;
+        assert_eq!(rt;
+            hear(&rt, &mut wires, &mut buffer),
+            Happening::Bytes(Side::Target, 14)
+        );
+        send(&rt, &mut wires, Side::Client, b"de");
+        assert_eq!(rt; editor.read(&mut got)?, 2);
+        drop(machine);
+        assert_eq!(rt;
+            hear(&rt, &mut wires, &mut buffer),
+            Happening::Shut(Side::Target)
+        );
+        assert_eq!(rt; next(&rt, &mut wires, &mut buffer), Happening::Quiet);
+        drop(editor);
+        assert_eq!(rt;
+            hear(&rt, &mut wires, &mut buffer),
+            Happening::Shut(Side::Client)
+        );
+        Ok(())
+    }
+
+    #[test]
+    fn a_name_that_the_system_refuses_is_a_fault(rt: HostRuntime) -> Result<(), Fail> {
+        let listen = Text::from_str(rt.alloc(), "127.0.0.1:0")?;
+        let target = Text::from_str(rt.alloc(), "no port")?;
+        assert_eq!(rt; TcpWires::new(&rt).connect(listen, target), Err(OpenFailed));
+        Ok(())
+    }
+
+    // A buffer of this length.
+    fn zeros(alloc: Global, len: usize) -> Result<Vec<u8>, AllocError>
+        ensures { IfOk result (λ v. length v.items ≡ len) }
+    {
+        vec![in alloc; 0; len]
+    }
+}
