@@ -1,7 +1,7 @@
 -- What stands at the front of a stream is a frame just where a frame stands there.
-use Rattle.std.proofs.Common.{◌≡◌, ℕ, ◌+◌, ◌-◌, ◌^◌, ◌<◌, ◌≤◌, Bool, true, false, cond, ltb, List, [], ◌∷◌, ◌++◌, length, take, drop, refl, sym, ap, subst, ◌∙◌, arith, append_assoc}
+use Rattle.std.proofs.Common.{◌≡◌, ℕ, ◌+◌, ◌^◌, ◌<◌, ◌≤◌, Bool, true, false, cond, ltb, List, ◌++◌, length, take, drop, refl, sym, ap, subst, ◌∙◌, arith, append_assoc}
 use Rattle.std.specs.Prelude.{codes, decimal}
-use Rattle.std.proofs.lemmas.Bool.{ltb-true, ltb-false}
+use Rattle.std.proofs.lemmas.Bool.{ltb-false}
 use Rattle.std.proofs.lemmas.List.{take_at, drop_at, take-append-drop, length-append, length-take, length-drop, drop-append-le, take-append-le}
 use Rattle.std.proofs.lemmas.Fmt.{decimal_is_IsNumeral, length-decimal-le}
 use Rattle.wire_core.specs.Streams.{Front, waits, whole, faulty, IsSteady}
@@ -9,8 +9,8 @@ use Rattle.dap_frames.specs.declared.fault.FrameFault.{FrameFault}
 use Rattle.dap_frames.specs.declared.header.Reading.TheVariants.{Name}
 use Rattle.dap_frames.specs.declared.header.Head.{Head}
 use Rattle.dap_frames.specs.declared.header.Head.TheVariants.{Reads, Ends, Refused}
-use Rattle.dap_frames.specs.Reading.{head, onward}
-use Rattle.dap_frames.specs.Frames.{Frame, IsHeader, IsFrame, Begins, header_of, front_by, frame_front, frame_bytes}
+use Rattle.dap_frames.specs.Reading.{onward}
+use Rattle.dap_frames.specs.Frames.{Frame, IsHeader, Begins, header_of, front_by, frame_front, frame_bytes}
 use Rattle.dap_frames.proofs.Heads.{head-append, head-within}
 use Rattle.dap_frames.proofs.Fronts.{front-whole, front-refused}
 use Rattle.dap_frames.proofs.Headers.{Header, header-read, header-is}
@@ -51,6 +51,7 @@ whole-is bytes m n e = by (header_of bytes) refl e
           taken = omega arith;
           within = omega arith;
         }
+
     by : (h : Head) → header_of bytes ≡ h → front_by h bytes ≡ whole m n → Whole bytes m n
     by (Reads r) says e = absurd cc
     by (Ends len h) says e = found len h (ltb (length bytes) (h + len)) says refl e
@@ -65,12 +66,13 @@ whole-from bytes m n w =
     ∙ ap (λ (k : ℕ). a_frame m k) (sym w.taken)
 
 -- a refused byte is the header's
-faulty-is : (bytes : List ℕ) (f : FrameFault) (d : ℕ) → frame_front bytes ≡ faulty f d → header_of bytes ≡ Refused
+pub faulty-is : (bytes : List ℕ) (f : FrameFault) (d : ℕ) → frame_front bytes ≡ faulty f d → header_of bytes ≡ Refused
 faulty-is bytes f d e = by (header_of bytes) refl e
   where
     found : (short : Bool) (m : Frame) (n : ℕ) → cond short waits (a_frame m n) ≡ faulty f d → ⊥
     found true m n e = absurd cc
     found false m n e = absurd cc
+
     by : (h : Head) → header_of bytes ≡ h → front_by h bytes ≡ faulty f d → header_of bytes ≡ Refused
     by (Reads r) says e = absurd cc
     by (Ends len h) says e = absurd (found (ltb (length bytes) (h + len)) (record { header = h; body = take len (drop h bytes) }) (h + len) e)

@@ -1,18 +1,17 @@
 -- What stands at the front of a stream, by what its header says.
-use Rattle.std.proofs.Common.{◌≡◌, ℕ, ◌+◌, ◌-◌, ◌<◌, ◌≤◌, List, ◌++◌, length, take, drop, refl, sym, ap, ◌∙◌, arith, ltb, cond, true, false}
+use Rattle.std.proofs.Common.{◌≡◌, ℕ, ◌+◌, ◌-◌, ◌<◌, ◌≤◌, List, length, take, drop, refl, sym, ap, ◌∙◌, arith}
 use Rattle.std.proofs.lemmas.Bool.{lt-ltb, le-ltb}
 use Rattle.std.proofs.lemmas.List.{take-append-drop, length-take, take_all, take_rest}
-use Rattle.wire_core.specs.Streams.{Front, waits, whole, faulty}
-use Rattle.dap_frames.specs.declared.fault.FrameFault.{FrameFault}
+use Rattle.wire_core.specs.Streams.{waits, whole, faulty}
 use Rattle.dap_frames.specs.declared.fault.FrameFault.TheVariants.{BadHeader}
 use Rattle.dap_frames.specs.declared.header.Reading.{Reading}
 use Rattle.dap_frames.specs.declared.header.Reading.TheVariants.{Name}
 use Rattle.dap_frames.specs.declared.header.Head.{Head}
 use Rattle.dap_frames.specs.declared.header.Head.TheVariants.{Reads, Ends, Refused}
-use Rattle.dap_frames.specs.Reading.{head, onward}
-use Rattle.dap_frames.specs.Frames.{Frame, header_of, front_by, frame_front}
+use Rattle.dap_frames.specs.Reading.{onward}
+use Rattle.dap_frames.specs.Frames.{header_of, front_by, frame_front}
 use Rattle.dap_frames.specs.Taking.{IsRead}
-use Rattle.dap_frames.proofs.Heads.{head-append, head-within}
+use Rattle.dap_frames.proofs.Heads.{head-append}
 
 -- reading on behind the first bytes says what all bytes say
 pub header_more : (h : Head) (read : ℕ) (pending : List ℕ) → IsRead h read pending

@@ -1,10 +1,9 @@
 -- A header is read as just what it is: its name, the digits of a length, and the ends of two lines.
-use Rattle.std.proofs.Common.{◌≡◌, ℕ, zero, suc, ◌+◌, ◌-◌, ◌*◌, ◌<◌, ◌≤◌, Bool, true, false, ◌&&◌, cond, ltb, leb, eqb, List, [], ◌∷◌, ◌++◌, length, get_or, take, drop, refl, sym, ap, subst, ◌∙◌, arith, inl, inr, append_assoc}
+use Rattle.std.proofs.Common.{◌≡◌, ℕ, zero, suc, ◌+◌, ◌-◌, ◌*◌, ◌<◌, ◌≤◌, Bool, true, false, ◌&&◌, cond, ltb, leb, eqb, List, [], ◌∷◌, ◌++◌, length, get_or, drop, refl, sym, ap, ◌∙◌, arith, append_assoc}
 use Rattle.std.specs.Prelude.{codes}
-use Rattle.std.specs.Int.{IsInRange}
 use Rattle.std.specs.Char.{digit_value}
-use Rattle.std.specs.Str.Parse.{AllDigits, IsNumeral, digits_value, digits_value_after}
-use Rattle.std.proofs.lemmas.Bool.{cases_Bool, and_parts, and_from, ltb-true, lt-ltb, le-ltb, le-leb, leb-true, eqb-true, eqb-false, eq-eqb, ne_eqb}
+use Rattle.std.specs.Str.Parse.{AllDigits, digits_value_after}
+use Rattle.std.proofs.lemmas.Bool.{and_parts, and_from, ltb-true, lt-ltb, le-ltb, le-leb, leb-true, eqb-true, eqb-false, eq-eqb, ne_eqb}
 use Rattle.std.proofs.lemmas.List.{drop_more, drop_all, length-append}
 use Rattle.std.proofs.lemmas.Str.Parse.{digit_from_value}
 use Rattle.dap_frames.specs.declared.header.Reading.{Reading}
@@ -42,14 +41,14 @@ module _ (text : List ℕ) (most : ℕ) (len : length text ≡ suc most) (at : �
       let inside : p < length text = omega arith in
       let split : drop p text ≡ get_or text p 0 ∷ [] = drop_more text p 0 inside ∙ ap (λ (l : List ℕ). get_or text p 0 ∷ l) (drop_all (p + 1) text (omega arith)) in
       let goes : step (at p) (get_or text p 0) ≡ last = matches p (get_or text p 0)
-          ∙ rw (and_from _ _ (lt-ltb p (suc most) (omega arith)) (eq-eqb (get_or text p 0) (get_or text p 0) refl), eq-eqb p most (omega arith)) refl in
+      ∙ rw (and_from _ _ (lt-ltb p (suc most) (omega arith)) (eq-eqb (get_or text p 0) (get_or text p 0) refl), eq-eqb p most (omega arith)) refl in
       ap (λ (l : List ℕ). head (at p) (l ++ rest)) split ∙ ap (λ s. after_step s (λ t. head t rest)) goes
       ∙ sym (later-zero (after_step last (λ t. head t rest)))
   text-read (suc k) p rest e =
       let inside : p < length text = omega arith in
       let split : drop p text ≡ get_or text p 0 ∷ drop (p + 1) text = drop_more text p 0 inside in
       let goes : step (at p) (get_or text p 0) ≡ Goes (at (p + 1)) = matches p (get_or text p 0)
-          ∙ rw (and_from _ _ (lt-ltb p (suc most) (omega arith)) (eq-eqb (get_or text p 0) (get_or text p 0) refl), ne_eqb p most (omega arith)) refl in
+      ∙ rw (and_from _ _ (lt-ltb p (suc most) (omega arith)) (eq-eqb (get_or text p 0) (get_or text p 0) refl), ne_eqb p most (omega arith)) refl in
       ap (λ (l : List ℕ). head (at p) (l ++ rest)) split ∙ ap (λ s. after_step s (λ t. head t (drop (p + 1) text ++ rest))) goes
       ∙ ap (later 1) (text-read k (p + 1) rest (omega arith)) ∙ later-later 1 k (after_step last (λ t. head t rest))
       ∙ ap (λ (j : ℕ). later j (after_step last (λ t. head t rest))) (omega arith)
@@ -72,6 +71,7 @@ module _ (text : List ℕ) (most : ℕ) (len : length text ≡ suc most) (at : �
       front rest same tail =
           sym tail ∙ ap (λ (x : ℕ). x ∷ (drop (p + 1) text ++ rest)) (sym same)
           ∙ ap (λ (l : List ℕ). l ++ rest) (sym (drop_more text p 0 (omega arith)))
+
       by : (here end : Bool) → (ltb p (suc most) && eqb (get_or text p 0) b) ≡ here → eqb p most ≡ end
           → after_step (cond here (cond end last (Goes (at (p + 1)))) Refused) (λ t. head t bs) ≡ heads.Ends n h
           → ((k : ℕ) → p + 1 ≤ most → head (at (p + 1)) bs ≡ heads.Ends n k → Through (p + 1) bs n k)
@@ -131,7 +131,7 @@ digits-read (d ∷ ds) count value rest all room small =
     let no_end : ((eqb d 13) && ltb 0 count) ≡ false = rw (ne_eqb d 13 (omega (arith, digit.0))) refl in
     let is : ((is_digit d && ltb count MOST_DIGITS) && leb (with_digit value d) LONGEST_BODY) ≡ true =
     and_from _ _ (and_from _ _ (and_from _ _ (le-leb 48 d digit.0) (le-leb d 57 digit.1)) (lt-ltb count 8 (omega arith)))
-        (le-leb (with_digit value d) 16777216 (omega arith)) in
+    (le-leb (with_digit value d) 16777216 (omega arith)) in
     let goes : step (Digits count value) d ≡ Goes (Digits (count + 1) next) = rw (no_end, is) (ap (λ (v : ℕ). Goes (Digits (count + 1) v)) same) in
     ap (λ s. after_step s (λ t. head t (ds ++ rest))) goes
     ∙ ap (later 1) (digits-read ds (count + 1) next rest all.1 (omega arith) small)
@@ -162,7 +162,7 @@ digits-through (b ∷ bs) count value n h room small e =
         → ((is_digit b && ltb count MOST_DIGITS) && leb (with_digit value b) LONGEST_BODY) ≡ more
         → after_step (cond ended (Goes (End value 1)) (cond more (Goes (Digits (count + 1) (with_digit value b))) Refused)) (λ t. head t bs) ≡ heads.Ends n h
         → ((k : ℕ) → count + 1 ≤ 8 → with_digit value b ≤ 16777216 → head (Digits (count + 1) (with_digit value b)) bs ≡ heads.Ends n k
-            → Spelled (count + 1) (with_digit value b) bs n k)
+        → Spelled (count + 1) (with_digit value b) bs n k)
         → Spelled count value (b ∷ bs) n h
     by true more ended is e next =
         let both = and_parts (eqb b 13) (ltb 0 count) ended in

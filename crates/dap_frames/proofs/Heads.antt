@@ -1,6 +1,6 @@
 -- Reading a header byte by byte, and on behind what was read.
-use Rattle.std.proofs.Common.{◌≡◌, ℕ, suc, ◌+◌, ◌-◌, ◌<◌, ◌≤◌, List, [], ◌∷◌, ◌++◌, length, get_or, take, drop, refl, sym, ap, ◌∙◌, arith, add-zero}
-use Rattle.std.proofs.lemmas.List.{drop_more, drop_all, take-append-drop}
+use Rattle.std.proofs.Common.{◌≡◌, ℕ, suc, ◌+◌, ◌<◌, ◌≤◌, List, [], ◌∷◌, ◌++◌, length, get_or, drop, refl, sym, ap, ◌∙◌, arith}
+use Rattle.std.proofs.lemmas.List.{drop_more, drop_all}
 use Rattle.dap_frames.specs.declared.header.Reading.{Reading}
 use Rattle.dap_frames.specs.declared.header.Step.{Step}
 use Rattle.dap_frames.specs.declared.header.Step.TheVariants.{Goes, Ends, Refused}
@@ -48,6 +48,7 @@ head-append r (x ∷ xs) ys = by (step r x) (λ t. head-append t xs ys)
     through (heads.Reads t) = later-later 1 (length xs) (head t ys) ∙ ap (λ (k : ℕ). later k (head t ys)) (omega arith)
     through (heads.Ends n h) = refl
     through heads.Refused = refl
+
     by : (s : Step) → ((t : Reading) → head t (xs ++ ys) ≡ onward (length xs) (head t xs) ys)
         → after_step s (λ t. head t (xs ++ ys)) ≡ onward (suc (length xs)) (after_step s (λ t. head t xs)) ys
     by (Goes t) rest = ap (later 1) (rest t) ∙ through (head t xs)
@@ -67,6 +68,7 @@ head-within r (x ∷ xs) n h e = by (step r x) (λ t m k. head-within t xs m k) 
         let below = inside m k refl in
         (omega arith, omega (arith, below.1))
     through heads.Refused inside e = absurd cc
+
     by : (s : Step) → ((t : Reading) (m k : ℕ) → head t xs ≡ heads.Ends m k → (0 < k) × (k ≤ length xs))
         → after_step s (λ t. head t xs) ≡ heads.Ends n h → (0 < h) × (h ≤ suc (length xs))
     by (Goes t) inside e = through (head t xs) (inside t) e

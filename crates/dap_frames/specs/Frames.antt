@@ -1,5 +1,5 @@
 -- The frames of a client's stream (DAP overview, Base protocol).
-use Rattle.std.specs.Prelude.{◌≡◌, ℕ, ◌+◌, ◌<◌, ◌≤◌, List, [], ◌∷◌, ◌++◌, length, take, drop, nat_lt, if◌then◌else◌, codes, decimal}
+use Rattle.std.specs.Prelude.{◌≡◌, ℕ, ◌+◌, ◌<◌, ◌≤◌, List, ◌++◌, length, take, drop, nat_lt, if◌then◌else◌, codes, decimal}
 use Rattle.std.specs.Str.Parse.{IsNumeral, digits_value}
 use Rattle.wire_core.specs.Streams.{Front, waits, whole, faulty}
 use Rattle.dap_frames.specs.declared.fault.FrameFault.{FrameFault}

@@ -1,5 +1,5 @@
 -- How a header is read, byte by byte. `Framed` says what is read so.
-use Rattle.std.specs.Prelude.{ℕ, suc, ◌+◌, ◌-◌, ◌*◌, Bool, ◌&&◌, ◌||◌, not, ◌==◌, nat_lt, nat_le, if◌then◌else◌, List, [], ◌∷◌, slice_index}
+use Rattle.std.specs.Prelude.{ℕ, ◌+◌, ◌-◌, ◌*◌, Bool, ◌&&◌, ◌==◌, nat_lt, nat_le, if◌then◌else◌, List, [], ◌∷◌, slice_index}
 use Rattle.dap_frames.specs.declared.header.Reading.{Reading}
 use Rattle.dap_frames.specs.declared.header.Reading.TheVariants.{Name, Digits, End}
 use Rattle.dap_frames.specs.declared.header.Step.{Step}

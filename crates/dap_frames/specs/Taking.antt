@@ -1,5 +1,5 @@
 -- What a cutter keeps and answers.
-use Rattle.std.specs.Prelude.{◌≡◌, ℕ, ◌+◌, ◌-◌, ◌≤◌, List, length, take, drop, Ok, Err, None, Option, Result, IsOkAnd, IsSomeAnd}
+use Rattle.std.specs.Prelude.{◌≡◌, ℕ, ◌+◌, ◌≤◌, List, length, take, Ok, Err, None, Option, Result, IsOkAnd, IsSomeAnd}
 use Rattle.wire_core.specs.Streams.{Front, waits, whole, faulty, Uncut}
 use Rattle.dap_frames.specs.declared.fault.FrameFault.{FrameFault}
 use Rattle.dap_frames.specs.declared.fault.FrameTrouble.{FrameTrouble}

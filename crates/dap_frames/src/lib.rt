@@ -5,6 +5,11 @@ mod cutter;
 mod fault;
 mod front;
 mod header;
+pub mod laws;
+#[cfg(test)]
+mod tests;
+mod writing;
 
 pub use cutter::{Body, Cutter};
 pub use fault::{FrameFault, FrameTrouble};
+pub use writing::frame;

@@ -1,0 +1,41 @@
+//! What the frame at the front of a stream is, in the words of the protocol. Each law is a contract over all streams.
+ghost use Rattle.std.specs.Prelude.{◌≡◌, ◌≤◌, ℕ, ◌++◌, ◌↔◌, List, length, codes, decimal};
+ghost use Rattle.wire_core.specs.Streams.{waits, whole, faulty, uncut, fed, Uncut, HasNoWhole, Cuts, Reads, joined};
+ghost use Rattle.dap_frames.specs.Frames.{Frame, frame_front, frame_bytes, Begins, IsUnfinished, HasNoFrame};
+ghost use Rattle.dap_frames.specs.declared.fault.FrameFault.{FrameFault};
+ghost use Rattle.dap_frames.specs.declared.fault.FrameFault.TheVariants.{BadHeader};
+
+/// A body is handed out just where the bytes begin with a frame of it.
+pub fn found_is_a_frame()
+    ensures { (bytes : List ℕ) (frame : Frame) (n : ℕ) → (frame_front bytes ≡ whole frame n) ↔ Begins bytes frame n }
+{}
+
+/// Nothing is said yet just where the bytes are the beginning of a frame.
+pub fn waits_for_a_frame()
+    ensures { (bytes : List ℕ) → (frame_front bytes ≡ waits) ↔ IsUnfinished bytes }
+{}
+
+/// Bytes are refused, at the first of them, just where they neither begin with a frame nor are the beginning of one.
+pub fn refused_is_no_frame()
+    ensures refused { (bytes : List ℕ) (fault : FrameFault) (place : ℕ) → frame_front bytes ≡ faulty fault place
+        → (fault ≡ BadHeader) × (place ≡ 0) × HasNoFrame bytes }
+    ensures only { (bytes : List ℕ) → HasNoFrame bytes → frame_front bytes ≡ faulty BadHeader 0 }
+    ensures stays { (bytes more : List ℕ) (fault : FrameFault) (place : ℕ) → frame_front bytes ≡ faulty fault place
+        → frame_front (bytes ++ more) ≡ faulty fault place }
+{}
+
+/// What `frame` writes of a body that a client may send is handed out again, whatever follows it.
+pub fn written_is_found()
+    ensures { (body more : List ℕ) → length body ≤ 16777216
+        → frame_front (frame_bytes body ++ more)
+        ≡ whole (record { header = length (codes "Content-Length: " ++ decimal (length body) ++ codes "\r\n\r\n"); body = body })
+        (length (frame_bytes body)) }
+{}
+
+/// In whatever pieces a stream comes, the frames that are handed out are those of the whole stream, and no others are.
+pub fn any_pieces()
+    ensures handed { (pieces : List (List ℕ)) (frames : List (ℕ × Frame)) (left : Uncut) → Reads frame_front uncut pieces frames left
+        → HasNoWhole (frame_front left.pending) → Cuts frame_front (fed uncut (joined pieces)) frames left }
+    ensures only { (stream : Uncut) (frames others : List (ℕ × Frame)) (left rest : Uncut) → Cuts frame_front stream frames left
+        → Cuts frame_front stream others rest → (frames ≡ others) × (left ≡ rest) }
+{}
