@@ -1,0 +1,4 @@
+pub mod Fronts
+pub mod Greetings
+pub mod PacketLaws
+pub mod ReceivedLaws
