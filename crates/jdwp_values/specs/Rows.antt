@@ -1,0 +1,113 @@
+-- A row of a table is a list of parts. Its spelling is its parts' spellings one after the other, and it is read part by
+-- part from left to right, so that its fault is that of the first part that can't be read.
+use Rattle.std.specs.Prelude.{◌≡◌, ℕ, zero, suc, ◌<◌, ◌^◌, true, List, [], ◌∷◌, ◌++◌, length, Result, Ok, Err}
+use Rattle.std.specs.List.{flat_map, AllByRecursion}
+use Rattle.std.specs.Int.{bytes_high_first}
+use Rattle.jdwp_values.specs.declared.fault.ReadTrouble.{ReadTrouble}
+use Rattle.jdwp_values.specs.declared.fault.RowFault.{RowFault}
+use Rattle.jdwp_values.specs.declared.fault.RowFault.TheVariants as faults
+use Rattle.jdwp_values.specs.declared.limit.Limit.{Limit}
+use Rattle.jdwp_values.specs.declared.sizes.IdSizes.{IdSizes}
+use Rattle.jdwp_values.specs.Counts.{allows}
+use Rattle.jdwp_values.specs.Parts.{Part, count, Of}
+use Rattle.jdwp_values.specs.Reading.{Place, part_at}
+use Rattle.jdwp_values.specs.Spelling.{spell_part, FitsPart, InRangePart, Ends}
+
+-- the values of a row's parts
+abbrev pub Holds : List Part → Type 0
+Holds [] = Unit {0}
+Holds (p ∷ row) = Of p × Holds row
+
+-- what makes something of a row's values, one argument for each
+abbrev pub From : List Part → Type 0 → Type 0
+From [] A = A
+From (p ∷ row) A = Of p → From row A
+
+-- what is made of these values
+abbrev pub made : (row : List Part) {A : Type 0} → From row A → Holds row → A
+made [] make values = make
+made (p ∷ row) make values = made row (make values.0) values.1
+
+abbrev pub spell_row : IdSizes → (row : List Part) → Holds row → List ℕ
+spell_row sizes [] values = []
+spell_row sizes (p ∷ row) values = spell_part sizes p values.0 ++ spell_row sizes row values.1
+
+-- what was written, and the row behind it
+abbrev pub spelled_behind : IdSizes → List ℕ → (row : List Part) → Holds row → List ℕ
+spelled_behind sizes bytes [] values = bytes
+spelled_behind sizes bytes (p ∷ row) values = spelled_behind sizes (bytes ++ spell_part sizes p values.0) row values.1
+
+abbrev pub FitsRow : IdSizes → (row : List Part) → Holds row → Type 0
+FitsRow sizes [] values = Unit {0}
+FitsRow sizes (p ∷ row) values = FitsPart sizes p values.0 × FitsRow sizes row values.1
+
+abbrev pub InRangeRow : (row : List Part) → Holds row → Type 0
+InRangeRow [] values = Unit {0}
+InRangeRow (p ∷ row) values = InRangePart p values.0 × InRangeRow row values.1
+
+infixl 10 ◌>>=◌
+abbrev pub ◌>>=◌ : {A B E : Type 0} → Result A E → (A → Result B E) → Result B E
+(Ok x) >>= f = f x
+(Err e) >>= f = Err e
+
+-- a part of a row
+abbrev pub in_row : {A : Type 0} → Result A ReadTrouble → Result A RowFault
+in_row (Ok x) = Ok x
+in_row (Err trouble) = Err (faults.Part trouble)
+
+abbrev pub row_at : (row : List Part) {A : Type 0} → From row A → Place → Result (A × Place) RowFault
+row_at [] make place = Ok (make, place)
+row_at (p ∷ row) make place = in_row (part_at p place) >>= λ x. row_at row (make x.0) x.1
+
+-- so many of what a row's reading reads
+unfoldable pub times_at : {A : Type 0} → ℕ → (Place → Result (A × Place) RowFault) → Place → Result (List A × Place) RowFault
+times_at zero read place = Ok ([], place)
+times_at (suc n) read place = read place >>= λ first. times_at n read first.1 >>= λ others. Ok (first.0 ∷ others.0, others.1)
+
+-- a list: how many, and so many rows
+unfoldable pub list_at : {A : Type 0} → Limit → (Place → Result (A × Place) RowFault) → Place → Result (List A × Place) RowFault
+list_at limit read place = in_row (part_at (count limit) place) >>= λ n. times_at n.0 read n.1
+
+abbrev pub spell_list : {A : Type 0} → (A → List ℕ) → List A → List ℕ
+spell_list spell items = bytes_high_first 4 (length items) ++ flat_map spell items
+
+pub record FitsList {A : Type 0} (Fits : A → Type 0) (items : List A) : Type 0 where
+  pub count : length items < 2 ^ 31
+  pub each : AllByRecursion Fits items
+
+-- What a function that reads a row answers, seen by view, and where it leaves the reader. Memory may run out, which is
+-- the one free answer; after a fault the reader's place says nothing.
+abbrev pub Tells : {X Y : Type 0} → (X → Y) → Result (Y × Place) RowFault → Place → Result X RowFault → Type 0
+Tells view read new (Ok x) = read ≡ Ok (view x, new)
+Tells view read new (Err faults.NoMemory) = Unit {0}
+Tells view read new (Err (faults.Part trouble)) = read ≡ Err (faults.Part trouble)
+Tells view read new (Err (faults.BadKind at)) = read ≡ Err (faults.BadKind at)
+
+-- a row, and something behind it
+abbrev pub row_then_at : (row : List Part) {A B : Type 0} → From row (B → A) → (Place → Result (B × Place) RowFault) → Place → Result (A × Place) RowFault
+row_then_at row make read place = row_at row make place >>= λ front. read front.1 >>= λ last. Ok (front.0 last.0, last.1)
+
+-- a part with its value, as something that was made of a row says it
+pub data Said : Type 0 where
+  said : (p : Part) → Of p → Said
+
+abbrev pub spell_said : IdSizes → Said → List ℕ
+spell_said sizes (said p x) = spell_part sizes p x
+
+abbrev pub spell_told : IdSizes → List Said → List ℕ
+spell_told sizes [] = []
+spell_told sizes (s ∷ told) = spell_said sizes s ++ spell_told sizes told
+
+abbrev pub FitsSaid : IdSizes → Said → Type 0
+FitsSaid sizes (said p x) = FitsPart sizes p x
+
+abbrev pub FitsTold : IdSizes → List Said → Type 0
+FitsTold sizes [] = Unit {0}
+FitsTold sizes (s ∷ told) = FitsSaid sizes s × FitsTold sizes told
+
+abbrev pub InRangeSaid : Said → Type 0
+InRangeSaid (said p x) = InRangePart p x
+
+abbrev pub InRangeTold : List Said → Type 0
+InRangeTold [] = Unit {0}
+InRangeTold (s ∷ told) = InRangeSaid s × InRangeTold told

@@ -1,0 +1,11 @@
+use crate::id::{ClassId, MethodId};
+use crate::tag::TypeTag;
+
+/// A place in a method's code (JDWP, "location"). A null location has the tag `Nothing` or ids of 0.
+#[derive(Clone, Copy, Debug, PartialEq, Eq)]
+pub struct Location {
+    pub tag: TypeTag,
+    pub class: ClassId,
+    pub method: MethodId,
+    pub index: u64,
+}
