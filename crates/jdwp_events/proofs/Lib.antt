@@ -1,0 +1,4 @@
+pub mod KindLaws
+pub mod EventLaws
+pub mod ModifierLaws
+pub mod CompositeLaws

@@ -1,0 +1,4 @@
+pub mod Kinds
+pub mod Events
+pub mod Modifiers
+pub mod Composites

@@ -1,0 +1,12 @@
+//! What a target tells unasked: composites of events; and the kinds and modifiers of event requests.
+#![tactic(auto)]
+
+mod composite;
+mod event;
+mod kind;
+mod modifier;
+
+pub use composite::{Composite, CompositeFault, read_composite, write_composite};
+pub use event::Event;
+pub use kind::{EventKind, Policy};
+pub use modifier::Modifier;
