@@ -1,0 +1,6 @@
+use Rattle.dap_frames.proofs.FrameLaws.{front-steady}
+use Rattle.world_model.proofs.EndingLaws.{cause}
+use Rattle.world_model.proofs.laws.endings.Goals as goal
+
+pub returns : goal.returns
+returns c = λ log messages turns at s ending is. cause front-steady s ending is
