@@ -1,0 +1,13 @@
+use Rattle.std.proofs.Common.{◌-◌, ◌^◌}
+use Rattle.bridge_serve.specs.Following.{CoreGoesOn}
+use Rattle.bridge_serve.proofs.telling.tell.Given as goal
+
+-- the core has gone on from where it stood
+abbrev pub invariant-loop : goal.invariant-loop
+invariant-loop g l =
+    let outside = g.W.Wires.outside in
+    CoreGoesOn (outside l.initial.wires) (outside l.wires) l.initial.core l.core
+
+-- each message has a number of its own
+abbrev pub decreases-loop : goal.decreases-loop
+decreases-loop g l = 2 ^ 63 - l.core.told
