@@ -1,0 +1,140 @@
+"""What the scripts share: the program between a client and a target on the loopback interface."""
+import json
+import os
+import socket
+import subprocess
+import time
+
+TOP = os.path.dirname(os.path.dirname(os.path.abspath(__file__)))
+FOLDER = os.path.join(TOP, "crates", "bridge_cmd")
+PATIENCE = 20
+
+CAPABILITIES = {
+    "exceptionBreakpointFilters": [
+        {"filter": "caught", "label": "Caught exceptions"},
+        {"filter": "uncaught", "label": "Uncaught exceptions"},
+    ],
+    "supportTerminateDebuggee": True,
+    "supportsConfigurationDoneRequest": True,
+    "supportsEvaluateForHovers": True,
+    "supportsExceptionInfoRequest": True,
+    "supportsFunctionBreakpoints": True,
+    "supportsSetVariable": True,
+}
+
+
+def compact(value):
+    return json.dumps(value, sort_keys=True, separators=(",", ":"), ensure_ascii=False).encode()
+
+
+def request(seq, command, arguments=None):
+    message = {"seq": seq, "type": "request", "command": command}
+    if arguments is not None:
+        message["arguments"] = arguments
+    return json.dumps(message, separators=(",", ":")).encode()
+
+
+def response(seq, request_seq, command, body=None):
+    message = {"seq": seq, "type": "response", "request_seq": request_seq, "command": command, "success": True}
+    if body is not None:
+        message["body"] = body
+    return compact(message)
+
+
+INITIALIZED = response(1, 1, "initialize", CAPABILITIES)
+DISCONNECTED = response(2, 2, "disconnect")
+
+
+def built():
+    """Proves and builds the program, which is run without words by this, and gives its path."""
+    subprocess.run(["rt", "run"], cwd=FOLDER, stdout=subprocess.DEVNULL, stderr=subprocess.DEVNULL, check=False)
+    return os.path.join(FOLDER, "out", "bridge_cmd")
+
+
+def free_port():
+    with socket.socket() as probe:
+        probe.bind(("127.0.0.1", 0))
+        return probe.getsockname()[1]
+
+
+def dial(port):
+    """A connection to a port that is bound before long."""
+    end = time.monotonic() + PATIENCE
+    while True:
+        try:
+            return socket.create_connection(("127.0.0.1", port), timeout=PATIENCE)
+        except ConnectionRefusedError:
+            if time.monotonic() > end:
+                raise
+            time.sleep(0.02)
+
+
+class Client:
+    """A client's end of the link: bodies go out and come in as frames."""
+
+    def __init__(self, stream):
+        self.stream = stream
+        self.rest = b""
+
+    def send(self, body, by=None):
+        """Sends a frame, whole or so many bytes at a time."""
+        frame = b"Content-Length: %d\r\n\r\n" % len(body) + body
+        step = by or len(frame)
+        for start in range(0, len(frame), step):
+            self.stream.sendall(frame[start : start + step])
+            if by:
+                time.sleep(0.001)
+
+    def receive(self):
+        """The body of the next frame; an error where the stream ends before it."""
+        while True:
+            header, found, behind = self.rest.partition(b"\r\n\r\n")
+            if found:
+                length = int(header.split(b":")[1])
+                if len(behind) >= length:
+                    self.rest = behind[length:]
+                    return behind[:length]
+            piece = self.stream.recv(65536)
+            if not piece:
+                raise EOFError("the program closed the client's link")
+            self.rest += piece
+
+    def close(self):
+        self.stream.close()
+
+
+class Bridge:
+    """The program, run with a listener of this script as its target."""
+
+    def __init__(self, program):
+        self.listener = socket.create_server(("127.0.0.1", 0))
+        self.listener.settimeout(PATIENCE)
+        self.port = free_port()
+        target = self.listener.getsockname()[1]
+        words = ["serve", "--listen", "127.0.0.1:%d" % self.port, "--target", "127.0.0.1:%d" % target]
+        self.process = subprocess.Popen([program, *words])
+        self.target, _ = self.listener.accept()
+        self.target.settimeout(PATIENCE)
+
+    def __enter__(self):
+        return self
+
+    def __exit__(self, *_):
+        if self.process.poll() is None:
+            self.process.kill()
+            self.process.wait()
+        self.target.close()
+        self.listener.close()
+
+    def client(self):
+        return Client(dial(self.port))
+
+    def status(self):
+        return self.process.wait(PATIENCE)
+
+    def heard_by_target(self):
+        """All bytes that the target was sent on its link, up to the link's end."""
+        heard = b""
+        while piece := self.target.recv(65536):
+            heard += piece
+        return heard
