@@ -193,16 +193,8 @@ impl<R: Net + Clock + Drop> TcpWires<R> {
             }
         }
         thread::sleep(&self.rt, Duration::from_micros(SLEEP_MICROS));
-        match self.ask_both(buffer) {
-            Some(happening) => {
-                self.polls = POLLS_AFTER_TRAFFIC;
-                happening
-            }
-            None => {
-                self.polls = 1;
-                Happening::Quiet
-            }
-        }
+        self.polls = 1;
+        Happening::Quiet
     }
 }
 
@@ -344,6 +336,7 @@ fn send_all<S: Write>(clock: &impl Clock, stream: &mut Option<S>, bytes: &[u8]) 
     let mut rest = bytes;
     for _ in 0..u64::MAX {
         match stream.write(rest) {
+            Ok(0) => return Sent::Broken,
             Ok(n) => rest = &rest[n..],
             Err(e) => {
                 if is_closed(e.kind()) {
@@ -406,6 +399,8 @@ mod tests {
     use std::process::Abort;
     use std::test::Fail;
 
+    type Wired<'a> = TcpWires<&'a HostRuntime>;
+
     // Wires over these streams, opened just now.
     fn over<R: Net + Clock + Drop>(
         rt: R,
@@ -417,16 +412,61 @@ mod tests {
         wires.tally.links = wires.tally.links.opened();
         wires.tally.asked = Some(names);
         wires.dialled = Some(Instant::now(&wires.rt)?);
-        wires.client = Some(ready(client)?);
-        wires.target = Some(ready(target)?);
+        wires.client = Some(client);
+        wires.target = Some(target);
         Ok(wires)
     }
 
-    fn next<R: Net + Clock + Drop>(
+    // A stream to a target that drops it at once.
+    fn dropped(rt: &HostRuntime, listener: &TcpListener) -> io::Result<TcpStream> {
+        let stream = TcpStream::connect(rt, listener.local_addr()?)?;
+        listener.accept()?;
+        Ok(stream)
+    }
+
+    // A client that has sent three bytes, behind a connection that has ended and one that is silent: the stream that
+    // is taken for its own, and its end.
+    fn client(rt: &HostRuntime, listener: &TcpListener) -> io::Result<(TcpStream, TcpStream)> {
+        let address = listener.local_addr()?;
+        drop(TcpStream::connect(rt, address)?);
+        let _silent = TcpStream::connect(rt, address)?;
+        let mut editor = TcpStream::connect(rt, address)?;
+        editor.write_all(b"abc")?;
+        let stream = accept(rt, listener)?;
+        listener.set_nonblocking(false)?;
+        Ok((stream, editor))
+    }
+
+    // Wires over both, and the client's end.
+    fn wired<'a>(
+        rt: &'a HostRuntime,
+        listener: &TcpListener,
+    ) -> Result<(Wired<'a>, TcpStream), Fail> {
+        let alloc = rt.alloc();
+        let target = dropped(rt, listener)?;
+        let (client, editor) = client(rt, listener)?;
+        let names = Names {
+            listen: Text::from_str(alloc, "127.0.0.1:0")?,
+            target: Text::from_string(listener.local_addr()?.to_string(alloc)?),
+        };
+        Ok((over(rt, names, client, ready(target)?)?, editor))
+    }
+
+    // The target that the first send dials again, once it has shaken hands.
+    fn shaken(
         rt: &impl Abort,
-        wires: &mut TcpWires<R>,
-        buffer: &mut [u8],
-    ) -> Happening
+        wires: &mut Wired<'_>,
+        listener: &TcpListener,
+    ) -> io::Result<TcpStream> {
+        send(rt, wires, Side::Target, b"JDWP-Handshake");
+        let (mut machine, _) = listener.accept()?;
+        let mut got = [0; 16];
+        assert_eq!(rt; machine.read(&mut got)?, 14);
+        machine.write_all(b"JDWP-Handshake")?;
+        Ok(machine)
+    }
+
+    fn next(rt: &impl Abort, wires: &mut Wired<'_>, buffer: &mut [u8]) -> Happening
         requires { length buffer.old ≡ 65536 }
     {
         let side = wires.tally.links.first();
@@ -435,11 +475,7 @@ mod tests {
     }
 
     // What is heard next, waits in vain left out.
-    fn hear<R: Net + Clock + Drop>(
-        rt: &impl Abort,
-        wires: &mut TcpWires<R>,
-        buffer: &mut [u8],
-    ) -> Happening
+    fn hear(rt: &impl Abort, wires: &mut Wired<'_>, buffer: &mut [u8]) -> Happening
         requires { length buffer.old ≡ 65536 }
     {
         for _ in 0..1000 {
@@ -451,12 +487,7 @@ mod tests {
         Happening::Quiet
     }
 
-    fn send<R: Net + Clock + Drop>(
-        rt: &impl Abort,
-        wires: &mut TcpWires<R>,
-        side: Side,
-        bytes: &[u8],
-    )
+    fn send(rt: &impl Abort, wires: &mut Wired<'_>, side: Side, bytes: &[u8])
         requires { 0 < length bytes.now }
     {
         assert!(rt; wires.tally.links.is_open(side));
@@ -465,43 +496,22 @@ mod tests {
 
     #[test]
     fn bytes_go_both_ways(rt: HostRuntime) -> Result<(), Fail> {
-        let alloc = rt.alloc();
         let listener = TcpListener::bind(&rt, "127.0.0.1:0")?;
-        let address = listener.local_addr()?;
-        let dropped = TcpStream::connect(&rt, address)?;
-        let (first, _) = listener.accept()?;
+        let (mut wires, mut editor) = wired(&rt, &listener)?;
+        let mut buffer = zeros(rt.alloc(), 65_536)?;
 
-        // A connection that ends at once and a silent one are passed over.
-        drop(TcpStream::connect(&rt, address)?);
-        let _silent = TcpStream::connect(&rt, address)?;
-        let mut editor = TcpStream::connect(&rt, address)?;
-        editor.write_all(b"abc")?;
-        let client = accept(&rt, &listener)?;
-        listener.set_nonblocking(false)?;
-        let names = Names {
-            listen: Text::from_str(alloc, "127.0.0.1:0")?,
-            target: Text::from_string(address.to_string(alloc)?),
-        };
-        let mut wires = over(&rt, names, client, dropped)?;
-        let mut buffer = zeros(alloc, 65_536)?;
-
-        // The target drops the link on which nothing went: nobody hears of it, and the first send dials again.
-        drop(first);
+        // Nobody hears that the target dropped its link, and the first send dials again.
         assert_eq!(rt;
             hear(&rt, &mut wires, &mut buffer),
             Happening::Bytes(Side::Client, 3)
         );
-        send(&rt, &mut wires, Side::Target, b"JDWP-Handshake");
-        let (mut machine, _) = listener.accept()?;
-        let mut got = [0; 16];
-        assert_eq!(rt; machine.read(&mut got)?, 14);
-        machine.write_all(b"JDWP-Handshake")?;
+        let machine = shaken(&rt, &mut wires, &listener)?;
         assert_eq!(rt;
             hear(&rt, &mut wires, &mut buffer),
             Happening::Bytes(Side::Target, 14)
         );
         send(&rt, &mut wires, Side::Client, b"de");
-        assert_eq!(rt; editor.read(&mut got)?, 2);
+        assert_eq!(rt; editor.read(&mut [0; 16])?, 2);
         drop(machine);
         assert_eq!(rt;
             hear(&rt, &mut wires, &mut buffer),
