@@ -1,5 +1,7 @@
 pub mod Heads
+pub mod Names
+pub mod Lines
+pub mod LinesBack
 pub mod Fronts
-pub mod Headers
 pub mod FrameLaws
 pub mod Unfinished

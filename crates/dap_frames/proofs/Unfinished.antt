@@ -1,179 +1,159 @@
--- What waits can go on to be a frame, and what is refused can't.
-use Rattle.std.proofs.Common.{◌≡◌, ℕ, ◌+◌, ◌-◌, ◌<◌, ◌≤◌, Bool, true, false, ◌&&◌, cond, ltb, leb, eqb, List, [], ◌∷◌, ◌++◌, length, get_or, take, drop, refl, sym, ap, subst, ◌∙◌, arith, inl, inr, append_assoc, replicate}
+-- What waits can go on to be a frame; what is refused can't, and what stands before it can.
+use Rattle.std.proofs.Common.{◌≡◌, ℕ, zero, suc, ◌+◌, ◌-◌, ◌*◌, ◌<◌, ◌≤◌, Bool, true, false, cond, ltb, List, [], ◌∷◌, ◌++◌, length, take, drop, replicate, Option, Some, None, refl, sym, ap, subst, ◌∙◌, arith, ◌⊎◌, inl, inr, append_assoc}
 use Rattle.std.specs.Prelude.{codes}
-use Rattle.std.proofs.lemmas.Bool.{and_parts, ltb-true, lt-ltb, leb-true, eqb-false, cases_eq}
-use Rattle.std.proofs.lemmas.List.{append-nil, length-append, length-drop, length-replicate, nil_from_length}
+use Rattle.std.specs.Str.Parse.{digits_value}
+use Rattle.std.proofs.lemmas.Bool.{ltb-true, ltb-false, lt-ltb, eqb-true, cases_Bool, cases_eq}
+use Rattle.std.proofs.lemmas.List.{append-nil, take-append-drop, take-take, take_all, length-append, length-take, length-replicate, nil_from_length}
 use Rattle.wire_core.specs.Streams.{Front, waits, whole, faulty}
 use Rattle.dap_frames.specs.declared.fault.FrameFault.{FrameFault}
-use Rattle.dap_frames.specs.declared.fault.FrameFault.TheVariants.{BadHeader}
+use Rattle.dap_frames.specs.declared.fault.FrameFault.TheVariants.{HeaderTooLong}
 use Rattle.dap_frames.specs.declared.header.Reading.{Reading}
-use Rattle.dap_frames.specs.declared.header.Reading.TheVariants.{Name, Digits, End}
+use Rattle.dap_frames.specs.declared.header.Reading.TheVariants.{Line, Name, Digits, Value, LineEnd, End}
 use Rattle.dap_frames.specs.declared.header.Step.{Step}
 use Rattle.dap_frames.specs.declared.header.Step.TheVariants.{Goes, Ends, Refused}
 use Rattle.dap_frames.specs.declared.header.Head.{Head}
 use Rattle.dap_frames.specs.declared.header.Head.TheVariants as heads
-use Rattle.dap_frames.specs.declared.header.TheConstants.{NAME, END, MOST_DIGITS, LONGEST_BODY}
-use Rattle.dap_frames.specs.Reading.{step, after_step, head, later, onward, is_digit, with_digit}
-use Rattle.dap_frames.specs.Frames.{Frame, IsHeader, IsFrame, IsUnfinished, HasNoFrame, header_of, front_by, frame_front}
-use Rattle.dap_frames.proofs.Heads.{head-append}
-use Rattle.dap_frames.proofs.Fronts.{front-refused}
-use Rattle.dap_frames.proofs.Headers.{text-read, header-is}
-use Rattle.dap_frames.proofs.FrameLaws.{front-steady, frame-found, frame-is, faulty-is}
+use Rattle.dap_frames.specs.Reading.{step, after_step, head, later, onward, is_length_name, behind_name, next_match}
+use Rattle.dap_frames.specs.Frames.{Frame, IsHeader, IsLongHeader, IsFrame, Begins, IsPart, IsUnfinished, HasNoFrame, HasNoHeader, IsRefused, header_of, front_by, frame_front}
+use Rattle.dap_frames.proofs.Heads.{head-append, head-refused}
+use Rattle.dap_frames.proofs.Lines.{header-read}
+use Rattle.dap_frames.proofs.LinesBack.{IsFront, Next, same_line, next_line, step-front, header-is}
+use Rattle.dap_frames.proofs.Fronts.{start_of, reads-is, ends-is, refused-is, bounded-is, bounded-read, front-reads, front-short}
+use Rattle.dap_frames.proofs.FrameLaws.{frame-found, faulty-is}
 
--- what is read from a header's first byte on
-IsReading : Reading → Type 0
-IsReading (Name read) = read < 16
-IsReading (Digits count value) = (count ≤ 8) × (value ≤ 16777216) × (count ≡ 0 → value ≡ 0)
-IsReading (End value read) = (read < 4) × (value ≤ 16777216)
+-- ---- bytes that end the header from here
 
--- one more byte keeps it so
-step-kept : (r t : Reading) (b : ℕ) → IsReading r → step r b ≡ Goes t → IsReading t
-unfolding IsReading
-step-kept (Name read) t b is e = by (ltb read 16 && eqb (get_or NAME read 0) b) (eqb read 15) refl e
-  where
-    by : (here end : Bool) → eqb read 15 ≡ end → cond here (cond end (Goes (Digits 0 0)) (Goes (Name (read + 1)))) Refused ≡ Goes t → IsReading t
-    by true true end e =
-        let same : Digits 0 0 ≡ t = cc in
-        subst IsReading same (omega arith, omega arith, λ _. refl)
-    by true false end e =
-        let same : Name (read + 1) ≡ t = cc in
-        let before : read ≡ 15 → ⊥ = eqb-false read 15 end in
-        subst IsReading same (omega arith)
-    by false end at e = absurd cc
-step-kept (Digits count value) t b is e =
-    by (eqb b 13 && ltb 0 count) ((is_digit b && ltb count MOST_DIGITS) && leb (with_digit value b) LONGEST_BODY) refl e
-  where
-    by : (ended more : Bool) → ((is_digit b && ltb count MOST_DIGITS) && leb (with_digit value b) LONGEST_BODY) ≡ more
-        → cond ended (Goes (End value 1)) (cond more (Goes (Digits (count + 1) (with_digit value b))) Refused) ≡ Goes t → IsReading t
-    by true more test e =
-        let same : End value 1 ≡ t = cc in
-        subst IsReading same (omega arith, is.1)
-    by false true test e =
-        let same : Digits (count + 1) (with_digit value b) ≡ t = cc in
-        let parts = and_parts (is_digit b && ltb count MOST_DIGITS) (leb (with_digit value b) LONGEST_BODY) test in
-        let fewer : count < 8 = ltb-true count 8 (and_parts (is_digit b) (ltb count MOST_DIGITS) parts.0).1 in
-        subst IsReading same (omega arith, leb-true (with_digit value b) 16777216 parts.1, λ none. absurd (omega arith))
-    by false false test e = absurd cc
-step-kept (End value read) t b is e = by (ltb read 4 && eqb (get_or END read 0) b) (eqb read 3) refl e
-  where
-    by : (here end : Bool) → eqb read 3 ≡ end → cond here (cond end (Ends value) (Goes (End value (read + 1)))) Refused ≡ Goes t → IsReading t
-    by true true end e = absurd cc
-    by true false end e =
-        let same : End value (read + 1) ≡ t = cc in
-        let before : read ≡ 3 → ⊥ = eqb-false read 3 end in
-        subst IsReading same (omega (arith, is.0), is.1)
-    by false end at e = absurd cc
-
-head-kept : (xs : List ℕ) (r t : Reading) → IsReading r → head r xs ≡ heads.Reads t → IsReading t
-head-kept [] r t is e = let same : r ≡ t = cc in subst IsReading same is
-head-kept (x ∷ xs) r t is e = by (step r x) refl e (λ s. head-kept xs s t)
-  where
-    inner : (h : Head) → later 1 h ≡ heads.Reads t → h ≡ heads.Reads t
-    inner (heads.Reads s) e = e
-    inner (heads.Ends n h) e = absurd cc
-    inner heads.Refused e = absurd cc
-
-    by : (s : Step) → step r x ≡ s → after_step s (λ t. head t xs) ≡ heads.Reads t
-        → ((s : Reading) → IsReading s → head s xs ≡ heads.Reads t → IsReading t) → IsReading t
-    by (Goes s) goes e rest = rest s (step-kept r s x is goes) (inner (head s xs) e)
-    by (Ends n) goes e rest = absurd cc
-    by Refused goes e rest = absurd cc
-
--- bytes that end a header from here
 record Ending (r : Reading) : Type 0 where
   text : List ℕ
   some : 0 < length text
   value : ℕ
   ends : head r text ≡ heads.Ends value (length text)
 
--- a length that has a digit ends with two ends of a line
-end-length : (count value : ℕ) → 0 < count → head (Digits count value) (codes "\r\n\r\n") ≡ heads.Ends value 4
-end-length count value some =
-    let goes : step (Digits count value) 13 ≡ Goes (End value 1) = rw (lt-ltb 0 count some) refl in
-    ap (λ s. after_step s (λ t. head t (10 ∷ 13 ∷ 10 ∷ []))) goes
-
-ending : (r : Reading) → IsReading r → Ending r
-unfolding IsReading
-ending (Name read) is = record {
-  text = drop read NAME ++ codes "0\r\n\r\n";
-  some = omega (arith, length-append (drop read NAME) (codes "0\r\n\r\n"));
-  value = 0;
-  ends = text-read NAME 15 refl Name (Goes (Digits 0 0)) (λ p b. refl) (15 - read) read (codes "0\r\n\r\n") (omega arith)
-      ∙ ap (λ (k : ℕ). heads.Ends 0 k) (omega (arith, length-append (drop read NAME) (codes "0\r\n\r\n"), length-drop read NAME));
+-- one byte, and then those that end it
+leads : (r t : Reading) (b : ℕ) → step r b ≡ Goes t → Ending t → Ending r
+leads r t b goes e = record {
+  text = b ∷ e.text;
+  some = omega arith;
+  value = e.value;
+  ends = ap (λ s. after_step s (λ u. head u e.text)) goes ∙ ap (later 1) e.ends ∙ ap (λ (k : ℕ). heads.Ends e.value k) (omega arith);
 }
-ending (Digits count value) is =
-    elim (cases_eq count 0) [
-      | inl none ↦ record {
-        text = codes "0\r\n\r\n";
-        some = omega arith;
-        value = 0;
-        ends = let nothing : value ≡ 0 = is.2 none in
-            ap (λ (c : ℕ). head (Digits c value) (codes "0\r\n\r\n")) none ∙ ap (λ (v : ℕ). head (Digits 0 v) (codes "0\r\n\r\n")) nothing;
-      }
-      | inr some ↦ record {
-        text = codes "\r\n\r\n";
-        some = omega arith;
-        value = value;
-        ends = let more : 0 < count = omega arith in end-length count value more;
-      }
+
+line-ending : (said : Option ℕ) → Ending (Line said)
+line-ending None = record { text = codes "Content-Length:0\r\n\r\n"; some = omega arith; value = 0; ends = refl }
+line-ending (Some n) = record { text = codes "\r\n"; some = omega arith; value = n; ends = refl }
+
+line-end-ending : (said : Option ℕ) → Ending (LineEnd said)
+line-end-ending said = leads (LineEnd said) (Line said) 10 refl (line-ending said)
+
+value-ending : (said : Option ℕ) → Ending (Value said)
+value-ending said = leads (Value said) (LineEnd said) 13 refl (line-end-ending said)
+
+-- a name that isn't `Content-Length`
+other-ending : (said m : Option ℕ) → is_length_name m ≡ false → Ending (Name said m)
+other-ending said m other =
+    leads (Name said m) (Value said) 58 (ap (λ (t : Bool). behind_name said t) other) (value-ending said)
+
+-- one that is goes on with a letter
+name-ending : (said m : Option ℕ) → Ending (Name said m)
+name-ending said None = other-ending said None refl
+name-ending said (Some k) =
+    elim (cases_Bool (is_length_name (Some k))) [
+      | inl says ↦
+          leads (Name said (Some k)) (Name said None) 120
+          (ap (λ (j : ℕ). Goes (Name said (next_match (Some j) 120))) (eqb-true k 14 says)) (other-ending said None refl)
+      | inr none ↦ other-ending said (Some k) none
     ]
-ending (End value read) is = record {
-  text = drop read END ++ [];
-  some = omega (arith, length-append (drop read END) [], length-drop read END, is.0);
-  value = value;
-  ends = text-read END 3 refl (End value) (Ends value) (λ p b. refl) (3 - read) read [] (omega (arith, is.0))
-      ∙ ap (λ (k : ℕ). heads.Ends value k) (omega (arith, length-append (drop read END) [], length-drop read END, is.0));
-}
 
--- bytes that end the header of these
-record Ended (bytes : List ℕ) : Type 0 where
-  text : List ℕ
-  some : 0 < length text
-  value : ℕ
-  is_header : IsHeader (bytes ++ text) value
+digits-ending : (count value : ℕ) → (count ≡ 0 → value ≡ 0) → Ending (Digits count value)
+digits-ending count value empty =
+    elim (cases_eq count 0) [
+      | inl none ↦
+          leads (Digits count value) (Digits 1 0) 48
+          (ap (λ (c : ℕ). step (Digits c value) 48) none ∙ ap (λ (v : ℕ). step (Digits 0 v) 48) (empty none))
+          (leads (Digits 1 0) (LineEnd (Some 0)) 13 refl (line-end-ending (Some 0)))
+      | inr some ↦
+          let more : 0 < count = omega arith in
+          leads (Digits count value) (LineEnd (Some value)) 13 (digit-end count value more) (line-end-ending (Some value))
+    ]
+  where
+    digit-end : (c v : ℕ) → 0 < c → step (Digits c v) 13 ≡ Goes (LineEnd (Some v))
+    digit-end c v some = rw (lt-ltb 0 c some) refl
 
-all-header : (bytes : List ℕ) (value : ℕ) → header_of bytes ≡ heads.Ends value (length bytes) → IsHeader bytes value
+ending : (r : Reading) (said : Option ℕ) (front : List ℕ) → IsFront r said front → Ending r
+ending (Line length) said front is = line-ending length
+ending (Name length m) said front is = name-ending length m
+ending (Digits count value) said front is =
+    digits-ending count value (λ none. let len = is.1.len in
+    let empty : is.1.digits ≡ [] = nil_from_length is.1.digits (omega arith) in
+    sym is.1.is ∙ ap (λ (l : List ℕ). digits_value 10 l) empty)
+ending (Value length) said front is = value-ending length
+ending (LineEnd length) said front is = line-end-ending length
+ending (End n) said front is = record { text = 10 ∷ []; some = omega arith; value = n; ends = refl }
+
+-- ---- what is read from a header's first byte on
+
+record Reached (r : Reading) : Type 0 where
+  said : Option ℕ
+  front : List ℕ
+  is : IsFront r said front
+
+reached : (xs : List ℕ) (r t : Reading) (said : Option ℕ) (front : List ℕ) → IsFront r said front → head r xs ≡ heads.Reads t → Reached t
+reached [] r t said front is e =
+    let same : r ≡ t = cc in
+    subst (λ (u : Reading). Reached u) same (record { said = said; front = front; is = is })
+reached (x ∷ xs) r t said front is e = by (step r x) refl e (λ u s f. reached xs u t s f)
+  where
+    inner : (h : Head) → later 1 h ≡ heads.Reads t → h ≡ heads.Reads t
+    inner (heads.Reads s) e = e
+    inner (heads.Ends n h) e = absurd cc
+    inner (heads.Refused f p) e = absurd cc
+
+    next : (u : Reading) → Next u said (front ++ x ∷ []) → head u xs ≡ heads.Reads t
+        → ((v : Reading) (s : Option ℕ) (f : List ℕ) → IsFront v s f → head v xs ≡ heads.Reads t → Reached t) → Reached t
+    next u (same_line is_front) e rest = rest u said (front ++ x ∷ []) is_front e
+    next u (next_line after line_is is_line) e rest = rest (Line after) after [] (refl, refl) (ap (λ (v : Reading). head v xs) (sym line_is) ∙ e)
+
+    by : (s : Step) → step r x ≡ s → after_step s (λ u. head u xs) ≡ heads.Reads t
+        → ((v : Reading) (s : Option ℕ) (f : List ℕ) → IsFront v s f → head v xs ≡ heads.Reads t → Reached t) → Reached t
+    by (Goes u) goes e rest = next u (step-front r u x said front is goes) (inner (head u xs) e) rest
+    by (Ends n) goes e rest = absurd cc
+    by (Refused f) goes e rest = absurd cc
+
+-- ---- parts of frames
+
+-- bytes that are a header, all of them
+all-header : (bytes : List ℕ) (value : ℕ) → head (Line None) bytes ≡ heads.Ends value (length bytes) → IsLongHeader bytes value
 all-header bytes value e =
     let found = header-is bytes value (length bytes) e in
     let len = found.len in
     let none : found.rest ≡ [] = nil_from_length found.rest (omega (arith, ap length found.parts, length-append found.header found.rest)) in
     let same : found.header ≡ bytes = sym (found.parts ∙ ap (λ (l : List ℕ). found.header ++ l) none ∙ append-nil found.header) in
-    subst (λ (l : List ℕ). IsHeader l value) same found.is_header
+    subst (λ (l : List ℕ). IsLongHeader l value) same found.is_header
 
-header-ended : (bytes : List ℕ) (r : Reading) → header_of bytes ≡ heads.Reads r → Ended bytes
-unfolding IsReading
-header-ended bytes r e =
-    let start : IsReading (Name 0) = omega arith in
-    let last = ending r (head-kept bytes (Name 0) r start e) in
+-- what is still read is a part of a frame with as many zeros as its body has
+pub part-of-reads : (bytes : List ℕ) (r : Reading) → head (Line None) bytes ≡ heads.Reads r → IsPart bytes
+part-of-reads bytes r e =
+    let at = reached bytes (Line None) r None [] (refl, refl) e in
+    let last = ending r at.said at.front at.is in
+    let zeros : List ℕ = replicate last.value 0 in
+    let some = last.some in
+    let all : IsLongHeader (bytes ++ last.text) last.value =
+    all-header (bytes ++ last.text) last.value
+    (head-append (Line None) bytes last.text ∙ ap (λ (h : Head). onward (length bytes) h last.text) e ∙ ap (later (length bytes)) last.ends
+    ∙ ap (λ (k : ℕ). heads.Ends last.value k) (sym (length-append bytes last.text))) in
     record {
-      text = last.text;
-      some = last.some;
-      value = last.value;
-      is_header = all-header (bytes ++ last.text) last.value
-          (head-append (Name 0) bytes last.text ∙ ap (λ (h : Head). onward (length bytes) h last.text) e ∙ ap (later (length bytes)) last.ends
-          ∙ ap (λ (k : ℕ). heads.Ends last.value k) (sym (length-append bytes last.text)));
-    }
-
--- a header that ends with as many zeros as its body has
-with-zeros : (bytes : List ℕ) → Ended bytes → IsUnfinished bytes
-with-zeros bytes e =
-    let zeros : List ℕ = replicate e.value 0 in
-    let some = e.some in
-    record {
-      more = e.text ++ zeros;
-      some = omega (arith, length-append e.text zeros);
+      more = last.text ++ zeros;
+      some = omega (arith, length-append last.text zeros);
+      header = bytes ++ last.text;
       body = zeros;
-      is_frame = record {
-        header = bytes ++ e.text;
-        is_header = subst (λ (k : ℕ). IsHeader (bytes ++ e.text) k) (sym (length-replicate e.value 0)) e.is_header;
-        parts = sym (append_assoc bytes e.text zeros);
-      };
+      is_header = subst (λ (k : ℕ). IsLongHeader (bytes ++ last.text) k) (sym (length-replicate last.value 0)) all;
+      parts = sym (append_assoc bytes last.text zeros);
     }
 
 -- a body that isn't whole goes on with zeros
-body-unfinished : (bytes : List ℕ) (n h : ℕ) → header_of bytes ≡ heads.Ends n h → length bytes < h + n → IsUnfinished bytes
-body-unfinished bytes n h e short =
-    let header = header-is bytes n h e in
+part-of-body : (bytes : List ℕ) (n h : ℕ) → header_of bytes ≡ heads.Ends n h → length bytes < h + n → IsPart bytes
+part-of-body bytes n h e short =
+    let header = bounded-is bytes n h e in
     let len = header.len in
     let missing : ℕ = n - length header.rest in
     let zeros : List ℕ = replicate missing 0 in
@@ -182,94 +162,202 @@ body-unfinished bytes n h e short =
     record {
       more = zeros;
       some = omega arith;
+      header = header.header;
       body = header.rest ++ zeros;
-      is_frame = record {
-        header = header.header;
-        is_header = subst (λ (k : ℕ). IsHeader header.header k) (omega (arith, length-append header.rest zeros)) header.is_header;
-        parts = ap (λ (l : List ℕ). l ++ zeros) header.parts ∙ append_assoc header.header header.rest zeros;
-      };
+      is_header = subst (λ (k : ℕ). IsLongHeader header.header k) (omega (arith, length-append header.rest zeros)) header.is_header.is_long;
+      parts = ap (λ (l : List ℕ). l ++ zeros) header.parts ∙ append_assoc header.header header.rest zeros;
     }
 
--- What waits is the beginning of a frame.
+-- ---- what waits
+
 pub waits-is : (bytes : List ℕ) → frame_front bytes ≡ waits → IsUnfinished bytes
+unfolding frame_front
 waits-is bytes e = by (header_of bytes) refl e
   where
     found : (n h : ℕ) (short : Bool) → header_of bytes ≡ heads.Ends n h → ltb (length bytes) (h + n) ≡ short → (m : Frame) (k : ℕ)
         → (let it : Front Frame FrameFault = cond short waits (whole m k) in it ≡ waits) → IsUnfinished bytes
-    found n h true says test m k e = body-unfinished bytes n h says (ltb-true (length bytes) (h + n) test)
+    found n h true says test m k e =
+        let header = bounded-is bytes n h says in
+        record {
+          is_part = part-of-body bytes n h says (ltb-true (length bytes) (h + n) test);
+          in_bounds = inr (header.header, header.rest, n, header.is_header, header.parts);
+        }
     found n h false says test m k e = absurd cc
 
     by : (h : Head) → header_of bytes ≡ h → front_by h bytes ≡ waits → IsUnfinished bytes
-    by (heads.Reads r) says e = with-zeros bytes (header-ended bytes r says)
+    by (heads.Reads r) says e =
+        let u = reads-is bytes r says in
+        record { is_part = part-of-reads bytes r u.says; in_bounds = inl u.few }
     by (heads.Ends n h) says e =
         found n h (ltb (length bytes) (h + n)) says refl (record { header = h; body = take n (drop h bytes) }) (h + n) e
-    by heads.Refused says e = absurd cc
+    by (heads.Refused f p) says e = absurd cc
+
+-- a header of any length at the front says what it says
+long-read : (bytes header body rest : List ℕ) → IsLongHeader header (length body) → bytes ≡ (header ++ body) ++ rest
+    → head (Line None) bytes ≡ heads.Ends (length body) (length header)
+long-read bytes header body rest is parts =
+    ap (head (Line None)) (parts ∙ append_assoc header body rest) ∙ header-read header (length body) (body ++ rest) is
+
+ends-one : (m n h k : ℕ) → heads.Ends m h ≡ heads.Ends n k → (m ≡ n) × (h ≡ k)
+ends-one m n h k e = (cc, cc)
+
+-- a header that ended in the front is that of the whole
+same-header : (bytes more : List ℕ) (p : IsPart bytes) (n h : ℕ) → head (Line None) bytes ≡ heads.Ends n h → (n ≡ length p.body) × (h ≡ length p.header)
+same-header bytes more p n h e =
+    ends-one n (length p.body) h (length p.header)
+    (sym (head-append (Line None) bytes p.more ∙ ap (λ (x : Head). onward (length bytes) x p.more) e)
+    ∙ long-read (bytes ++ p.more) p.header p.body [] p.is_header (p.parts ∙ sym (append-nil (p.header ++ p.body))))
+
+part-size : (bytes : List ℕ) (p : IsPart bytes) → length bytes < length p.header + length p.body
+part-size bytes p =
+    let some = p.some in
+    omega (arith, ap length p.parts, length-append bytes p.more, length-append p.header p.body)
+
+pub waits-from : (bytes : List ℕ) → IsUnfinished bytes → frame_front bytes ≡ waits
+waits-from bytes u =
+    elim u.in_bounds [
+      | inl few ↦ by-size few (header_of bytes) refl
+      | inr h ↦
+          let says : header_of bytes ≡ heads.Ends h.2 (length h.0) = ap header_of h.4 ∙ bounded-read h.0 h.2 h.1 h.3 in
+          let raw : head (Line None) bytes ≡ heads.Ends h.2 (length h.0) = ap (head (Line None)) h.4 ∙ header-read h.0 h.2 h.1 h.3.is_long in
+          let same = same-header bytes [] u.is_part h.2 (length h.0) raw in
+          front-short bytes h.2 (length h.0) says (omega (arith, same.0, same.1, part-size bytes u.is_part))
+    ]
+  where
+    by-size : length bytes ≤ 4096 → (x : Head) → header_of bytes ≡ x → frame_front bytes ≡ waits
+    by-size few (heads.Reads r) e = front-reads bytes r e
+    by-size few (heads.Ends n h) e =
+        let raw : head (Line None) bytes ≡ heads.Ends n h = ap (head (Line None)) (sym (take_all 4096 bytes few)) ∙ ends-is bytes n h e in
+        let same = same-header bytes [] u.is_part n h raw in
+        front-short bytes n h e (omega (arith, same.0, same.1, part-size bytes u.is_part))
+    by-size few (heads.Refused f p) e =
+        elim (refused-is bytes f p e) [
+          | inl says ↦
+              let raw : head (Line None) bytes ≡ heads.Refused f p = ap (head (Line None)) (sym (take_all 4096 bytes few)) ∙ says in
+              absurd (clash f p (sym (head-append (Line None) bytes u.is_part.more ∙ ap (λ (x : Head). onward (length bytes) x u.is_part.more) raw)
+              ∙ long-read (bytes ++ u.is_part.more) u.is_part.header u.is_part.body [] u.is_part.is_header
+              (u.is_part.parts ∙ sym (append-nil (u.is_part.header ++ u.is_part.body)))))
+          | inr late ↦ absurd (omega (arith, late.2))
+        ]
+      where
+        clash : (f : FrameFault) (p : ℕ) {n h : ℕ} → heads.Refused f p ≡ heads.Ends n h → ⊥
+        clash f p e = cc
+
+-- ---- what is refused
+
+-- what stands before a refused byte is read, and with it nothing more is
+record Prefix (r : Reading) (xs : List ℕ) (f : FrameFault) (p : ℕ) : Type 0 where
+  state : Reading
+  before : head r (take p xs) ≡ heads.Reads state
+  with_it : head r (take (p + 1) xs) ≡ heads.Refused f p
+
+prefix : (xs : List ℕ) (r : Reading) (f : FrameFault) (p : ℕ) → head r xs ≡ heads.Refused f p → Prefix r xs f p
+prefix [] r f p e = absurd cc
+prefix (x ∷ xs) r f p e = by (step r x) refl e (λ t g q. prefix xs t g q)
+  where
+    deeper : (t : Reading) (q : ℕ) → step r x ≡ Goes t → 1 + q ≡ p → Prefix t xs f q → Prefix r (x ∷ xs) f p
+    deeper t q goes place found =
+        subst (λ (k : ℕ). Prefix r (x ∷ xs) f k) place (shifted found)
+      where
+        shifted : Prefix t xs f q → Prefix r (x ∷ xs) f (1 + q)
+        shifted found =
+            let one : 1 + q ≡ suc q = omega arith in
+            let two : 1 + q + 1 ≡ suc (q + 1) = omega arith in
+            record {
+              state = found.state;
+              before = ap (λ (k : ℕ). head r (take k (x ∷ xs))) one
+                  ∙ ap (λ s. after_step s (λ u. head u (take q xs))) goes ∙ ap (later 1) found.before;
+              with_it = ap (λ (k : ℕ). head r (take k (x ∷ xs))) two
+                  ∙ ap (λ s. after_step s (λ u. head u (take (q + 1) xs))) goes ∙ ap (later 1) found.with_it;
+            }
+
+    through : (t : Reading) (h : Head) → step r x ≡ Goes t → head t xs ≡ h → later 1 h ≡ heads.Refused f p
+        → ((u : Reading) (g : FrameFault) (q : ℕ) → head u xs ≡ heads.Refused g q → Prefix u xs g q) → Prefix r (x ∷ xs) f p
+    through t (heads.Reads s) goes is e rest = absurd cc
+    through t (heads.Ends n h) goes is e rest = absurd cc
+    through t (heads.Refused g q) goes is e rest =
+        let fault : g ≡ f = cc in
+        let place : 1 + q ≡ p = cc in
+        deeper t q goes place (rest t f q (is ∙ ap (λ (k : FrameFault). heads.Refused k q) fault))
+
+    by : (s : Step) → step r x ≡ s → after_step s (λ u. head u xs) ≡ heads.Refused f p
+        → ((u : Reading) (g : FrameFault) (q : ℕ) → head u xs ≡ heads.Refused g q → Prefix u xs g q) → Prefix r (x ∷ xs) f p
+    by (Goes t) goes e rest = through t (head t xs) goes refl e rest
+    by (Ends n) goes e rest = absurd cc
+    by (Refused g) goes e rest =
+        let fault : g ≡ f = cc in
+        let place : 0 ≡ p = cc in
+        record {
+          state = r;
+          before = ap (λ (k : ℕ). head r (take k (x ∷ xs))) (sym place);
+          with_it = ap (λ (k : ℕ). head r (take (k + 1) (x ∷ xs))) (sym place) ∙ ap (λ s. after_step s (λ u. head u [])) goes ∙ e;
+        }
+
+-- nothing that begins with a refused byte is a frame
+no-frame : (bytes : List ℕ) (f : FrameFault) (p : ℕ) → head (Line None) bytes ≡ heads.Refused f p → HasNoFrame bytes
+no-frame bytes f p e more header body rest is parts =
+    clash f p (sym (head-append (Line None) bytes more ∙ ap (λ (x : Head). onward (length bytes) x more) e)
+    ∙ long-read (bytes ++ more) header body rest is parts)
+  where
+    clash : (f : FrameFault) (p : ℕ) {n h : ℕ} → heads.Refused f p ≡ heads.Ends n h → ⊥
+    clash f p e = cc
+
+pub refusal-is : (bytes : List ℕ) (f : FrameFault) (p : ℕ) → frame_front bytes ≡ faulty f p → IsRefused bytes f p
+refusal-is bytes f p e =
+    elim (refused-is bytes f p (faulty-is bytes f p e)) [
+      | inl says ↦
+          let inside = head-refused (Line None) (take 4096 bytes) f p says in
+          let found = prefix (take 4096 bytes) (Line None) f p says in
+          let below : p < 4096 = omega (arith, length-take 4096 bytes) in
+          let first : take p (take 4096 bytes) ≡ take p bytes = take-take p 4096 bytes (omega arith) in
+          let next : take (p + 1) (take 4096 bytes) ≡ take (p + 1) bytes = take-take (p + 1) 4096 bytes (omega arith) in
+          record {
+            here = omega (arith, length-take 4096 bytes);
+            before = part-of-reads (take p bytes) found.state (ap (head (Line None)) (sym first) ∙ found.before);
+            why = inr (below, no-frame (take (p + 1) bytes) f p (ap (head (Line None)) (sym next) ∙ found.with_it));
+          }
+      | inr late ↦
+          record {
+            here = omega (arith, late.2, late.4);
+            before = subst (λ (k : ℕ). IsPart (take k bytes)) (sym late.4) (part-of-reads (take 4096 bytes) late.0 late.1);
+            why = inl (
+              late.3,
+              late.4,
+              λ header rest n is parts.
+                  clash (sym late.1 ∙ ends-is bytes n (length header) (ap header_of parts ∙ bounded-read header n rest is)),
+            );
+          }
+    ]
+  where
+    clash : {r : Reading} {n h : ℕ} → heads.Reads r ≡ heads.Ends n h → ⊥
+    clash e = cc
+
+-- ---- two frames
 
 -- a frame stands at the front of bytes that begin with it
-frame-here : (bytes text rest body : List ℕ) → IsFrame text body → bytes ≡ text ++ rest
-    → (m : Frame) × (frame_front bytes ≡ whole m (length text))
-frame-here bytes text rest body is parts =
+frame-here : (text rest body : List ℕ) → IsFrame text body → (m : Frame) × (frame_front (text ++ rest) ≡ whole m (length text))
+frame-here text rest body is =
     let frame : Frame = record { header = length is.header; body = body } in
     let size : length text ≡ length is.header + length body = ap length is.parts ∙ length-append is.header body in (
       frame,
-      frame-found bytes frame (length text) (record {
+      frame-found (text ++ rest) frame (length text) (record {
         header = is.header;
         rest = rest;
-        parts = parts ∙ ap (λ (l : List ℕ). l ++ rest) is.parts;
+        parts = ap (λ (l : List ℕ). l ++ rest) is.parts;
         is_header = is.is_header;
         place = refl;
         taken = size;
       }),
     )
 
--- The beginning of a frame waits.
-pub waits-from : (bytes : List ℕ) → IsUnfinished bytes → frame_front bytes ≡ waits
-waits-from bytes u = by (frame_front bytes) refl
+-- No frame is a proper prefix of another.
+pub no-prefix : (text more body other : List ℕ) → IsFrame text body → IsFrame (text ++ more) other → more ≡ []
+no-prefix text more body other first second =
+    let a = frame-here text more body first in
+    let b = frame-here (text ++ more) [] other second in
+    let same : length text ≡ length (text ++ more) =
+    same-size a.0 b.0 (length text) (length (text ++ more)) (sym a.1 ∙ ap frame_front (sym (append-nil (text ++ more))) ∙ b.1) in
+    nil_from_length more (omega (arith, length-append text more))
   where
-    whole_frame : (m : Frame) × (frame_front (bytes ++ u.more) ≡ whole m (length (bytes ++ u.more)))
-    whole_frame = frame-here (bytes ++ u.more) (bytes ++ u.more) [] u.body u.is_frame (sym (append-nil (bytes ++ u.more)))
-
-    by : (f : Front Frame FrameFault) → frame_front bytes ≡ f → frame_front bytes ≡ waits
-    by waits e = e
-    by (whole m n) e =
-        let size : n ≡ length (bytes ++ u.more) = same-size (sym (front-steady.stays_whole bytes u.more m n e) ∙ whole_frame.1) in
-        let some = u.some in
-        absurd (omega (arith, (front-steady.takes bytes m n e).1, length-append bytes u.more))
-      where
-        same-size : {m k : Frame} {n l : ℕ} → (let it : Front Frame FrameFault = whole m n in it ≡ whole k l) → n ≡ l
-        same-size e = cc
-    by (faulty f d) e = absurd (clash (sym (front-steady.stays_faulty bytes u.more f d e) ∙ whole_frame.1))
-      where
-        clash : {k : Frame} {l : ℕ} → (let it : Front Frame FrameFault = faulty f d in it ≡ whole k l) → ⊥
-        clash e = cc
-
--- What is refused begins no frame, and nothing that begins with it does.
-pub refused-is : (bytes : List ℕ) (f : FrameFault) (d : ℕ) → frame_front bytes ≡ faulty f d → (f ≡ BadHeader) × (d ≡ 0) × HasNoFrame bytes
-refused-is bytes f d e =
-    let refused : frame_front bytes ≡ faulty BadHeader 0 = front-refused bytes (faulty-is bytes f d e) in
-    let same = same-fault (sym e ∙ refused) in (
-      same.0,
-      same.1,
-      λ more text rest body is parts.
-          clash (sym (front-steady.stays_faulty bytes more f d e) ∙ (frame-here (bytes ++ more) text rest body is parts).1),
-    )
-  where
-    same-fault : {a b : FrameFault} {c d : ℕ} → (let it : Front Frame FrameFault = faulty a c in it ≡ faulty b d) → (a ≡ b) × (c ≡ d)
-    same-fault e = (cc, cc)
-
-    clash : {k : Frame} {l : ℕ} → (let it : Front Frame FrameFault = faulty f d in it ≡ whole k l) → ⊥
-    clash e = cc
-
--- What begins no frame, nor is the beginning of one, is refused.
-pub refused-from : (bytes : List ℕ) → HasNoFrame bytes → frame_front bytes ≡ faulty BadHeader 0
-refused-from bytes none = by (frame_front bytes) refl
-  where
-    by : (f : Front Frame FrameFault) → frame_front bytes ≡ f → frame_front bytes ≡ faulty BadHeader 0
-    by waits e =
-        let u = waits-is bytes e in
-        absurd (none u.more (bytes ++ u.more) [] u.body u.is_frame (sym (append-nil (bytes ++ u.more))))
-    by (whole m n) e =
-        let b = frame-is bytes m n e in
-        absurd (none [] (b.header ++ m.body) b.rest m.body (record { header = b.header; is_header = b.is_header; parts = refl })
-        (append-nil bytes ∙ b.parts))
-    by (faulty f d) e = front-refused bytes (faulty-is bytes f d e)
+    same-size : (m k : Frame) (n l : ℕ) → (let it : Front Frame FrameFault = whole m n in it ≡ whole k l) → n ≡ l
+    same-size m k n l e = cc

@@ -1,5 +1,5 @@
 -- What a cutter keeps and answers.
-use Rattle.std.specs.Prelude.{◌≡◌, ℕ, ◌+◌, ◌≤◌, List, length, take, Ok, Err, None, Option, Result, IsOkAnd, IsSomeAnd}
+use Rattle.std.specs.Prelude.{◌≡◌, ℕ, ◌+◌, ◌≤◌, List, length, take, drop, Ok, Err, None, Option, Result, IsOkAnd, IsSomeAnd}
 use Rattle.wire_core.specs.Streams.{Front, waits, whole, faulty, Uncut}
 use Rattle.dap_frames.specs.declared.fault.FrameFault.{FrameFault}
 use Rattle.dap_frames.specs.declared.fault.FrameTrouble.{FrameTrouble}
@@ -14,12 +14,12 @@ pub record IsRead (head : Head) (read : ℕ) (pending : List ℕ) : Type 0 where
   pub within : read ≤ length pending
   pub says : header_of (take read pending) ≡ head
 
--- what was found is what stands at the front of so many bytes
-abbrev pub IsFound : Found → Front Frame FrameFault → ℕ → Type 0
-IsFound Waits front length = front ≡ waits
-IsFound (Whole header size) front length =
-    (frame : Frame) × (front ≡ whole frame size) × (frame.header ≡ header) × (header ≤ size) × (size ≤ length)
-IsFound (Refused fault behind) front length = (front ≡ faulty fault behind) × (behind ≤ length)
+-- what was found is what stands at the front of these bytes
+abbrev pub IsFound : Found → Front Frame FrameFault → List ℕ → Type 0
+IsFound Waits front bytes = front ≡ waits
+IsFound (Whole header size) front bytes =
+    (front ≡ whole (record { header = header; body = drop header (take size bytes) }) size) × (header ≤ size) × (size ≤ length bytes)
+IsFound (Refused fault behind) front bytes = (front ≡ faulty fault behind) × (behind ≤ length bytes)
 
 -- a body and its offset, nothing, or a fault with its offset, by what stands at the front
 abbrev pub IsAnswer : Front Frame FrameFault → ℕ → Result (Option Body) FrameTrouble → Type 0

@@ -49,7 +49,7 @@ impl Cutter {
         Cutter {
             stream: StreamBuffer::new(alloc),
             read: 0,
-            head: Head::Reads(Reading::Name(0)),
+            head: Head::Reads(Reading::Line(None)),
         }
     }
 
@@ -76,7 +76,7 @@ impl Cutter {
                 at: at + behind as u64,
             }),
             Found::Whole(header, size) => {
-                self.head = Head::Reads(Reading::Name(0));
+                self.head = Head::Reads(Reading::Line(None));
                 self.read = 0;
                 let frame = self.stream.take(size);
                 Ok(Some(Body {

@@ -1,25 +1,29 @@
 //! What the frame at the front of a stream is, in the words of the protocol. Each law is a contract over all streams.
-ghost use Rattle.std.specs.Prelude.{◌≡◌, ◌≤◌, ℕ, ◌++◌, ◌↔◌, List, length, codes, decimal};
+ghost use Rattle.std.specs.Prelude.{◌≡◌, ◌≤◌, ℕ, [], ◌++◌, ◌↔◌, List, length, codes, decimal};
 ghost use Rattle.wire_core.specs.Streams.{waits, whole, faulty, uncut, fed, Uncut, HasNoWhole, Cuts, Reads, joined};
-ghost use Rattle.dap_frames.specs.Frames.{Frame, frame_front, frame_bytes, Begins, IsUnfinished, HasNoFrame};
+ghost use Rattle.dap_frames.specs.Frames.{Frame, frame_front, frame_bytes, Begins, IsFrame, IsUnfinished, IsRefused};
 ghost use Rattle.dap_frames.specs.declared.fault.FrameFault.{FrameFault};
-ghost use Rattle.dap_frames.specs.declared.fault.FrameFault.TheVariants.{BadHeader};
 
 /// A body is handed out just where the bytes begin with a frame of it.
 pub fn found_is_a_frame()
     ensures { (bytes : List ℕ) (frame : Frame) (n : ℕ) → (frame_front bytes ≡ whole frame n) ↔ Begins bytes frame n }
 {}
 
-/// Nothing is said yet just where the bytes are the beginning of a frame.
+/// No frame is a proper prefix of another.
+pub fn no_frame_begins_another()
+    ensures { (text more body other : List ℕ) → IsFrame text body → IsFrame (text ++ more) other → more ≡ [] }
+{}
+
+/// Nothing is said yet just where the bytes are the beginning of a frame, within the bound on a header.
 pub fn waits_for_a_frame()
     ensures { (bytes : List ℕ) → (frame_front bytes ≡ waits) ↔ IsUnfinished bytes }
 {}
 
-/// Bytes are refused, at the first of them, just where they neither begin with a frame nor are the beginning of one.
-pub fn refused_is_no_frame()
+/// A fault stands at the first byte with which the bytes are the beginning of no frame, or at the 4,097th of a header,
+/// and from then on.
+pub fn refused_at_the_first_byte()
     ensures refused { (bytes : List ℕ) (fault : FrameFault) (place : ℕ) → frame_front bytes ≡ faulty fault place
-        → (fault ≡ BadHeader) × (place ≡ 0) × HasNoFrame bytes }
-    ensures only { (bytes : List ℕ) → HasNoFrame bytes → frame_front bytes ≡ faulty BadHeader 0 }
+        → IsRefused bytes fault place }
     ensures stays { (bytes more : List ℕ) (fault : FrameFault) (place : ℕ) → frame_front bytes ≡ faulty fault place
         → frame_front (bytes ++ more) ≡ faulty fault place }
 {}

@@ -41,40 +41,61 @@ fn bodies(alloc: Global, stream: &[u8], size: usize) -> Result<Vec<u8>, Fail>
 #[test]
 fn any_pieces_give_the_same_bodies(rt: HostRuntime) -> Result<(), Fail> {
     let stream =
-        b"Content-Length: 2\r\n\r\n{}Content-Length: 00000003\r\n\r\na\0bContent-Length: 0\r\n\r\nContent-Len";
+        b"Content-Length: 2\r\n\r\n{}X: y \r\ncontent-length:  0003\r\n\r\na\0bContent-Length: 0\r\n\r\nContent-Len";
     for size in 1..=stream.len() {
         let said = bodies(rt.alloc(), stream, size)?;
-        assert_eq!(rt; said.as_slice(), b"\x15{}\x33a\0b\x4b".as_slice());
+        assert_eq!(rt; said.as_slice(), b"\x15{}\x37a\0b\x4f".as_slice());
     }
     Ok(())
 }
 
 #[test]
-fn what_begins_no_frame_is_refused_at_its_first_byte(rt: HostRuntime) -> Result<(), Fail> {
-    let refused: [&[u8]; 7] = [
-        b"{}",
-        b"Content-Length:1\r\n\r\nx",
-        b"content-length: 0\r\n\r\n",
-        b"Content-Length: \r\n\r\n",
-        b"Content-Length: 16777217",
-        b"Content-Length: 000000001",
-        b"Content-Length: 1\n",
+fn the_first_refused_byte_is_told(rt: HostRuntime) -> Result<(), Fail> {
+    let refused: [(&[u8], FrameFault, u64); 9] = [
+        (
+            b"Content-Length: 2\r\nContent-Length: 2\r\n\r\n{}",
+            FrameFault::TwoLengths,
+            33,
+        ),
+        (
+            b"content-length:0\r\nCONTENT-LENGTH:",
+            FrameFault::TwoLengths,
+            32,
+        ),
+        (b"Content-Length: 16777217", FrameFault::TooLong, 23),
+        (b"Content-Length: 00000000002", FrameFault::BadLength, 26),
+        (b"Content-Length: \r\n", FrameFault::BadLength, 16),
+        (b"X: y\r\n\r", FrameFault::NoLength, 6),
+        (b"Content-Length: 1\r\r", FrameFault::BadHeader, 18),
+        (b"X: y\n", FrameFault::BadHeader, 4),
+        (b": y", FrameFault::BadHeader, 0),
     ];
-    for bytes in refused {
+    for (bytes, fault, at) in refused {
         let mut cutter = Cutter::new(rt.alloc());
         let mut said = Vec::new(rt.alloc());
-        cutter.feed(b"Content-Length: 0\r\n\r\n")?;
-        assert_eq!(rt; take_all(&mut cutter, &mut said)?, None);
         assert!(rt; bytes.len() < 99);
         cutter.feed(bytes)?;
-        let trouble = FrameTrouble {
-            fault: FrameFault::BadHeader,
-            at: 21,
-        };
+        let trouble = FrameTrouble { fault, at };
         assert_eq!(rt; take_all(&mut cutter, &mut said)?, Some(trouble));
-        cutter.feed(b"Content-Length: 0\r\n\r\n")?;
         assert_eq!(rt; take_all(&mut cutter, &mut said)?, Some(trouble));
     }
+    Ok(())
+}
+
+#[test]
+fn a_header_has_at_most_4096_bytes(rt: HostRuntime) -> Result<(), Fail> {
+    let value = vec![in rt.alloc(); b'a'; 4094]?;
+    let mut cutter = Cutter::new(rt.alloc());
+    let mut said = Vec::new(rt.alloc());
+    cutter.feed(b"X:")?;
+    cutter.feed(value.as_slice())?;
+    assert_eq!(rt; take_all(&mut cutter, &mut said)?, None);
+    cutter.feed(b"a")?;
+    let trouble = FrameTrouble {
+        fault: FrameFault::HeaderTooLong,
+        at: 4096,
+    };
+    assert_eq!(rt; take_all(&mut cutter, &mut said)?, Some(trouble));
     Ok(())
 }
 
