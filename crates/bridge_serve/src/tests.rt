@@ -141,11 +141,11 @@ fn sessions_answer_and_end(rt: HostRuntime) -> Result<(), Fail> {
             ending: Ending::ClientLink,
         },
         Course {
-            pieces: &[(client, INITIALIZE), (client, b"Length: 1")],
+            pieces: &[(client, INITIALIZE), (client, b"Length 1")],
             turns: 9,
             failing: None,
             sent: &[CAPABILITIES],
-            ending: bad_client(ClientFault::Frame(FrameFault::BadHeader), 104),
+            ending: bad_client(ClientFault::Frame(FrameFault::BadHeader), 110),
         },
         Course {
             pieces: &[(client, b"Content-Length: 1\r\n\r\n}")],

@@ -30,3 +30,9 @@ returns-in-Err-client_body-clause-err g c =
 
 pub returns-in-Err-clause-err : goal.returns-in-Err-clause-err
 returns-in-Err-clause-err g c = misframed _ _ _ c.in-Err.trouble c.requires.nothing_due (sym c.if-is_closing.ensures) c.in-Err.ensures.taken
+
+pub returns-in-Ok-tell-clause-same_end : goal.returns-in-Ok-tell-clause-same_end
+returns-in-Ok-tell-clause-same_end g c =
+    let taken = rw c.in-Ok-Some.field-0-is at c.in-Ok-Some.ensures.taken in
+    let found = taken_whole _ c.in-Ok-Some.body taken in
+    rw (taken_rest c.args.cutter.now _ c.in-Ok-Some.body found c.take.follows.holds-at-none) (fewer_left c.args.cutter.now found.frame found.size found.front).1
