@@ -1,20 +1,17 @@
-ghost use Rattle.std.specs.Prelude.{◌≡◌, [], option_map};
-ghost use Rattle.bridge_cmd.specs.Command.{Does, Serves, addresses_of, is_serve, is_value, status_of};
+ghost use Rattle.std.specs.Prelude.{◌≡◌, ℕ, List, []};
+ghost use Rattle.bridge_cmd.specs.Command.{Does, Runs};
+ghost use Rattle.bridge_cmd.specs.Words.{IsValue, Names, serve_words};
 
+use crate::printing::{Outcome, tell};
+use crate::words::{Addresses, WordsFault, read_words};
 use bridge_serve::serve;
 use std::alloc::Global;
-use wire_core::{Files, Output, Text, Wires, Word};
+use wire_core::{Files, Output, Wires, Word};
 use world_model::{Ending, Limits};
 
-// The statuses that no ending has.
-const MISUSED: u8 = 2;
-
-const NOT_OPENED: u8 = 7;
-
-const OUT_OF_MEMORY: u8 = 70;
-
-/// Runs the program on its words, and gives the status that it ends with. `serve --listen A --target B` connects to a Java
-/// machine at B, accepts an editor at A, and serves a session between them; no other words are taken.
+/// Runs the program on its words, prints the line that says how the run ended, and gives its status. `serve --listen A
+/// --target B` connects to a Java machine at B, accepts an editor at A, and serves a session between them; there is no
+/// other command. The line is written once all else is done.
 pub fn bridge_main<W: Wires, F: Files, O: Output>(
     alloc: Global,
     words: &[Word],
@@ -24,68 +21,28 @@ pub fn bridge_main<W: Wires, F: Files, O: Output>(
 ) -> u8
     requires wires_unused { (W.outside wires.old).asked ≡ [] }
     requires files_unused { (F.store files.old).asked ≡ [] }
-    ensures does { Does (addresses_of words.now) (W.outside wires.old) (W.outside wires.new) result }
+    ensures runs { Runs words.now (W.outside wires.old) (W.outside wires.new) (O.printed out.old) (O.printed out.new)
+        result }
     ensures files_stay { F.store files.new ≡ F.store files.old }
-    ensures output_stays { O.printed out.new ≡ O.printed out.old }
+
+    // The words in the form of the usage are taken, for all values that are not empty and don't begin with a hyphen.
+    ensures usage { (listen target : List ℕ) → IsValue listen → IsValue target
+        → Names (serve_words listen target) (record { listen = listen; target = target }) }
 {
-    let Some((listen, target)) = addresses_of(words) else {
-        return MISUSED;
-    };
-    let Ok(listen) = Text::from_str(alloc, listen.as_str()) else {
-        return OUT_OF_MEMORY;
-    };
-    let Ok(target) = Text::from_str(alloc, target.as_str()) else {
-        return OUT_OF_MEMORY;
-    };
-    match wires.connect(listen, target) {
-        Ok(()) => status_of(serve(alloc, &Limits::standard(), wires)),
-        Err(_) => NOT_OPENED,
-    }
+    let outcome = run(alloc, words, wires);
+    tell(alloc, outcome, out)
 }
 
-fn status_of(ending: Ending) -> u8
-    ensures { result ≡ status_of ending }
+fn run<W: Wires>(alloc: Global, words: &[Word], wires: &mut W) -> Outcome
+    requires { (W.outside wires.old).asked ≡ [] }
+    ensures { Does words.now (W.outside wires.old) (W.outside wires.new) result }
 {
-    match ending {
-        Ending::Done => 0,
-        Ending::Left => 1,
-        Ending::BadClient { fault: _, at: _ } => 3,
-        Ending::ClientLink => 5,
-        Ending::Spent => 13,
-        Ending::NoMemory => 70,
-    }
-}
-
-fn addresses_of(words: &[Word]) -> Option<(&Word, &Word)>
-    ensures { option_map (λ found. record { listen = found.0.now; target = found.1.now }) result ≡ addresses_of words.now }
-{
-    match words {
-        [command, listen, client, target, debuggee] => {
-            if is_serve(command, listen, client, target, debuggee) {
-                Some((client, debuggee))
-            } else {
-                None
-            }
-        }
-        _ => None,
-    }
-}
-
-fn is_serve(command: &Word, listen: &Word, client: &Word, target: &Word, debuggee: &Word) -> bool
-    ensures { result ≡ is_serve command.now listen.now client.now target.now debuggee.now }
-{
-    command.as_str() == "serve"
-        && listen.as_str() == "--listen"
-        && is_value(client)
-        && target.as_str() == "--target"
-        && is_value(debuggee)
-}
-
-fn is_value(word: &Word) -> bool
-    ensures { result ≡ is_value word.now }
-{
-    match word.as_bytes() {
-        [first, ..] => *first != b'-',
-        [] => false,
+    match read_words(alloc, words) {
+        Ok(Addresses { listen, target }) => match wires.connect(listen, target) {
+            Ok(()) => Outcome::Ended(serve(alloc, &Limits::standard(), wires)),
+            Err(_) => Outcome::NotOpened,
+        },
+        Err(WordsFault::Refused) => Outcome::Misused,
+        Err(WordsFault::NoMemory) => Outcome::Ended(Ending::NoMemory),
     }
 }

@@ -3,8 +3,10 @@
 #![tactic(auto)]
 
 mod command;
+mod printing;
 #[cfg(test)]
 mod tests;
+mod words;
 
 use command::bridge_main;
 use std::process::ExitCode;

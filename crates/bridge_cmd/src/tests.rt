@@ -2,11 +2,14 @@ ghost use Rattle.std.specs.Prelude.{◌≡◌, [], IfOk};
 ghost use Rattle.wire_core.specs.MemoryWires.{outside_of};
 
 use crate::command::bridge_main;
+use crate::printing::{Outcome, tell};
+use dap_frames::FrameFault;
 use std::alloc::Global;
 use std::test::Fail;
 use wire_core::{
     Entry, List, MemoryFiles, MemoryOutput, MemoryWires, NoMemory, Side, Step, Text, Word,
 };
+use world_model::{ClientFault, Ending};
 
 const INITIALIZE: &[u8] =
     b"Content-Length: 82\r\n\r\n{\"seq\":1,\"type\":\"request\",\"command\":\"initialize\",\"arguments\":{\"adapterID\":\"jdwp\"}}";
@@ -21,6 +24,10 @@ const SERVE: &[&str] = &[
     "--target",
     "127.0.0.1:5005",
 ];
+
+const USAGE: &str = "usage: bridge serve --listen A --target B\n";
+
+const NOT_OPENED: &str = "ended 7 not opened\n";
 
 fn words_of(alloc: Global, texts: &[&str]) -> Result<List<Word>, NoMemory> {
     let mut words = List::new(alloc);
@@ -40,45 +47,92 @@ fn wires_of(alloc: Global, pieces: &[&[u8]]) -> Result<MemoryWires, NoMemory>
     MemoryWires::new(alloc, steps, List::new(alloc))
 }
 
-fn status(alloc: Global, texts: &[&str], wires: &mut MemoryWires) -> Result<u8, NoMemory>
+// An output whose first write fails, or none.
+fn output_of(alloc: Global, fails: bool) -> Result<MemoryOutput, NoMemory> {
+    let mut failing = List::new(alloc);
+    if fails {
+        failing.push(0)?;
+    }
+    Ok(MemoryOutput::new(alloc, failing))
+}
+
+fn status(
+    alloc: Global,
+    texts: &[&str],
+    wires: &mut MemoryWires,
+    out: &mut MemoryOutput,
+) -> Result<u8, NoMemory>
     requires { (outside_of wires.old).asked ≡ [] }
 {
     let words = words_of(alloc, texts)?;
     let mut files = MemoryFiles::new(alloc, List::new(alloc), false);
-    let mut out = MemoryOutput::new(alloc, List::new(alloc));
-    Ok(bridge_main(alloc, words.as_slice(), wires, &mut files, &mut out))
+    Ok(bridge_main(alloc, words.as_slice(), wires, &mut files, out))
 }
 
 #[test]
-fn words_decide_what_is_done(rt: HostRuntime) -> Result<(), Fail> {
-    let refused: [&[&str]; 6] = [
+fn words_are_refused(rt: HostRuntime) -> Result<(), Fail> {
+    let refused: [&[&str]; 9] = [
         &[],
+        &["attach", "--listen", "A", "--target", "B"],
         &["serve", "--listen", "A"],
-        &["serve", "--target", "B", "--listen", "A"],
-        &["serve", "--listen", "", "--target", "B"],
+        &["serve", "--listen", "A", "--target"],
         &["serve", "--listen", "A", "--target", "-B"],
         &["serve", "--listen", "A", "--target", "B", "C"],
+        &["serve", "--listen", "A", "--target", "B", "--listen", "C"],
+        &["serve", "--help"],
+        &["serve", "--version"],
     ];
     for words in refused {
         let mut wires = wires_of(rt.alloc(), &[INITIALIZE])?;
-        assert_eq!(rt; status(rt.alloc(), words, &mut wires)?, 2);
+        let mut out = output_of(rt.alloc(), false)?;
+        assert_eq!(rt; status(rt.alloc(), words, &mut wires, &mut out)?, 2);
+        assert_eq!(rt; out.bytes().as_slice(), USAGE.as_bytes());
         assert!(rt; wires.log().as_slice().is_empty());
     }
-    let mut closed = MemoryWires::closed(rt.alloc());
-    assert_eq!(rt; status(rt.alloc(), SERVE, &mut closed)?, 7);
     Ok(())
 }
 
 #[test]
-fn sessions_end_with_their_status(rt: HostRuntime) -> Result<(), Fail> {
-    let sessions: [(&[&[u8]], u8, usize); 3] = [
-        (&[INITIALIZE, DISCONNECT], 0, 2),
-        (&[], 1, 0),
-        (&[b"{}"], 3, 0),
+fn words_are_taken(rt: HostRuntime) -> Result<(), Fail> {
+    let taken: [&[&str]; 4] = [
+        SERVE,
+        &["serve", "--target", "B", "--listen", "A"],
+        &["serve", "--listen=A", "--target", "B"],
+        &["serve", "--listen", "", "--target", "B"],
     ];
-    for (pieces, wanted, sent) in sessions {
+    for words in taken {
+        let mut wires = MemoryWires::closed(rt.alloc());
+        let mut out = output_of(rt.alloc(), false)?;
+        assert_eq!(rt; status(rt.alloc(), words, &mut wires, &mut out)?, 7);
+        assert_eq!(rt; out.bytes().as_slice(), NOT_OPENED.as_bytes());
+    }
+    Ok(())
+}
+
+#[test]
+fn sessions_end_with_their_line(rt: HostRuntime) -> Result<(), Fail> {
+    let sessions: [(&[&[u8]], u8, &str, usize); 5] = [
+        (&[INITIALIZE, DISCONNECT], 0, "ended 0 done\n", 2),
+        (&[], 1, "ended 1 left\n", 0),
+        (&[b"{}"], 3, "ended 3 client BadHeader at 0\n", 0),
+        (
+            &[INITIALIZE, b"Content-Length: 1\r\n\r\n{"],
+            3,
+            "ended 3 client NotJson at 125\n",
+            1,
+        ),
+        (
+            &[b"Content-Length: 2\r\n\r\n{}"],
+            3,
+            "ended 3 client NotAMessage at 21\n",
+            0,
+        ),
+    ];
+    for (pieces, wanted, line, sent) in sessions {
         let mut wires = wires_of(rt.alloc(), pieces)?;
-        assert_eq!(rt; status(rt.alloc(), SERVE, &mut wires)?, wanted);
+        let mut out = output_of(rt.alloc(), false)?;
+        assert_eq!(rt; status(rt.alloc(), SERVE, &mut wires, &mut out)?, wanted);
+        assert_eq!(rt; out.bytes().as_slice(), line.as_bytes());
         let outs = wires
             .log()
             .as_slice()
@@ -87,5 +141,73 @@ fn sessions_end_with_their_status(rt: HostRuntime) -> Result<(), Fail> {
             .count();
         assert_eq!(rt; outs, sent);
     }
+    Ok(())
+}
+
+#[test]
+fn outcomes_have_their_line(rt: HostRuntime) -> Result<(), Fail> {
+    let outcomes: [(Outcome, u8, &str); 9] = [
+        (Outcome::NotOpened, 7, NOT_OPENED),
+        (
+            Outcome::Ended(Ending::ClientLink),
+            5,
+            "ended 5 client link\n",
+        ),
+        (Outcome::Ended(Ending::Spent), 13, "ended 13 turns\n"),
+        (Outcome::Ended(Ending::NoMemory), 70, "ended 70 memory\n"),
+        (
+            fault(FrameFault::NoLength, 6),
+            3,
+            "ended 3 client NoLength at 6\n",
+        ),
+        (
+            fault(FrameFault::TwoLengths, 33),
+            3,
+            "ended 3 client TwoLengths at 33\n",
+        ),
+        (
+            fault(FrameFault::BadLength, 26),
+            3,
+            "ended 3 client BadLength at 26\n",
+        ),
+        (
+            fault(FrameFault::TooLong, 23),
+            3,
+            "ended 3 client TooLong at 23\n",
+        ),
+        (
+            fault(FrameFault::HeaderTooLong, 9_223_372_036_854_775_807),
+            3,
+            "ended 3 client HeaderTooLong at 9223372036854775807\n",
+        ),
+    ];
+    for (outcome, wanted, line) in outcomes {
+        let mut out = output_of(rt.alloc(), false)?;
+        assert_eq!(rt; tell(rt.alloc(), outcome, &mut out), wanted);
+        assert_eq!(rt; out.bytes().as_slice(), line.as_bytes());
+    }
+    Ok(())
+}
+
+fn fault(fault: FrameFault, at: u64) -> Outcome {
+    Outcome::Ended(Ending::BadClient {
+        fault: ClientFault::Frame(fault),
+        at,
+    })
+}
+
+#[test]
+fn a_line_that_fails_has_a_status(rt: HostRuntime) -> Result<(), Fail> {
+    let mut wires = wires_of(rt.alloc(), &[INITIALIZE, DISCONNECT])?;
+    let mut out = output_of(rt.alloc(), true)?;
+    assert_eq!(rt; status(rt.alloc(), SERVE, &mut wires, &mut out)?, 9);
+    let mut out = output_of(rt.alloc(), true)?;
+    assert_eq!(rt; tell(rt.alloc(), Outcome::Misused, &mut out), 9);
+    let mut out = output_of(rt.alloc(), true)?;
+    assert_eq!(rt;
+        tell(rt.alloc(), Outcome::Ended(Ending::NoMemory), &mut out),
+        70
+    );
+    assert!(rt; out.bytes().is_empty());
     Ok(())
 }

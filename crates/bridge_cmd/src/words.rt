@@ -1,0 +1,128 @@
+ghost use Rattle.std.specs.Prelude.{◌≡◌, ℕ, List, true, is_some, map, codes, IfOk, Some};
+ghost use Rattle.clap.specs.Words.{FailsBy, first_value, found_of, kind_of};
+ghost use Rattle.clap.specs.declared.error.kind.ErrorKind.TheVariants.{OutOfMemory};
+ghost use Rattle.bridge_cmd.specs.Words.{Reads, ReadsServe, serve_fault, serve_value};
+ghost use Rattle.bridge_cmd.specs.declared.words.WordsFault.TheVariants.{Refused};
+
+use clap::error::ErrorKind;
+use clap::{Arg, ArgAction, ArgMatches, Command, Error};
+use std::alloc::{AllocError, Global};
+use wire_core::{NoMemory, Text, Word};
+
+/// The addresses that `serve` is given: the one to accept the client at, and the one of the target.
+#[derive(Debug, Drop)]
+pub struct Addresses {
+    pub listen: Text,
+    pub target: Text,
+}
+
+/// Why words give no addresses: they are refused, or memory ran out.
+#[derive(Clone, Copy, Debug, PartialEq, Eq)]
+pub enum WordsFault {
+    Refused,
+    NoMemory,
+}
+
+impl From<NoMemory> for WordsFault {
+    ghost use Rattle.std.specs.Prelude.{◌≡◌};
+    ghost use Rattle.bridge_cmd.specs.declared.words.WordsFault.TheVariants.{NoMemory as out_of_memory};
+
+    ghost from_gives = { λ _ fault. fault ≡ out_of_memory };
+
+    fn from(_refused: NoMemory) -> WordsFault {
+        WordsFault::NoMemory
+    }
+}
+
+impl From<AllocError> for WordsFault {
+    ghost use Rattle.std.specs.Prelude.{◌≡◌};
+    ghost use Rattle.bridge_cmd.specs.declared.words.WordsFault.TheVariants.{NoMemory as out_of_memory};
+
+    ghost from_gives = { λ _ fault. fault ≡ out_of_memory };
+
+    fn from(_refused: AllocError) -> WordsFault {
+        WordsFault::NoMemory
+    }
+}
+
+/// Reads the words of the program: the command's name, and the options of that command. `Refused` comes exactly where
+/// there is no name, the name is unknown, or `clap` refuses the rest for another cause than memory.
+pub fn read_words(alloc: Global, words: &[Word]) -> Result<Addresses, WordsFault>
+    ensures { Reads words.now result }
+{
+    match words {
+        [name, rest @ ..] => {
+            if name.as_str() == "serve" {
+                read_serve(alloc, rest)
+            } else {
+                Err(WordsFault::Refused)
+            }
+        }
+        [] => Err(WordsFault::Refused),
+    }
+}
+
+fn read_serve(alloc: Global, words: &[Word]) -> Result<Addresses, WordsFault>
+    ensures { ReadsServe words.now result }
+{
+    let texts = texts_of(alloc, words)?;
+    match serve_matches(alloc, texts.as_slice()) {
+        Ok(matches) => Ok(Addresses {
+            listen: value_of(alloc, &matches, "listen")?,
+            target: value_of(alloc, &matches, "target")?,
+        }),
+        Err(error) => Err(fault_of(&error)),
+    }
+}
+
+fn texts_of<'a>(alloc: Global, words: &'a [Word]) -> Result<Vec<&'a str>, AllocError>
+    ensures { IfOk result (λ texts. map (λ text. text.now) texts.items ≡ words.entry.now) }
+{
+    let mut texts = Vec::new(alloc);
+    for word in words {
+        texts.push(word.as_str())?;
+    }
+    Ok(texts)
+}
+
+// `serve` as `clap` reads it: one simple command, whose two options have to be there.
+fn serve_matches<'a>(alloc: Global, words: &'a [&'a str]) -> Result<ArgMatches<'a>, Error>
+    ensures kinds { FailsBy (serve_fault (map (λ word. word.now) words.entry.now)) result }
+    ensures values { IfOk result (λ matches. (option : List ℕ)
+        → first_value (found_of matches) option ≡ serve_value option (map (λ word. word.now) words.entry.now)) }
+    ensures listen { IfOk result (λ matches. is_some (first_value (found_of matches) (codes "listen")) ≡ true) }
+    ensures target { IfOk result (λ matches. is_some (first_value (found_of matches) (codes "target")) ≡ true) }
+{
+    let listen = Arg::new(alloc, "listen")
+        .long("listen")
+        .action(ArgAction::Set)
+        .required(true);
+    let target = Arg::new(alloc, "target")
+        .long("target")
+        .action(ArgAction::Set)
+        .required(true);
+    let serve = Command::new(alloc, "serve")
+        .no_binary_name(true)
+        .disable_help_flag(true)
+        .disable_version_flag(true);
+    let listening = serve.arg(listen)?;
+    let command = listening.arg(target)?;
+    command.try_get_matches_from(words)
+}
+
+fn value_of(alloc: Global, matches: &ArgMatches, option: &str) -> Result<Text, NoMemory>
+    requires { is_some (first_value (found_of matches.now) option.now) ≡ true }
+    ensures { IfOk result (λ value. first_value (found_of matches.now) option.now ≡ Some value) }
+{
+    let value = matches.get_str(option).unwrap();
+    Text::from_str(alloc, value)
+}
+
+fn fault_of(error: &Error) -> WordsFault
+    ensures { result ≡ Refused → ¬ (kind_of error.now ≡ OutOfMemory) }
+{
+    match error.kind() {
+        ErrorKind::OutOfMemory => WordsFault::NoMemory,
+        _ => WordsFault::Refused,
+    }
+}
