@@ -114,7 +114,12 @@ fn sessions_end_with_their_line(rt: HostRuntime) -> Result<(), Fail> {
     let sessions: [(&[&[u8]], u8, &str, usize); 5] = [
         (&[INITIALIZE, DISCONNECT], 0, "ended 0 done\n", 2),
         (&[], 1, "ended 1 left\n", 0),
-        (&[b"{}"], 3, "ended 3 client BadHeader at 0\n", 0),
+        (
+            &[b"Content-Length: 2\r\nContent-Length: 2\r\n\r\n{}"],
+            3,
+            "ended 3 client TwoLengths at 33\n",
+            0,
+        ),
         (
             &[INITIALIZE, b"Content-Length: 1\r\n\r\n{"],
             3,
