@@ -1,8 +1,8 @@
 -- What stands at the front of a stream is a frame just where a frame stands there.
-use Rattle.std.proofs.Common.{◌≡◌, ℕ, ◌+◌, ◌-◌, ◌^◌, ◌<◌, ◌≤◌, Bool, true, false, cond, ltb, List, [], ◌∷◌, ◌++◌, length, take, drop, replicate, Some, None, refl, sym, ap, subst, ◌∙◌, arith, inl, inr, append_assoc, ◌&&◌}
+use Rattle.std.proofs.Common.{◌≡◌, ℕ, ◌+◌, ◌^◌, ◌<◌, ◌≤◌, Bool, true, false, cond, ltb, List, [], ◌∷◌, ◌++◌, length, take, drop, refl, sym, ap, subst, ◌∙◌, arith, inr, append_assoc, ◌&&◌}
 use Rattle.std.specs.Prelude.{codes, decimal}
 use Rattle.std.specs.List.{AllByRecursion}
-use Rattle.std.proofs.lemmas.Bool.{and_parts, ltb-true, ltb-false}
+use Rattle.std.proofs.lemmas.Bool.{and_parts, ltb-false}
 use Rattle.std.proofs.lemmas.List.{append-nil, take_at, drop_at, take-append-drop, length-append, length-take, length-drop, drop-append-le, take-append-le}
 use Rattle.std.proofs.lemmas.Fmt.{decimal_is_IsNumeral, length-decimal-le}
 use Rattle.wire_core.specs.Streams.{Front, waits, whole, faulty, IsSteady}
@@ -10,7 +10,7 @@ use Rattle.dap_frames.specs.declared.fault.FrameFault.{FrameFault}
 use Rattle.dap_frames.specs.declared.header.Head.{Head}
 use Rattle.dap_frames.specs.declared.header.Head.TheVariants.{Reads, Ends, Refused}
 use Rattle.dap_frames.specs.Reading.{is_name_byte}
-use Rattle.dap_frames.specs.Frames.{Frame, IsNameByte, IsHeader, IsLongHeader, IsLengthLine, Begins, header_of, front_by, frame_front, frame_bytes}
+use Rattle.dap_frames.specs.Frames.{Frame, IsNameByte, IsHeader, Begins, header_of, front_by, frame_front, frame_bytes}
 use Rattle.dap_frames.proofs.Names.{name-byte-is}
 use Rattle.dap_frames.proofs.Fronts.{Bounded, bounded-is, bounded-read, ends-more, refused-more, ends-within, front-whole, front-refused}
 

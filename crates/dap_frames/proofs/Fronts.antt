@@ -1,8 +1,8 @@
 -- What stands at the front of a stream, by what its header says: a header has at most 4,096 bytes.
-use Rattle.std.proofs.Common.{◌≡◌, ℕ, suc, ◌+◌, ◌-◌, ◌<◌, ◌≤◌, min, Bool, true, false, cond, ltb, List, [], ◌∷◌, ◌++◌, length, take, drop, Option, None, refl, sym, ap, subst, ◌∙◌, arith, ◌⊎◌, inl, inr, append_assoc}
+use Rattle.std.proofs.Common.{◌≡◌, ℕ, ◌+◌, ◌-◌, ◌<◌, ◌≤◌, min, Bool, true, false, cond, ltb, List, [], ◌++◌, length, take, drop, None, refl, sym, ap, ◌∙◌, arith, ◌⊎◌, inl, inr, append_assoc}
 use Rattle.std.proofs.lemmas.Bool.{lt-ltb, le-ltb, ltb-true, ltb-false, cases_lt}
 use Rattle.std.proofs.lemmas.List.{append-nil, take-append-drop, length-append, length-take, take_all, take_at, take-take, take-append-le, drop-take, take_min}
-use Rattle.wire_core.specs.Streams.{Front, waits, whole, faulty}
+use Rattle.wire_core.specs.Streams.{waits, whole, faulty}
 use Rattle.dap_frames.specs.declared.fault.FrameFault.{FrameFault}
 use Rattle.dap_frames.specs.declared.fault.FrameFault.TheVariants.{HeaderTooLong}
 use Rattle.dap_frames.specs.declared.header.Reading.{Reading}
@@ -10,11 +10,11 @@ use Rattle.dap_frames.specs.declared.header.Reading.TheVariants.{Line}
 use Rattle.dap_frames.specs.declared.header.Head.{Head}
 use Rattle.dap_frames.specs.declared.header.Head.TheVariants.{Reads, Ends, Refused}
 use Rattle.dap_frames.specs.Reading.{head, onward}
-use Rattle.dap_frames.specs.Frames.{Frame, IsHeader, IsLongHeader, bounded_by, header_of, front_by, frame_front}
+use Rattle.dap_frames.specs.Frames.{IsHeader, bounded_by, header_of, front_by, frame_front}
 use Rattle.dap_frames.specs.Taking.{IsRead}
 use Rattle.dap_frames.proofs.Heads.{head-append, head-within, head-refused}
 use Rattle.dap_frames.proofs.Lines.{header-read}
-use Rattle.dap_frames.proofs.LinesBack.{Header, header-is}
+use Rattle.dap_frames.proofs.LinesBack.{header-is}
 
 -- what the first 4,096 bytes say
 abbrev pub start_of : List ℕ → Head

@@ -5,3 +5,5 @@ pub mod LinesBack
 pub mod Fronts
 pub mod FrameLaws
 pub mod Unfinished
+pub mod Causes
+pub mod Refusals

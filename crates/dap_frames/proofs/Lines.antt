@@ -1,5 +1,5 @@
 -- The lines of a header are read as what they are.
-use Rattle.std.proofs.Common.{◌≡◌, ◌≢◌, ℕ, zero, suc, ◌+◌, ◌-◌, ◌*◌, ◌<◌, ◌≤◌, Bool, true, false, ◌&&◌, cond, ltb, leb, eqb, List, [], ◌∷◌, ◌++◌, length, replicate, Option, Some, None, refl, sym, ap, subst, ◌∙◌, arith, inl, inr, append_assoc}
+use Rattle.std.proofs.Common.{◌≡◌, ℕ, zero, suc, ◌+◌, ◌-◌, ◌*◌, ◌<◌, ◌≤◌, Bool, true, false, ltb, leb, List, [], ◌∷◌, ◌++◌, length, replicate, Option, Some, None, refl, sym, ap, ◌∙◌, arith, inl, inr, append_assoc}
 use Rattle.std.specs.Prelude.{codes}
 use Rattle.std.specs.Char.{digit_value}
 use Rattle.std.specs.List.{AllByRecursion}
@@ -9,8 +9,7 @@ use Rattle.std.proofs.lemmas.List.{length-append, length-replicate}
 use Rattle.std.proofs.lemmas.Str.Parse.{digit_from_value}
 use Rattle.wire_core.specs.Streams.{joined}
 use Rattle.dap_frames.specs.declared.header.Reading.{Reading}
-use Rattle.dap_frames.specs.declared.header.Reading.TheVariants.{Line, Name, Digits, Value, LineEnd, End}
-use Rattle.dap_frames.specs.declared.header.Step.{Step}
+use Rattle.dap_frames.specs.declared.header.Reading.TheVariants.{Line, Name, Digits, Value, LineEnd}
 use Rattle.dap_frames.specs.declared.header.Step.TheVariants.{Goes}
 use Rattle.dap_frames.specs.declared.header.Head.{Head}
 use Rattle.dap_frames.specs.declared.header.Head.TheVariants as heads
@@ -34,7 +33,7 @@ name-read (b ∷ bs) said m rest all =
     one-more (length bs) (Name said m) (Name said (next_match m b)) b (bs ++ 58 ∷ rest) (head (Name said (matched m (b ∷ bs))) (58 ∷ rest))
     (rw (name-byte-true b all.0, ne_eqb b 58 all.0.2) refl) (name-read bs said (next_match m b) rest all.1)
 
-name-starts : (name : List ℕ) (said : Option ℕ) (rest : List ℕ) → IsName name
+pub name-starts : (name : List ℕ) (said : Option ℕ) (rest : List ℕ) → IsName name
     → head (Line said) (name ++ 58 ∷ rest) ≡ later (length name) (head (Name said (matched (Some 0) name)) (58 ∷ rest))
 name-starts [] said rest is = absurd (omega (arith, is.0))
 name-starts (b ∷ bs) said rest is =
@@ -87,7 +86,7 @@ other-read line said rest is =
 
 -- ---- the line of the length
 
-blanks-read : (k : ℕ) (rest : List ℕ) → head (Digits 0 0) (replicate k 32 ++ rest) ≡ later k (head (Digits 0 0) rest)
+pub blanks-read : (k : ℕ) (rest : List ℕ) → head (Digits 0 0) (replicate k 32 ++ rest) ≡ later k (head (Digits 0 0) rest)
 blanks-read zero rest = sym (later-zero (head (Digits 0 0) rest))
 blanks-read (suc k) rest = one-more k (Digits 0 0) (Digits 0 0) 32 (replicate k 32 ++ rest) (head (Digits 0 0) rest) refl (blanks-read k rest)
 
@@ -103,7 +102,7 @@ value-grows : (value : ℕ) (ds : List ℕ) → value ≤ digits_value_after 10 
 value-grows value [] = omega arith
 value-grows value (d ∷ ds) = omega (arith, value-grows (value * 10 + digit_value d) ds)
 
-digits-read : (ds : List ℕ) (count value : ℕ) (rest : List ℕ) → AllDigits 10 ds → count + length ds ≤ 10 → digits_value_after 10 value ds ≤ 16777216
+pub digits-read : (ds : List ℕ) (count value : ℕ) (rest : List ℕ) → AllDigits 10 ds → count + length ds ≤ 10 → digits_value_after 10 value ds ≤ 16777216
     → head (Digits count value) (ds ++ rest) ≡ later (length ds) (head (Digits (count + length ds) (digits_value_after 10 value ds)) rest)
 digits-read [] count value rest all room small =
     ap (λ (c : ℕ). head (Digits c value) rest) (omega arith) ∙ sym (later-zero (head (Digits (count + 0) value) rest))

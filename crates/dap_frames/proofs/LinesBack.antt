@@ -1,5 +1,5 @@
 -- What ends a header is lines and an empty one: each state of reading knows what was read of its line.
-use Rattle.std.proofs.Common.{◌≡◌, ◌≢◌, ℕ, zero, suc, ◌+◌, ◌-◌, ◌*◌, ◌<◌, ◌≤◌, Bool, true, false, ◌&&◌, cond, ltb, leb, eqb, List, [], ◌∷◌, ◌++◌, length, replicate, Option, Some, None, refl, sym, ap, subst, ◌∙◌, arith, ◌⊎◌, inl, inr, append_assoc}
+use Rattle.std.proofs.Common.{◌≡◌, ℕ, ◌+◌, ◌-◌, ◌*◌, ◌<◌, ◌≤◌, Bool, true, false, ◌&&◌, cond, ltb, leb, eqb, List, [], ◌∷◌, ◌++◌, length, replicate, Option, Some, None, refl, sym, ap, subst, ◌∙◌, arith, ◌⊎◌, inl, inr, append_assoc}
 use Rattle.std.specs.Prelude.{codes}
 use Rattle.std.specs.Char.{digit_value}
 use Rattle.std.specs.List.{AllByRecursion}
@@ -7,7 +7,6 @@ use Rattle.std.specs.Str.Parse.{AllDigits, digits_value, digits_value_after}
 use Rattle.std.proofs.lemmas.Bool.{and_parts, ltb-true, ltb-false, leb-true, eqb-true, eqb-false, le-ltb, lt-ltb, true≢false}
 use Rattle.std.proofs.lemmas.List.{append-nil, length-append, length_push, nil_from_length, replicate_more}
 use Rattle.wire_core.specs.Streams.{joined}
-use Rattle.dap_frames.specs.declared.fault.FrameFault.{FrameFault}
 use Rattle.dap_frames.specs.declared.fault.FrameFault.TheVariants.{BadLength, TooLong, BadHeader}
 use Rattle.dap_frames.specs.declared.header.Reading.{Reading}
 use Rattle.dap_frames.specs.declared.header.Reading.TheVariants.{Line, Name, Digits, Value, LineEnd, End}
@@ -82,7 +81,7 @@ AllDigits-push : (ds : List ℕ) (b : ℕ) → AllDigits 10 ds → digit_value b
 AllDigits-push [] b all is = (is, tt)
 AllDigits-push (d ∷ ds) b all is = (all.0, AllDigits-push ds b all.1 is)
 
-value-push : (ds : List ℕ) (v b : ℕ) → digits_value_after 10 v (ds ++ b ∷ []) ≡ digits_value_after 10 v ds * 10 + digit_value b
+pub value-push : (ds : List ℕ) (v b : ℕ) → digits_value_after 10 v (ds ++ b ∷ []) ≡ digits_value_after 10 v ds * 10 + digit_value b
 value-push [] v b = refl
 value-push (d ∷ ds) v b = value-push ds (v * 10 + digit_value d) b
 

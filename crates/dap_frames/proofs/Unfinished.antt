@@ -1,12 +1,11 @@
 -- What waits can go on to be a frame; what is refused can't, and what stands before it can.
-use Rattle.std.proofs.Common.{◌≡◌, ℕ, zero, suc, ◌+◌, ◌-◌, ◌*◌, ◌<◌, ◌≤◌, Bool, true, false, cond, ltb, List, [], ◌∷◌, ◌++◌, length, take, drop, replicate, Option, Some, None, refl, sym, ap, subst, ◌∙◌, arith, ◌⊎◌, inl, inr, append_assoc}
+use Rattle.std.proofs.Common.{◌≡◌, ℕ, suc, ◌+◌, ◌-◌, ◌<◌, ◌≤◌, Bool, true, false, cond, ltb, List, [], ◌∷◌, ◌++◌, length, take, drop, replicate, Option, Some, None, refl, sym, ap, subst, ◌∙◌, arith, inl, inr, append_assoc}
 use Rattle.std.specs.Prelude.{codes}
 use Rattle.std.specs.Str.Parse.{digits_value}
-use Rattle.std.proofs.lemmas.Bool.{ltb-true, ltb-false, lt-ltb, eqb-true, cases_Bool, cases_eq}
-use Rattle.std.proofs.lemmas.List.{append-nil, take-append-drop, take-take, take_all, length-append, length-take, length-replicate, nil_from_length}
+use Rattle.std.proofs.lemmas.Bool.{ltb-true, lt-ltb, eqb-true, cases_Bool, cases_eq}
+use Rattle.std.proofs.lemmas.List.{append-nil, take-take, take_all, length-append, length-take, length-replicate, nil_from_length}
 use Rattle.wire_core.specs.Streams.{Front, waits, whole, faulty}
 use Rattle.dap_frames.specs.declared.fault.FrameFault.{FrameFault}
-use Rattle.dap_frames.specs.declared.fault.FrameFault.TheVariants.{HeaderTooLong}
 use Rattle.dap_frames.specs.declared.header.Reading.{Reading}
 use Rattle.dap_frames.specs.declared.header.Reading.TheVariants.{Line, Name, Digits, Value, LineEnd, End}
 use Rattle.dap_frames.specs.declared.header.Step.{Step}
@@ -14,11 +13,11 @@ use Rattle.dap_frames.specs.declared.header.Step.TheVariants.{Goes, Ends, Refuse
 use Rattle.dap_frames.specs.declared.header.Head.{Head}
 use Rattle.dap_frames.specs.declared.header.Head.TheVariants as heads
 use Rattle.dap_frames.specs.Reading.{step, after_step, head, later, onward, is_length_name, behind_name, next_match}
-use Rattle.dap_frames.specs.Frames.{Frame, IsHeader, IsLongHeader, IsFrame, Begins, IsPart, IsUnfinished, HasNoFrame, HasNoHeader, IsRefused, header_of, front_by, frame_front}
+use Rattle.dap_frames.specs.Frames.{Frame, IsLongHeader, IsFrame, IsPart, IsUnfinished, HasNoFrame, IsRefused, header_of, front_by, frame_front}
 use Rattle.dap_frames.proofs.Heads.{head-append, head-refused}
 use Rattle.dap_frames.proofs.Lines.{header-read}
 use Rattle.dap_frames.proofs.LinesBack.{IsFront, Next, same_line, next_line, step-front, header-is}
-use Rattle.dap_frames.proofs.Fronts.{start_of, reads-is, ends-is, refused-is, bounded-is, bounded-read, front-reads, front-short}
+use Rattle.dap_frames.proofs.Fronts.{reads-is, ends-is, refused-is, bounded-is, bounded-read, front-reads, front-short}
 use Rattle.dap_frames.proofs.FrameLaws.{frame-found, faulty-is}
 
 -- ---- bytes that end the header from here
@@ -246,12 +245,12 @@ waits-from bytes u =
 -- ---- what is refused
 
 -- what stands before a refused byte is read, and with it nothing more is
-record Prefix (r : Reading) (xs : List ℕ) (f : FrameFault) (p : ℕ) : Type 0 where
-  state : Reading
-  before : head r (take p xs) ≡ heads.Reads state
-  with_it : head r (take (p + 1) xs) ≡ heads.Refused f p
+pub record Prefix (r : Reading) (xs : List ℕ) (f : FrameFault) (p : ℕ) : Type 0 where
+  pub state : Reading
+  pub before : head r (take p xs) ≡ heads.Reads state
+  pub with_it : head r (take (p + 1) xs) ≡ heads.Refused f p
 
-prefix : (xs : List ℕ) (r : Reading) (f : FrameFault) (p : ℕ) → head r xs ≡ heads.Refused f p → Prefix r xs f p
+pub prefix : (xs : List ℕ) (r : Reading) (f : FrameFault) (p : ℕ) → head r xs ≡ heads.Refused f p → Prefix r xs f p
 prefix [] r f p e = absurd cc
 prefix (x ∷ xs) r f p e = by (step r x) refl e (λ t g q. prefix xs t g q)
   where

@@ -1,5 +1,5 @@
 -- How a header is read, byte by byte, and at which byte it is refused. `IsHeader` says what is read so.
-use Rattle.std.specs.Prelude.{ℕ, ◌+◌, ◌-◌, ◌*◌, Bool, true, false, ◌&&◌, not, ◌==◌, nat_lt, nat_le, if◌then◌else◌, List, [], ◌∷◌, slice_index, Option, Some, None}
+use Rattle.std.specs.Prelude.{ℕ, ◌+◌, ◌-◌, ◌*◌, Bool, false, ◌&&◌, not, ◌==◌, nat_lt, nat_le, if◌then◌else◌, List, [], ◌∷◌, slice_index, Option, Some, None}
 use Rattle.std.specs.Char.{to_ascii_lowercase}
 use Rattle.dap_frames.specs.declared.fault.FrameFault.TheVariants.{NoLength, TwoLengths, BadLength, TooLong, BadHeader}
 use Rattle.dap_frames.specs.declared.header.Reading.{Reading}

@@ -1,7 +1,8 @@
 //! What the frame at the front of a stream is, in the words of the protocol. Each law is a contract over all streams.
-ghost use Rattle.std.specs.Prelude.{◌≡◌, ◌≤◌, ℕ, [], ◌++◌, ◌↔◌, List, length, codes, decimal};
+ghost use Rattle.std.specs.Prelude.{◌≡◌, ◌≤◌, ℕ, [], ◌∷◌, ◌++◌, ◌↔◌, List, length, codes, decimal};
 ghost use Rattle.wire_core.specs.Streams.{waits, whole, faulty, uncut, fed, Uncut, HasNoWhole, Cuts, Reads, joined};
 ghost use Rattle.dap_frames.specs.Frames.{Frame, frame_front, frame_bytes, Begins, IsFrame, IsUnfinished, IsRefused};
+ghost use Rattle.dap_frames.specs.Faults.{causes, IsFirst};
 ghost use Rattle.dap_frames.specs.declared.fault.FrameFault.{FrameFault};
 
 /// A body is handed out just where the bytes begin with a frame of it.
@@ -26,6 +27,16 @@ pub fn refused_at_the_first_byte()
         → IsRefused bytes fault place }
     ensures stays { (bytes more : List ℕ) (fault : FrameFault) (place : ℕ) → frame_front bytes ≡ faulty fault place
         → frame_front (bytes ++ more) ≡ faulty fault place }
+{}
+
+/// A byte is refused just where it is the first with which the bytes are the beginning of no frame, or the 4,097th of a
+/// header, and for just the first of the six faults whose cause applies to it: the 4,097th byte of a header; a `\r` at
+/// the start of a line, with no length said; the colon behind a second name `Content-Length`; the digit that brings a
+/// length above 16,777,216; another byte that is none of a length; any other byte.
+pub fn refused_for_the_first_cause()
+    ensures { (before rest : List ℕ) (byte : ℕ) (fault : FrameFault)
+        → (frame_front (before ++ byte ∷ rest) ≡ faulty fault (length before))
+        ↔ (IsRefused (before ++ byte ∷ rest) fault (length before) × IsFirst causes fault before byte) }
 {}
 
 /// What `frame` writes of a body that a client may send is handed out again, whatever follows it.

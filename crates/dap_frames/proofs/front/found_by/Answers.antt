@@ -1,5 +1,5 @@
 -- a header lies within its bytes, and so does a refused byte
-use Rattle.std.proofs.Common.{◌≡◌, ap, sym, ◌∙◌, ℕ, List, ◌+◌, ◌≤◌, length, take, drop, arith}
+use Rattle.std.proofs.Common.{ap, sym, ◌∙◌, ℕ, List, ◌+◌, ◌≤◌, length, arith}
 use Rattle.std.proofs.lemmas.List.{drop-take}
 use Rattle.wire_core.specs.Streams.{whole}
 use Rattle.dap_frames.proofs.Fronts.{ends-within, refused-within, front-reads, front-refused, front-short, front-whole}

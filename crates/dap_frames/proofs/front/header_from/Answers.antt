@@ -1,6 +1,5 @@
 -- what was read lies within the first 4,096 bytes, and the rest of them says the rest
 use Rattle.std.proofs.Common.{rules, ◌≤◌, ◌-◌, ap, ◌∙◌, ℕ, length, take, drop, arith}
-use Rattle.dap_frames.specs.declared.header.Head.{Head}
 use Rattle.dap_frames.specs.declared.header.Head.TheVariants.{Reads}
 use Rattle.dap_frames.specs.Reading.{onward}
 use Rattle.dap_frames.specs.Frames.{bounded_by}
