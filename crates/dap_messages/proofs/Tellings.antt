@@ -1,18 +1,33 @@
 -- No told message has a float, so its text is the compact one.
-use Rattle.std.proofs.Common.{◌≡◌, ℕ, List, false, refl, ap, ◌∙◌}
+use Rattle.std.proofs.Common.{◌≡◌, ℕ, List, [], ◌∷◌, map, false, ◌||◌, Some, refl, ap, ◌∙◌}
 use Rattle.serde_json.specs.Data.{Data}
-use Rattle.serde_json.specs.Written.{compact_text, has_float}
-use Rattle.dap_messages.specs.Telling.{outcome_data, told_data, told_text}
+use Rattle.serde_json.specs.View.{items_of}
+use Rattle.serde_json.specs.Written.{compact_text, has_float, items_have_float}
+use Rattle.dap_messages.specs.Telling.{answer_data, outcome_data, thread_data, threads_data, told_data, told_text}
 use Rattle.dap_messages.specs.declared.told.Told.{Told}
 use Rattle.dap_messages.specs.declared.told.Told.TheVariants as told
 use Rattle.dap_messages.specs.declared.told.Outcome.{Outcome}
 use Rattle.dap_messages.specs.declared.told.Outcome.TheVariants.{Success, Failure as Failed}
-use Rattle.dap_messages.specs.declared.told.Shape.TheVariants.{Nothing, Capabilities}
+use Rattle.dap_messages.specs.declared.told.Shape.TheVariants.{Nothing, Capabilities, Threads}
+use Rattle.dap_messages.specs.declared.told.Thread.{Thread}
+
+items_have_float-threads : (threads : List Thread) → items_have_float (items_of (map thread_data threads)) ≡ false
+items_have_float-threads [] = refl
+items_have_float-threads (thread ∷ threads) = items_have_float-threads threads
+
+has_float-threads_data : (threads : List Thread) → has_float (threads_data threads) ≡ false
+has_float-threads_data threads = ap (λ found. found || false) (items_have_float-threads threads)
+
+has_float-answer_data : (seq request_seq : ℕ) (command : List ℕ) (body : Data) →
+    has_float body ≡ false → has_float (answer_data seq request_seq command (Some body)) ≡ false
+has_float-answer_data seq request_seq command body none = ap (λ found. found || false) none
 
 has_float-outcome_data : (seq request_seq : ℕ) (command : List ℕ) (outcome : Outcome) →
     has_float (outcome_data seq request_seq command outcome) ≡ false
 has_float-outcome_data seq request_seq command (Success Nothing) = refl
 has_float-outcome_data seq request_seq command (Success Capabilities) = refl
+has_float-outcome_data seq request_seq command (Success (Threads threads)) =
+    has_float-answer_data seq request_seq command (threads_data threads) (has_float-threads_data threads)
 has_float-outcome_data seq request_seq command (Failed failure) = refl
 
 pub has_float-told_data : (seq : ℕ) (message : Told) → has_float (told_data seq message) ≡ false

@@ -1,15 +1,17 @@
 -- The arguments of a request, each by its rule. (DAP specification, Requests)
-use Rattle.std.specs.Prelude.{◌≡◌, ℕ, List, Bool, true, false, if◌then◌else◌, codes, bytes_eq, Option, Some, None}
-use Rattle.std.specs.Prelude.{option_and_then, Result, Ok, Err, ⊤}
-use Rattle.serde_json.specs.Data.{Data, null, boolean, number, string, array, object}
-use Rattle.serde_json.specs.Find.{get, as_bool, as_str}
+use Rattle.std.specs.Prelude.{◌≡◌, ℕ, List, [], ◌∷◌, Bool, true, false, if◌then◌else◌, codes, bytes_eq, Option, Some}
+use Rattle.std.specs.Prelude.{None, option_and_then, option_map, Result, Ok, Err, ⊤}
+use Rattle.serde_json.specs.Data.{Data, null, boolean, number, string, array, object, Items, no_items, item}
+use Rattle.serde_json.specs.Find.{get, as_array, as_bool, as_str}
 use Rattle.dap_messages.specs.declared.arguments.Argument.{Argument}
 use Rattle.dap_messages.specs.declared.arguments.Argument.TheVariants.{Arguments, AdapterId, LinesStartAt1}
 use Rattle.dap_messages.specs.declared.arguments.Argument.TheVariants.{ColumnsStartAt1, PathFormat}
-use Rattle.dap_messages.specs.declared.arguments.Argument.TheVariants.{SupportsVariableType, TerminateDebuggee}
+use Rattle.dap_messages.specs.declared.arguments.Argument.TheVariants.{SupportsVariableType, SourceRoots}
+use Rattle.dap_messages.specs.declared.arguments.Argument.TheVariants.{TerminateDebuggee}
 use Rattle.dap_messages.specs.declared.arguments.Refused.{Refused}
 use Rattle.dap_messages.specs.declared.arguments.Refused.TheVariants.{NoMemory, Broken}
 use Rattle.dap_messages.specs.declared.requests.InitializeArguments.{InitializeArguments}
+use Rattle.dap_messages.specs.declared.requests.AttachArguments.{AttachArguments}
 use Rattle.dap_messages.specs.declared.requests.DisconnectArguments.{DisconnectArguments}
 
 -- the name under which an argument stands
@@ -20,6 +22,7 @@ argument_name LinesStartAt1 = codes "linesStartAt1"
 argument_name ColumnsStartAt1 = codes "columnsStartAt1"
 argument_name PathFormat = codes "pathFormat"
 argument_name SupportsVariableType = codes "supportsVariableType"
+argument_name SourceRoots = codes "sourceRoots"
 argument_name TerminateDebuggee = codes "terminateDebuggee"
 
 -- null counts as missing
@@ -48,6 +51,23 @@ or_missing missing read (Some value) = read value
 -- a text that must be there
 abbrev pub text_at : Argument → Data → Result (List ℕ) Argument
 text_at argument arguments = unless_broken argument (option_and_then as_str (given argument arguments))
+
+-- a list whose items are all texts
+abbrev pub texts_in : Items → Option (List (List ℕ))
+texts_in no_items = Some []
+texts_in (item d ds) = option_and_then (λ text. option_map (λ texts. text ∷ texts) (texts_in ds)) (as_str d)
+
+-- a list that has an item
+abbrev pub unless_empty : List (List ℕ) → Option (List (List ℕ))
+unless_empty [] = None
+unless_empty (text ∷ texts) = Some (text ∷ texts)
+
+abbrev pub as_texts : Data → Option (List (List ℕ))
+as_texts value = option_and_then unless_empty (option_and_then texts_in (as_array value))
+
+-- a list of texts that must be there and have one
+abbrev pub texts_at : Argument → Data → Result (List (List ℕ)) Argument
+texts_at argument arguments = unless_broken argument (option_and_then as_texts (given argument arguments))
 
 -- a truth value, which may be missing
 abbrev pub flag_at : Argument → Bool → Data → Result Bool Argument
@@ -86,6 +106,12 @@ initialize_of arguments = do
     columns_start_at1 = columns_start_at1;
     supports_variable_type = supports_variable_type;
   })
+
+-- AttachRequestArguments, which are the adapter's own: the folders that sources stand in
+abbrev pub attach_of : Data → Result AttachArguments Argument
+attach_of arguments = do
+  source_roots ← texts_at SourceRoots arguments
+  Ok (record { source_roots = source_roots })
 
 -- DisconnectArguments
 abbrev pub disconnect_of : Data → Result DisconnectArguments Argument

@@ -5,13 +5,14 @@ use Rattle.std.specs.Str.{is_utf8}
 use Rattle.serde_json.specs.Data.{Data, null}
 use Rattle.serde_json.specs.Read.{read}
 use Rattle.serde_json.specs.Find.{get, as_null, as_number, as_object, as_str, as_u64}
-use Rattle.dap_messages.specs.Arguments.{◌>>=◌, argument_name, initialize_of, disconnect_of}
+use Rattle.dap_messages.specs.Arguments.{◌>>=◌, argument_name, initialize_of, attach_of, disconnect_of}
 use Rattle.dap_messages.specs.declared.arguments.Argument.{Argument}
 use Rattle.dap_messages.specs.declared.arguments.Argument.TheVariants.{Arguments}
 use Rattle.dap_messages.specs.declared.rows.Row.{Row}
 use Rattle.dap_messages.specs.declared.rows.Row.TheVariants as row
 use Rattle.dap_messages.specs.declared.requests.Command.{Command}
-use Rattle.dap_messages.specs.declared.requests.Command.TheVariants.{Initialize, Disconnect, Unsupported, BadArguments}
+use Rattle.dap_messages.specs.declared.requests.Command.TheVariants.{Initialize, Attach, Threads, Disconnect}
+use Rattle.dap_messages.specs.declared.requests.Command.TheVariants.{Unsupported, BadArguments}
 use Rattle.dap_messages.specs.declared.requests.Incoming.{Incoming}
 use Rattle.dap_messages.specs.declared.requests.Incoming.TheVariants.{Request, Ignored}
 use Rattle.dap_messages.specs.declared.requests.ReadFault.{ReadFault}
@@ -21,8 +22,10 @@ use Rattle.dap_messages.specs.declared.requests.ReadFault.TheVariants.{NoMemory,
 abbrev pub row_of : List ℕ → Row
 row_of name =
     if bytes_eq name (codes "initialize") then row.Initialize else
+    (if bytes_eq name (codes "attach") then row.Attach else
+    (if bytes_eq name (codes "threads") then row.Threads else
     (if bytes_eq name (codes "disconnect") then row.Disconnect else
-    row.Unsupported)
+    row.Unsupported)))
 
 abbrev pub object_or_null : Data → Result Data Argument
 object_or_null value = if is_some (as_object value) || is_some (as_null value) then Ok value else Err Arguments
@@ -37,6 +40,13 @@ row_command row.Initialize request = do
   arguments ← arguments_of request
   initialize ← initialize_of arguments
   Ok (Initialize initialize)
+row_command row.Attach request = do
+  arguments ← arguments_of request
+  attach ← attach_of arguments
+  Ok (Attach attach)
+row_command row.Threads request = do
+  arguments ← arguments_of request
+  Ok Threads
 row_command row.Disconnect request = do
   arguments ← arguments_of request
   disconnect ← disconnect_of arguments

@@ -1,8 +1,8 @@
 -- The JSON of a told message. (DAP specification, Base Protocol, Events and Responses)
-use Rattle.std.specs.Prelude.{ℕ, ◌==◌, List, [], ◌∷◌, ◌++◌, true, false, if◌then◌else◌, codes, decimal, Option, Some}
-use Rattle.std.specs.Prelude.{None}
-use Rattle.serde_json.specs.Data.{Data, number, unsigned, string, boolean, array, object, Items, no_items, item}
-use Rattle.serde_json.specs.Data.{Members, no_members, member}
+use Rattle.std.specs.Prelude.{ℕ, ◌==◌, List, [], ◌∷◌, ◌++◌, map, true, false, if◌then◌else◌, codes, decimal, Option}
+use Rattle.std.specs.Prelude.{Some, None}
+use Rattle.serde_json.specs.Data.{Data, number, unsigned, string, boolean, array, object, Members, no_members, member}
+use Rattle.serde_json.specs.View.{items_of}
 use Rattle.serde_json.specs.Written.{compact_text}
 use Rattle.dap_messages.specs.declared.told.Told.{Told}
 use Rattle.dap_messages.specs.declared.told.Told.TheVariants as told
@@ -10,7 +10,8 @@ use Rattle.dap_messages.specs.declared.told.Response.{Response}
 use Rattle.dap_messages.specs.declared.told.Outcome.{Outcome}
 use Rattle.dap_messages.specs.declared.told.Outcome.TheVariants.{Success, Failure as Failed}
 use Rattle.dap_messages.specs.declared.told.Shape.{Shape}
-use Rattle.dap_messages.specs.declared.told.Shape.TheVariants.{Nothing, Capabilities}
+use Rattle.dap_messages.specs.declared.told.Shape.TheVariants.{Nothing, Capabilities, Threads}
+use Rattle.dap_messages.specs.declared.told.Thread.{Thread}
 use Rattle.dap_messages.specs.declared.told.Failure.{Failure}
 use Rattle.dap_messages.specs.declared.told.Detail.{Detail}
 use Rattle.dap_messages.specs.declared.told.Detail.TheVariants.{Plain, Number, Name}
@@ -24,17 +25,28 @@ unsupported = record { code = 1; detail = Plain }
 abbrev pub bad_arguments : List ℕ → Failure
 bad_arguments name = record { code = 2; detail = Name name }
 
--- an object of these members, and an array of these items
+abbrev pub already_attached : Failure
+already_attached = record { code = 16; detail = Plain }
+
+abbrev pub not_attached : Failure
+not_attached = record { code = 3; detail = Plain }
+
+abbrev pub target_gone : Failure
+target_gone = record { code = 10; detail = Plain }
+
+abbrev pub unknown_thread : Failure
+unknown_thread = record { code = 8; detail = Plain }
+
+abbrev pub target_error : ℕ → Failure
+target_error error = record { code = 9; detail = Number error }
+
+-- an object of these members
 abbrev pub members_of : List (List ℕ × Data) → Members
 members_of [] = no_members
 members_of (m ∷ ms) = member m.0 m.1 (members_of ms)
 
 abbrev pub object_of : List (List ℕ × Data) → Data
 object_of members = object (members_of members)
-
-abbrev pub items_of : List Data → Items
-items_of [] = no_items
-items_of (d ∷ ds) = item d (items_of ds)
 
 abbrev pub count : ℕ → Data
 count n = number (unsigned n)
@@ -61,10 +73,19 @@ capabilities_data = object_of (
     (codes "supportsFunctionBreakpoints", boolean true) ∷
     (codes "supportsSetVariable", boolean true) ∷ [])
 
+-- Thread
+abbrev pub thread_data : Thread → Data
+thread_data thread = object_of ((codes "id", count thread.id) ∷ (codes "name", string thread.name) ∷ [])
+
+-- ThreadsResponse, body
+abbrev pub threads_data : List Thread → Data
+threads_data threads = object_of ((codes "threads", array (items_of (map thread_data threads))) ∷ [])
+
 -- the body, where there is one
 abbrev pub shape_data : Shape → Option Data
 shape_data Nothing = None
 shape_data Capabilities = Some capabilities_data
+shape_data (Threads threads) = Some (threads_data threads)
 
 -- the member `body`, which stands before all others of a message
 abbrev pub body_member : Option Data → List (List ℕ × Data)
@@ -77,7 +98,12 @@ body_member (Some body) = (codes "body", body) ∷ []
 abbrev pub message_of : ℕ → List ℕ
 message_of code =
     if code == 1 then codes "unsupported" else
-    (if code == 2 then codes "badArguments" else [])
+    (if code == 2 then codes "badArguments" else
+    (if code == 3 then codes "notAttached" else
+    (if code == 8 then codes "unknownThread" else
+    (if code == 9 then codes "targetError" else
+    (if code == 10 then codes "targetGone" else
+    (if code == 16 then codes "alreadyAttached" else []))))))
 
 abbrev pub detail_text : Detail → List ℕ
 detail_text Plain = []

@@ -1,10 +1,11 @@
 ghost use Rattle.std.specs.Prelude.{◌≡◌, option_map};
-ghost use Rattle.serde_json.specs.View.{view};
-ghost use Rattle.dap_messages.specs.Arguments.{argument_name, given, text_at, flag_at, path_format_at, IsRead};
+ghost use Rattle.serde_json.specs.View.{view, items_view};
+ghost use Rattle.dap_messages.specs.Arguments.{argument_name, given, text_at, texts_at, texts_in};
+ghost use Rattle.dap_messages.specs.Arguments.{flag_at, path_format_at, unless_broken, IsRead};
 
 use serde_json::Value;
 use std::alloc::Global;
-use wire_core::{NoMemory, Text};
+use wire_core::{List, NoMemory, Text};
 
 /// An argument that can break its rule, or the member that holds them all.
 #[derive(Clone, Copy, Debug, Drop, PartialEq, Eq)]
@@ -15,6 +16,7 @@ pub(crate) enum Argument {
     ColumnsStartAt1,
     PathFormat,
     SupportsVariableType,
+    SourceRoots,
     TerminateDebuggee,
 }
 
@@ -29,6 +31,7 @@ impl Argument {
             Argument::ColumnsStartAt1 => "columnsStartAt1",
             Argument::PathFormat => "pathFormat",
             Argument::SupportsVariableType => "supportsVariableType",
+            Argument::SourceRoots => "sourceRoots",
             Argument::TerminateDebuggee => "terminateDebuggee",
         }
     }
@@ -73,6 +76,38 @@ pub(crate) fn text_at(alloc: Global, arguments: &Value, argument: Argument) -> R
         },
         None => Err(Refused::Broken(argument)),
     }
+}
+
+/// A list of texts that must be there and have at least one.
+pub(crate) fn texts_at(
+    alloc: Global,
+    arguments: &Value,
+    argument: Argument,
+) -> Result<List<Text>, Refused>
+    ensures { IsRead result (texts_at argument (view arguments.now)) }
+{
+    let Some(items) = given(arguments, argument).and_then(Value::as_array) else {
+        return Err(Refused::Broken(argument));
+    };
+    let texts = texts_in(alloc, argument, items.as_slice())?;
+    if texts.is_empty() {
+        Err(Refused::Broken(argument))
+    } else {
+        Ok(texts)
+    }
+}
+
+fn texts_in(alloc: Global, argument: Argument, items: &[Value]) -> Result<List<Text>, Refused>
+    ensures { IsRead result (unless_broken argument (texts_in (items_view items.now))) }
+{
+    let mut texts = List::new(alloc);
+    for item in items {
+        match item.as_str() {
+            Some(text) => texts.push(Text::from_str(alloc, text)?)?,
+            None => return Err(Refused::Broken(argument)),
+        }
+    }
+    Ok(texts)
 }
 
 /// A truth value, or `missing` where it isn't given.

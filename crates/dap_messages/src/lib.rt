@@ -12,7 +12,8 @@ mod write;
 
 pub use read::read_request;
 pub use requests::{
-    Command, DisconnectArguments, Incoming, InitializeArguments, ReadFault, Request,
+    AttachArguments, Command, DisconnectArguments, Incoming, InitializeArguments, ReadFault,
+    Request,
 };
-pub use told::{Detail, Event, Failure, Outcome, Response, Shape, Told};
+pub use told::{Detail, Event, Failure, Outcome, Response, Shape, Thread, Told};
 pub use write::text_of;

@@ -1,4 +1,4 @@
-use wire_core::{NoMemory, Text};
+use wire_core::{List, NoMemory, Text};
 
 /// What a body says: a request to answer, or a message of another kind, which is passed over.
 #[derive(Debug, Drop)]
@@ -38,6 +38,8 @@ pub struct Request {
 #[derive(Debug, Drop)]
 pub enum Command {
     Initialize(InitializeArguments),
+    Attach(AttachArguments),
+    Threads,
     Disconnect(DisconnectArguments),
     /// A command that this adapter doesn't have.
     Unsupported,
@@ -52,6 +54,12 @@ pub struct InitializeArguments {
     pub lines_start_at1: bool,
     pub columns_start_at1: bool,
     pub supports_variable_type: bool,
+}
+
+/// Arguments of `attach`: the folders that sources stand in, at least one, as the client wrote them.
+#[derive(Debug, Drop)]
+pub struct AttachArguments {
+    pub source_roots: List<Text>,
 }
 
 /// Arguments of `disconnect`.

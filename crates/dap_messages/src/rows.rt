@@ -1,10 +1,10 @@
 ghost use Rattle.std.specs.Prelude.{◌≡◌, IfOk};
 ghost use Rattle.serde_json.specs.View.{view};
-ghost use Rattle.dap_messages.specs.Arguments.{initialize_of, disconnect_of, IsRead};
+ghost use Rattle.dap_messages.specs.Arguments.{initialize_of, attach_of, disconnect_of, IsRead};
 ghost use Rattle.dap_messages.specs.Reading.{row_of, row_command, command_of};
 
-use crate::arguments::{Argument, Refused, flag_at, path_format_at, text_at};
-use crate::requests::{Command, DisconnectArguments, InitializeArguments};
+use crate::arguments::{Argument, Refused, flag_at, path_format_at, text_at, texts_at};
+use crate::requests::{AttachArguments, Command, DisconnectArguments, InitializeArguments};
 use serde_json::Value;
 use std::alloc::Global;
 use wire_core::{NoMemory, Text};
@@ -13,6 +13,8 @@ use wire_core::{NoMemory, Text};
 #[derive(Clone, Copy, Debug, Drop, PartialEq, Eq)]
 pub(crate) enum Row {
     Initialize,
+    Attach,
+    Threads,
     Disconnect,
     Unsupported,
 }
@@ -22,6 +24,10 @@ fn row_of(name: &str) -> Row
 {
     if name == "initialize" {
         Row::Initialize
+    } else if name == "attach" {
+        Row::Attach
+    } else if name == "threads" {
+        Row::Threads
     } else if name == "disconnect" {
         Row::Disconnect
     } else {
@@ -56,6 +62,8 @@ fn row_command(alloc: Global, row: Row, request: &Value) -> Result<Command, Refu
     }
     match row {
         Row::Initialize => Ok(Command::Initialize(initialize_of(alloc, arguments)?)),
+        Row::Attach => Ok(Command::Attach(attach_of(alloc, arguments)?)),
+        Row::Threads => Ok(Command::Threads),
         Row::Disconnect => Ok(Command::Disconnect(disconnect_of(arguments)?)),
         Row::Unsupported => Ok(Command::Unsupported),
     }
@@ -75,6 +83,13 @@ fn initialize_of(alloc: Global, arguments: &Value) -> Result<InitializeArguments
         columns_start_at1,
         supports_variable_type,
     })
+}
+
+fn attach_of(alloc: Global, arguments: &Value) -> Result<AttachArguments, Refused>
+    ensures { IsRead result (attach_of (view arguments.now)) }
+{
+    let source_roots = texts_at(alloc, arguments, Argument::SourceRoots)?;
+    Ok(AttachArguments { source_roots })
 }
 
 fn disconnect_of(arguments: &Value) -> Result<DisconnectArguments, Refused>

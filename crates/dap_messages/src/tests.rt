@@ -1,10 +1,10 @@
 use crate::{
-    Command, Event, Failure, Incoming, Outcome, ReadFault, Request, Response, Shape, Told,
+    Command, Event, Failure, Incoming, Outcome, ReadFault, Request, Response, Shape, Thread, Told,
     read_request, text_of,
 };
 use std::alloc::{AllocError, Global};
 use std::test::Fail;
-use wire_core::Text;
+use wire_core::{List, Text};
 
 // What a body says, in a few words.
 fn summary(alloc: Global, body: &[u8]) -> Result<String, AllocError> {
@@ -28,6 +28,11 @@ fn request_summary(alloc: Global, request: Request) -> Result<String, AllocError
             let types = arguments.supports_variable_type;
             format!(in alloc; "{seq} {name} {adapter} {lines} {columns} {types}")
         }
+        Command::Attach(arguments) => {
+            let roots = joined(alloc, arguments.source_roots.as_slice())?;
+            format!(in alloc; "{seq} {name} {roots}")
+        }
+        Command::Threads => format!(in alloc; "{seq} {name}"),
         Command::Disconnect(arguments) => {
             let terminate = arguments.terminate_debuggee;
             format!(in alloc; "{seq} {name} {terminate}")
@@ -38,6 +43,16 @@ fn request_summary(alloc: Global, request: Request) -> Result<String, AllocError
             format!(in alloc; "{seq} {name} bad {argument}")
         }
     }
+}
+
+// Texts, each with `;` behind it.
+fn joined(alloc: Global, texts: &[Text]) -> Result<String, AllocError> {
+    let mut all = String::new(alloc);
+    for text in texts {
+        all.push_str(text.as_str())?;
+        all.push_str(";")?;
+    }
+    Ok(all)
 }
 
 #[test]
@@ -180,6 +195,38 @@ fn arguments_are_judged_in_order(rt: HostRuntime) -> Result<(), Fail> {
             "{\"adapterID\":\"a\",\"supportsVariableType\":0}",
             "1 initialize bad supportsVariableType",
         ),
+        (
+            "attach",
+            "{\"sourceRoots\":[\"/p/src\",\"\",\"\\u00e9\"],\"port\":5005}",
+            "1 attach /p/src;;é;",
+        ),
+        ("attach", "null", "1 attach bad sourceRoots"),
+        ("attach", "{}", "1 attach bad sourceRoots"),
+        (
+            "attach",
+            "{\"sourceRoots\":null}",
+            "1 attach bad sourceRoots",
+        ),
+        (
+            "attach",
+            "{\"sourceRoots\":\"/p/src\"}",
+            "1 attach bad sourceRoots",
+        ),
+        ("attach", "{\"sourceRoots\":[]}", "1 attach bad sourceRoots"),
+        (
+            "attach",
+            "{\"sourceRoots\":[\"/p/src\",7]}",
+            "1 attach bad sourceRoots",
+        ),
+        (
+            "attach",
+            "{\"sourceRoots\":[null,\"/p/src\"]}",
+            "1 attach bad sourceRoots",
+        ),
+        ("attach", "[\"/p/src\"]", "1 attach bad arguments"),
+        ("threads", "null", "1 threads"),
+        ("threads", "{\"threadId\":\"x\"}", "1 threads"),
+        ("threads", "7", "1 threads bad arguments"),
         ("disconnect", "null", "1 disconnect false"),
         (
             "disconnect",
@@ -203,6 +250,20 @@ fn arguments_are_judged_in_order(rt: HostRuntime) -> Result<(), Fail> {
         assert!(rt; said.as_str() == wanted, "{command} {arguments}: {said}");
     }
     Ok(())
+}
+
+fn thread(alloc: Global, id: u64, name: &str) -> Result<Thread, Fail> {
+    Ok(Thread {
+        id,
+        name: Text::from_str(alloc, name)?,
+    })
+}
+
+fn threads(alloc: Global) -> Result<Shape, Fail> {
+    let mut threads = List::new(alloc);
+    threads.push(thread(alloc, 1, "main")?)?;
+    threads.push(thread(alloc, 2, "Signal \"Dispatcher\"")?)?;
+    Ok(Shape::Threads(threads))
 }
 
 fn response(
@@ -244,6 +305,24 @@ fn messages_are_told(rt: HostRuntime) -> Result<(), Fail> {
             "{\"command\":\"disconnect\",\"request_seq\":2,\"seq\":2,\"success\":true,\"type\":\"response\"}",
         ),
         (
+            3,
+            response(alloc, 7, "threads", Outcome::Success(threads(alloc)?))?,
+            "{\"body\":{\"threads\":[{\"id\":1,\"name\":\"main\"},\
+            {\"id\":2,\"name\":\"Signal \\\"Dispatcher\\\"\"}]},\"command\":\"threads\",\"request_seq\":7,\
+            \"seq\":3,\"success\":true,\"type\":\"response\"}",
+        ),
+        (
+            3,
+            response(
+                alloc,
+                7,
+                "threads",
+                Outcome::Success(Shape::Threads(List::new(alloc))),
+            )?,
+            "{\"body\":{\"threads\":[]},\"command\":\"threads\",\"request_seq\":7,\"seq\":3,\
+            \"success\":true,\"type\":\"response\"}",
+        ),
+        (
             1,
             response(alloc, 1, "é", Outcome::Failure(Failure::unsupported()))?,
             "{\"body\":{\"error\":{\"format\":\"unsupported\",\"id\":1}},\"command\":\"é\",\
@@ -274,6 +353,50 @@ fn messages_are_told(rt: HostRuntime) -> Result<(), Fail> {
     for (seq, told, wanted) in table {
         let text = text_of(alloc, seq, &told)?;
         assert!(rt; text.as_slice() == wanted.as_bytes(), "{wanted}");
+    }
+    Ok(())
+}
+
+#[test]
+fn failures_are_told(rt: HostRuntime) -> Result<(), Fail> {
+    let alloc = rt.alloc();
+    let roots = Text::from_str(alloc, "sourceRoots")?;
+    let table = [
+        (
+            Failure::bad_arguments(roots),
+            "badArguments",
+            "badArguments sourceRoots",
+            2,
+        ),
+        (
+            Failure::already_attached(),
+            "alreadyAttached",
+            "alreadyAttached",
+            16,
+        ),
+        (Failure::not_attached(), "notAttached", "notAttached", 3),
+        (Failure::target_gone(), "targetGone", "targetGone", 10),
+        (
+            Failure::unknown_thread(),
+            "unknownThread",
+            "unknownThread",
+            8,
+        ),
+        (
+            Failure::target_error(503),
+            "targetError",
+            "targetError 503",
+            9,
+        ),
+    ];
+    for (failure, message, format, id) in table {
+        let told = response(alloc, 4, "threads", Outcome::Failure(failure))?;
+        let text = text_of(alloc, 2, &told)?;
+        let wanted = format!(in alloc;
+            "{{\"body\":{{\"error\":{{\"format\":\"{format}\",\"id\":{id}}}}},\"command\":\"threads\",\
+            \"message\":\"{message}\",\"request_seq\":4,\"seq\":2,\"success\":false,\"type\":\"response\"}}"
+        )?;
+        assert!(rt; text.as_slice() == wanted.as_bytes(), "{format}");
     }
     Ok(())
 }

@@ -1,4 +1,4 @@
-use wire_core::Text;
+use wire_core::{List, Text};
 
 /// A message that the adapter tells its client.
 #[derive(Debug, Drop)]
@@ -29,6 +29,15 @@ pub enum Shape {
     Nothing,
     /// What the adapter can do, the body of `initialize`.
     Capabilities,
+    /// The threads of the target, the body of `threads`.
+    Threads(List<Thread>),
+}
+
+/// A thread of the target: the number that the client knows it by, and its name.
+#[derive(Debug, Drop)]
+pub struct Thread {
+    pub id: u64,
+    pub name: Text,
 }
 
 /// Why a request failed: its code, which decides the message, and what the message is followed by.
@@ -58,6 +67,8 @@ pub enum Event {
 impl Failure {
     ghost use Rattle.std.specs.Prelude.{◌≡◌};
     ghost use Rattle.dap_messages.specs.Telling.{unsupported, bad_arguments};
+    ghost use Rattle.dap_messages.specs.Telling.{already_attached, not_attached, target_gone};
+    ghost use Rattle.dap_messages.specs.Telling.{unknown_thread, target_error};
 
     /// The adapter doesn't have this command.
     pub fn unsupported() -> Failure
@@ -76,6 +87,56 @@ impl Failure {
         Failure {
             code: 2,
             detail: Detail::Name(name),
+        }
+    }
+
+    /// The session is attached to its target already.
+    pub fn already_attached() -> Failure
+        ensures { result ≡ already_attached }
+    {
+        Failure {
+            code: 16,
+            detail: Detail::Plain,
+        }
+    }
+
+    /// The session isn't attached to its target yet, and the command needs it to be.
+    pub fn not_attached() -> Failure
+        ensures { result ≡ not_attached }
+    {
+        Failure {
+            code: 3,
+            detail: Detail::Plain,
+        }
+    }
+
+    /// The target has ended, or the session did before the request was done.
+    pub fn target_gone() -> Failure
+        ensures { result ≡ target_gone }
+    {
+        Failure {
+            code: 10,
+            detail: Detail::Plain,
+        }
+    }
+
+    /// No thread has the number that the request names.
+    pub fn unknown_thread() -> Failure
+        ensures { result ≡ unknown_thread }
+    {
+        Failure {
+            code: 8,
+            detail: Detail::Plain,
+        }
+    }
+
+    /// The target answered a question of the request with this error. (JDWP specification, Error Constants)
+    pub fn target_error(error: u16) -> Failure
+        ensures { result ≡ target_error error }
+    {
+        Failure {
+            code: 9,
+            detail: Detail::Number(u64::from(error)),
         }
     }
 }

@@ -3,8 +3,9 @@ ghost use Rattle.serde_json.specs.View.{view};
 ghost use Rattle.dap_messages.specs.Telling.{capabilities_data, detail_text, error_data, event_data, event_name};
 ghost use Rattle.dap_messages.specs.Telling.{format_of, message_of, told_data, told_text};
 ghost use Rattle.dap_messages.specs.Telling.{answer_data, failure_data, response_data, shape_data};
+ghost use Rattle.dap_messages.specs.Telling.{thread_data, threads_data};
 
-use crate::told::{Detail, Event, Failure, Outcome, Response, Shape, Told};
+use crate::told::{Detail, Event, Failure, Outcome, Response, Shape, Thread, Told};
 use serde_json::{Value, json};
 use std::alloc::{AllocError, Global};
 use wire_core::{Blob, List, NoMemory};
@@ -133,6 +134,11 @@ fn message_of(code: u8) -> &'static str
     match code {
         1 => "unsupported",
         2 => "badArguments",
+        3 => "notAttached",
+        8 => "unknownThread",
+        9 => "targetError",
+        10 => "targetGone",
+        16 => "alreadyAttached",
         _ => "",
     }
 }
@@ -143,6 +149,7 @@ fn shape_value(alloc: Global, shape: &Shape) -> Result<Option<Value>, AllocError
     match shape {
         Shape::Nothing => Ok(None),
         Shape::Capabilities => Ok(Some(capabilities_value(alloc)?)),
+        Shape::Threads(threads) => Ok(Some(threads_value(alloc, threads.as_slice())?)),
     }
 }
 
@@ -161,6 +168,22 @@ fn capabilities_value(alloc: Global) -> Result<Value, AllocError>
         "supportsFunctionBreakpoints": true,
         "supportsSetVariable": true
     })
+}
+
+fn threads_value(alloc: Global, threads: &[Thread]) -> Result<Value, AllocError>
+    ensures { IfOk result (λ value. view value ≡ threads_data threads.now) }
+{
+    let mut items = Vec::new(alloc);
+    for thread in threads {
+        items.push(thread_value(alloc, thread)?)?;
+    }
+    json!(in alloc; {"threads": Value::Array(items)})
+}
+
+fn thread_value(alloc: Global, thread: &Thread) -> Result<Value, AllocError>
+    ensures { IfOk result (λ value. view value ≡ thread_data thread.now) }
+{
+    json!(in alloc; {"id": thread.id, "name": thread.name.as_str()})
 }
 
 fn event_value(alloc: Global, seq: u64, event: Event) -> Result<Value, AllocError>
