@@ -5,3 +5,6 @@ pub mod Times
 pub mod RowLaws
 pub mod Appends
 pub mod ToldLaws
+pub mod ClassLaws
+pub mod Writings
+pub mod LossyLaws

@@ -5,4 +5,6 @@ pub mod Parts
 pub mod Spelling
 pub mod Reading
 pub mod Rows
+pub mod Classes
 pub mod Bytes
+pub mod Lossy
