@@ -10,3 +10,6 @@ pub use composite::{Composite, CompositeFault, read_composite, write_composite};
 pub use event::Event;
 pub use kind::{EventKind, Policy};
 pub use modifier::Modifier;
+
+#[cfg(test)]
+mod tests;
