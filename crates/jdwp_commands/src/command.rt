@@ -1,0 +1,361 @@
+//! The bodies of commands.
+
+ghost use Rattle.std.specs.Prelude.{◌≡◌, ◌<◌, ◌^◌, ◌↔◌, length, Ok, Err, None, IfOk};
+ghost use Rattle.jdwp_values.specs.Rows.{Tells};
+ghost use Rattle.jdwp_values.specs.Spelling.{Writes};
+ghost use Rattle.jdwp_commands.specs.declared.asked.Asked.{Asked as AnAsked};
+ghost use Rattle.jdwp_commands.specs.declared.fault.BodyFault.TheVariants.{UnknownCommand as unknown_command};
+ghost use Rattle.jdwp_commands.specs.declared.kind.EffectKind.TheVariants as effect_kinds;
+ghost use Rattle.jdwp_commands.specs.Bodies.{IsRead, whole};
+ghost use Rattle.jdwp_commands.specs.Commands.{number_of, question_at, effect_at, asked_at, told_question, told_effect, told, spell_command, FitsCommand, InRangeCommand, command_at};
+ghost use Rattle.jdwp_commands.specs.Items.{spell_sayings, FitsSayings};
+ghost use Rattle.jdwp_commands.specs.Kinds.{kind_of_numbers};
+
+use crate::asked::Asked;
+use crate::effect::Effect;
+use crate::fault::BodyFault;
+use crate::kind::{CommandKind, EffectKind, QuestionKind};
+use crate::meaning;
+use crate::question::Question;
+use jdwp_values::{IdSizes, Limit, Reader, RowFault, Writer, read_list, write_list};
+use std::alloc::Global;
+use wire_core::{Blob, NoMemory};
+
+#[tactic(auto, using(jdwp_values::proofs::Appends::appends))]
+fn write_question(question: &Question, writer: &mut Writer) -> Result<(), NoMemory>
+    requires { FitsSayings writer.old.sizes (told_question question.now) }
+    ensures { Writes (spell_sayings writer.old.sizes (told_question question.now)) writer.old writer.new result }
+{
+    match question {
+        Question::ClassesBySignature(signature) => writer.text(signature.as_slice())?,
+        Question::AllClasses => {}
+        Question::AllThreads => {}
+        Question::IdSizes => {}
+        Question::Signature(class) => writer.class(*class)?,
+        Question::Fields(class) => writer.class(*class)?,
+        Question::Methods(class) => writer.class(*class)?,
+        Question::SourceFile(class) => writer.class(*class)?,
+        Question::Superclass(class) => writer.class(*class)?,
+        Question::LineTable { class, method } => {
+            writer.class(*class)?;
+            writer.method(*method)?;
+        }
+        Question::VariableTable { class, method } => {
+            writer.class(*class)?;
+            writer.method(*method)?;
+        }
+        Question::ObjectType(object) => writer.object(*object)?,
+        Question::GetFields { object, fields } => {
+            writer.object(*object)?;
+            write_list(writer, fields.as_slice())?;
+        }
+        Question::StringValue(object) => writer.object(*object)?,
+        Question::ThreadName(thread) => writer.thread(*thread)?,
+        Question::Frames {
+            thread,
+            start,
+            length,
+        } => {
+            writer.thread(*thread)?;
+            writer.int(*start)?;
+            writer.int(*length)?;
+        }
+        Question::FrameCount(thread) => writer.thread(*thread)?,
+        Question::ArrayLength(object) => writer.object(*object)?,
+        Question::GetElements {
+            array,
+            first,
+            length,
+        } => {
+            writer.object(*array)?;
+            writer.int(*first)?;
+            writer.int(*length)?;
+        }
+        Question::GetSlots {
+            thread,
+            frame,
+            slots,
+        } => {
+            writer.thread(*thread)?;
+            writer.frame(*frame)?;
+            write_list(writer, slots.as_slice())?;
+        }
+        Question::ThisObject { thread, frame } => {
+            writer.thread(*thread)?;
+            writer.frame(*frame)?;
+        }
+    }
+    Ok(())
+}
+
+#[tactic(auto, using(jdwp_values::proofs::Appends::appends))]
+fn write_effect(effect: &Effect, writer: &mut Writer) -> Result<(), NoMemory>
+    requires { FitsSayings writer.old.sizes (told_effect effect.now) }
+    ensures { Writes (spell_sayings writer.old.sizes (told_effect effect.now)) writer.old writer.new result }
+{
+    match effect {
+        Effect::Dispose => {}
+        Effect::Suspend => {}
+        Effect::Resume => {}
+        Effect::Exit(code) => writer.int(*code)?,
+        Effect::SetField {
+            object,
+            field,
+            value,
+        } => {
+            writer.object(*object)?;
+            writer.count(1)?;
+            writer.field(*field)?;
+            writer.tail(value.as_slice())?;
+        }
+        Effect::SetElement {
+            array,
+            first,
+            value,
+        } => {
+            writer.object(*array)?;
+            writer.int(*first)?;
+            writer.count(1)?;
+            writer.tail(value.as_slice())?;
+        }
+        Effect::Set {
+            kind,
+            policy,
+            modifiers,
+        } => {
+            writer.byte(kind.byte())?;
+            writer.byte(policy.byte())?;
+            write_list(writer, modifiers.as_slice())?;
+        }
+        Effect::Clear { kind, request } => {
+            writer.byte(kind.byte())?;
+            writer.number(*request)?;
+        }
+        Effect::SetSlot {
+            thread,
+            frame,
+            slot,
+            value,
+        } => {
+            writer.thread(*thread)?;
+            writer.frame(*frame)?;
+            writer.count(1)?;
+            writer.int(*slot)?;
+            writer.value(value)?;
+        }
+    }
+    Ok(())
+}
+
+fn write_asked(asked: &Asked, writer: &mut Writer) -> Result<(), NoMemory>
+    requires { FitsSayings writer.old.sizes (told asked.now) }
+    ensures { Writes (spell_sayings writer.old.sizes (told asked.now)) writer.old writer.new result }
+{
+    match asked {
+        Asked::Question(question) => write_question(question, writer),
+        Asked::Effect(effect) => write_effect(effect, writer),
+    }
+}
+
+/// The number of a command's set, its own number in there, and its body. Its ids fit the sizes; its texts and lists
+/// have fewer than 2^31 bytes and items.
+#[tactic(auto, unfolding(crate::specs::Commands::spell_command))]
+pub fn write(alloc: Global, sizes: IdSizes, asked: &Asked) -> Result<(u8, u8, Blob), NoMemory>
+    requires { FitsCommand sizes asked.now }
+    ensures number { IfOk result (λ w. (w.0, w.1) ≡ number_of asked.now) }
+    ensures body { IfOk result (λ w. w.2 ≡ spell_command sizes asked.now) }
+{
+    let mut writer = Writer::new(alloc, sizes);
+    write_asked(asked, &mut writer)?;
+    let (set, command) = asked.kind().numbers();
+    Ok((set, command, writer.done()))
+}
+
+fn read_question(
+    alloc: Global,
+    kind: QuestionKind,
+    reader: &mut Reader<'_>,
+) -> Result<Question, RowFault>
+    ensures { Tells (λ x. x) (question_at kind reader.old) reader.new result }
+{
+    match kind {
+        QuestionKind::ClassesBySignature => Ok(Question::ClassesBySignature(Blob::from_slice(
+            alloc,
+            reader.text()?,
+        )?)),
+        QuestionKind::AllClasses => Ok(Question::AllClasses),
+        QuestionKind::AllThreads => Ok(Question::AllThreads),
+        QuestionKind::IdSizes => Ok(Question::IdSizes),
+        QuestionKind::Signature => Ok(Question::Signature(reader.class()?)),
+        QuestionKind::Fields => Ok(Question::Fields(reader.class()?)),
+        QuestionKind::Methods => Ok(Question::Methods(reader.class()?)),
+        QuestionKind::SourceFile => Ok(Question::SourceFile(reader.class()?)),
+        QuestionKind::Superclass => Ok(Question::Superclass(reader.class()?)),
+        QuestionKind::LineTable => Ok(Question::LineTable {
+            class: reader.class()?,
+            method: reader.method()?,
+        }),
+        QuestionKind::VariableTable => Ok(Question::VariableTable {
+            class: reader.class()?,
+            method: reader.method()?,
+        }),
+        QuestionKind::ObjectType => Ok(Question::ObjectType(reader.object()?)),
+        QuestionKind::GetFields => Ok(Question::GetFields {
+            object: reader.object()?,
+            fields: read_list(alloc, Limit::Any, reader)?,
+        }),
+        QuestionKind::StringValue => Ok(Question::StringValue(reader.object()?)),
+        QuestionKind::ThreadName => Ok(Question::ThreadName(reader.thread()?)),
+        QuestionKind::Frames => Ok(Question::Frames {
+            thread: reader.thread()?,
+            start: reader.int()?,
+            length: reader.int()?,
+        }),
+        QuestionKind::FrameCount => Ok(Question::FrameCount(reader.thread()?)),
+        QuestionKind::ArrayLength => Ok(Question::ArrayLength(reader.object()?)),
+        QuestionKind::GetElements => Ok(Question::GetElements {
+            array: reader.object()?,
+            first: reader.int()?,
+            length: reader.int()?,
+        }),
+        QuestionKind::GetSlots => Ok(Question::GetSlots {
+            thread: reader.thread()?,
+            frame: reader.frame()?,
+            slots: read_list(alloc, Limit::Any, reader)?,
+        }),
+        QuestionKind::ThisObject => Ok(Question::ThisObject {
+            thread: reader.thread()?,
+            frame: reader.frame()?,
+        }),
+    }
+}
+
+fn read_set_field(alloc: Global, reader: &mut Reader<'_>) -> Result<Effect, RowFault>
+    ensures { Tells (λ x. x) (effect_at effect_kinds.SetField reader.old) reader.new result }
+{
+    let object = reader.object()?;
+    reader.count(Limit::Exactly(1))?;
+    Ok(Effect::SetField {
+        object,
+        field: reader.field()?,
+        value: Blob::from_slice(alloc, reader.tail()?)?,
+    })
+}
+
+fn read_set_element(alloc: Global, reader: &mut Reader<'_>) -> Result<Effect, RowFault>
+    ensures { Tells (λ x. x) (effect_at effect_kinds.SetElement reader.old) reader.new result }
+{
+    let array = reader.object()?;
+    let first = reader.int()?;
+    reader.count(Limit::Exactly(1))?;
+    Ok(Effect::SetElement {
+        array,
+        first,
+        value: Blob::from_slice(alloc, reader.tail()?)?,
+    })
+}
+
+fn read_set_slot(reader: &mut Reader<'_>) -> Result<Effect, RowFault>
+    ensures { Tells (λ x. x) (effect_at effect_kinds.SetSlot reader.old) reader.new result }
+{
+    let thread = reader.thread()?;
+    let frame = reader.frame()?;
+    reader.count(Limit::Exactly(1))?;
+    Ok(Effect::SetSlot {
+        thread,
+        frame,
+        slot: reader.int()?,
+        value: reader.value()?,
+    })
+}
+
+fn read_effect(alloc: Global, kind: EffectKind, reader: &mut Reader<'_>) -> Result<Effect, RowFault>
+    ensures { Tells (λ x. x) (effect_at kind reader.old) reader.new result }
+{
+    match kind {
+        EffectKind::Dispose => Ok(Effect::Dispose),
+        EffectKind::Suspend => Ok(Effect::Suspend),
+        EffectKind::Resume => Ok(Effect::Resume),
+        EffectKind::Exit => Ok(Effect::Exit(reader.int()?)),
+        EffectKind::SetField => read_set_field(alloc, reader),
+        EffectKind::SetElement => read_set_element(alloc, reader),
+        EffectKind::Set => Ok(Effect::Set {
+            kind: meaning::event_kind(reader)?,
+            policy: meaning::policy(reader)?,
+            modifiers: read_list(alloc, Limit::Any, reader)?,
+        }),
+        EffectKind::Clear => Ok(Effect::Clear {
+            kind: meaning::event_kind(reader)?,
+            request: reader.number()?,
+        }),
+        EffectKind::SetSlot => read_set_slot(reader),
+    }
+}
+
+fn read_asked(alloc: Global, kind: CommandKind, reader: &mut Reader<'_>) -> Result<Asked, RowFault>
+    ensures { Tells (λ x. x) (asked_at kind reader.old) reader.new result }
+{
+    match kind {
+        CommandKind::Question(kind) => Ok(Asked::Question(read_question(alloc, kind, reader)?)),
+        CommandKind::Effect(kind) => Ok(Asked::Effect(read_effect(alloc, kind, reader)?)),
+    }
+}
+
+fn read_body(
+    alloc: Global,
+    sizes: IdSizes,
+    kind: CommandKind,
+    body: &[u8],
+) -> Result<Asked, BodyFault>
+    requires { length body.now < 2 ^ 32 }
+    ensures { IsRead (whole (asked_at kind) sizes body.now) result }
+{
+    let mut reader = Reader::new(body, sizes);
+    let asked = read_asked(alloc, kind, &mut reader)?;
+    if reader.left() > 0 {
+        return Err(BodyFault::Trailing { at: reader.at() });
+    }
+    Ok(asked)
+}
+
+/// Reads the command with these numbers that the whole body spells. Its texts and lists are copied.
+#[tactic(auto, unfolding(crate::specs::Commands::command_at))]
+fn read(
+    alloc: Global,
+    sizes: IdSizes,
+    set: u8,
+    command: u8,
+    body: &[u8],
+) -> Result<Asked, BodyFault>
+    requires { length body.now < 2 ^ 32 }
+    ensures exact { IsRead (command_at sizes set command body.now) result }
+    ensures unknown { (result ≡ Err unknown_command) ↔ (kind_of_numbers set command ≡ None) }
+{
+    match CommandKind::from_numbers(set, command) {
+        Some(kind) => read_body(alloc, sizes, kind, body),
+        None => Err(BodyFault::UnknownCommand),
+    }
+}
+
+/// Reads the command with these numbers that the whole body spells.
+pub fn read_command(
+    alloc: Global,
+    sizes: IdSizes,
+    set: u8,
+    command: u8,
+    body: &[u8],
+) -> Result<Asked, BodyFault>
+    requires { length body.now < 2 ^ 32 }
+    // What is read is spelled so.
+    ensures found { IfOk result (λ c. (number_of c ≡ (set, command)) × FitsCommand sizes c
+        × (body.now ≡ spell_command sizes c)) }
+    // What is spelled so is read, unless memory runs out.
+    ensures only { (c : AnAsked) → FitsCommand sizes c → InRangeCommand c → number_of c ≡ (set, command)
+        → body.now ≡ spell_command sizes c → IsRead (Ok c) result }
+    // No command has these numbers.
+    ensures unknown { (result ≡ Err unknown_command) ↔ (kind_of_numbers set command ≡ None) }
+    // Which fault it is: that of the first part from the left that can't be read.
+    ensures exact { IsRead (command_at sizes set command body.now) result }
+{
+    read(alloc, sizes, set, command, body)
+}
