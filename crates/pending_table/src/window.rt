@@ -1,0 +1,109 @@
+ghost use Rattle.std.specs.Prelude.{◌≡◌, ◌<◌, ◌-◌, ◌^◌, [], IsTrue, ◌↔◌, false, None, Some, MatchResult, OnOk, OnErr};
+ghost use Rattle.pending_table.specs.Windows.{fresh, id_of, pending_under, is_full, with_sent, settled};
+
+use crate::place::{Sent, put, take_out, waits};
+use jdwp_commands::Asked;
+use std::marker::Model;
+
+/// A reply that answers no pending command, with its id.
+#[derive(Clone, Copy, Debug, PartialEq, Eq)]
+pub struct UnknownReply(pub u32);
+
+/// The commands that were sent and have no reply yet, at most 16 (JDWP, "JDWP Packets", the field `id`).
+///
+/// The ids are 1, 2, and so on to 2^32 - 1, and then 1 again. Contracts see the commands behind their ids, in the
+/// order in which they were sent. No call takes memory.
+#[derive(Debug, Drop)]
+pub struct Pending {
+    places: [Option<Sent>; 16],
+    count: usize,
+    next: u32,
+}
+
+impl Model for Pending {
+    ghost use Rattle.pending_table.specs.Windows.{Window};
+    ghost use Rattle.pending_table.specs.Places.{sent_in, IsTable};
+
+    ghost Value = { Window };
+
+    ghost view = { λ p. record { sent = sent_in p.places; next = p.next } };
+
+    ghost invariant = { λ p. IsTable p.places p.count p.next };
+}
+
+impl Pending {
+    /// The window before the first command.
+    pub fn new() -> Pending
+        ensures { result ≡ fresh }
+    {
+        Pending {
+            places: [
+                None, None, None, None, None, None, None, None, None, None, None, None, None, None,
+                None, None,
+            ],
+            count: 0,
+            next: 0,
+        }
+    }
+
+    /// Whether no command can be sent now: 16 are pending, or the next id still is.
+    pub fn is_full(&self) -> bool
+        ensures { result ≡ is_full self.now }
+    {
+        self.count == 16 || waits(&self.places, self.next_id())
+    }
+
+    /// Whether no command is pending.
+    pub fn is_empty(&self) -> bool
+        ensures { IsTrue result ↔ (self.now.sent ≡ []) }
+    {
+        self.count == 0
+    }
+
+    /// The id of the next command: that of the n-th, from 0, is n mod (2^32 - 1) + 1.
+    pub fn next_id(&self) -> u32
+        ensures { result ≡ id_of self.now.next }
+    {
+        self.next + 1
+    }
+
+    /// Adds a command, and answers its id.
+    pub fn send(&mut self, asked: Asked) -> u32
+        requires { is_full self.old ≡ false }
+        ensures id { result ≡ id_of self.old.next }
+        ensures sent { self.new ≡ with_sent asked self.old }
+    {
+        let id = self.next_id();
+        put(&mut self.places, self.count, Sent { id, asked });
+        self.count += 1;
+        self.next = (self.next + 1) % u32::MAX;
+        id
+    }
+
+    /// Takes the command out that a reply of this id answers, and leaves all others; where none is pending under the
+    /// id, all stays as it was.
+    pub fn settle(&mut self, id: u32) -> Result<Asked, UnknownReply>
+        ensures asked { MatchResult result (λ asked. pending_under id self.old.sent ≡ Some asked)
+            (λ unknown. (pending_under id self.old.sent ≡ None) × (unknown.0 ≡ id)) }
+        ensures ok { OnOk result (self.new ≡ settled id self.old) }
+        ensures err { OnErr result (self.new ≡ self.old) }
+        ensures once { pending_under id self.new.sent ≡ None }
+    {
+        match take_out(&mut self.places, id) {
+            Some(asked) => {
+                self.count -= 1;
+                Ok(asked)
+            }
+            None => Err(UnknownReply(id)),
+        }
+    }
+
+    // A window that goes on behind so many commands.
+    #[cfg(test)]
+    pub(crate) fn go_on_behind(&mut self, count: u32)
+        requires { count < 2 ^ 32 - 1 }
+        ensures { self.new ≡ record { sent = self.old.sent; next = count } }
+    {
+        self.next = count;
+    }
+}
