@@ -1,7 +1,14 @@
 pub mod AnsweringLaws
+pub mod CommandLaws
+pub mod DoingLaws
 pub mod EndingLaws
 pub mod HearingLaws
+pub mod IdLaws
+pub mod RestLaws
 pub mod RunLaws
+pub mod SettleLaws
+pub mod SizeLaws
 pub mod StepLaws
 pub mod TellingLaws
 pub mod TurnLaws
+pub mod WordLaws

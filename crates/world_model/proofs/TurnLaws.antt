@@ -1,16 +1,16 @@
 -- The turns of a session are the entries of its log that were waited for.
-use Rattle.std.proofs.Common.{◌≡◌, ℕ, ◌+◌, cond, List, [], ◌∷◌, ◌++◌, Option, Some, None, take, refl, ap, ◌∙◌, arith}
+use Rattle.std.proofs.Common.{◌≡◌, ℕ, ◌+◌, cond, List, [], ◌∷◌, ◌++◌, take, refl, arith}
 use Rattle.std.proofs.lemmas.List.Sums.{sum_by-append}
 use Rattle.std.specs.List.{count_by}
 use Rattle.wire_core.specs.Outside.{broken_send}
 use Rattle.wire_core.specs.declared.outside.Entry.{Entry}
-use Rattle.wire_core.specs.declared.outside.Side.TheVariants.{Client}
-use Rattle.world_model.specs.Machine.{State, due, Due, Message}
-use Rattle.world_model.specs.Session.{At, Place, told_bytes, Carries, Stops, over, misframed, not_json, not_a_message}
-use Rattle.world_model.specs.Session.{Session, begins, goes, moves, ignores, happens, breaks, stops}
-use Rattle.world_model.specs.Laws.{comes, message_due, failed_sends}
-use Rattle.world_model.specs.declared.ending.Ending.{Ending}
-use Rattle.world_model.proofs.StepLaws.{Happens-comes}
+use Rattle.wire_core.specs.declared.outside.Entry.TheVariants.{Out}
+use Rattle.wire_core.specs.declared.outside.Side.{Side}
+use Rattle.world_model.specs.Machine.{Message}
+use Rattle.world_model.specs.Session.{At, word_side, word_bytes, Session}
+use Rattle.world_model.specs.Laws.{comes}
+use Rattle.world_model.specs.declared.ending.Limits.{Limits}
+use Rattle.world_model.proofs.StepLaws.{Happens-comes, before_ending}
 
 -- how many entries of a log were waited for
 abbrev waited : List Entry → ℕ
@@ -19,63 +19,38 @@ waited log = count_by comes log
 waited-append : (log more : List Entry) → waited (log ++ more) ≡ waited log + waited more
 waited-append log more = sum_by-append (λ (entry : Entry). cond (comes entry) 1 0) log more
 
--- no send has failed while the session goes on, or where it has ended with no message due
-none_failed : (ending : Option Ending) (step : Due) → message_due step ≡ 0 → failed_sends ending step ≡ 0
-none_failed None step none = refl
-none_failed (Some ending) step none = none
+broken_send-waited : (side : Side) (bytes : List ℕ) → waited (broken_send side bytes) ≡ 1
+broken_send-waited side [] = refl
+broken_send-waited side (b ∷ bytes) = refl
 
-open_session : {ending : Option Ending} (step : Due) → ending ≡ None → failed_sends ending step ≡ 0
-open_session step goes_on = ap (λ (e : Option Ending). failed_sends e step) goes_on
+-- a whole send wasn't waited for
+sent_whole : (log : List Entry) (side : Side) (bytes : List ℕ) → waited (log ++ Out side bytes ∷ []) ≡ waited log
+sent_whole log side bytes = omega (arith, waited-append log (Out side bytes ∷ []))
 
-no_message : (s : State) {step : Due} → due s ≡ step → message_due step ≡ 0 → message_due (due s) ≡ 0
-no_message s is none = ap (λ (d : Due). message_due d) is ∙ none
+-- a send that failed leaves one entry that looks so
+sent_broken : (log : List Entry) (side : Side) (bytes : List ℕ)
+    → waited (log ++ broken_send side bytes) ≡ waited log + 1
+sent_broken log side bytes =
+    omega (arith, waited-append log (broken_send side bytes), broken_send-waited side bytes)
 
--- no message is due where a cause stands
-Stops-due : {at : At} {ending : Ending} → Stops at ending → message_due (due at.state) ≡ 0
-Stops-due {at} (over is) = no_message at.state is refl
-Stops-due {at} (misframed reads front) = no_message at.state reads.nothing_due refl
-Stops-due {at} (not_json reads front body) = no_message at.state reads.nothing_due refl
-Stops-due {at} (not_a_message reads front body) = no_message at.state reads.nothing_due refl
-
-Carries-waited : {place next : Place} {message : Message} {entries : List Entry} → Carries place message entries next
-    → waited entries ≡ 0
-Carries-waited (Carries.hears front body) = refl
-Carries-waited Carries.tells = refl
-
-broken_send-waited : (bytes : List ℕ) → waited (broken_send Client bytes) ≡ 1
-broken_send-waited [] = refl
-broken_send-waited (b ∷ bytes) = refl
-
-pub are_turns : {log : List Entry} {messages : List Message} {turns : ℕ} {at : At} → Session log messages turns at
-    → count_by comes log ≡ turns + failed_sends at.ending (due at.state)
-are_turns begins = refl
-are_turns (goes {at} {next} s goes_on is) =
-    omega (arith, are_turns s, open_session (due at.state) goes_on, open_session (due next) goes_on)
-are_turns (moves {log} {at} {entries} s goes_on allows carries) =
-    omega (arith, are_turns s, open_session (due at.state) goes_on, waited-append log entries, Carries-waited carries)
-are_turns (ignores s reads front body) = are_turns s
-are_turns (happens {log} {at} {next} {entry} s waits comes) =
-    let none : failed_sends next.ending (due next.state) ≡ 0
-    = none_failed next.ending (due next.state) (ap (λ (now : State). message_due (due now)) (Happens-comes comes).state
-    ∙ no_message at.state waits.nothing_due refl) in
-    omega (
-      arith,
-      are_turns s,
-      none,
-      open_session (due at.state) waits.goes_on,
-      waited-append log (entry ∷ []),
-      (Happens-comes comes).waited,
-    )
-are_turns (breaks {log} {kept} {at} {told} s goes_on is proper) =
-    let bytes : List ℕ = take kept (told_bytes at.place told) in
-    let one : message_due (due at.state) ≡ 1 = ap (λ (d : Due). message_due d) is in
-    omega (
-      arith,
-      are_turns s,
-      one,
-      open_session (due at.state) goes_on,
-      waited-append log (broken_send Client bytes),
-      broken_send-waited bytes,
-    )
-are_turns (stops {at} s goes_on cause) =
-    omega (arith, are_turns s, Stops-due cause, open_session (due at.state) goes_on)
+pub are_turns : {limits : Limits} {log : List Entry} {messages : List Message} {turns : ℕ} {at : At}
+    → Session limits log messages turns at → count_by comes log ≡ turns + at.broken
+are_turns Session.begins = refl
+are_turns (Session.goes s on is) = are_turns s
+are_turns (Session.speaks {log} {side} {bytes} s on allows speaks) =
+    omega (arith, are_turns s, sent_whole log side bytes)
+are_turns (Session.hears s on allows says) = are_turns s
+are_turns (Session.ignores s reads whole reading) = are_turns s
+are_turns (Session.keeps s reads whole composite unknown) = are_turns s
+are_turns (Session.drops s on gone) = are_turns s
+are_turns (Session.happens {log} {entry} s waits more patient comes) =
+    let c = Happens-comes comes in
+    omega (arith, are_turns s, c.broken, c.waited, waited-append log (entry ∷ []))
+are_turns (Session.breaks {log} {kept} {side} {bytes} s on allows speaks proper) =
+    let none = (before_ending s on.goes_on).broken in
+    omega (arith, are_turns s, none, sent_broken log side (take kept bytes))
+are_turns (Session.stops s goes_on cause) = are_turns s
+are_turns (Session.says {log} {at} {word} s more) =
+    omega (arith, are_turns s, sent_whole log (word_side word) (word_bytes at.place word))
+are_turns (Session.silences {log} {kept} {at} {word} s more proper) =
+    omega (arith, are_turns s, sent_broken log (word_side word) (take kept (word_bytes at.place word)))

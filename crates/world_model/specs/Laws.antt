@@ -1,7 +1,7 @@
 -- What holds of every session, in the words of its two sides. The laws stand at the end, behind what they speak of.
-use Rattle.std.specs.Prelude.{ℕ, ◌≡◌, ◌<◌, ◌+◌, ◌∷◌, ◌++◌, Bool, true, false, List, [], length}
+use Rattle.std.specs.Prelude.{ℕ, ℤ, ◌≡◌, ◌<◌, ◌+◌, ◌∷◌, ◌++◌, Bool, true, false, List, [], length}
 use Rattle.std.specs.Prelude.{take, drop, count_by, Option, Some, None, Ok, Err}
-use Rattle.std.specs.List.{flat_map}
+use Rattle.std.specs.List.{flat_map, AllByRecursion}
 use Rattle.dap_frames.specs.Frames.{Frame, frame_front, frame_bytes}
 use Rattle.dap_frames.specs.declared.fault.FrameFault.{FrameFault}
 use Rattle.dap_messages.specs.Reading.{reading_of}
@@ -12,18 +12,37 @@ use Rattle.dap_messages.specs.declared.requests.Request.{Request}
 use Rattle.dap_messages.specs.declared.told.Response.{Response}
 use Rattle.dap_messages.specs.declared.told.Told.{Told}
 use Rattle.dap_messages.specs.declared.told.Told.TheVariants.{Response as a_response, Event as an_event}
+use Rattle.jdwp_commands.specs.Commands.{number_of, spell_command}
+use Rattle.jdwp_commands.specs.declared.answer.Answer.TheVariants as variants
+use Rattle.jdwp_commands.specs.declared.asked.Asked.{Asked}
+use Rattle.jdwp_commands.specs.declared.asked.Asked.TheVariants.{Question as a_question, Effect as an_effect}
+use Rattle.jdwp_commands.specs.declared.asked.Replied.{Replied}
+use Rattle.jdwp_commands.specs.declared.asked.Replied.TheVariants.{Answer as an_answer}
+use Rattle.jdwp_commands.specs.declared.effect.Effect.TheVariants as effects
+use Rattle.jdwp_commands.specs.declared.question.Question.TheVariants as questions
+use Rattle.jdwp_events.specs.declared.kind.EventKind.{EventKind}
+use Rattle.jdwp_events.specs.declared.kind.Policy.TheVariants.{NoThread}
+use Rattle.jdwp_packets.specs.Packets.{packet_bytes, command_packet, handshake}
+use Rattle.jdwp_values.specs.declared.id.ThreadId.{ThreadId}
+use Rattle.jdwp_values.specs.declared.sizes.IdSizes.{IdSizes}
+use Rattle.pending_table.specs.Windows.{id_of}
+use Rattle.wire_core.specs.Outside.{broken_send}
 use Rattle.wire_core.specs.Streams.{Front, Uncut, uncut, fed, Hands}
 use Rattle.wire_core.specs.declared.outside.Entry.{Entry}
 use Rattle.wire_core.specs.declared.outside.Entry.TheVariants.{In, Out, Shut, Failed, Quiet}
 use Rattle.wire_core.specs.declared.outside.Side.{Side}
 use Rattle.wire_core.specs.declared.outside.Side.TheVariants.{Client, Target}
-use Rattle.world_model.specs.Machine.{Part, responds, serves, finishes, Hand, State, fresh}
-use Rattle.world_model.specs.Machine.{is_disconnect, due, Due, Message, Run}
-use Rattle.world_model.specs.Session.{At, told_bytes, Session}
+use Rattle.world_model.specs.Machine.{State, fresh, is_disconnect, is_at_rest, due, Due, next_wish, Message}
+use Rattle.world_model.specs.Machine.{Allows, Run}
+use Rattle.world_model.specs.Session.{At, Place, Word, without_response, last_words, told_bytes, word_side, word_bytes}
+use Rattle.world_model.specs.Session.{Serve, Speaks, Measures, Stops, Session}
 use Rattle.world_model.specs.declared.ending.ClientFault.{ClientFault}
 use Rattle.world_model.specs.declared.ending.ClientFault.TheVariants.{Frame as misframed, NotJson, NotAMessage}
 use Rattle.world_model.specs.declared.ending.Ending.{Ending}
-use Rattle.world_model.specs.declared.ending.Ending.TheVariants.{Done, Left, BadClient, ClientLink}
+use Rattle.world_model.specs.declared.ending.Ending.TheVariants.{Done, Left, BadClient, BadTarget, ClientLink, TargetLink}
+use Rattle.world_model.specs.declared.ending.Ending.TheVariants.{TargetRefused, Idle, Spent, Flood, NoMemory}
+use Rattle.world_model.specs.declared.ending.Limits.{Limits}
+use Rattle.world_model.specs.declared.machine.Phase.TheVariants.{Attached}
 
 -- the bytes, where their side is the client
 abbrev pub client_bytes : Side → List ℕ → List ℕ
@@ -54,11 +73,15 @@ sent log = flat_map sent_by log
 
 abbrev pub request_by : Message → List Request
 request_by (Message.hears request) = request ∷ []
-request_by (Message.tells told) = []
+request_by _ = []
 
 abbrev pub told_by : Message → List Told
-told_by (Message.hears request) = []
 told_by (Message.tells told) = told ∷ []
+told_by _ = []
+
+abbrev pub told_by_word : Word → List Told
+told_by_word (Word.tells told) = told ∷ []
+told_by_word Word.disposes = []
 
 abbrev pub response_told : Told → List Response
 response_told (a_response response) = response ∷ []
@@ -68,9 +91,13 @@ response_told (an_event event) = []
 abbrev pub requests_of : List Message → List Request
 requests_of messages = flat_map request_by messages
 
--- what the client was told, in order
+-- what the client was told by the machine, in order
 abbrev pub told_of : List Message → List Told
 told_of messages = flat_map told_by messages
+
+-- and by the last words
+abbrev pub told_last : List Word → List Told
+told_last said = flat_map told_by_word said
 
 -- the responses among what was told
 abbrev pub responses_of : List Told → List Response
@@ -84,19 +111,29 @@ abbrev pub frames_after : ℕ → List Told → List ℕ
 frames_after before [] = []
 frames_after before (told ∷ rest) = frame_bytes (told_text (before + 1) told) ++ frames_after (before + 1) rest
 
--- What the client was sent behind the whole frames: nothing; or, where its link failed, less than the whole of one more
--- frame, with the next number, of the message that was due.
-pub data Behind (at : At) : List ℕ → Type 0 where
-  nothing : Behind at []
-  broken : {told : Told} {next : State} {kept : ℕ} → at.ending ≡ Some ClientLink → due at.state ≡ Due.tells told next
-      → kept < length (told_bytes at.place told) → Behind at (take kept (told_bytes at.place told))
+-- the message that was to be told next: the one that is due, or the next of the last words
+pub data IsNext (at : At) (told : Told) : Type 0 where
+  of_machine : {next : State} → due at.state ≡ Due.tells told next → IsNext at told
+  of_words : {ending : Ending} (unsaid : List Word) → at.ending ≡ Some ending
+      → last_words ending at.state ≡ at.said ++ Word.tells told ∷ unsaid → IsNext at told
 
--- the bytes sent to the client are the frames of what it was told, numbered from 1
+-- the client's link failed
+abbrev pub HasLost : List Entry → Type 0
+HasLost log = (before : List Entry) × (after : List Entry) × (log ≡ before ++ Failed Client ∷ after)
+
+-- What the client was sent behind the whole frames: nothing; or, where its link failed, less than the whole of one more
+-- frame, with the next number.
+pub data Behind (log : List Entry) (at : At) : List ℕ → Type 0 where
+  nothing : Behind log at []
+  broken : {told : Told} {kept : ℕ} → HasLost log → IsNext at told → kept < length (told_bytes at.place told)
+      → Behind log at (take kept (told_bytes at.place told))
+
+-- the bytes sent to the client are the frames of what it was told, last words included, numbered from 1
 pub record IsNumbered (log : List Entry) (messages : List Message) (at : At) : Type 0 where
   pub rest : List ℕ
-  pub frames : sent log ≡ frames_after 0 (told_of messages) ++ rest
-  pub behind : Behind at rest
-  pub count : at.place.told ≡ length (told_of messages)
+  pub frames : sent log ≡ frames_after 0 (told_of messages ++ told_last at.said) ++ rest
+  pub behind : Behind log at rest
+  pub count : at.place.told ≡ length (told_of messages ++ told_last at.said)
 
 -- Responses --------------------------------------------------------------------------------------------------------
 
@@ -112,28 +149,27 @@ pub data AreAnswered : List Request → List Response → Type 0 where
       → AreAnswered requests responses → IsAnswer request response
       → AreAnswered (requests ++ request ∷ []) (responses ++ response ∷ [])
 
--- the request, once for each response that these parts still give it
-abbrev pub owed_by : Request → List Part → List Request
-owed_by request [] = []
-owed_by request (responds ∷ parts) = request ∷ owed_by request parts
-owed_by request (serves manner ∷ parts) = owed_by request parts
-owed_by request (finishes ∷ parts) = owed_by request parts
+-- nothing is due, and nothing is pending: no command and no handshake
+pub record IsAtRest (s : State) : Type 0 where
+  pub nothing_due : due s ≡ Due.waits
+  pub nothing_pending : is_at_rest s ≡ true
 
-abbrev pub owed_in_hand : Option Hand → List Request
-owed_in_hand None = []
-owed_in_hand (Some hand) = owed_by hand.request hand.parts
-
--- the requests without a response: the one in hand, unless its response was told, and those that wait
-abbrev pub without_response : State → List Request
-without_response s = owed_in_hand s.hand ++ s.waiting
-
--- The responses answer the first of the requests, one each, in order; the others are without a response; and where
--- nothing is due, there are no others.
+-- The responses answer the first of the requests, one each, in order; the others are without a response; and at rest
+-- there are no others.
 pub record AreServed (messages : List Message) (s : State) : Type 0 where
   pub answered : List Request
   pub requests : requests_of messages ≡ answered ++ without_response s
   pub responses : AreAnswered answered (responses_of (told_of messages))
-  pub all : due s ≡ Due.waits → requests_of messages ≡ answered
+  pub all : IsAtRest s → requests_of messages ≡ answered
+
+-- The target's requests ----------------------------------------------------------------------------------------------
+
+-- At rest, once the session is attached, each event request that is wished was set, and the target installed or refused
+-- it; and no item waits.
+pub record IsSettled (s : State) : Type 0 where
+  pub no_wish : next_wish s ≡ None
+  pub none_in_hand : s.hand ≡ None
+  pub none_waits : s.waiting ≡ []
 
 -- Requests ---------------------------------------------------------------------------------------------------------
 
@@ -172,17 +208,176 @@ pub data IsFault (u : Uncut) : ClientFault → ℕ → Type 0 where
   bad_message : {frame : Frame} {n : ℕ} → frame_front u.pending ≡ Front.whole frame n
       → reading_of frame.body ≡ Err no_message → IsFault u NotAMessage (u.at + frame.header)
 
--- Why a session has ended: the client's stream ended, or its link failed, and that was the last thing in the log; the
--- last request is a `disconnect`, and the last message is the response to it; or the client's next bytes have a fault,
--- and nothing is due that came before it.
-pub data Cause (log : List Entry) (messages : List Message) (at : At) : Ending → Type 0 where
-  shut : EndsWith log (Shut Client) → Cause log messages at Left
-  lost : EndsWith log (Failed Client) → Cause log messages at ClientLink
+-- what is sent, or is left of a send that failed
+abbrev pub is_sending : Entry → Bool
+is_sending (In side bytes) = false
+is_sending (Out side bytes) = true
+is_sending (Shut side) = false
+is_sending (Failed side) = true
+is_sending Quiet = false
+
+-- x stands in the log, and after it nothing but last words
+pub record IsLast (log : List Entry) (x : Entry) : Type 0 where
+  pub before : List Entry
+  pub after : List Entry
+  pub log_is : log ≡ before ++ x ∷ after
+  pub only_words : AllByRecursion (λ (entry : Entry). is_sending entry ≡ true) after
+
+-- the last words leave the state and the uncut bytes as they were
+pub record StandsAs (before at : At) : Type 0 where
+  pub state : at.state ≡ before.state
+  pub client : at.place.client ≡ before.place.client
+  pub target : at.place.target ≡ before.place.target
+
+-- the ending stands in the machine, the target's bytes, or a limit: not in what the client did, and in no link
+abbrev pub is_of_other_kind : Ending → Bool
+is_of_other_kind Done = false
+is_of_other_kind Left = false
+is_of_other_kind (BadClient fault at) = false
+is_of_other_kind (BadTarget fault at id) = true
+is_of_other_kind ClientLink = false
+is_of_other_kind TargetLink = false
+is_of_other_kind (TargetRefused set command code) = true
+is_of_other_kind Idle = true
+is_of_other_kind Spent = true
+is_of_other_kind Flood = true
+is_of_other_kind NoMemory = true
+
+-- Why a session has ended: the client's stream ended, or a link failed, and nothing came after that; the last request is a
+-- `disconnect`, and the last message is the response to it; the client's next bytes have a fault, and nothing is due that
+-- came before it; or a cause of another kind stands in the machine, the target's bytes, or a limit.
+pub data Cause (limits : Limits) (log : List Entry) (messages : List Message) (turns : ℕ) (at : At) : Ending → Type 0 where
+  shut : IsLast log (Shut Client) → Cause limits log messages turns at Left
+  lost : IsLast log (Failed Client) → Cause limits log messages turns at ClientLink
+  lost_target : IsLast log (Failed Target) → Cause limits log messages turns at TargetLink
   disconnected : {request : Request} {response : Response} → EndsWith (requests_of messages) request
       → is_disconnect request.command ≡ true → EndsWith messages (Message.tells (a_response response))
-      → IsAnswer request response → Cause log messages at Done
+      → IsAnswer request response → Cause limits log messages turns at Done
   faulty : {fault : ClientFault} {offset : ℕ} → IsFault at.place.client fault offset → due at.state ≡ Due.waits
-      → Cause log messages at (BadClient fault offset)
+      → Cause limits log messages turns at (BadClient fault offset)
+  stands : {before : At} {ending : Ending} → is_of_other_kind ending ≡ true → Stops limits turns before ending
+      → StandsAs before at → Cause limits log messages turns at ending
+
+-- Last words ---------------------------------------------------------------------------------------------------------
+
+-- Before an ending there are no last words. After it those that were said and those that are left are the ending's, but
+-- that none is left once the send of the next one failed, with which the log ends.
+pub data SaysLast (log : List Entry) (at : At) : Option Ending → Type 0 where
+  none_yet : at.said ≡ [] → at.left ≡ [] → SaysLast log at None
+  all_said : {ending : Ending} → at.said ++ at.left ≡ last_words ending at.state → SaysLast log at (Some ending)
+  cut_short : {ending : Ending} {kept : ℕ} (before : List Entry) (word : Word) (unsaid : List Word)
+      → at.said ++ word ∷ unsaid ≡ last_words ending at.state → at.left ≡ [] → kept < length (word_bytes at.place word)
+      → log ≡ before ++ broken_send (word_side word) (take kept (word_bytes at.place word)) → SaysLast log at (Some ending)
+
+-- Commands -----------------------------------------------------------------------------------------------------------
+
+-- the bytes, where their side is the target
+abbrev pub target_bytes : Side → List ℕ → List ℕ
+target_bytes Client bytes = []
+target_bytes Target bytes = bytes
+
+abbrev pub given_by : Entry → List ℕ
+given_by (In side bytes) = []
+given_by (Out side bytes) = target_bytes side bytes
+given_by (Shut side) = []
+given_by (Failed side) = []
+given_by Quiet = []
+
+-- all bytes that a log sent to the target, joined
+abbrev pub given : List Entry → List ℕ
+given log = flat_map given_by log
+
+-- neither sent to the target, nor replied by it to a command
+abbrev pub is_aside : Message → Bool
+is_aside (Message.hears request) = true
+is_aside (Message.tells told) = true
+is_aside Message.greets = false
+is_aside Message.greeted = true
+is_aside (Message.sends asked) = false
+is_aside (Message.answers asked replied) = false
+is_aside Message.ends = true
+
+-- the packet of a command, with so many commands before it (JDWP, Command packets: the id, set and number, and body)
+abbrev pub nth_command : ℕ → IdSizes → Asked → List ℕ
+nth_command n sizes asked =
+    packet_bytes (command_packet (id_of n) (number_of asked).0 (number_of asked).1 (spell_command sizes asked))
+
+-- These messages are sent to the target as these bytes: its handshake where it was sent (JDWP, JDWP Handshake), and
+-- each command as one packet, with the ids 1, 2, 3 and so on. So many commands are among them, and by then these sizes
+-- of ids were replied, with which the bodies are spelled that follow; those before are the same with any sizes.
+pub data AreSpelled : List Message → ℕ → Option IdSizes → List ℕ → Type 0 where
+  none : AreSpelled [] 0 None []
+  aside : {messages : List Message} {n : ℕ} {sizes : Option IdSizes} {bytes : List ℕ} (message : Message)
+      → is_aside message ≡ true → AreSpelled messages n sizes bytes
+      → AreSpelled (messages ++ message ∷ []) n sizes bytes
+  greets : {messages : List Message} {n : ℕ} {sizes : Option IdSizes} {bytes : List ℕ}
+      → AreSpelled messages n sizes bytes
+      → AreSpelled (messages ++ Message.greets ∷ []) n sizes (bytes ++ handshake)
+  sends : {messages : List Message} {n : ℕ} {sizes : Option IdSizes} {bytes packet : List ℕ} (asked : Asked)
+      → ((used : IdSizes) → Serve sizes used → nth_command n used asked ≡ packet)
+      → AreSpelled messages n sizes bytes
+      → AreSpelled (messages ++ Message.sends asked ∷ []) (n + 1) sizes (bytes ++ packet)
+  answers : {messages : List Message} {n : ℕ} {sizes later : Option IdSizes} {bytes : List ℕ}
+      (asked : Asked) (replied : Replied) → Measures sizes replied later → AreSpelled messages n sizes bytes
+      → AreSpelled (messages ++ Message.answers asked replied ∷ []) n later bytes
+
+-- the last word to a target that is left to run on, with so many commands before it (JDWP, VirtualMachine command set,
+-- Dispose)
+abbrev pub word_given : ℕ → Word → List ℕ
+word_given n (Word.tells told) = []
+word_given n Word.disposes = packet_bytes (command_packet (id_of n) 1 6 [])
+
+abbrev pub given_last : ℕ → List Word → List ℕ
+given_last n said = flat_map (word_given n) said
+
+-- what was to be sent to the target next: what the machine allows, or the next of the last words
+pub data IsNextGiven (at : At) : List ℕ → Type 0 where
+  of_the_machine : {message : Message} {next : State} {bytes : List ℕ} {place : Place}
+      → Allows at.state message next → Speaks at.place message Target bytes place → IsNextGiven at bytes
+  of_the_words : {ending : Ending} (unsaid : List Word) → at.ending ≡ Some ending
+      → last_words ending at.state ≡ at.said ++ Word.disposes ∷ unsaid
+      → IsNextGiven at (word_bytes at.place Word.disposes)
+
+-- the target's link failed
+abbrev pub HasLostTarget : List Entry → Type 0
+HasLostTarget log = (before : List Entry) × (after : List Entry) × (log ≡ before ++ Failed Target ∷ after)
+
+-- What the target was sent behind whole packets: nothing; or, where its link failed, less than the whole of what was to
+-- be sent next.
+pub data BehindGiven (log : List Entry) (at : At) : List ℕ → Type 0 where
+  nothing_given : BehindGiven log at []
+  broken_off : {bytes : List ℕ} {kept : ℕ} → HasLostTarget log → IsNextGiven at bytes → kept < length bytes
+      → BehindGiven log at (take kept bytes)
+
+-- the bytes sent to the target are the handshake and the packets of the commands, the last words' behind them
+pub record AreGiven (log : List Entry) (messages : List Message) (at : At) : Type 0 where
+  pub count : ℕ
+  pub bytes : List ℕ
+  pub rest : List ℕ
+  pub spelled : AreSpelled messages count at.place.sizes bytes
+  pub sent_are : given log ≡ (bytes ++ given_last count at.said) ++ rest
+  pub behind : BehindGiven log at rest
+
+-- Ids ----------------------------------------------------------------------------------------------------------------
+
+-- the target gave this thread, in an answer among these messages (JDWP, VirtualMachine command set, AllThreads)
+pub record IsGiven (messages : List Message) (thread : ThreadId) : Type 0 where
+  pub before : List Message
+  pub after : List Message
+  pub earlier : List ThreadId
+  pub later : List ThreadId
+  pub messages_are : messages ≡ before ++ Message.answers (a_question questions.AllThreads)
+      (an_answer (variants.AllThreads (earlier ++ thread ∷ later))) ∷ after
+
+-- A command that may follow these messages: the thread whose name it asks for was given by the target, or no id of the
+-- target's stands in it (JDWP, Protocol details, objectID: ids are the target's to give).
+pub data HasReadIds (messages : List Message) : Asked → Type 0 where
+  name : {thread : ThreadId} → IsGiven messages thread → HasReadIds messages (a_question (questions.ThreadName thread))
+  sizes : HasReadIds messages (a_question questions.IdSizes)
+  all_threads : HasReadIds messages (a_question questions.AllThreads)
+  sets : {kind : EventKind} → HasReadIds messages (an_effect (effects.Set kind NoThread []))
+  disposes : HasReadIds messages (an_effect effects.Dispose)
+  exits : {code : ℤ} → HasReadIds messages (an_effect (effects.Exit code))
 
 -- Turns ------------------------------------------------------------------------------------------------------------
 
@@ -194,45 +389,51 @@ comes (Shut side) = true
 comes (Failed side) = true
 comes Quiet = true
 
-abbrev pub message_due : Due → ℕ
-message_due Due.waits = 0
-message_due (Due.goes next) = 0
-message_due (Due.tells told next) = 1
-message_due (Due.over ending) = 0
-
--- the sends that failed, and left a failure in the log that no wait gave: one, where the session has ended with a
--- message due, and else none
-abbrev pub failed_sends : Option Ending → Due → ℕ
-failed_sends None next = 0
-failed_sends (Some ending) next = message_due next
-
 -- The laws ---------------------------------------------------------------------------------------------------------
 
 -- this holds of every session
-abbrev pub Always : (List Entry → List Message → ℕ → At → Type 0) → Type 0
-Always holds = (log : List Entry) (messages : List Message) (turns : ℕ) (at : At) → Session log messages turns at
-    → holds log messages turns at
+abbrev pub Always : (Limits → List Entry → List Message → ℕ → At → Type 0) → Type 0
+Always holds = (limits : Limits) (log : List Entry) (messages : List Message) (turns : ℕ) (at : At)
+    → Session limits log messages turns at → holds limits log messages turns at
 
 -- What the client is sent are the frames of what it is told, numbered 1, 2, 3, and so on.
 abbrev pub Numbers : Type 0
-Numbers = Always (λ log messages turns at. IsNumbered log messages at)
+Numbers = Always (λ limits log messages turns at. IsNumbered log messages at)
 
 -- Requests are answered one by one, in the order in which they came.
 abbrev pub Responses : Type 0
-Responses = Always (λ log messages turns at. AreServed messages at.state)
+Responses = Always (λ limits log messages turns at. AreServed messages at.state)
 
 -- The requests are what the client's bytes say.
 abbrev pub Requests : Type 0
-Requests = Always (λ log messages turns at. AreHeard log messages at)
+Requests = Always (λ limits log messages turns at. AreHeard log messages at)
 
--- An ending has its cause, and nothing comes after it. Neither the limit of happenings nor want of memory is one.
+-- An ending has its cause, and nothing comes after it but last words. Want of memory is none.
 abbrev pub Endings : Type 0
-Endings = Always (λ log messages turns at. (ending : Ending) → at.ending ≡ Some ending → Cause log messages at ending)
+Endings = Always (λ limits log messages turns at. (ending : Ending) → at.ending ≡ Some ending
+    → Cause limits log messages turns at ending)
 
 -- The messages of a session are a run of the machine.
 abbrev pub Runs : Type 0
-Runs = Always (λ log messages turns at. Run fresh messages at.state)
+Runs = Always (λ limits log messages turns at. Run fresh messages at.state)
 
 -- A turn is a wait that gave something: each entry but those of sends.
 abbrev pub Turns : Type 0
-Turns = Always (λ log messages turns at. count_by comes log ≡ turns + failed_sends at.ending (due at.state))
+Turns = Always (λ limits log messages turns at. count_by comes log ≡ turns + at.broken)
+
+-- At rest, once attached, the event requests that are wished are settled with the target, and no item waits.
+abbrev pub Settles : Type 0
+Settles = Always (λ limits log messages turns at. IsAtRest at.state → at.state.phase ≡ Attached → IsSettled at.state)
+
+-- After an ending nothing is said but its last words, in their order, up to the first that can't be sent.
+abbrev pub LastWords : Type 0
+LastWords = Always (λ limits log messages turns at. SaysLast log at at.ending)
+
+-- What the target is sent are its handshake and the packets of the commands, numbered 1, 2, 3, and so on.
+abbrev pub Commands : Type 0
+Commands = Always (λ limits log messages turns at. AreGiven log messages at)
+
+-- Each id in a command that was sent had been read from an answer of the target's.
+abbrev pub Ids : Type 0
+Ids = Always (λ limits log messages turns at. (before after : List Message) (asked : Asked)
+    → messages ≡ before ++ Message.sends asked ∷ after → HasReadIds before asked)

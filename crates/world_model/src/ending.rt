@@ -1,4 +1,5 @@
 use dap_frames::FrameFault;
+use jdwp_packets::PacketFault;
 use wire_core::NoMemory;
 
 /// The limits of a session: the happenings that it takes, the waits in vain in a row, and the items that wait.
@@ -36,15 +37,50 @@ pub enum ClientFault {
     NotAMessage,
 }
 
+/// What is wrong with the target's bytes: a packet, a part of a body, sizes of ids outside 1 to 8, a composite that
+/// suspends one thread alone, a command that the bridge doesn't take, or a reply to no command (JDWP, JDWP Packets and Protocol details).
+#[derive(Clone, Copy, Debug, PartialEq, Eq)]
+pub enum TargetFault {
+    Packet(PacketFault),
+    Short,
+    BadTag,
+    BadCount,
+    BadKind,
+    BadPolicy,
+    Trailing,
+    BadSizes,
+    PolicyThread,
+    BadCommand,
+    UnknownReply,
+}
+
 /// How a session ended: `disconnect` was answered; the client's stream ended before that; the client's bytes have a fault,
-/// at this offset in its stream; the client's link failed; the limit of happenings was reached; or memory ran out.
+/// at this offset in its stream; the target's have one, in its own, with the id of the packet where that answers no
+/// command, and 0 else; a link failed; the target refused this command with this error; too many waits in a row were in
+/// vain; the limit of happenings was reached; too many items waited; or memory ran out.
 #[derive(Clone, Copy, Debug, PartialEq, Eq)]
 pub enum Ending {
     Done,
     Left,
-    BadClient { fault: ClientFault, at: u64 },
+    BadClient {
+        fault: ClientFault,
+        at: u64,
+    },
+    BadTarget {
+        fault: TargetFault,
+        at: u64,
+        id: u32,
+    },
     ClientLink,
+    TargetLink,
+    TargetRefused {
+        set: u8,
+        command: u8,
+        code: u16,
+    },
+    Idle,
     Spent,
+    Flood,
     NoMemory,
 }
 

@@ -3,8 +3,12 @@
 
 mod ending;
 mod laws;
+mod machine;
 mod manner;
 
-pub use ending::{ClientFault, Ending, Limits};
-pub use laws::{endings, numbers, requests, responses, runs, turns};
+pub use ending::{ClientFault, Ending, Limits, TargetFault};
+pub use laws::{
+    commands, endings, ids, last_words, numbers, requests, responses, runs, settles, turns,
+};
+pub use machine::{Answered, Item, Leaving, Part, Phase, Standing, Wish};
 pub use manner::Manner;

@@ -3,4 +3,4 @@ use Rattle.world_model.proofs.EndingLaws.{cause}
 use Rattle.world_model.proofs.laws.endings.Goals as goal
 
 pub returns : goal.returns
-returns c = λ log messages turns at s ending is. cause front-steady s ending is
+returns c = λ limits log messages turns at s ending is. cause front-steady s ending is

@@ -2,4 +2,4 @@ use Rattle.world_model.proofs.TellingLaws.{is_numbered}
 use Rattle.world_model.proofs.laws.numbers.Goals as goal
 
 pub returns : goal.returns
-returns c = λ log messages turns at s. is_numbered s
+returns c = λ limits log messages turns at s. is_numbered s

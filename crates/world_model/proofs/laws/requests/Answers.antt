@@ -3,4 +3,4 @@ use Rattle.world_model.proofs.HearingLaws.{are_heard}
 use Rattle.world_model.proofs.laws.requests.Goals as goal
 
 pub returns : goal.returns
-returns c = λ log messages turns at s. are_heard front-steady s
+returns c = λ limits log messages turns at s. are_heard front-steady s

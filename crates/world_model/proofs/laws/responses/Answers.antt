@@ -2,4 +2,4 @@ use Rattle.world_model.proofs.AnsweringLaws.{are_served}
 use Rattle.world_model.proofs.laws.responses.Goals as goal
 
 pub returns : goal.returns
-returns c = λ log messages turns at s. are_served s
+returns c = λ limits log messages turns at s. are_served s

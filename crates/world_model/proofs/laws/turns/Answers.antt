@@ -2,4 +2,4 @@ use Rattle.world_model.proofs.TurnLaws.{are_turns}
 use Rattle.world_model.proofs.laws.turns.Goals as goal
 
 pub returns : goal.returns
-returns c = λ log messages turns at s. are_turns s
+returns c = λ limits log messages turns at s. are_turns s
