@@ -1,23 +1,58 @@
-use Rattle.std.proofs.Common.{◌∙◌, sym}
-use Rattle.bridge_core.proofs.Moves.{is_over, none_of, at_rest, answers}
+use Rattle.std.proofs.lemmas.Result.{err_from_is_err_and}
+use Rattle.bridge_core.specs.Steps.{Finds}
+use Rattle.bridge_core.proofs.StepLaws.{over, tells, greets, sends, asks, sends_alone_in, asks_alone_in}
 use Rattle.bridge_core.proofs.session.Core.out.Goals as goal
 
-pub returns-then-is_some-clause-over : goal.returns-then-is_some-clause-over
-returns-then-is_some-clause-over c =
-    let self = c.self.inside in
-    rw (← c.self.view_is) (is_over self.manner self.waiting.items self.finishing self.closing self.told c.if-is_some.ensures)
+pub returns-in_err-go-clause-over : goal.returns-in_err-go-clause-over
+returns-in_err-go-clause-over c =
+    let gives = err_from_is_err_and c.from_residual.result c.from_residual.ensures.1 in
+    rw (gives.1, gives.2) Finds.no_memory
 
-pub returns-in_default-clause-rest : goal.returns-in_default-clause-rest
-returns-in_default-clause-rest c =
-    let self = c.self.inside in
-    let none = none_of self.waiting.items (sym self.waiting.ok.0 ∙ c.in_default.ensures.cases.0) in
-    rw (← c.self.view_is, ← c.in_default.ensures.items)
-    (at_rest self.manner self.waiting.items self.finishing self.closing self.told c.if-is_some.ensures none)
+pub returns-in_err-tell-in-Tells-clause-over : goal.returns-in_err-tell-in-Tells-clause-over
+returns-in_err-tell-in-Tells-clause-over c =
+    let exit = c.from_residual-in_err-tell-in-Tells in
+    let gives = err_from_is_err_and exit.result exit.ensures.1 in
+    rw (gives.1, gives.2) Finds.no_memory
 
-pub returns-clause-tells : goal.returns-clause-tells
-returns-clause-tells c =
-    let self = c.self.inside in
-    let request = c.in-Some.request in
-    rw (← c.self.view_is, c.in-Some.ensures.items, c.serve_after.ensures, c.finish_after.ensures)
-    (answers self.manner request.seq request.name request.command c.pop_front.new.self.items self.finishing self.closing
-    self.told c.respond.new.told c.in_ok-out.out.side c.in_ok-out.out.bytes c.if-is_some.ensures c.in_ok-out.ensures.ok)
+pub returns-in_ok-tell-in-Tells-clause-sends : goal.returns-in_ok-tell-in-Tells-clause-sends
+returns-in_ok-tell-in-Tells-clause-sends c =
+    tells _ _ _ c.in-Tells.told _ _ (rw c.in-Tells.is at c.in_ok-go.ensures.comes) c.in_ok-tell-in-Tells.ensures
+
+pub returns-in_err-greeting-in-Greets-clause-over : goal.returns-in_err-greeting-in-Greets-clause-over
+returns-in_err-greeting-in-Greets-clause-over c =
+    let exit = c.from_residual-in_err-greeting-in-Greets in
+    let gives = err_from_is_err_and exit.result exit.ensures.1 in
+    rw (gives.1, gives.2) Finds.no_memory
+
+pub returns-in_ok-greeting-in-Greets-clause-sends : goal.returns-in_ok-greeting-in-Greets-clause-sends
+returns-in_ok-greeting-in-Greets-clause-sends c =
+    greets _ _ _ _ (rw c.in-Greets.is at c.in_ok-go.ensures.comes) c.in_ok-greeting-in-Greets.ensures.0 c.in_ok-greeting-in-Greets.ensures.1
+
+pub returns-in_err-send-in-Sends-clause-over : goal.returns-in_err-send-in-Sends-clause-over
+returns-in_err-send-in-Sends-clause-over c =
+    let exit = c.from_residual-in_err-send-in-Sends in
+    let gives = err_from_is_err_and exit.result exit.ensures.1 in
+    rw (gives.1, gives.2) Finds.no_memory
+
+pub returns-in_ok-send-in-Sends-clause-sends : goal.returns-in_ok-send-in-Sends-clause-sends
+returns-in_ok-send-in-Sends-clause-sends c =
+    sends _ _ _ c.in-Sends.effect _ _ (rw c.in-Sends.is at c.in_ok-go.ensures.comes) c.in_ok-send-in-Sends.ensures
+
+pub returns-in_err-send-in-Asks-clause-over : goal.returns-in_err-send-in-Asks-clause-over
+returns-in_err-send-in-Asks-clause-over c =
+    let exit = c.from_residual-in_err-send-in-Asks in
+    let gives = err_from_is_err_and exit.result exit.ensures.1 in
+    rw (gives.1, gives.2) Finds.no_memory
+
+pub returns-in_ok-send-in-Asks-clause-sends : goal.returns-in_ok-send-in-Asks-clause-sends
+returns-in_ok-send-in-Asks-clause-sends c =
+    asks _ _ _ c.in-Asks.question _ _ (rw c.in-Asks.is at c.in_ok-go.ensures.comes) c.in_ok-send-in-Asks.ensures
+
+pub returns-in-Over-clause-over : goal.returns-in-Over-clause-over
+returns-in-Over-clause-over c = over _ _ c.in-Over.ending (rw c.in-Over.is at c.in_ok-go.ensures.comes)
+
+pub send-requires : goal.send-requires
+send-requires c = sends_alone_in _ _ c.in-Sends.effect (rw c.in-Sends.is at c.in_ok-go.ensures.comes)
+
+pub send-requires-in-Asks : goal.send-requires-in-Asks
+send-requires-in-Asks c = asks_alone_in _ _ c.in-Asks.question (rw c.in-Asks.is at c.in_ok-go.ensures.comes)

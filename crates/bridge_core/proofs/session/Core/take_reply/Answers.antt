@@ -1,0 +1,47 @@
+use Rattle.std.proofs.lemmas.Result.{err_from_is_err_and}
+use Rattle.bridge_core.specs.Raws.{raw_seen}
+use Rattle.bridge_core.specs.Steps.{RefusesPacket, sight}
+use Rattle.bridge_core.proofs.PacketLaws.{refuses_body, refuses_sizes, settled_like, unsettled_like, answers}
+use Rattle.bridge_core.proofs.session.Core.take_reply.Goals as goal
+
+pub returns-in_err-said-in-Ok-clause-err : goal.returns-in_err-said-in-Ok-clause-err
+returns-in_err-said-in-Ok-clause-err c =
+    let self = c.self.inside in
+    let gives = err_from_is_err_and c.from_residual.result c.from_residual.ensures.1 in
+    rw (gives.1, gives.2, ← c.self.view_is)
+    (refuses_body _ _ c.args.at c.args.id c.args.error c.args.body.now c.in-Ok.asked c.serving.result c.in_err-said-in-Ok.field-0.0
+    c.in-Ok.ensures.asked c.serving.ensures
+    (settled_like self.machine self.told self.commands c.settle.new.self self.sizes (raw_seen self.raw) self.limit c.args.id c.in-Ok.ensures.ok)
+    c.in_err-said-in-Ok.ensures.err)
+
+pub returns-in_err-sizes-in-Ok-clause-err : goal.returns-in_err-sizes-in-Ok-clause-err
+returns-in_err-sizes-in-Ok-clause-err c =
+    let self = c.self.inside in
+    let exit = c.from_residual-in_err-sizes-in-Ok in
+    let gives = err_from_is_err_and exit.result exit.ensures.1 in
+    rw (gives.1, gives.2, ← c.self.view_is)
+    (refuses_sizes _ _ c.args.at c.args.id c.args.error c.args.body.now c.in-Ok.asked c.serving.result c.in_ok-said-in-Ok.said
+    c.in_err-sizes-in-Ok.field-0.0 c.in-Ok.ensures.asked c.serving.ensures
+    (settled_like self.machine self.told self.commands c.settle.new.self self.sizes (raw_seen self.raw) self.limit c.args.id c.in-Ok.ensures.ok)
+    c.in_ok-said-in-Ok.ensures.ok (rw c.as_slice.ensures at c.in_err-sizes-in-Ok.ensures.err))
+
+pub returns-in_err-answer-in-Ok-clause-err : goal.returns-in_err-answer-in-Ok-clause-err
+returns-in_err-answer-in-Ok-clause-err c =
+    let exit = c.from_residual-in_err-answer-in-Ok in
+    let gives = err_from_is_err_and exit.result exit.ensures.1 in
+    rw (gives.1, gives.2) RefusesPacket.no_memory
+
+pub returns-in_ok-answer-in-Ok-clause-ok : goal.returns-in_ok-answer-in-Ok-clause-ok
+returns-in_ok-answer-in-Ok-clause-ok c =
+    let self = c.self.inside in
+    rw (← c.self.view_is)
+    (answers self.machine c.answer.new.self self.told self.commands c.settle.new.self self.sizes c.in_ok-sizes-in-Ok.sizes c.serving.result
+    (raw_seen self.raw) self.limit c.args.id c.args.error c.args.body.now c.in-Ok.asked c.in_ok-said-in-Ok.said c.in-Ok.ensures.asked
+    c.in-Ok.ensures.ok c.serving.ensures c.in_ok-said-in-Ok.ensures.ok (rw c.as_slice.ensures at c.in_ok-sizes-in-Ok.ensures.ok)
+    c.in_ok-answer-in-Ok.ensures)
+
+pub returns-in-Err-clause-err : goal.returns-in-Err-clause-err
+returns-in-Err-clause-err c =
+    let self = c.self.inside in
+    rw (← c.self.view_is) (RefusesPacket.unknown c.in-Err.ensures.asked.0
+    (unsettled_like self.machine self.told self.commands c.settle.new.self self.sizes (raw_seen self.raw) self.limit c.in-Err.ensures.err))

@@ -1,0 +1,213 @@
+ghost use Rattle.std.specs.Prelude.{◌≡◌, ◌++◌, [], if◌then◌else◌, Some, None, IfOk, OnOk, option_copied};
+ghost use Rattle.std.specs.Option.{is_some};
+ghost use Rattle.jdwp_commands.specs.declared.asked.Replied.{Replied as AReplied};
+ghost use Rattle.world_model.specs.Machine.{sizes_reply, threads_reply, name_reply, reply_among, names_need, listed};
+ghost use Rattle.world_model.specs.Machine.{threads_need, is_among, with_thread, with_threads, number_among};
+ghost use Rattle.world_model.specs.Machine.{thread_told, threads_told, named_first};
+ghost use Rattle.bridge_core.specs.Parts.{IsNeed};
+
+use dap_messages::{Shape, Thread};
+use jdwp_commands::{Answer, Question, Replied};
+use jdwp_values::{ThreadId, lossy};
+use std::alloc::Global;
+use std::marker::Model;
+use wire_core::{Blob, List, NoMemory};
+use world_model::Answered;
+
+/// A thread and its name, as the target gave it.
+#[derive(Debug, Drop)]
+pub(crate) struct Named {
+    thread: ThreadId,
+    name: Blob,
+}
+
+impl Model for Named {
+    ghost use Rattle.world_model.specs.Machine.{Named as ANamed};
+
+    ghost Value = { ANamed };
+
+    ghost view = { λ n. record { thread = n.thread; name = n.name } };
+}
+
+/// What a row needs: it has it; it fails, since the target refused a question with this error; or it lacks the answer to
+/// this question.
+#[derive(Debug, Drop)]
+pub(crate) enum Need {
+    Has(List<Named>),
+    Fails(u16),
+    Lacks(Question),
+}
+
+fn asks_sizes(question: &Question) -> bool
+    ensures { (replied : AReplied) → sizes_reply question.now replied ≡ (if result then Some replied else None) }
+{
+    matches!(question, Question::IdSizes)
+}
+
+/// Whether the question for the sizes of ids has a reply.
+pub(crate) fn has_sizes(answers: &[Answered]) -> bool
+    ensures { result ≡ is_some (reply_among sizes_reply answers.now) }
+{
+    for answered in answers {
+        if asks_sizes(&answered.question) {
+            return true;
+        }
+    }
+    false
+}
+
+fn asks_threads(question: &Question) -> bool
+    ensures { (replied : AReplied) → threads_reply question.now replied ≡ (if result then Some replied else None) }
+{
+    matches!(question, Question::AllThreads)
+}
+
+fn threads_reply(answers: &[Answered]) -> Option<&Replied>
+    ensures { option_copied result ≡ reply_among threads_reply answers.now }
+{
+    for answered in answers {
+        if asks_threads(&answered.question) {
+            return Some(&answered.replied);
+        }
+    }
+    None
+}
+
+fn asks_name(question: &Question, thread: ThreadId) -> bool
+    ensures { (replied : AReplied) → name_reply thread question.now replied ≡ (if result then Some replied else None) }
+{
+    match question {
+        Question::ThreadName(other) => other.0 == thread.0,
+        _ => false,
+    }
+}
+
+fn name_reply(answers: &[Answered], thread: ThreadId) -> Option<&Replied>
+    ensures { option_copied result ≡ reply_among (name_reply thread) answers.now }
+{
+    for answered in answers {
+        if asks_name(&answered.question, thread) {
+            return Some(&answered.replied);
+        }
+    }
+    None
+}
+
+// A thread with its name, but for one whose name was refused.
+fn add_named(
+    alloc: Global,
+    found: &mut List<Named>,
+    thread: ThreadId,
+    replied: &Replied,
+) -> Result<(), NoMemory>
+    ensures { OnOk result (found.new ≡ found.old ++ named_first (Some replied.now) thread []) }
+{
+    match replied {
+        Replied::Answer(Answer::ThreadName(name)) => {
+            let name = List::from_slice(alloc, name.as_slice())?;
+            found.push(Named { thread, name })
+        }
+        _ => Ok(()),
+    }
+}
+
+fn names_need(alloc: Global, answers: &[Answered], threads: &[ThreadId]) -> Result<Need, NoMemory>
+    ensures { IfOk result (IsNeed (names_need answers.now threads.now)) }
+{
+    let mut found = List::new(alloc);
+    for thread in threads {
+        match name_reply(answers, *thread) {
+            None => return Ok(Need::Lacks(Question::ThreadName(*thread))),
+            Some(replied) => add_named(alloc, &mut found, *thread, replied)?,
+        }
+    }
+    Ok(Need::Has(found))
+}
+
+fn listed(alloc: Global, answers: &[Answered], answer: &Answer) -> Result<Need, NoMemory>
+    ensures { IfOk result (IsNeed (listed answers.now answer.now)) }
+{
+    match answer {
+        Answer::AllThreads(threads) => names_need(alloc, answers, threads.as_slice()),
+        _ => Ok(Need::Has(List::new(alloc))),
+    }
+}
+
+/// What `threads` needs: all threads, and the name of each.
+pub(crate) fn threads_need(alloc: Global, answers: &[Answered]) -> Result<Need, NoMemory>
+    ensures { IfOk result (IsNeed (threads_need answers.now)) }
+{
+    match threads_reply(answers) {
+        None => Ok(Need::Lacks(Question::AllThreads)),
+        Some(Replied::Answer(answer)) => listed(alloc, answers, answer),
+        Some(Replied::Error(code)) => Ok(Need::Fails(*code)),
+    }
+}
+
+fn is_among(threads: &[ThreadId], thread: ThreadId) -> bool
+    ensures { result ≡ is_among threads.now thread }
+{
+    for known in threads {
+        if known.0 == thread.0 {
+            return true;
+        }
+    }
+    false
+}
+
+fn with_thread(threads: &mut List<ThreadId>, thread: ThreadId) -> Result<(), NoMemory>
+    ensures { OnOk result (threads.new ≡ with_thread threads.old thread) }
+{
+    if is_among(threads.as_slice(), thread) {
+        return Ok(());
+    }
+    threads.push(thread)
+}
+
+/// Threads that are told now are numbered behind those that were.
+pub(crate) fn with_threads(threads: &mut List<ThreadId>, named: &[Named]) -> Result<(), NoMemory>
+    ensures { OnOk result (threads.new ≡ with_threads threads.old named.now) }
+{
+    for first in named {
+        with_thread(threads, first.thread)?;
+    }
+    Ok(())
+}
+
+// Threads are numbered from 1 in the order in which they were first told.
+fn number_among(threads: &[ThreadId], thread: ThreadId) -> u64
+    ensures { result ≡ number_among threads.now thread }
+{
+    let mut number = 1;
+    for known in threads {
+        if known.0 == thread.0 {
+            return number;
+        }
+        number += 1;
+    }
+    number
+}
+
+fn thread_told(alloc: Global, threads: &[ThreadId], named: &Named) -> Result<Thread, NoMemory>
+    ensures { IfOk result (λ told. told ≡ thread_told threads.now named.now) }
+{
+    Ok(Thread {
+        id: number_among(threads, named.thread),
+        name: lossy(alloc, named.name.as_slice())?,
+    })
+}
+
+/// The threads as the client is told them, with their numbers.
+pub(crate) fn threads_told(
+    alloc: Global,
+    threads: &[ThreadId],
+    named: &[Named],
+) -> Result<Shape, NoMemory>
+    ensures { IfOk result (λ shape. shape ≡ threads_told threads.now named.now) }
+{
+    let mut told = List::new(alloc);
+    for first in named {
+        told.push(thread_told(alloc, threads, first)?)?;
+    }
+    Ok(Shape::Threads(told))
+}
