@@ -1,6 +1,7 @@
--- How the bodies that the cutter hands out lead a session on.
-use Rattle.std.proofs.Common.{◌≡◌, ℕ, ◌+◌, ◌<◌, ◌≤◌, ◌⊎◌, refl, sym, ap, arith, append-nil, ◌∙◌, true, false, List, [], ◌∷◌, ◌++◌, length, length-drop, drop, Option, None, Some, Result, Ok, Err, inl, inr}
-use Rattle.bridge_core.specs.Steps.{Sight, Takes, Refuses}
+-- How the bodies that the client's cutter hands out lead a session on.
+use Rattle.std.proofs.Common.{◌≡◌, ℕ, ◌+◌, ◌<◌, ◌≤◌, ◌⊎◌, refl, sym, ap, subst, ◌∙◌, arith, Bool, true, false, List, length, None, Some, Ok, Err}
+use Rattle.std.proofs.lemmas.List.{length-drop}
+use Rattle.bridge_core.specs.Steps.{Sight, place_of, in_state, waiting_in, Takes, Refuses}
 use Rattle.dap_frames.proofs.FrameLaws.{front-steady}
 use Rattle.dap_frames.specs.Frames.{Frame, frame_front}
 use Rattle.dap_frames.specs.Taking.{IsAnswer, IsTaken}
@@ -8,19 +9,22 @@ use Rattle.dap_frames.specs.declared.cutter.Body.{Body}
 use Rattle.dap_frames.specs.declared.fault.FrameFault.{FrameFault}
 use Rattle.dap_frames.specs.declared.fault.FrameTrouble.{FrameTrouble}
 use Rattle.dap_messages.specs.Reading.{reading_of}
-use Rattle.dap_messages.specs.declared.requests.ReadFault.TheVariants.{NotJson as no_json, NotAMessage as no_message}
-use Rattle.wire_core.specs.Outside.{Outside, IsOpen}
-use Rattle.wire_core.specs.Streams.{Front, waits, whole, faulty, Uncut, past, left, IsSteady}
-use Rattle.wire_core.specs.declared.outside.Side.TheVariants.{Client}
-use Rattle.world_model.specs.Machine.{Message, Allows, due, Due}
+use Rattle.dap_messages.specs.declared.requests.Incoming.TheVariants.{Request as a_request}
+use Rattle.dap_messages.specs.declared.requests.Request.{Request}
+use Rattle.jdwp_packets.specs.Receiving.{Received}
+use Rattle.wire_core.specs.Outside.{Outside}
+use Rattle.wire_core.specs.Streams.{Front, waits, whole, faulty, Uncut, past, left}
+use Rattle.wire_core.specs.declared.outside.Entry.{Entry}
+use Rattle.world_model.specs.Machine.{Message, Allows, queued}
 use Rattle.world_model.specs.Session as session
-use Rattle.world_model.specs.Session.{At, Session, Reads, Waits, Carries, ended}
-use Rattle.world_model.specs.declared.ending.Ending.{Ending}
-use Rattle.world_model.specs.declared.ending.Ending.TheVariants.{Done, Left, BadClient, ClientLink, Spent, NoMemory}
+use Rattle.world_model.specs.Session.{At, Session, Says, Reads, Waits, target_front}
 use Rattle.world_model.specs.declared.ending.ClientFault.TheVariants.{Frame as frame_fault, NotJson, NotAMessage}
-use Rattle.bridge_serve.specs.Following.{standing, Leads, Keeps, Stopped, Blames, CoreGoesOn, CoreStops, GoesOn, Stops}
-use Rattle.bridge_serve.proofs.Logs.{keeps_same, keeps_on, blames_on}
-use Rattle.bridge_serve.proofs.Moves.{Continues, unlogged, leads_in_place, stopped_on}
+use Rattle.world_model.specs.declared.ending.Ending.{Ending}
+use Rattle.world_model.specs.declared.ending.Ending.TheVariants.{BadClient}
+use Rattle.world_model.specs.declared.ending.Limits.{Limits}
+use Rattle.bridge_serve.specs.Following.{standing, Heard, IsReady, IsTakenUp, Stops}
+use Rattle.bridge_serve.proofs.Taking.{TakesUp, SameEnds, IsReading, core_ready, on_in, floods, forgets, stops_there}
+use Rattle.bridge_serve.proofs.Moves.{leads_in_place}
 
 -- the cutter's answers, by what stands at the front
 pub record IsWhole (old : Uncut) (body : Body) : Type 0 where
@@ -62,135 +66,153 @@ pub taken_fault : (old : Uncut) (trouble : FrameTrouble) → IsTaken old (Err tr
     → (distance : ℕ) × (frame_front old.pending ≡ faulty trouble.fault distance) × (trouble.at ≡ old.at + distance)
 taken_fault old trouble taken = answer_fault (frame_front old.pending) old.at trouble taken
 
--- the session of this core and this cutter reads on
-reads_on : (core : Sight) (cutter : Uncut) → due core.state ≡ Due.waits → core.state.closing ≡ false → Reads (standing core cutter)
-reads_on core cutter nothing_due is_open = record { nothing_due = nothing_due; is_open = is_open; goes_on = refl }
-
--- a body is heard
-takes_on : (core heard : Sight) (cutter : Uncut) (frame : Frame) (size turns : ℕ) → due core.state ≡ Due.waits → core.state.closing ≡ false
-    → frame_front cutter.pending ≡ whole frame size → Takes core frame.body heard
-    → Continues turns (standing core cutter) [] turns (standing heard (past cutter size))
-takes_on core heard cutter frame size turns nothing_due is_open front (inl request) =
-    unlogged turns turns _ _ (λ log messages s. rw request.2 (
-      _,
-      rw append-nil at (Session.moves s refl (Allows.hears nothing_due is_open) (Carries.hears front request.1)),
-    ))
-takes_on core heard cutter frame size turns nothing_due is_open front (inr other) =
-    unlogged turns turns _ _ (λ log messages s. rw other.1 (
-      messages,
-      Session.ignores s (reads_on core cutter nothing_due is_open) front other.0,
-    ))
-
-pub taken_rest : (old rest : Uncut) (body : Body) (found : IsWhole old body) → rest ≡ left (frame_front old.pending) old → rest ≡ past old found.size
-taken_rest old rest body found is_rest = rw found.front at is_rest
-
--- and handled
-pub handled : (old new : Outside) (core heard after : Sight) (cutter rest : Uncut) (body : Body) → due core.state ≡ Due.waits
-    → core.state.closing ≡ false → (found : IsWhole cutter body) → rest ≡ past cutter found.size → Takes core body.bytes.now heard
-    → CoreGoesOn old new heard after → due after.state ≡ Due.waits → GoesOn old new core cutter after rest
-handled old new core heard after cutter rest body nothing_due is_open found is_rest takes on nothing_left = record {
-  leads = λ turns begin follows. rw is_rest (on.leads (past cutter found.size) turns begin
-      (leads_in_place old turns turns _ _ (takes_on core heard cutter found.frame found.size turns nothing_due is_open found.front (rw found.bytes at takes)) begin follows));
-  keeps = on.keeps;
-  is_open = on.is_open;
-  nothing_due = nothing_left;
-}
-
--- the session ends while it is handled
-pub handled_last : (old new : Outside) (core heard : Sight) (cutter : Uncut) (body : Body) (ending : Ending) → due core.state ≡ Due.waits
-    → core.state.closing ≡ false → IsWhole cutter body → Takes core body.bytes.now heard → CoreStops old new heard ending
-    → Stops old new core cutter ending
-handled_last old new core heard cutter body ending nothing_due is_open found takes stops = record {
-  stopped = λ turns. stopped_on old old new turns turns turns _ _ ending
-      (leads_in_place old turns turns _ _ (takes_on core heard cutter found.frame found.size turns nothing_due is_open found.front (rw found.bytes at takes)))
-      (stops.stopped (past cutter found.size) turns);
-  keeps = stops.keeps;
-  blames = stops.blames;
-}
-
--- a cause stands in the client's bytes
-stops_here : (o : Outside) (core : Sight) (cutter : Uncut) (ending : Ending) → session.Stops (standing core cutter) ending
-    → (ending ≡ ClientLink → ⊥) → Stops o o core cutter ending
-stops_here o core cutter ending cause no_link = record {
-  stopped = λ turns. record {
-    to = ended (standing core cutter) ending;
-    leads = leads_in_place o turns turns _ _ (unlogged turns turns _ _ (λ log messages s. (messages, Session.stops s refl cause)));
-    is_end = inl refl;
-  };
-  keeps = keeps_same o;
-  blames = λ is_link. absurd (no_link is_link);
-}
-
--- a byte that no frame has there
-pub misframed : (o : Outside) (core : Sight) (cutter : Uncut) (trouble : FrameTrouble) → due core.state ≡ Due.waits → core.state.closing ≡ false
-    → IsTaken cutter (Err trouble) → Stops o o core cutter (BadClient (frame_fault trouble.fault) trouble.at)
-misframed o core cutter trouble nothing_due is_open taken =
-    let found = taken_fault cutter trouble taken in
-    rw found.2 (stops_here o core cutter _ (session.Stops.misframed (reads_on core cutter nothing_due is_open) found.1) (λ is_link. cc))
-
--- memory ran out before anything was sent
-forgets : (o : Outside) (core : Sight) (cutter : Uncut) → Stops o o core cutter NoMemory
-forgets o core cutter = record {
-  stopped = λ turns. record { to = standing core cutter; leads = λ begin follows. follows; is_end = inr refl };
-  keeps = keeps_same o;
-  blames = λ is_link. cc;
-}
-
--- a body that is no message
-refused : (o : Outside) (core : Sight) (cutter : Uncut) (frame : Frame) (size : ℕ) (ending : Ending) → due core.state ≡ Due.waits
-    → core.state.closing ≡ false → frame_front cutter.pending ≡ whole frame size
-    → (reading_of frame.body ≡ Err no_json) × (ending ≡ BadClient NotJson (cutter.at + frame.header))
-    ⊎ (reading_of frame.body ≡ Err no_message) × (ending ≡ BadClient NotAMessage (cutter.at + frame.header))
-    → Stops o o core cutter ending
-refused o core cutter frame size ending nothing_due is_open front (inl fault) =
-    rw fault.1 (stops_here o core cutter _ (session.Stops.not_json (reads_on core cutter nothing_due is_open) front fault.0) (λ is_link. cc))
-refused o core cutter frame size ending nothing_due is_open front (inr fault) =
-    rw fault.1 (stops_here o core cutter _ (session.Stops.not_a_message (reads_on core cutter nothing_due is_open) front fault.0) (λ is_link. cc))
-
-refused_by : (o : Outside) (core : Sight) (cutter : Uncut) (frame : Frame) (size at : ℕ) (ending : Ending) → due core.state ≡ Due.waits
-    → core.state.closing ≡ false → frame_front cutter.pending ≡ whole frame size → at ≡ cutter.at + frame.header → Refuses frame.body at ending
-    → Stops o o core cutter ending
-refused_by o core cutter frame size at NoMemory nothing_due is_open front place refuses = forgets o core cutter
-refused_by o core cutter frame size at Done nothing_due is_open front place refuses = refused o core cutter frame size Done nothing_due is_open front (rw place at refuses)
-refused_by o core cutter frame size at Left nothing_due is_open front place refuses = refused o core cutter frame size Left nothing_due is_open front (rw place at refuses)
-refused_by o core cutter frame size at (BadClient fault place') nothing_due is_open front place refuses = refused o core cutter frame size (BadClient fault place') nothing_due is_open front (rw place at refuses)
-refused_by o core cutter frame size at ClientLink nothing_due is_open front place refuses = refused o core cutter frame size ClientLink nothing_due is_open front (rw place at refuses)
-refused_by o core cutter frame size at Spent nothing_due is_open front place refuses = refused o core cutter frame size Spent nothing_due is_open front (rw place at refuses)
-
-pub refuses_on : (o : Outside) (core : Sight) (cutter : Uncut) (body : Body) (ending : Ending) → due core.state ≡ Due.waits
-    → core.state.closing ≡ false → IsWhole cutter body → Refuses body.bytes.now body.at ending → Stops o o core cutter ending
-refuses_on o core cutter body ending nothing_due is_open found refuses =
-    refused_by o core cutter found.frame found.size body.at ending nothing_due is_open found.front found.at (rw found.bytes at refuses)
+pub rest_is : (old rest : Uncut) (body : Body) (found : IsWhole old body) → rest ≡ left (frame_front old.pending) old → rest ≡ past old found.size
+rest_is old rest body found is = is ∙ ap (λ (front : Front Frame FrameFault). left front old) found.front
 
 -- a body that was taken leaves fewer bytes
-pub fewer_left : (cutter : Uncut) (frame : Frame) (size : ℕ) → frame_front cutter.pending ≡ whole frame size
-    → (length (past cutter size).pending < length cutter.pending)
-    × ((past cutter size).at + length (past cutter size).pending ≡ cutter.at + length cutter.pending)
-fewer_left cutter frame size front =
-    let taken = front-steady.takes cutter.pending frame size front in
-    (omega (arith, taken.0, taken.1, length-drop size cutter.pending), omega (arith, taken.0, taken.1, length-drop size cutter.pending))
+pub fewer_left : (old : Uncut) (body : Body) (found : IsWhole old body)
+    → (length (past old found.size).pending < length old.pending)
+    × ((past old found.size).at + length (past old found.size).pending ≡ old.at + length old.pending)
+fewer_left old body found =
+    let taken = front-steady.takes old.pending found.frame found.size found.front in
+    let some = taken.0 in
+    let most = taken.1 in
+    let cut = length-drop found.size old.pending in
+    (omega (arith, some, most, cut), omega (arith, some, most, cut))
 
--- one after the other
-pub on_and_on : (a b c : Outside) (x y z : Sight) (u v w : Uncut) → GoesOn a b x u y v → GoesOn b c y v z w → GoesOn a c x u z w
-on_and_on a b c x y z u v w h k = record {
-  leads = λ turns begin follows. k.leads turns begin (h.leads turns begin follows);
-  keeps = keeps_on h.keeps k.keeps;
-  is_open = k.is_open;
-  nothing_due = k.nothing_due;
+-- the frame is cut
+abbrev pub frame_cut : Heard → ℕ → Heard
+frame_cut heard n = record heard { uncuts = record heard.uncuts { client = past heard.uncuts.client n } }
+
+-- the session of this core reads on
+reads : (limits : Limits) (o : Outside) (core : Sight) (heard : Heard) → IsReady o core heard → core.limit ≡ limits.waiting
+    → core.state.closing ≡ false → Reads limits (standing core heard)
+reads limits o core heard ready limit is_open =
+    record { nothing_due = ready.nothing_due; is_open = is_open; on = on_in limits o core heard ready limit }
+
+request_comes : (o : Outside) (core : Sight) (heard : Heard) (frame : Frame) (n : ℕ) (request : Request) → IsReady o core heard
+    → core.state.closing ≡ false → frame_front heard.uncuts.client.pending ≡ whole frame n → reading_of frame.body ≡ Ok (a_request request)
+    → (limits : Limits) (turns : ℕ) → core.limit ≡ limits.waiting → (log : List Entry) (messages : List Message)
+    → Session limits log messages turns (standing core heard)
+    → (later : List Message) × Session limits log later turns (standing (in_state core (queued core.state request)) (frame_cut heard n))
+request_comes o core heard frame n request ready is_open front reading limits turns limit log messages s =
+    (_, Session.hears s (on_in limits o core heard ready limit) (Allows.hears ready.nothing_due is_open) (Says.hears front reading))
+
+same_ends : (heard : Heard) (body : Body) (found : IsWhole heard.uncuts.client body) → SameEnds heard (frame_cut heard found.size)
+same_ends heard body found = record { client = (fewer_left heard.uncuts.client body found).1; target = refl; quiets = refl }
+
+takes : (o : Outside) (core core' : Sight) (heard : Heard) (body : Body) → IsReading o core heard → core.state.closing ≡ false
+    → (found : IsWhole heard.uncuts.client body) → Takes core found.frame.body core' → TakesUp o core core' heard (frame_cut heard found.size)
+takes o core core' heard body reading is_open found (Takes.hears {heard = request} read is room) =
+    let ready = reading.ready in
+    let now = core_ready o core heard ready reading.taken_up.not_ended in
+    let room' : waiting_in (in_state core (queued core.state request)) ≤ core.limit = subst (λ (c : Sight). waiting_in c ≤ c.limit) is room in
+    subst (λ (c : Sight). TakesUp o core c heard (frame_cut heard found.size)) (sym is) (record {
+      leads = λ limits turns limit. leads_in_place limits o turns _ _ (λ log messages s.
+          request_comes o core heard found.frame found.size request ready is_open found.front read limits turns limit log messages s);
+      ready = record { client = now.client; target = now.target; room = room' };
+      shaken = ready.shaken;
+      none_raw = ready.none_raw;
+      same_limit = refl;
+      ends = same_ends heard body found;
+    })
+takes o core core' heard body reading is_open found (Takes.passes read is) =
+    let ready = reading.ready in
+    let now = core_ready o core heard ready reading.taken_up.not_ended in
+    subst (λ (c : Sight). TakesUp o core c heard (frame_cut heard found.size)) (sym is) (record {
+      leads = λ limits turns limit. leads_in_place limits o turns _ _ (λ log messages s.
+          (messages, Session.ignores s (reads limits o core heard ready limit is_open) found.front read));
+      ready = now;
+      shaken = ready.shaken;
+      none_raw = ready.none_raw;
+      same_limit = refl;
+      ends = same_ends heard body found;
+    })
+
+pub takes_body : (o : Outside) (core core' : Sight) (heard : Heard) (body : Body) → IsReading o core heard → core.state.closing ≡ false
+    → (found : IsWhole heard.uncuts.client body) → Takes core body.bytes.now core' → TakesUp o core core' heard (frame_cut heard found.size)
+takes_body o core core' heard body reading is_open found taken =
+    takes o core core' heard body reading is_open found (subst (λ (bytes : List ℕ). Takes core bytes core') found.bytes taken)
+
+-- A body ends the session.
+refused_by : (o : Outside) (core core' : Sight) (heard : Heard) (frame : Frame) (n : ℕ) (ending : Ending) → IsReading o core heard
+    → core.state.closing ≡ false → frame_front heard.uncuts.client.pending ≡ whole frame n
+    → Refuses core frame.body (heard.uncuts.client.at + frame.header) core' ending → Stops o o core core' heard ending
+refused_by o core core' heard frame n ending reading is_open front Refuses.no_memory = forgets o core core' heard
+refused_by o core core' heard frame n ending reading is_open front (Refuses.not_json read is) =
+    let now = core_ready o core heard reading.ready reading.taken_up.not_ended in
+    subst (λ (c : Sight). Stops o o core c heard (BadClient NotJson (heard.uncuts.client.at + frame.header))) (sym is)
+    (stops_there o core core core heard heard _ (λ limits turns limit log messages s. (messages, s))
+    (λ limits turns limit. session.Stops.not_json (reads limits o core heard reading.ready limit is_open) front read)
+    now.client now.target refl refl refl tt)
+refused_by o core core' heard frame n ending reading is_open front (Refuses.not_a_message read is) =
+    let now = core_ready o core heard reading.ready reading.taken_up.not_ended in
+    subst (λ (c : Sight). Stops o o core c heard (BadClient NotAMessage (heard.uncuts.client.at + frame.header))) (sym is)
+    (stops_there o core core core heard heard _ (λ limits turns limit log messages s. (messages, s))
+    (λ limits turns limit. session.Stops.not_a_message (reads limits o core heard reading.ready limit is_open) front read)
+    now.client now.target refl refl refl tt)
+refused_by o core core' heard frame n ending reading is_open front (Refuses.floods {heard = request} read is more) =
+    let now = core_ready o core heard reading.ready reading.taken_up.not_ended in
+    floods o core (in_state core (queued core.state request)) core' heard (frame_cut heard n)
+    (request_comes o core heard frame n request reading.ready is_open front read) refl now.client now.target is
+    (subst (λ (c : Sight). c.limit < waiting_in c) is more)
+
+pub refuses_body : (o : Outside) (core core' : Sight) (heard : Heard) (body : Body) (ending : Ending) → IsReading o core heard
+    → core.state.closing ≡ false → (found : IsWhole heard.uncuts.client body) → Refuses core body.bytes.now body.at core' ending
+    → Stops o o core core' heard ending
+refuses_body o core core' heard body ending reading is_open found refuses =
+    refused_by o core core' heard found.frame found.size ending reading is_open found.front
+    (subst (λ (at : ℕ). Refuses core found.frame.body at core' ending) found.at
+    (subst (λ (bytes : List ℕ). Refuses core bytes body.at core' ending) found.bytes refuses))
+
+-- a byte that no frame has there
+pub misframed : (o : Outside) (core : Sight) (heard : Heard) (trouble : FrameTrouble) → IsReading o core heard → core.state.closing ≡ false
+    → IsTaken heard.uncuts.client (Err trouble) → Stops o o core core heard (BadClient (frame_fault trouble.fault) trouble.at)
+misframed o core heard trouble reading is_open taken =
+    let found = taken_fault heard.uncuts.client trouble taken in
+    let now = core_ready o core heard reading.ready reading.taken_up.not_ended in
+    subst (λ (at : ℕ). Stops o o core core heard (BadClient (frame_fault trouble.fault) at)) (sym found.2)
+    (stops_there o core core core heard heard _ (λ limits turns limit log messages s. (messages, s))
+    (λ limits turns limit. session.Stops.misframed (reads limits o core heard reading.ready limit is_open) found.1)
+    now.client now.target refl refl refl tt)
+
+-- the session waits
+pub waits_on : (limits : Limits) (o : Outside) (core : Sight) (heard : Heard) → IsReady o core heard → IsTakenUp core heard
+    → target_front (place_of core heard.uncuts) ≡ waits → (core.state.closing ≡ true) ⊎ (frame_front heard.uncuts.client.pending ≡ waits)
+    → core.limit ≡ limits.waiting → Waits limits (standing core heard)
+waits_on limits o core heard ready taken_up no_packet nothing_whole limit = record {
+  nothing_due = ready.nothing_due;
+  nothing_whole = nothing_whole;
+  no_packet = no_packet;
+  greeted = taken_up.greeted;
+  not_ended = taken_up.not_ended;
+  none_raw = ready.none_raw;
+  on = on_in limits o core heard ready limit;
 }
 
-pub on_and_stops : (a b c : Outside) (x y : Sight) (u v : Uncut) (ending : Ending) → GoesOn a b x u y v → Stops b c y v ending → Stops a c x u ending
-on_and_stops a b c x y u v ending h k = record {
-  stopped = λ turns. stopped_on a b c turns turns turns _ _ ending (h.leads turns) (k.stopped turns);
-  keeps = keeps_on h.keeps k.keeps;
-  blames = blames_on c ending h.keeps k.blames;
-}
+pub same_greeting : (core middle : Sight) (body : List ℕ) → Takes core body middle → middle.state.greeted ≡ core.state.greeted
+same_greeting core middle body (Takes.hears read is room) = ap (λ (c : Sight). c.state.greeted) is
+same_greeting core middle body (Takes.passes read is) = ap (λ (c : Sight). c.state.greeted) is
 
--- nothing was done yet
-pub stays : (o : Outside) (x : Sight) (u : Uncut) → IsOpen Client o → due x.state ≡ Due.waits → GoesOn o o x u x u
-stays o x u is_open nothing_due = record {
-  leads = λ turns begin follows. follows;
-  keeps = keeps_same o;
-  is_open = is_open;
-  nothing_due = nothing_due;
-}
+module _ (heard : Heard) (client : Uncut) (target : Received) (ended : Bool) (quiets : ℕ)
+    (view : (let it : Heard = record { uncuts = record { client = client; target = target; ended = ended }; quiets = quiets } in it ≡ heard)) where
+  pub kept_body : (client' : Uncut) (body : Body) (found : IsWhole heard.uncuts.client body) → client' ≡ left (frame_front client.pending) client
+      → (let it : Heard = record { uncuts = record { client = client'; target = target; ended = ended }; quiets = quiets } in it ≡ frame_cut heard found.size)
+  kept_body client' body found is =
+      let here = ap (λ (h : Heard). h.uncuts.client) view in
+      let rest = rest_is heard.uncuts.client client' body found (is ∙ ap (λ (u : Uncut). left (frame_front u.pending) u) here) in
+      ap (λ (u : Uncut). record { uncuts = record { client = u; target = target; ended = ended }; quiets = quiets }) rest
+      ∙ ap (λ (h : Heard). record {
+        uncuts = record { client = past heard.uncuts.client found.size; target = h.uncuts.target; ended = h.uncuts.ended };
+        quiets = h.quiets;
+      }) view
+
+  pub kept_none : (client' : Uncut) → frame_front heard.uncuts.client.pending ≡ waits → client' ≡ left (frame_front client.pending) client
+      → (let it : Heard = record { uncuts = record { client = client'; target = target; ended = ended }; quiets = quiets } in it ≡ heard)
+  kept_none client' none is =
+      let here = ap (λ (h : Heard). h.uncuts.client) view in
+      let rest : client' ≡ heard.uncuts.client =
+      is ∙ ap (λ (u : Uncut). left (frame_front u.pending) u) here
+      ∙ ap (λ (front : Front Frame FrameFault). left front heard.uncuts.client) none in
+      ap (λ (u : Uncut). record { uncuts = record { client = u; target = target; ended = ended }; quiets = quiets }) rest
+      ∙ ap (λ (h : Heard). record { uncuts = record { client = heard.uncuts.client; target = h.uncuts.target; ended = h.uncuts.ended }; quiets = h.quiets }) view

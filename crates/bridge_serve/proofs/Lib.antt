@@ -1,4 +1,9 @@
 pub mod Logs
+pub mod StepFrames
+pub mod LastWords
 pub mod Moves
+pub mod Words
+pub mod Taking
 pub mod Cutting
+pub mod Coming
 pub mod Whole

@@ -1,7 +1,8 @@
 -- How logs grow, and how the words on counts go on from call to call.
-use Rattle.std.proofs.Common.{◌≡◌, ℕ, ◌+◌, ◌≤◌, ◌<◌, ◌⊎◌, refl, sym, ap, ◌∙◌, arith, List, [], ◌++◌, append_assoc, append-nil, Option, None, Some, inl, inr}
+use Rattle.std.proofs.Common.{◌≡◌, ℕ, ◌≤◌, refl, sym, ap, ◌∙◌, arith, List, [], ◌++◌, append_assoc, append-nil, Option, None, Some, inl, inr}
+use Rattle.std.proofs.lemmas.Bool.{cases_lt}
 use Rattle.std.specs.Option.{option_map}
-use Rattle.wire_core.specs.Outside.{Outside, Adds, Counts, Rose}
+use Rattle.wire_core.specs.Outside.{Outside, Adds, Rose}
 use Rattle.wire_core.specs.declared.outside.Entry.{Entry}
 use Rattle.world_model.specs.declared.ending.Ending.{Ending}
 use Rattle.bridge_serve.specs.Following.{Keeps, Blames}
@@ -48,4 +49,13 @@ rose_on c h (inl k) = inl (omega (arith, h, k))
 rose_on c h (inr k) = inr k
 
 pub blames_on : {a b : Outside} (c : Outside) (ending : Ending) → Keeps a b → Blames b c ending → Blames a c ending
-blames_on c ending h k is_link = rose_on _ h.counts.client_faults (k is_link)
+blames_on c ending h k = record {
+  client = λ is_link. rose_on _ h.counts.client_faults (k.client is_link);
+  target = λ is_link. rose_on _ h.counts.target_faults (k.target is_link);
+}
+
+-- a count that rose and then didn't fall
+pub rose_then : {a b c : ℕ} → a ≤ b → Rose a b → b ≤ c → Rose a c
+rose_then h (inl k) less = inl (omega (arith, h, k, less))
+rose_then {a} {b} {c} h (inr k) less =
+    elim (cases_lt b c) [ inl more ↦ inl (omega (arith, h, more)) | inr most ↦ inr (omega (arith, k, less, most)) ]

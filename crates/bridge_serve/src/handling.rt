@@ -1,54 +1,170 @@
-ghost use Rattle.std.specs.Prelude.{◌≡◌, ◌+◌, ◌<◌, length, IfOk, IfErr, OnOk, true, false};
-ghost use Rattle.bridge_serve.specs.Following.{standing, GoesOn, Stops};
-ghost use Rattle.wire_core.specs.Outside.{IsOpen};
-ghost use Rattle.wire_core.specs.declared.outside.Side.TheVariants.{Client};
-ghost use Rattle.world_model.specs.Machine.{due, Due};
-ghost use Rattle.world_model.specs.Session.{Waits};
+ghost use Rattle.std.specs.Prelude.{◌≡◌, ◌^◌, ◌<◌, ◌⊎◌, length, IfErr, OnOk, Ok, true, false};
+ghost use Rattle.bridge_serve.specs.Following.{standing, IsReady, IsTakenUp, GoesOn, Stops, target_end};
+ghost use Rattle.bridge_core.specs.Steps.{place_of};
+ghost use Rattle.dap_frames.specs.Frames.{frame_front};
+ghost use Rattle.wire_core.specs.Streams.{waits};
+ghost use Rattle.world_model.specs.Session.{Waits, target_front};
+ghost use Rattle.world_model.specs.declared.ending.Limits.{Limits};
 
+use crate::inputs::Inputs;
 use crate::telling::tell;
 use bridge_core::Core;
-use dap_frames::Cutter;
 use std::alloc::Global;
 use wire_core::Wires;
-use world_model::{ClientFault, Ending};
+use world_model::{ClientFault, Ending, TargetFault};
 
-/// Cuts the client's bytes, and handles each body as far as possible before the next one is cut.
+/// Handles all that came, message by message, each as far as possible before the next one is cut.
 pub(crate) fn handle<W: Wires>(
     alloc: Global,
     wires: &mut W,
-    cutter: &mut Cutter,
+    inputs: &mut Inputs,
     core: &mut Core,
 ) -> Result<(), Ending>
-    requires is_open { IsOpen Client (W.outside wires.old) }
-    requires nothing_due { due core.old.state ≡ Due.waits }
-    ensures ok { OnOk result (GoesOn (W.outside wires.old) (W.outside wires.new) core.old cutter.old core.new cutter.new) }
-    ensures waits { OnOk result (Waits (standing core.new cutter.new)) }
-    ensures same_end { OnOk result (cutter.new.at + length cutter.new.pending ≡ cutter.old.at + length cutter.old.pending) }
-    ensures err { IfErr result (Stops (W.outside wires.old) (W.outside wires.new) core.old cutter.old) }
+    requires ready { IsReady (W.outside wires.old) core.old inputs.old }
+    requires small { target_end inputs.old < 2 ^ 62 }
+    ensures ok { OnOk result (GoesOn (W.outside wires.old) (W.outside wires.new) core.old core.new inputs.old inputs.new) }
+    ensures waits { OnOk result ((limits : Limits) → core.old.limit ≡ limits.waiting → Waits limits (standing core.new inputs.new)) }
+    ensures err { IfErr result (Stops (W.outside wires.old) (W.outside wires.new) core.old core.new inputs.old) }
 {
-    while handle_next(alloc, wires, cutter, core)? {}
+    take_end(alloc, wires, inputs, core)?;
+    take_greeting(alloc, wires, inputs, core)?;
+    take_packets(alloc, wires, inputs, core)?;
+    take_bodies(alloc, wires, inputs, core)
+}
+
+// Takes up the end of the target's stream.
+fn take_end<W: Wires>(
+    alloc: Global,
+    wires: &mut W,
+    inputs: &mut Inputs,
+    core: &mut Core,
+) -> Result<(), Ending>
+    requires { IsReady (W.outside wires.old) core.old inputs.old }
+    ensures ok { OnOk result (GoesOn (W.outside wires.old) (W.outside wires.new) core.old core.new inputs.old inputs.new) }
+    ensures not_ended { OnOk result (inputs.new.uncuts.ended ≡ false) }
+    ensures err { IfErr result (Stops (W.outside wires.old) (W.outside wires.new) core.old core.new inputs.old) }
+{
+    if !inputs.ended {
+        return Ok(());
+    }
+    inputs.ended = false;
+    match core.target_shut(alloc) {
+        Ok(()) => tell(alloc, wires, core),
+        Err(ending) => Err(ending),
+    }
+}
+
+// Takes up the target's handshake.
+fn take_greeting<W: Wires>(
+    alloc: Global,
+    wires: &mut W,
+    inputs: &Inputs,
+    core: &mut Core,
+) -> Result<(), Ending>
+    requires ready { IsReady (W.outside wires.old) core.old inputs.now }
+    requires not_ended { inputs.now.uncuts.ended ≡ false }
+    ensures ok { OnOk result (GoesOn (W.outside wires.old) (W.outside wires.new) core.old core.new inputs.now inputs.now) }
+    ensures taken_up { OnOk result (IsTakenUp core.new inputs.now) }
+    ensures err { IfErr result (Stops (W.outside wires.old) (W.outside wires.new) core.old core.new inputs.now) }
+{
+    if core.is_greeted() || !inputs.packets.is_greeted() {
+        return Ok(());
+    }
+    core.target_greeted();
+    tell(alloc, wires, core)
+}
+
+// Handles the packets that came, one after the other.
+fn take_packets<W: Wires>(
+    alloc: Global,
+    wires: &mut W,
+    inputs: &mut Inputs,
+    core: &mut Core,
+) -> Result<(), Ending>
+    requires ready { IsReady (W.outside wires.old) core.old inputs.old }
+    requires taken_up { IsTakenUp core.old inputs.old }
+    requires small { target_end inputs.old < 2 ^ 62 }
+    ensures ok { OnOk result (GoesOn (W.outside wires.old) (W.outside wires.new) core.old core.new inputs.old inputs.new) }
+    ensures taken_up { OnOk result (IsTakenUp core.new inputs.new) }
+    ensures no_packet { OnOk result (target_front (place_of core.new inputs.new.uncuts) ≡ waits) }
+    ensures err { IfErr result (Stops (W.outside wires.old) (W.outside wires.new) core.old core.new inputs.old) }
+{
+    while take_packet(alloc, wires, inputs, core)? {}
     Ok(())
 }
 
-// Handles the next body, and says whether there was one.
-fn handle_next<W: Wires>(
+// Handles the target's next packet, and says whether there was one.
+fn take_packet<W: Wires>(
     alloc: Global,
     wires: &mut W,
-    cutter: &mut Cutter,
+    inputs: &mut Inputs,
     core: &mut Core,
 ) -> Result<bool, Ending>
-    requires is_open { IsOpen Client (W.outside wires.old) }
-    requires nothing_due { due core.old.state ≡ Due.waits }
-    ensures ok { OnOk result (GoesOn (W.outside wires.old) (W.outside wires.new) core.old cutter.old core.new cutter.new) }
-    ensures more { result ≡ Ok true → length cutter.new.pending < length cutter.old.pending }
-    ensures waits { result ≡ Ok false → Waits (standing core.new cutter.new) }
-    ensures same_end { OnOk result (cutter.new.at + length cutter.new.pending ≡ cutter.old.at + length cutter.old.pending) }
-    ensures err { IfErr result (Stops (W.outside wires.old) (W.outside wires.new) core.old cutter.old) }
+    requires ready { IsReady (W.outside wires.old) core.old inputs.old }
+    requires taken_up { IsTakenUp core.old inputs.old }
+    requires small { target_end inputs.old < 2 ^ 62 }
+    ensures ok { OnOk result (GoesOn (W.outside wires.old) (W.outside wires.new) core.old core.new inputs.old inputs.new) }
+    ensures taken_up { OnOk result (IsTakenUp core.new inputs.new) }
+    ensures more { result ≡ Ok true
+        → length inputs.new.uncuts.target.stream.pending < length inputs.old.uncuts.target.stream.pending }
+    ensures no_packet { result ≡ Ok false → target_front (place_of core.new inputs.new.uncuts) ≡ waits }
+    ensures err { IfErr result (Stops (W.outside wires.old) (W.outside wires.new) core.old core.new inputs.old) }
+{
+    match inputs.packets.take() {
+        Ok(Some(packet)) => match core.target_packet(alloc, packet) {
+            Ok(()) => match tell(alloc, wires, core) {
+                Ok(()) => Ok(true),
+                Err(ending) => Err(ending),
+            },
+            Err(ending) => Err(ending),
+        },
+        Ok(None) => Ok(false),
+        Err(trouble) => Err(Ending::BadTarget {
+            fault: TargetFault::Packet(trouble.fault),
+            at: trouble.at,
+            id: 0,
+        }),
+    }
+}
+
+// Handles the client's bodies, one after the other.
+fn take_bodies<W: Wires>(
+    alloc: Global,
+    wires: &mut W,
+    inputs: &mut Inputs,
+    core: &mut Core,
+) -> Result<(), Ending>
+    requires ready { IsReady (W.outside wires.old) core.old inputs.old }
+    requires taken_up { IsTakenUp core.old inputs.old }
+    requires no_packet { target_front (place_of core.old inputs.old.uncuts) ≡ waits }
+    ensures ok { OnOk result (GoesOn (W.outside wires.old) (W.outside wires.new) core.old core.new inputs.old inputs.new) }
+    ensures waits { OnOk result ((limits : Limits) → core.old.limit ≡ limits.waiting → Waits limits (standing core.new inputs.new)) }
+    ensures err { IfErr result (Stops (W.outside wires.old) (W.outside wires.new) core.old core.new inputs.old) }
+{
+    while take_body(alloc, wires, inputs, core)? {}
+    Ok(())
+}
+
+// Handles the client's next body, and says whether there was one.
+fn take_body<W: Wires>(
+    alloc: Global,
+    wires: &mut W,
+    inputs: &mut Inputs,
+    core: &mut Core,
+) -> Result<bool, Ending>
+    requires ready { IsReady (W.outside wires.old) core.old inputs.old }
+    requires taken_up { IsTakenUp core.old inputs.old }
+    ensures ok { OnOk result (GoesOn (W.outside wires.old) (W.outside wires.new) core.old core.new inputs.old inputs.new) }
+    ensures more { result ≡ Ok true → length inputs.new.uncuts.client.pending < length inputs.old.uncuts.client.pending }
+    ensures waits { result ≡ Ok false → (core.new.state.closing ≡ true) ⊎ (frame_front inputs.new.uncuts.client.pending ≡ waits) }
+    ensures taken_up { OnOk result (IsTakenUp core.new inputs.new) }
+    ensures target { OnOk result (inputs.new.uncuts.target ≡ inputs.old.uncuts.target) }
+    ensures err { IfErr result (Stops (W.outside wires.old) (W.outside wires.new) core.old core.new inputs.old) }
 {
     if core.is_closing() {
         return Ok(false);
     }
-    match cutter.take() {
+    match inputs.cutter.take() {
         Ok(Some(body)) => match core.client_body(alloc, body.at, body.bytes) {
             Ok(()) => match tell(alloc, wires, core) {
                 Ok(()) => Ok(true),

@@ -3,6 +3,8 @@
 
 mod handling;
 mod hearing;
+mod inputs;
+mod saying;
 mod serving;
 mod telling;
 #[cfg(test)]

@@ -1,14 +1,16 @@
 ghost use Rattle.std.specs.Prelude.{◌≡◌, length, replicate, vec_len, IfOk, OnOk, IfErr};
-ghost use Rattle.bridge_serve.specs.Following.{Keeps, Blames, Served};
+ghost use Rattle.bridge_core.specs.Steps.{fresh_core};
+ghost use Rattle.bridge_serve.specs.Following.{Keeps, Blames, Served, Ran};
 ghost use Rattle.wire_core.specs.Outside.{IsOpen};
 ghost use Rattle.wire_core.specs.declared.outside.Side.TheVariants.{Client, Target};
 ghost use Rattle.world_model.specs.Session.{AreLimits, IsSession};
 
 use crate::handling::handle;
 use crate::hearing::hear;
+use crate::inputs::Inputs;
+use crate::saying::say;
 use bridge_core::Core;
-use dap_frames::Cutter;
-use std::alloc::{AllocError, Global};
+use std::alloc::Global;
 use wire_core::{NoMemory, Wires};
 use world_model::{Ending, Limits};
 
@@ -24,28 +26,66 @@ pub fn serve<W: Wires>(alloc: Global, limits: &Limits, wires: &mut W) -> Ending
     // What this call did to the wires is a session of the bridge that ended so.
     ensures session { IsSession (W.outside wires.old) (W.outside wires.new) limits.now result }
 
-    // No count fell, and the client's link is blamed only where the count of its faults rose.
+    // No count fell, and a link is blamed only where the count of its faults rose.
     ensures keeps { Keeps (W.outside wires.old) (W.outside wires.new) }
     ensures blames { Blames (W.outside wires.old) (W.outside wires.new) result }
 {
-    match run(alloc, limits, wires) {
+    match Core::new(alloc, limits) {
+        Ok(core) => serve_with(alloc, limits, wires, core),
+        Err(_) => Ending::NoMemory,
+    }
+}
+
+// Serves a session, says its last words, and gives the core up.
+fn serve_with<W: Wires>(alloc: Global, limits: &Limits, wires: &mut W, core: Core) -> Ending
+    requires client_open { IsOpen Client (W.outside wires.old) }
+    requires target_open { IsOpen Target (W.outside wires.old) }
+    requires limits { AreLimits limits.now }
+    requires fresh { core ≡ fresh_core limits.now.waiting }
+    ensures { Served (W.outside wires.old) (W.outside wires.new) limits.now result }
+{
+    let mut core = core;
+    let ending = run(alloc, limits, wires, &mut core);
+    let ending = say(alloc, wires, &mut core, ending);
+    core.finish();
+    ending
+}
+
+// Serves a session up to its ending.
+fn run<W: Wires>(alloc: Global, limits: &Limits, wires: &mut W, core: &mut Core) -> Ending
+    requires client_open { IsOpen Client (W.outside wires.old) }
+    requires target_open { IsOpen Target (W.outside wires.old) }
+    requires limits { AreLimits limits.now }
+    requires fresh { core.old ≡ fresh_core limits.now.waiting }
+    ensures { Ran limits.now (W.outside wires.old) (W.outside wires.new) core.new result }
+{
+    match take_turns(alloc, limits, wires, core) {
         Ok(()) => Ending::Spent,
         Err(ending) => ending,
     }
 }
 
-fn run<W: Wires>(alloc: Global, limits: &Limits, wires: &mut W) -> Result<(), Ending>
+fn take_turns<W: Wires>(
+    alloc: Global,
+    limits: &Limits,
+    wires: &mut W,
+    core: &mut Core,
+) -> Result<(), Ending>
     requires client_open { IsOpen Client (W.outside wires.old) }
+    requires target_open { IsOpen Target (W.outside wires.old) }
     requires limits { AreLimits limits.now }
-    ensures ok { OnOk result (Served (W.outside wires.old) (W.outside wires.new) limits.now Ending.Spent) }
-    ensures err { IfErr result (Served (W.outside wires.old) (W.outside wires.new) limits.now) }
+    requires fresh { core.old ≡ fresh_core limits.now.waiting }
+    ensures ok { OnOk result (Ran limits.now (W.outside wires.old) (W.outside wires.new) core.new Ending.Spent) }
+    ensures err { IfErr result (Ran limits.now (W.outside wires.old) (W.outside wires.new) core.new) }
 {
-    let mut core = Core::new(alloc, limits)?;
-    let mut cutter = Cutter::new(alloc);
+    let mut inputs = Inputs::new(alloc);
     let mut buffer = zeros(alloc, PIECE)?;
     for _turn in 0..limits.turns {
-        hear(wires, buffer.as_mut_slice(), &mut cutter)?;
-        handle(alloc, wires, &mut cutter, &mut core)?;
+        if inputs.quiets >= limits.quiet {
+            return Err(Ending::Idle);
+        }
+        hear(wires, buffer.as_mut_slice(), &mut inputs)?;
+        handle(alloc, wires, &mut inputs, core)?;
     }
     Ok(())
 }

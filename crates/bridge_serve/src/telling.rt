@@ -1,20 +1,20 @@
-ghost use Rattle.std.specs.Prelude.{◌≡◌, ◌+◌, ◌^◌, ◌<◌, IfOk, IfErr, OnOk, true, false};
-ghost use Rattle.bridge_serve.specs.Following.{CoreGoesOn, CoreStops};
-ghost use Rattle.wire_core.specs.Outside.{IsOpen};
-ghost use Rattle.wire_core.specs.declared.outside.Side.TheVariants.{Client};
+ghost use Rattle.std.specs.Prelude.{◌≡◌, ◌<◌, Ok, true, false, OnOk, IfErr};
+ghost use Rattle.bridge_core.specs.Steps.{work};
+ghost use Rattle.bridge_serve.specs.Following.{CoreGoesOn, CoreStops, CoreIsReady};
 ghost use Rattle.world_model.specs.Machine.{due, Due};
+ghost use Rattle.world_model.specs.Session.{link_ending};
 
 use bridge_core::Core;
 use std::alloc::Global;
-use wire_core::Wires;
+use wire_core::{Side, Wires};
 use world_model::Ending;
 
 /// Sends all that is due, in order.
 pub(crate) fn tell<W: Wires>(alloc: Global, wires: &mut W, core: &mut Core) -> Result<(), Ending>
-    requires { IsOpen Client (W.outside wires.old) }
+    requires { CoreIsReady (W.outside wires.old) core.old }
     ensures ok { OnOk result (CoreGoesOn (W.outside wires.old) (W.outside wires.new) core.old core.new) }
     ensures nothing_due { OnOk result (due core.new.state ≡ Due.waits) }
-    ensures err { IfErr result (CoreStops (W.outside wires.old) (W.outside wires.new) core.old) }
+    ensures err { IfErr result (CoreStops (W.outside wires.old) (W.outside wires.new) core.old core.new) }
 {
     while tell_next(alloc, wires, core)? {}
     Ok(())
@@ -22,18 +22,28 @@ pub(crate) fn tell<W: Wires>(alloc: Global, wires: &mut W, core: &mut Core) -> R
 
 // Sends the next message, and says whether there was one.
 fn tell_next<W: Wires>(alloc: Global, wires: &mut W, core: &mut Core) -> Result<bool, Ending>
-    requires { IsOpen Client (W.outside wires.old) }
+    requires { CoreIsReady (W.outside wires.old) core.old }
     ensures ok { OnOk result (CoreGoesOn (W.outside wires.old) (W.outside wires.new) core.old core.new) }
-    ensures more { result ≡ Ok true → (core.old.told < core.new.told) × (core.new.told < 2 ^ 63) }
+    ensures more { result ≡ Ok true → work core.new.state < work core.old.state }
     ensures nothing_due { result ≡ Ok false → due core.new.state ≡ Due.waits }
-    ensures err { IfErr result (CoreStops (W.outside wires.old) (W.outside wires.new) core.old) }
+    ensures err { IfErr result (CoreStops (W.outside wires.old) (W.outside wires.new) core.old core.new) }
 {
     match core.out(alloc) {
         Ok(Some(out)) => match wires.send(out.side, out.bytes.as_slice()) {
             Ok(()) => Ok(true),
-            Err(_) => Err(Ending::ClientLink),
+            Err(_) => Err(link_ending(out.side)),
         },
         Ok(None) => Ok(false),
         Err(ending) => Err(ending),
+    }
+}
+
+// The ending of a link that failed.
+fn link_ending(side: Side) -> Ending
+    ensures { result ≡ link_ending side }
+{
+    match side {
+        Side::Client => Ending::ClientLink,
+        Side::Target => Ending::TargetLink,
     }
 }

@@ -1,4 +1,4 @@
-ghost use Rattle.std.specs.Prelude.{◌<◌, ◌≤◌, IfOk};
+ghost use Rattle.std.specs.Prelude.{IfOk, IfSome};
 ghost use Rattle.wire_core.specs.MemoryWires.{outside_of};
 ghost use Rattle.wire_core.specs.Outside.{IsOpen};
 ghost use Rattle.wire_core.specs.declared.outside.Side.TheVariants.{Client, Target};
@@ -6,10 +6,14 @@ ghost use Rattle.world_model.specs.Session.{AreLimits};
 
 use crate::serve;
 use dap_frames::FrameFault;
+use jdwp_packets::PacketFault;
 use std::alloc::Global;
 use std::test::Fail;
 use wire_core::{Cut, Entry, List, MemoryWires, Side, Step};
-use world_model::{ClientFault, Ending, Limits};
+use world_model::{ClientFault, Ending, Limits, TargetFault};
+
+const CAPABILITIES: &[u8] =
+    b"Content-Length: 424\r\n\r\n{\"body\":{\"exceptionBreakpointFilters\":[{\"filter\":\"caught\",\"label\":\"Caught exceptions\"},{\"filter\":\"uncaught\",\"label\":\"Uncaught exceptions\"}],\"supportTerminateDebuggee\":true,\"supportsConfigurationDoneRequest\":true,\"supportsEvaluateForHovers\":true,\"supportsExceptionInfoRequest\":true,\"supportsFunctionBreakpoints\":true,\"supportsSetVariable\":true},\"command\":\"initialize\",\"request_seq\":1,\"seq\":1,\"success\":true,\"type\":\"response\"}";
 
 const INITIALIZE: &[u8] =
     b"Content-Length: 82\r\n\r\n{\"seq\":1,\"type\":\"request\",\"command\":\"initialize\",\"arguments\":{\"adapterID\":\"jdwp\"}}";
@@ -17,27 +21,820 @@ const INITIALIZE: &[u8] =
 const DISCONNECT: &[u8] =
     b"Content-Length: 49\r\n\r\n{\"seq\":2,\"type\":\"request\",\"command\":\"disconnect\"}";
 
-const CAPABILITIES: &[u8] =
-    b"Content-Length: 424\r\n\r\n{\"body\":{\"exceptionBreakpointFilters\":[{\"filter\":\"caught\",\"label\":\"Caught exceptions\"},{\"filter\":\"uncaught\",\"label\":\"Uncaught exceptions\"}],\"supportTerminateDebuggee\":true,\"supportsConfigurationDoneRequest\":true,\"supportsEvaluateForHovers\":true,\"supportsExceptionInfoRequest\":true,\"supportsFunctionBreakpoints\":true,\"supportsSetVariable\":true},\"command\":\"initialize\",\"request_seq\":1,\"seq\":1,\"success\":true,\"type\":\"response\"}";
-
 const DISCONNECTED: &[u8] =
     b"Content-Length: 81\r\n\r\n{\"command\":\"disconnect\",\"request_seq\":2,\"seq\":2,\"success\":true,\"type\":\"response\"}";
 
-const ACCENTED: &[u8] =
-    b"Content-Length: 41\r\n\r\n{\"seq\":1,\"type\":\"request\",\"command\":\"\xc3\xa9\"}";
+const ATTACH_FAILED: &[u8] =
+    b"Content-Length: 150\r\n\r\n{\"body\":{\"error\":{\"format\":\"targetGone\",\"id\":10}},\"command\":\"attach\",\"message\":\"targetGone\",\"request_seq\":1,\"seq\":1,\"success\":false,\"type\":\"response\"}";
 
-const UNSUPPORTED: &[u8] =
-    b"Content-Length: 147\r\n\r\n{\"body\":{\"error\":{\"format\":\"unsupported\",\"id\":1}},\"command\":\"\xc3\xa9\",\"message\":\"unsupported\",\"request_seq\":1,\"seq\":1,\"success\":false,\"type\":\"response\"}";
+const ATTACH: &[u8] =
+    b"Content-Length: 84\r\n\r\n{\"seq\":1,\"type\":\"request\",\"command\":\"attach\",\"arguments\":{\"sourceRoots\":[\"/p/src\"]}}";
 
-// A session: the pieces that come, the most happenings, the sends to the client that fail, what the client is sent, and
-// the ending.
+const TERMINATED: &[u8] =
+    b"Content-Length: 45\r\n\r\n{\"event\":\"terminated\",\"seq\":2,\"type\":\"event\"}";
+
+const TERMINATED_THIRD: &[u8] =
+    b"Content-Length: 45\r\n\r\n{\"event\":\"terminated\",\"seq\":3,\"type\":\"event\"}";
+
+// What comes from the outside.
+#[derive(Clone, Copy, Drop)]
+enum Came<'a> {
+    Bytes(Side, &'a [u8]),
+    Shut(Side),
+    Failed(Side),
+    Quiet,
+}
+
+// A session: whether it attaches first; what comes then; its limits; the sends that fail, each with the bytes that go
+// out all the same; what the client is told then, and the target is sent; and the ending.
 #[derive(Drop)]
 struct Course<'a> {
-    pieces: &'a [(Side, &'a [u8])],
-    turns: u64,
-    failing: Option<(u64, u32)>,
+    attached: bool,
+    steps: &'a [Came<'a>],
+    limits: Limits,
+    failing: &'a [(Side, u64, u32)],
+    told: &'a [&'a [u8]],
     sent: &'a [&'a [u8]],
     ending: Ending,
+}
+
+// How a session attaches to a target with ids of eight bytes: what comes, what the client is told, and what the target
+// is sent.
+const ATTACHING: [Came<'static>; 5] = [
+    Came::Bytes(Side::Client, ATTACH),
+    Came::Bytes(Side::Target, b"JDWP-Handshake"),
+    Came::Bytes(
+        Side::Target,
+        b"\x00\x00\x00\x1f\x00\x00\x00\x01\x80\x00\x00\x00\x00\x00\x08\x00\x00\x00\x08\x00\x00\x00\x08\x00\x00\x00\x08\x00\x00\x00\x08",
+    ),
+    Came::Bytes(
+        Side::Target,
+        b"\x00\x00\x00\x0f\x00\x00\x00\x02\x80\x00\x00\x00\x00\x00\x01",
+    ),
+    Came::Bytes(
+        Side::Target,
+        b"\x00\x00\x00\x0f\x00\x00\x00\x03\x80\x00\x00\x00\x00\x00\x02",
+    ),
+];
+
+const TOLD_ATTACHED: [&[u8]; 2] = [
+    b"Content-Length: 77\r\n\r\n{\"command\":\"attach\",\"request_seq\":1,\"seq\":1,\"success\":true,\"type\":\"response\"}",
+    b"Content-Length: 46\r\n\r\n{\"event\":\"initialized\",\"seq\":2,\"type\":\"event\"}",
+];
+
+const SENT_ATTACHED: [&[u8]; 4] = [
+    b"JDWP-Handshake",
+    b"\x00\x00\x00\x0b\x00\x00\x00\x01\x00\x01\x07",
+    b"\x00\x00\x00\x11\x00\x00\x00\x02\x00\x0f\x01\x06\x00\x00\x00\x00\x00",
+    b"\x00\x00\x00\x11\x00\x00\x00\x03\x00\x0f\x01\x07\x00\x00\x00\x00\x00",
+];
+
+const USUAL: Limits = Limits {
+    turns: 99,
+    quiet: 9,
+    waiting: 9,
+};
+
+const A_CLIENT_ALONE: &[Course<'static>] = &[
+    // two requests, each as one frame
+    Course {
+        attached: false,
+        steps: &[
+            Came::Bytes(Side::Client, INITIALIZE),
+            Came::Bytes(Side::Client, DISCONNECT),
+        ],
+        limits: USUAL,
+        failing: &[],
+        told: &[CAPABILITIES, DISCONNECTED],
+        sent: &[],
+        ending: Ending::Done,
+    },
+    // cut in a header, with bytes of the other side in between
+    Course {
+        attached: false,
+        steps: &[
+            Came::Bytes(Side::Client, b"Content-Len"),
+            Came::Bytes(Side::Target, b"JDWP"),
+            Came::Bytes(
+                Side::Client,
+                b"gth: 82\r\n\r\n{\"seq\":1,\"type\":\"request\",\"command\":\"initialize\",\"arguments\":{\"adapterID\":\"jdwp\"}}",
+            ),
+            Came::Bytes(Side::Client, DISCONNECT),
+        ],
+        limits: USUAL,
+        failing: &[],
+        told: &[CAPABILITIES, DISCONNECTED],
+        sent: &[],
+        ending: Ending::Done,
+    },
+    // cut inside a character; then the client's stream ends
+    Course {
+        attached: false,
+        steps: &[
+            Came::Bytes(
+                Side::Client,
+                b"Content-Length: 41\r\n\r\n{\"seq\":1,\"type\":\"request\",\"command\":\"\xc3",
+            ),
+            Came::Bytes(Side::Client, b"\xa9\"}"),
+        ],
+        limits: USUAL,
+        failing: &[],
+        told: &[
+            b"Content-Length: 147\r\n\r\n{\"body\":{\"error\":{\"format\":\"unsupported\",\"id\":1}},\"command\":\"\xc3\xa9\",\"message\":\"unsupported\",\"request_seq\":1,\"seq\":1,\"success\":false,\"type\":\"response\"}",
+        ],
+        sent: &[],
+        ending: Ending::Left,
+    },
+    // a client that leaves before it attaches
+    Course {
+        attached: false,
+        steps: &[Came::Shut(Side::Client)],
+        limits: USUAL,
+        failing: &[],
+        told: &[],
+        sent: &[],
+        ending: Ending::Left,
+    },
+];
+
+const ATTACHED: &[Course<'static>] = &[
+    // and one that leaves its target to run on
+    Course {
+        attached: true,
+        steps: &[Came::Shut(Side::Client)],
+        limits: USUAL,
+        failing: &[],
+        told: &[],
+        sent: &[b"\x00\x00\x00\x0b\x00\x00\x00\x04\x00\x01\x06"],
+        ending: Ending::Left,
+    },
+    // the target exits, and its stream ends before its reply
+    Course {
+        attached: true,
+        steps: &[
+            Came::Bytes(
+                Side::Client,
+                b"Content-Length: 88\r\n\r\n{\"seq\":2,\"type\":\"request\",\"command\":\"disconnect\",\"arguments\":{\"terminateDebuggee\":true}}",
+            ),
+            Came::Shut(Side::Target),
+        ],
+        limits: USUAL,
+        failing: &[],
+        told: &[
+            b"Content-Length: 81\r\n\r\n{\"command\":\"disconnect\",\"request_seq\":2,\"seq\":3,\"success\":true,\"type\":\"response\"}",
+        ],
+        sent: &[b"\x00\x00\x00\x0f\x00\x00\x00\x04\x00\x01\n\x00\x00\x00\x00"],
+        ending: Ending::Done,
+    },
+    // attached twice
+    Course {
+        attached: true,
+        steps: &[
+            Came::Bytes(
+                Side::Client,
+                b"Content-Length: 84\r\n\r\n{\"seq\":2,\"type\":\"request\",\"command\":\"attach\",\"arguments\":{\"sourceRoots\":[\"/p/src\"]}}",
+            ),
+            Came::Bytes(
+                Side::Client,
+                b"Content-Length: 49\r\n\r\n{\"seq\":3,\"type\":\"request\",\"command\":\"disconnect\"}",
+            ),
+            Came::Bytes(
+                Side::Target,
+                b"\x00\x00\x00\x0b\x00\x00\x00\x04\x80\x00\x00",
+            ),
+        ],
+        limits: USUAL,
+        failing: &[],
+        told: &[
+            b"Content-Length: 160\r\n\r\n{\"body\":{\"error\":{\"format\":\"alreadyAttached\",\"id\":16}},\"command\":\"attach\",\"message\":\"alreadyAttached\",\"request_seq\":2,\"seq\":3,\"success\":false,\"type\":\"response\"}",
+            b"Content-Length: 81\r\n\r\n{\"command\":\"disconnect\",\"request_seq\":3,\"seq\":4,\"success\":true,\"type\":\"response\"}",
+        ],
+        sent: &[b"\x00\x00\x00\x0b\x00\x00\x00\x04\x00\x01\x06"],
+        ending: Ending::Done,
+    },
+    // without roots, and without a target
+    Course {
+        attached: false,
+        steps: &[
+            Came::Bytes(
+                Side::Client,
+                b"Content-Length: 45\r\n\r\n{\"seq\":1,\"type\":\"request\",\"command\":\"attach\"}",
+            ),
+            Came::Bytes(
+                Side::Client,
+                b"Content-Length: 46\r\n\r\n{\"seq\":2,\"type\":\"request\",\"command\":\"threads\"}",
+            ),
+        ],
+        limits: USUAL,
+        failing: &[],
+        told: &[
+            b"Content-Length: 165\r\n\r\n{\"body\":{\"error\":{\"format\":\"badArguments sourceRoots\",\"id\":2}},\"command\":\"attach\",\"message\":\"badArguments\",\"request_seq\":1,\"seq\":1,\"success\":false,\"type\":\"response\"}",
+            b"Content-Length: 152\r\n\r\n{\"body\":{\"error\":{\"format\":\"notAttached\",\"id\":3}},\"command\":\"threads\",\"message\":\"notAttached\",\"request_seq\":2,\"seq\":2,\"success\":false,\"type\":\"response\"}",
+        ],
+        sent: &[],
+        ending: Ending::Left,
+    },
+    // the wishes are refused, and the session goes on
+    Course {
+        attached: false,
+        steps: &[
+            Came::Bytes(Side::Client, ATTACH),
+            Came::Bytes(Side::Target, b"JDWP-Handshake"),
+            Came::Bytes(
+                Side::Target,
+                b"\x00\x00\x00\x1f\x00\x00\x00\x01\x80\x00\x00\x00\x00\x00\x08\x00\x00\x00\x08\x00\x00\x00\x08\x00\x00\x00\x08\x00\x00\x00\x08",
+            ),
+            Came::Bytes(Side::Target, b"\x00\x00\x00\x0b\x00\x00\x00\x02\x80\x00c"),
+            Came::Bytes(Side::Target, b"\x00\x00\x00\x0b\x00\x00\x00\x03\x80\x00c"),
+        ],
+        limits: USUAL,
+        failing: &[],
+        told: &[
+            b"Content-Length: 77\r\n\r\n{\"command\":\"attach\",\"request_seq\":1,\"seq\":1,\"success\":true,\"type\":\"response\"}",
+            b"Content-Length: 46\r\n\r\n{\"event\":\"initialized\",\"seq\":2,\"type\":\"event\"}",
+        ],
+        sent: &[
+            b"JDWP-Handshake",
+            b"\x00\x00\x00\x0b\x00\x00\x00\x01\x00\x01\x07",
+            b"\x00\x00\x00\x11\x00\x00\x00\x02\x00\x0f\x01\x06\x00\x00\x00\x00\x00",
+            b"\x00\x00\x00\x11\x00\x00\x00\x03\x00\x0f\x01\x07\x00\x00\x00\x00\x00",
+            b"\x00\x00\x00\x0b\x00\x00\x00\x04\x00\x01\x06",
+        ],
+        ending: Ending::Left,
+    },
+];
+
+const THREADS: &[Course<'static>] = &[
+    // two threads, of which one has no name any more; then the target is left
+    Course {
+        attached: true,
+        steps: &[
+            Came::Bytes(
+                Side::Client,
+                b"Content-Length: 46\r\n\r\n{\"seq\":2,\"type\":\"request\",\"command\":\"threads\"}",
+            ),
+            Came::Bytes(
+                Side::Target,
+                b"\x00\x00\x00\x1f\x00\x00\x00\x04\x80\x00\x00\x00\x00\x00\x02\x00\x00\x00\x00\x00\x00\x00\x01\x00\x00\x00\x00\x00\x00\x00\x02",
+            ),
+            Came::Bytes(
+                Side::Target,
+                b"\x00\x00\x00\x13\x00\x00\x00\x05\x80\x00\x00\x00\x00\x00\x04main",
+            ),
+            Came::Bytes(Side::Target, b"\x00\x00\x00\x0b\x00\x00\x00\x06\x80\x00\r"),
+            Came::Bytes(
+                Side::Client,
+                b"Content-Length: 49\r\n\r\n{\"seq\":3,\"type\":\"request\",\"command\":\"disconnect\"}",
+            ),
+            Came::Bytes(
+                Side::Target,
+                b"\x00\x00\x00\x0b\x00\x00\x00\x07\x80\x00\x00",
+            ),
+        ],
+        limits: USUAL,
+        failing: &[],
+        told: &[
+            b"Content-Length: 122\r\n\r\n{\"body\":{\"threads\":[{\"id\":1,\"name\":\"main\"}]},\"command\":\"threads\",\"request_seq\":2,\"seq\":3,\"success\":true,\"type\":\"response\"}",
+            b"Content-Length: 81\r\n\r\n{\"command\":\"disconnect\",\"request_seq\":3,\"seq\":4,\"success\":true,\"type\":\"response\"}",
+        ],
+        sent: &[
+            b"\x00\x00\x00\x0b\x00\x00\x00\x04\x00\x01\x04",
+            b"\x00\x00\x00\x13\x00\x00\x00\x05\x00\x0b\x01\x00\x00\x00\x00\x00\x00\x00\x01",
+            b"\x00\x00\x00\x13\x00\x00\x00\x06\x00\x0b\x01\x00\x00\x00\x00\x00\x00\x00\x02",
+            b"\x00\x00\x00\x0b\x00\x00\x00\x07\x00\x01\x06",
+        ],
+        ending: Ending::Done,
+    },
+    // threads keep their numbers
+    Course {
+        attached: true,
+        steps: &[
+            Came::Bytes(
+                Side::Client,
+                b"Content-Length: 46\r\n\r\n{\"seq\":2,\"type\":\"request\",\"command\":\"threads\"}",
+            ),
+            Came::Bytes(
+                Side::Target,
+                b"\x00\x00\x00\x17\x00\x00\x00\x04\x80\x00\x00\x00\x00\x00\x01\x00\x00\x00\x00\x00\x00\x00\x07",
+            ),
+            Came::Bytes(
+                Side::Target,
+                b"\x00\x00\x00\x10\x00\x00\x00\x05\x80\x00\x00\x00\x00\x00\x01a",
+            ),
+            Came::Bytes(
+                Side::Client,
+                b"Content-Length: 46\r\n\r\n{\"seq\":3,\"type\":\"request\",\"command\":\"threads\"}",
+            ),
+            Came::Bytes(
+                Side::Target,
+                b"\x00\x00\x00\x1f\x00\x00\x00\x06\x80\x00\x00\x00\x00\x00\x02\x00\x00\x00\x00\x00\x00\x00\x09\x00\x00\x00\x00\x00\x00\x00\x07",
+            ),
+            Came::Bytes(
+                Side::Target,
+                b"\x00\x00\x00\x12\x00\x00\x00\x07\x80\x00\x00\x00\x00\x00\x03b\xffc",
+            ),
+            Came::Bytes(
+                Side::Target,
+                b"\x00\x00\x00\x10\x00\x00\x00\x08\x80\x00\x00\x00\x00\x00\x01a",
+            ),
+        ],
+        limits: USUAL,
+        failing: &[],
+        told: &[
+            b"Content-Length: 119\r\n\r\n{\"body\":{\"threads\":[{\"id\":1,\"name\":\"a\"}]},\"command\":\"threads\",\"request_seq\":2,\"seq\":3,\"success\":true,\"type\":\"response\"}",
+            b"Content-Length: 143\r\n\r\n{\"body\":{\"threads\":[{\"id\":2,\"name\":\"b\xef\xbf\xbdc\"},{\"id\":1,\"name\":\"a\"}]},\"command\":\"threads\",\"request_seq\":3,\"seq\":4,\"success\":true,\"type\":\"response\"}",
+        ],
+        sent: &[
+            b"\x00\x00\x00\x0b\x00\x00\x00\x04\x00\x01\x04",
+            b"\x00\x00\x00\x13\x00\x00\x00\x05\x00\x0b\x01\x00\x00\x00\x00\x00\x00\x00\x07",
+            b"\x00\x00\x00\x0b\x00\x00\x00\x06\x00\x01\x04",
+            b"\x00\x00\x00\x13\x00\x00\x00\x07\x00\x0b\x01\x00\x00\x00\x00\x00\x00\x00\x09",
+            b"\x00\x00\x00\x13\x00\x00\x00\x08\x00\x0b\x01\x00\x00\x00\x00\x00\x00\x00\x07",
+            b"\x00\x00\x00\x0b\x00\x00\x00\x09\x00\x01\x06",
+        ],
+        ending: Ending::Left,
+    },
+];
+
+const ENDS: &[Course<'static>] = &[
+    // the target's end, with requests open
+    Course {
+        attached: true,
+        steps: &[
+            Came::Bytes(
+                Side::Client,
+                b"Content-Length: 46\r\n\r\n{\"seq\":2,\"type\":\"request\",\"command\":\"threads\"}Content-Length: 46\r\n\r\n{\"seq\":3,\"type\":\"request\",\"command\":\"threads\"}Content-Length: 46\r\n\r\n{\"seq\":4,\"type\":\"request\",\"command\":\"threads\"}",
+            ),
+            Came::Shut(Side::Target),
+            Came::Bytes(
+                Side::Client,
+                b"Content-Length: 49\r\n\r\n{\"seq\":5,\"type\":\"request\",\"command\":\"disconnect\"}",
+            ),
+        ],
+        limits: USUAL,
+        failing: &[],
+        told: &[
+            b"Content-Length: 151\r\n\r\n{\"body\":{\"error\":{\"format\":\"targetGone\",\"id\":10}},\"command\":\"threads\",\"message\":\"targetGone\",\"request_seq\":2,\"seq\":3,\"success\":false,\"type\":\"response\"}",
+            b"Content-Length: 151\r\n\r\n{\"body\":{\"error\":{\"format\":\"targetGone\",\"id\":10}},\"command\":\"threads\",\"message\":\"targetGone\",\"request_seq\":3,\"seq\":4,\"success\":false,\"type\":\"response\"}",
+            b"Content-Length: 151\r\n\r\n{\"body\":{\"error\":{\"format\":\"targetGone\",\"id\":10}},\"command\":\"threads\",\"message\":\"targetGone\",\"request_seq\":4,\"seq\":5,\"success\":false,\"type\":\"response\"}",
+            b"Content-Length: 45\r\n\r\n{\"event\":\"terminated\",\"seq\":6,\"type\":\"event\"}",
+            b"Content-Length: 81\r\n\r\n{\"command\":\"disconnect\",\"request_seq\":5,\"seq\":7,\"success\":true,\"type\":\"response\"}",
+        ],
+        sent: &[b"\x00\x00\x00\x0b\x00\x00\x00\x04\x00\x01\x04"],
+        ending: Ending::Done,
+    },
+    // an error of a dead target is its end, once
+    Course {
+        attached: true,
+        steps: &[
+            Came::Bytes(
+                Side::Client,
+                b"Content-Length: 46\r\n\r\n{\"seq\":2,\"type\":\"request\",\"command\":\"threads\"}",
+            ),
+            Came::Bytes(Side::Target, b"\x00\x00\x00\x0b\x00\x00\x00\x04\x80\x00p"),
+            Came::Shut(Side::Target),
+            Came::Bytes(
+                Side::Client,
+                b"Content-Length: 84\r\n\r\n{\"seq\":3,\"type\":\"request\",\"command\":\"attach\",\"arguments\":{\"sourceRoots\":[\"/p/src\"]}}",
+            ),
+        ],
+        limits: USUAL,
+        failing: &[],
+        told: &[
+            b"Content-Length: 151\r\n\r\n{\"body\":{\"error\":{\"format\":\"targetGone\",\"id\":10}},\"command\":\"threads\",\"message\":\"targetGone\",\"request_seq\":2,\"seq\":3,\"success\":false,\"type\":\"response\"}",
+            b"Content-Length: 45\r\n\r\n{\"event\":\"terminated\",\"seq\":4,\"type\":\"event\"}",
+            b"Content-Length: 150\r\n\r\n{\"body\":{\"error\":{\"format\":\"targetGone\",\"id\":10}},\"command\":\"attach\",\"message\":\"targetGone\",\"request_seq\":3,\"seq\":5,\"success\":false,\"type\":\"response\"}",
+        ],
+        sent: &[b"\x00\x00\x00\x0b\x00\x00\x00\x04\x00\x01\x04"],
+        ending: Ending::Left,
+    },
+    // which threads there are is refused
+    Course {
+        attached: true,
+        steps: &[
+            Came::Bytes(
+                Side::Client,
+                b"Content-Length: 46\r\n\r\n{\"seq\":2,\"type\":\"request\",\"command\":\"threads\"}",
+            ),
+            Came::Bytes(Side::Target, b"\x00\x00\x00\x0b\x00\x00\x00\x04\x80\x00\n"),
+            Came::Bytes(
+                Side::Client,
+                b"Content-Length: 46\r\n\r\n{\"seq\":3,\"type\":\"request\",\"command\":\"threads\"}",
+            ),
+            Came::Bytes(
+                Side::Target,
+                b"\x00\x00\x00\x0b\x00\x00\x00\x05\x80\x01\xf7",
+            ),
+        ],
+        limits: USUAL,
+        failing: &[],
+        told: &[
+            b"Content-Length: 156\r\n\r\n{\"body\":{\"error\":{\"format\":\"unknownThread\",\"id\":8}},\"command\":\"threads\",\"message\":\"unknownThread\",\"request_seq\":2,\"seq\":3,\"success\":false,\"type\":\"response\"}",
+            b"Content-Length: 156\r\n\r\n{\"body\":{\"error\":{\"format\":\"targetError 503\",\"id\":9}},\"command\":\"threads\",\"message\":\"targetError\",\"request_seq\":3,\"seq\":4,\"success\":false,\"type\":\"response\"}",
+        ],
+        sent: &[
+            b"\x00\x00\x00\x0b\x00\x00\x00\x04\x00\x01\x04",
+            b"\x00\x00\x00\x0b\x00\x00\x00\x05\x00\x01\x04",
+            b"\x00\x00\x00\x0b\x00\x00\x00\x06\x00\x01\x06",
+        ],
+        ending: Ending::Left,
+    },
+];
+
+const REFUSED: &[Course<'static>] = &[
+    // a size of ids that is none
+    Course {
+        attached: false,
+        steps: &[
+            Came::Bytes(Side::Client, ATTACH),
+            Came::Bytes(Side::Target, b"JDWP-Handshake"),
+            Came::Bytes(
+                Side::Target,
+                b"\x00\x00\x00\x1f\x00\x00\x00\x01\x80\x00\x00\x00\x00\x00\x08\x00\x00\x00\x08\x00\x00\x00\x09\x00\x00\x00\x08\x00\x00\x00\x08",
+            ),
+        ],
+        limits: USUAL,
+        failing: &[],
+        told: &[ATTACH_FAILED, TERMINATED],
+        sent: &[
+            b"JDWP-Handshake",
+            b"\x00\x00\x00\x0b\x00\x00\x00\x01\x00\x01\x07",
+        ],
+        ending: Ending::BadTarget {
+            fault: TargetFault::BadSizes,
+            at: 33,
+            id: 0,
+        },
+    },
+    // a reply to no command
+    Course {
+        attached: true,
+        steps: &[Came::Bytes(Side::Target, b"\x00\x00\x00\x0b\x00\x00\x00c\x80\x00\x00")],
+        limits: USUAL,
+        failing: &[],
+        told: &[TERMINATED_THIRD],
+        sent: &[],
+        ending: Ending::BadTarget {
+            fault: TargetFault::UnknownReply,
+            at: 75,
+            id: 99,
+        },
+    },
+    // the sizes of ids are refused
+    Course {
+        attached: false,
+        steps: &[
+            Came::Bytes(Side::Client, ATTACH),
+            Came::Bytes(Side::Target, b"JDWP-Handshake"),
+            Came::Bytes(Side::Target, b"\x00\x00\x00\x0b\x00\x00\x00\x01\x80\x00\r"),
+        ],
+        limits: USUAL,
+        failing: &[],
+        told: &[ATTACH_FAILED, TERMINATED],
+        sent: &[
+            b"JDWP-Handshake",
+            b"\x00\x00\x00\x0b\x00\x00\x00\x01\x00\x01\x07",
+        ],
+        ending: Ending::TargetRefused {
+            set: 1,
+            command: 7,
+            code: 13,
+        },
+    },
+];
+
+const FAULTS: &[Course<'static>] = &[
+    // a packet that is too short
+    Course {
+        attached: true,
+        steps: &[Came::Bytes(Side::Target, b"\x00\x00\x00\n")],
+        limits: USUAL,
+        failing: &[],
+        told: &[TERMINATED_THIRD],
+        sent: &[],
+        ending: Ending::BadTarget {
+            fault: TargetFault::Packet(PacketFault::ShortLength),
+            at: 75,
+            id: 0,
+        },
+    },
+    // an event of no kind
+    Course {
+        attached: true,
+        steps: &[Came::Bytes(
+            Side::Target,
+            b"\x00\x00\x00\x11\x00\x00\x00\x01\x00@d\x00\x00\x00\x00\x01\x03",
+        )],
+        limits: USUAL,
+        failing: &[],
+        told: &[TERMINATED_THIRD],
+        sent: &[],
+        ending: Ending::BadTarget {
+            fault: TargetFault::BadKind,
+            at: 91,
+            id: 0,
+        },
+    },
+    // an event that is served by nobody
+    Course {
+        attached: true,
+        steps: &[Came::Bytes(
+            Side::Target,
+            b"\x00\x00\x00\x1d\x00\x00\x00\x01\x00@d\x00\x00\x00\x00\x01\x06\x00\x00\x00\x01\x00\x00\x00\x00\x00\x00\x00\x01",
+        )],
+        limits: USUAL,
+        failing: &[],
+        told: &[TERMINATED_THIRD],
+        sent: &[],
+        ending: Ending::BadTarget {
+            fault: TargetFault::BadCommand,
+            at: 75,
+            id: 0,
+        },
+    },
+    // and one that comes before it can be read
+    Course {
+        attached: false,
+        steps: &[
+            Came::Bytes(Side::Client, ATTACH),
+            Came::Bytes(
+                Side::Target,
+                b"JDWP-Handshake\x00\x00\x00\x1d\x00\x00\x00\x01\x00@d\x02\x00\x00\x00\x01Z\x00\x00\x00\x00\x00\x00\x00\x00\x00\x00\x00\x01",
+            ),
+            Came::Bytes(
+                Side::Target,
+                b"\x00\x00\x00\x1f\x00\x00\x00\x01\x80\x00\x00\x00\x00\x00\x08\x00\x00\x00\x08\x00\x00\x00\x08\x00\x00\x00\x08\x00\x00\x00\x08",
+            ),
+        ],
+        limits: USUAL,
+        failing: &[],
+        told: &[ATTACH_FAILED, TERMINATED],
+        sent: &[
+            b"JDWP-Handshake",
+            b"\x00\x00\x00\x0b\x00\x00\x00\x01\x00\x01\x07",
+        ],
+        ending: Ending::BadTarget {
+            fault: TargetFault::BadCommand,
+            at: 14,
+            id: 0,
+        },
+    },
+    // no handshake
+    Course {
+        attached: false,
+        steps: &[Came::Bytes(Side::Target, b"JDWX")],
+        limits: USUAL,
+        failing: &[],
+        told: &[
+            b"Content-Length: 45\r\n\r\n{\"event\":\"terminated\",\"seq\":1,\"type\":\"event\"}",
+        ],
+        sent: &[],
+        ending: Ending::BadTarget {
+            fault: TargetFault::Packet(PacketFault::BadHandshake),
+            at: 3,
+            id: 0,
+        },
+    },
+];
+
+const LIMITS: &[Course<'static>] = &[
+    // nothing comes for long
+    Course {
+        attached: false,
+        steps: &[Came::Quiet, Came::Quiet, Came::Quiet],
+        limits: Limits {
+            turns: 99,
+            quiet: 3,
+            waiting: 9,
+        },
+        failing: &[],
+        told: &[
+            b"Content-Length: 45\r\n\r\n{\"event\":\"terminated\",\"seq\":1,\"type\":\"event\"}",
+        ],
+        sent: &[],
+        ending: Ending::Idle,
+    },
+    // and then something does
+    Course {
+        attached: false,
+        steps: &[
+            Came::Quiet,
+            Came::Quiet,
+            Came::Bytes(
+                Side::Client,
+                b"Content-Length: 49\r\n\r\n{\"seq\":1,\"type\":\"request\",\"command\":\"disconnect\"}",
+            ),
+            Came::Quiet,
+        ],
+        limits: Limits {
+            turns: 99,
+            quiet: 3,
+            waiting: 9,
+        },
+        failing: &[],
+        told: &[
+            b"Content-Length: 81\r\n\r\n{\"command\":\"disconnect\",\"request_seq\":1,\"seq\":1,\"success\":true,\"type\":\"response\"}",
+        ],
+        sent: &[],
+        ending: Ending::Done,
+    },
+    // all turns are taken
+    Course {
+        attached: false,
+        steps: &[Came::Quiet, Came::Quiet],
+        limits: Limits {
+            turns: 2,
+            quiet: 9,
+            waiting: 9,
+        },
+        failing: &[],
+        told: &[],
+        sent: &[],
+        ending: Ending::Spent,
+    },
+    // too many requests wait
+    Course {
+        attached: true,
+        steps: &[Came::Bytes(
+            Side::Client,
+            b"Content-Length: 46\r\n\r\n{\"seq\":2,\"type\":\"request\",\"command\":\"threads\"}Content-Length: 46\r\n\r\n{\"seq\":3,\"type\":\"request\",\"command\":\"threads\"}Content-Length: 46\r\n\r\n{\"seq\":4,\"type\":\"request\",\"command\":\"threads\"}",
+        )],
+        limits: Limits {
+            turns: 99,
+            quiet: 9,
+            waiting: 1,
+        },
+        failing: &[],
+        told: &[],
+        sent: &[
+            b"\x00\x00\x00\x0b\x00\x00\x00\x04\x00\x01\x04",
+            b"\x00\x00\x00\x0b\x00\x00\x00\x05\x00\x01\x06",
+        ],
+        ending: Ending::Flood,
+    },
+];
+
+const LINKS: &[Course<'static>] = &[
+    // a send to the client that fails
+    Course {
+        attached: false,
+        steps: &[
+            Came::Bytes(Side::Client, INITIALIZE),
+            Came::Bytes(Side::Client, DISCONNECT),
+        ],
+        limits: USUAL,
+        failing: &[(Side::Client, 1, 5)],
+        told: &[CAPABILITIES, b"Conte"],
+        sent: &[],
+        ending: Ending::ClientLink,
+    },
+    // a send to the target that fails
+    Course {
+        attached: false,
+        steps: &[Came::Bytes(Side::Client, ATTACH)],
+        limits: USUAL,
+        failing: &[(Side::Target, 0, 5)],
+        told: &[ATTACH_FAILED, TERMINATED],
+        sent: &[b"JDWP-"],
+        ending: Ending::TargetLink,
+    },
+    // and then one of the last words
+    Course {
+        attached: false,
+        steps: &[Came::Bytes(Side::Client, ATTACH)],
+        limits: USUAL,
+        failing: &[(Side::Target, 0, 5), (Side::Client, 1, 3)],
+        told: &[ATTACH_FAILED, b"Con"],
+        sent: &[b"JDWP-"],
+        ending: Ending::TargetLink,
+    },
+    // the target's link fails
+    Course {
+        attached: true,
+        steps: &[Came::Failed(Side::Target)],
+        limits: USUAL,
+        failing: &[],
+        told: &[TERMINATED_THIRD],
+        sent: &[],
+        ending: Ending::TargetLink,
+    },
+    // the client's link fails
+    Course {
+        attached: true,
+        steps: &[Came::Failed(Side::Client)],
+        limits: USUAL,
+        failing: &[],
+        told: &[],
+        sent: &[b"\x00\x00\x00\x0b\x00\x00\x00\x04\x00\x01\x06"],
+        ending: Ending::ClientLink,
+    },
+];
+
+const CLIENT_FAULTS: &[Course<'static>] = &[
+    // a byte that no frame has there
+    Course {
+        attached: false,
+        steps: &[
+            Came::Bytes(Side::Client, INITIALIZE),
+            Came::Bytes(Side::Client, b"Length 1"),
+        ],
+        limits: USUAL,
+        failing: &[],
+        told: &[CAPABILITIES],
+        sent: &[],
+        ending: Ending::BadClient {
+            fault: ClientFault::Frame(FrameFault::BadHeader),
+            at: 110,
+        },
+    },
+    Course {
+        attached: false,
+        steps: &[Came::Bytes(Side::Client, b"Content-Length: 16777217\r\n\r\n")],
+        limits: USUAL,
+        failing: &[],
+        told: &[],
+        sent: &[],
+        ending: Ending::BadClient {
+            fault: ClientFault::Frame(FrameFault::TooLong),
+            at: 23,
+        },
+    },
+    Course {
+        attached: false,
+        steps: &[Came::Bytes(Side::Client, b"Content-Length: 00000000002\r\n\r\n")],
+        limits: USUAL,
+        failing: &[],
+        told: &[],
+        sent: &[],
+        ending: Ending::BadClient {
+            fault: ClientFault::Frame(FrameFault::BadLength),
+            at: 26,
+        },
+    },
+    Course {
+        attached: false,
+        steps: &[Came::Bytes(Side::Client, b"X: y\r\n\r")],
+        limits: USUAL,
+        failing: &[],
+        told: &[],
+        sent: &[],
+        ending: Ending::BadClient {
+            fault: ClientFault::Frame(FrameFault::NoLength),
+            at: 6,
+        },
+    },
+    Course {
+        attached: false,
+        steps: &[Came::Bytes(
+            Side::Client,
+            b"Content-Length: 2\r\nContent-Length: 2\r\n\r\n{}",
+        )],
+        limits: USUAL,
+        failing: &[],
+        told: &[],
+        sent: &[],
+        ending: Ending::BadClient {
+            fault: ClientFault::Frame(FrameFault::TwoLengths),
+            at: 33,
+        },
+    },
+    // a body that is no message
+    Course {
+        attached: false,
+        steps: &[Came::Bytes(Side::Client, b"Content-Length: 1\r\n\r\n}")],
+        limits: USUAL,
+        failing: &[],
+        told: &[],
+        sent: &[],
+        ending: Ending::BadClient {
+            fault: ClientFault::NotJson,
+            at: 21,
+        },
+    },
+    Course {
+        attached: false,
+        steps: &[Came::Bytes(Side::Client, b"Content-Length: 2\r\n\r\n{}")],
+        limits: USUAL,
+        failing: &[],
+        told: &[],
+        sent: &[],
+        ending: Ending::BadClient {
+            fault: ClientFault::NotAMessage,
+            at: 21,
+        },
+    },
+];
+
+fn add_steps(alloc: Global, steps: &mut List<Step>, came: &[Came<'_>]) -> Result<(), Fail> {
+    for step in came {
+        steps.push(match step {
+            Came::Bytes(side, bytes) => Step::Bytes(*side, List::from_slice(alloc, bytes)?),
+            Came::Shut(side) => Step::Shut(*side),
+            Came::Failed(side) => Step::Failed(*side),
+            Came::Quiet => Step::Quiet,
+        })?;
+    }
+    Ok(())
 }
 
 fn wires_of(alloc: Global, course: &Course<'_>) -> Result<MemoryWires, Fail>
@@ -45,136 +842,143 @@ fn wires_of(alloc: Global, course: &Course<'_>) -> Result<MemoryWires, Fail>
     ensures target { IfOk result (λ wires. IsOpen Target (outside_of wires)) }
 {
     let mut steps = List::new(alloc);
-    for (side, bytes) in course.pieces {
-        steps.push(Step::Bytes(*side, List::from_slice(alloc, bytes)?))?;
+    if course.attached {
+        add_steps(alloc, &mut steps, &ATTACHING)?;
     }
+    add_steps(alloc, &mut steps, course.steps)?;
     let mut failing = List::new(alloc);
-    if let Some((call, kept)) = course.failing {
+    for (side, call, kept) in course.failing {
         failing.push(Cut {
-            side: Side::Client,
-            call,
-            kept,
+            side: *side,
+            call: *call,
+            kept: *kept,
         })?;
     }
     Ok(MemoryWires::new(alloc, steps, failing)?)
 }
 
-fn sent_to_client(alloc: Global, wires: &MemoryWires) -> Result<Vec<u8>, Fail> {
+fn sent_to(alloc: Global, to: Side, wires: &MemoryWires) -> Result<Vec<u8>, Fail> {
     let mut sent = Vec::new(alloc);
     for entry in wires.log().as_slice() {
-        if let Entry::Out(Side::Client, bytes) = entry {
-            sent.extend_from_slice(bytes.as_slice())?;
+        if let Entry::Out(side, bytes) = entry {
+            if *side == to {
+                sent.extend_from_slice(bytes.as_slice())?;
+            }
         }
     }
     Ok(sent)
 }
 
-fn limits(turns: u64) -> Limits
-    requires some { 0 < turns }
-    requires few { turns ≤ 1099511627776 }
-    ensures { AreLimits result }
+fn joined(alloc: Global, attached: bool, first: &[&[u8]], then: &[&[u8]]) -> Result<Vec<u8>, Fail> {
+    let mut all = Vec::new(alloc);
+    if attached {
+        for bytes in first {
+            all.extend_from_slice(bytes)?;
+        }
+    }
+    for bytes in then {
+        all.extend_from_slice(bytes)?;
+    }
+    Ok(all)
+}
+
+// Limits that a session can be run with.
+fn usable(limits: Limits) -> Option<Limits>
+    ensures { IfSome result AreLimits }
 {
-    Limits {
-        turns,
-        quiet: 1,
-        waiting: 1,
+    if limits.turns > 0 && limits.turns < 100 && limits.quiet > 0 && limits.waiting > 0 {
+        Some(limits)
+    } else {
+        None
     }
 }
 
-fn bad_client(fault: ClientFault, at: u64) -> Ending {
-    Ending::BadClient { fault, at }
+// Whether a session ends so, and sends this to both sides.
+fn check(alloc: Global, course: &Course<'_>) -> Result<(), Fail> {
+    let limits = usable(course.limits).ok_or("limits that no session has")?;
+    let mut wires = wires_of(alloc, course)?;
+    if serve(alloc, &limits, &mut wires) != course.ending {
+        return Err("another ending".into());
+    }
+    let told = joined(alloc, course.attached, &TOLD_ATTACHED, course.told)?;
+    if sent_to(alloc, Side::Client, &wires)?.as_slice() != told.as_slice() {
+        return Err("the client is told something else".into());
+    }
+    let sent = joined(alloc, course.attached, &SENT_ATTACHED, course.sent)?;
+    if sent_to(alloc, Side::Target, &wires)?.as_slice() != sent.as_slice() {
+        return Err("the target is sent something else".into());
+    }
+    Ok(())
 }
 
 #[test]
-fn sessions_answer_and_end(rt: HostRuntime) -> Result<(), Fail> {
-    let client = Side::Client;
-    let target = Side::Target;
-    let courses = [
-        // two requests, each as one frame
-        Course {
-            pieces: &[(client, INITIALIZE), (client, DISCONNECT)],
-            turns: 9,
-            failing: None,
-            sent: &[CAPABILITIES, DISCONNECTED],
-            ending: Ending::Done,
-        },
-        // cut in a header, with bytes of the other side in between
-        Course {
-            pieces: &[
-                (client, &INITIALIZE[..11]),
-                (target, b"JDWP"),
-                (client, &INITIALIZE[11..]),
-                (client, DISCONNECT),
-            ],
-            turns: 9,
-            failing: None,
-            sent: &[CAPABILITIES, DISCONNECTED],
-            ending: Ending::Done,
-        },
-        // cut inside a character; then the client's stream ends
-        Course {
-            pieces: &[(client, &ACCENTED[..60]), (client, &ACCENTED[60..])],
-            turns: 9,
-            failing: None,
-            sent: &[UNSUPPORTED],
-            ending: Ending::Left,
-        },
-        Course {
-            pieces: &[],
-            turns: 9,
-            failing: None,
-            sent: &[],
-            ending: Ending::Left,
-        },
-        Course {
-            pieces: &[(target, b"a"), (target, b"b")],
-            turns: 2,
-            failing: None,
-            sent: &[],
-            ending: Ending::Spent,
-        },
-        Course {
-            pieces: &[(client, INITIALIZE), (client, DISCONNECT)],
-            turns: 9,
-            failing: Some((1, 5)),
-            sent: &[CAPABILITIES, b"Conte"],
-            ending: Ending::ClientLink,
-        },
-        Course {
-            pieces: &[(client, INITIALIZE), (client, b"Length 1")],
-            turns: 9,
-            failing: None,
-            sent: &[CAPABILITIES],
-            ending: bad_client(ClientFault::Frame(FrameFault::BadHeader), 110),
-        },
-        Course {
-            pieces: &[(client, b"Content-Length: 1\r\n\r\n}")],
-            turns: 9,
-            failing: None,
-            sent: &[],
-            ending: bad_client(ClientFault::NotJson, 21),
-        },
-        Course {
-            pieces: &[(client, b"Content-Length: 2\r\n\r\n{}")],
-            turns: 9,
-            failing: None,
-            sent: &[],
-            ending: bad_client(ClientFault::NotAMessage, 21),
-        },
-    ];
-    for course in &courses {
-        let mut wires = wires_of(rt.alloc(), course)?;
-        assert!(rt; course.turns > 0 && course.turns < 100);
-        let ending = serve(rt.alloc(), &limits(course.turns), &mut wires);
-        assert_eq!(rt; ending, course.ending);
-        let mut wanted = Vec::new(rt.alloc());
-        for piece in course.sent {
-            wanted.extend_from_slice(piece)?;
-        }
-        assert_eq!(rt;
-            sent_to_client(rt.alloc(), &wires)?.as_slice(),
-            wanted.as_slice()
-        );
+fn a_client_is_answered_without_a_target(rt: HostRuntime) -> Result<(), Fail> {
+    for course in A_CLIENT_ALONE {
+        check(rt.alloc(), course)?;
+    }
+    Ok(())
+}
+
+#[test]
+fn a_session_attaches_and_leaves(rt: HostRuntime) -> Result<(), Fail> {
+    for course in ATTACHED {
+        check(rt.alloc(), course)?;
+    }
+    Ok(())
+}
+
+#[test]
+fn threads_have_numbers_and_names(rt: HostRuntime) -> Result<(), Fail> {
+    for course in THREADS {
+        check(rt.alloc(), course)?;
+    }
+    Ok(())
+}
+
+#[test]
+fn a_target_ends(rt: HostRuntime) -> Result<(), Fail> {
+    for course in ENDS {
+        check(rt.alloc(), course)?;
+    }
+    Ok(())
+}
+
+#[test]
+fn replies_of_a_target_are_refused(rt: HostRuntime) -> Result<(), Fail> {
+    for course in REFUSED {
+        check(rt.alloc(), course)?;
+    }
+    Ok(())
+}
+
+#[test]
+fn packets_of_a_target_are_refused(rt: HostRuntime) -> Result<(), Fail> {
+    for course in FAULTS {
+        check(rt.alloc(), course)?;
+    }
+    Ok(())
+}
+
+#[test]
+fn limits_end_a_session(rt: HostRuntime) -> Result<(), Fail> {
+    for course in LIMITS {
+        check(rt.alloc(), course)?;
+    }
+    Ok(())
+}
+
+#[test]
+fn links_fail(rt: HostRuntime) -> Result<(), Fail> {
+    for course in LINKS {
+        check(rt.alloc(), course)?;
+    }
+    Ok(())
+}
+
+#[test]
+fn bytes_of_a_client_are_refused(rt: HostRuntime) -> Result<(), Fail> {
+    for course in CLIENT_FAULTS {
+        check(rt.alloc(), course)?;
     }
     Ok(())
 }

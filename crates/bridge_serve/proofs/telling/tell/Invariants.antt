@@ -1,4 +1,4 @@
-use Rattle.std.proofs.Common.{◌-◌, ◌^◌}
+use Rattle.bridge_core.specs.Steps.{work}
 use Rattle.bridge_serve.specs.Following.{CoreGoesOn}
 use Rattle.bridge_serve.proofs.telling.tell.Given as goal
 
@@ -8,6 +8,6 @@ invariant-loop g l =
     let outside = g.W.Wires.outside in
     CoreGoesOn (outside l.initial.wires) (outside l.wires) l.initial.core l.core
 
--- each message has a number of its own
+-- each message lessens what the machine can still do by itself
 abbrev pub decreases-loop : goal.decreases-loop
-decreases-loop g l = 2 ^ 63 - l.core.told
+decreases-loop g l = work l.core.state

@@ -1,0 +1,31 @@
+use Rattle.std.proofs.Common.{arith}
+use Rattle.std.proofs.lemmas.Result.{err_from_is_err_and}
+use Rattle.bridge_serve.proofs.Taking.{stays, on_and_on, on_and_stops}
+use Rattle.bridge_serve.proofs.handling.take_packets.Goals as goal
+
+pub loop-init : goal.loop-init
+loop-init g c = record { goes_on = stays _ _ _ c.requires.ready; taken_up = c.requires.taken_up }
+
+pub take_packet-requires-clause-ready : goal.take_packet-requires-clause-ready
+take_packet-requires-clause-ready g c = c.loop.invariant.goes_on.ready
+
+pub take_packet-requires-clause-small : goal.take_packet-requires-clause-small
+take_packet-requires-clause-small g c =
+    let same = c.loop.invariant.goes_on.same_target_end in
+    let small = c.requires.small in
+    omega (arith, same, small)
+
+pub loop-preserved : goal.loop-preserved
+loop-preserved g c = record {
+  goes_on = on_and_on _ _ _ _ _ _ _ _ _ c.loop.invariant.goes_on c.in_ok-take_packet.ensures.ok;
+  taken_up = c.in_ok-take_packet.ensures.taken_up;
+}
+
+pub returns-in_err-take_packet-clause-err : goal.returns-in_err-take_packet-clause-err
+returns-in_err-take_packet-clause-err g c =
+    let gives = err_from_is_err_and c.from_residual.result c.from_residual.ensures.1 in
+    rw (gives.1, gives.2)
+    (on_and_stops _ _ _ _ _ _ _ _ c.in_err-take_packet.field-0.0 c.loop.invariant.goes_on c.in_err-take_packet.ensures.err)
+
+pub returns-clause-ok : goal.returns-clause-ok
+returns-clause-ok g c = on_and_on _ _ _ _ _ _ _ _ _ c.loop.invariant.goes_on c.in_ok-take_packet.ensures.ok

@@ -1,0 +1,8 @@
+use Rattle.bridge_serve.specs.Following.{Says}
+use Rattle.bridge_serve.proofs.saying.say.Goals as goal
+
+pub returns-in-Ok : goal.returns-in-Ok
+returns-in-Ok g c = Says.all c.in-Ok.ensures.ok
+
+pub returns-in-Err : goal.returns-in-Err
+returns-in-Err g c = Says.no_memory c.in-Err.ensures.err
