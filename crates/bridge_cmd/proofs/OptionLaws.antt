@@ -1,5 +1,5 @@
 -- A parse of a command with two required options that succeeds has a value of each.
-use Rattle.std.proofs.Common.{◌≡◌, ◌∙◌, ℕ, zero, suc, ◌<◌, false, true, List, [], ◌∷◌, codes, refl, sym, ap, arith, is_some, inl, inr, length, true≢false}
+use Rattle.std.proofs.Common.{◌≡◌, ◌∙◌, ℕ, zero, suc, false, true, List, [], ◌∷◌, codes, refl, sym, arith, is_some, inl, inr, true≢false}
 use Rattle.std.specs.List.{All}
 use Rattle.std.specs.Str.{bytes_eq}
 use Rattle.std.proofs.lemmas.Slice.Eq.{bytes_eq-Decides}

@@ -1,7 +1,7 @@
 -- What `clap` makes of the words in the form of the usage.
 use Rattle.std.proofs.Common.{◌≡◌, ℕ, false, List, [], ◌∷◌, codes, refl, Some, nat_eq, ne_eqb}
 use Rattle.clap.proofs.OnLiterals.{clap_on_literals}
-use Rattle.bridge_cmd.specs.Words.{IsServe, IsValue, Names, serve_fault, serve_value, serve_words}
+use Rattle.bridge_cmd.specs.Words.{IsValue, Names, serve_fault, serve_value, serve_words}
 
 -- the words of the usage behind the command's name, with values of these bytes
 abbrev options : ℕ → List ℕ → ℕ → List ℕ → List (List ℕ)

@@ -1,10 +1,13 @@
-ghost use Rattle.std.specs.Prelude.{◌≡◌, IfOk, string_bytes};
-ghost use Rattle.bridge_cmd.specs.Lines.{Prints, fault_line, fault_name, frame_fault_name, line_of, line_of_ending, status_of, status_of_ending};
+ghost use Rattle.std.specs.Prelude.{◌≡◌, ℕ, List, IfOk, string_bytes};
+ghost use Rattle.bridge_cmd.specs.Lines.{Prints, line_of, line_of_ending, status_of, status_of_ending};
+ghost use Rattle.bridge_cmd.specs.Lines.{client_fault_line, client_fault_name, frame_fault_name};
+ghost use Rattle.bridge_cmd.specs.Lines.{target_fault_line, target_fault_name, packet_fault_name, is_unknown_reply, refused_line};
 
 use dap_frames::FrameFault;
+use jdwp_packets::PacketFault;
 use std::alloc::{AllocError, Global};
 use wire_core::{OutRefusal, Output};
-use world_model::{ClientFault, Ending};
+use world_model::{ClientFault, Ending, TargetFault};
 
 // The status where a line was not printed, and the one where memory ran out, which stays whatever happens to its line.
 const NOT_PRINTED: u8 = 9;
@@ -37,25 +40,60 @@ fn tell_ending<O: Output>(alloc: Global, ending: Ending, out: &mut O) -> u8
     match ending {
         Ending::Done => print_line(out, "ended 0 done\n", 0),
         Ending::Left => print_line(out, "ended 1 left\n", 1),
-        Ending::BadClient { fault, at } => match fault_line(alloc, fault, at) {
-            Ok(line) => print_line(out, line.as_str(), 3),
-            Err(_) => OUT_OF_MEMORY,
-        },
+        Ending::BadClient { fault, at } => print_made(out, client_fault_line(alloc, fault, at), 3),
+        Ending::BadTarget { fault, at, id } => {
+            print_made(out, target_fault_line(alloc, fault, at, id), 4)
+        }
         Ending::ClientLink => print_line(out, "ended 5 client link\n", 5),
+        Ending::TargetLink => print_line(out, "ended 6 target link\n", 6),
+        Ending::TargetRefused { set, command, code } => {
+            print_made(out, refused_line(alloc, set, command, code), 11)
+        }
+        Ending::Idle => print_line(out, "ended 12 idle\n", 12),
         Ending::Spent => print_line(out, "ended 13 turns\n", 13),
+        Ending::Flood => print_line(out, "ended 14 flood\n", 14),
         Ending::NoMemory => print_line(out, "ended 70 memory\n", OUT_OF_MEMORY),
     }
 }
 
-fn fault_line(alloc: Global, fault: ClientFault, at: u64) -> Result<String, AllocError>
-    ensures { IfOk result (λ line. string_bytes line ≡ fault_line fault at) }
+fn client_fault_line(alloc: Global, fault: ClientFault, at: u64) -> Result<String, AllocError>
+    ensures { IfOk result (λ line. string_bytes line ≡ client_fault_line fault at) }
 {
-    let name = fault_name(fault);
+    let name = client_fault_name(fault);
     format!(in alloc; "ended 3 client {name} at {at}\n")
 }
 
-fn fault_name(fault: ClientFault) -> &'static str
-    ensures { result.now ≡ fault_name fault }
+fn target_fault_line(
+    alloc: Global,
+    fault: TargetFault,
+    at: u64,
+    id: u32,
+) -> Result<String, AllocError>
+    ensures { IfOk result (λ line. string_bytes line ≡ target_fault_line fault at id) }
+{
+    let name = target_fault_name(fault);
+    let place = format!(in alloc; "{name} at {at}")?;
+    if is_unknown_reply(fault) {
+        format!(in alloc; "ended 4 target {place} id {id}\n")
+    } else {
+        format!(in alloc; "ended 4 target {place}\n")
+    }
+}
+
+fn is_unknown_reply(fault: TargetFault) -> bool
+    ensures { result ≡ is_unknown_reply fault }
+{
+    matches!(fault, TargetFault::UnknownReply)
+}
+
+fn refused_line(alloc: Global, set: u8, command: u8, code: u16) -> Result<String, AllocError>
+    ensures { IfOk result (λ line. string_bytes line ≡ refused_line set command code) }
+{
+    format!(in alloc; "ended 11 refused {set}.{command} error {code}\n")
+}
+
+fn client_fault_name(fault: ClientFault) -> &'static str
+    ensures { result.now ≡ client_fault_name fault }
 {
     match fault {
         ClientFault::Frame(fault) => frame_fault_name(fault),
@@ -74,6 +112,46 @@ fn frame_fault_name(fault: FrameFault) -> &'static str
         FrameFault::TooLong => "TooLong",
         FrameFault::HeaderTooLong => "HeaderTooLong",
         FrameFault::BadHeader => "BadHeader",
+    }
+}
+
+fn target_fault_name(fault: TargetFault) -> &'static str
+    ensures { result.now ≡ target_fault_name fault }
+{
+    match fault {
+        TargetFault::Packet(fault) => packet_fault_name(fault),
+        TargetFault::Short => "Short",
+        TargetFault::BadTag => "BadTag",
+        TargetFault::BadCount => "BadCount",
+        TargetFault::BadKind => "BadKind",
+        TargetFault::BadPolicy => "BadPolicy",
+        TargetFault::Trailing => "Trailing",
+        TargetFault::BadSizes => "BadSizes",
+        TargetFault::PolicyThread => "PolicyThread",
+        TargetFault::BadCommand => "BadCommand",
+        TargetFault::UnknownReply => "UnknownReply",
+    }
+}
+
+fn packet_fault_name(fault: PacketFault) -> &'static str
+    ensures { result.now ≡ packet_fault_name fault }
+{
+    match fault {
+        PacketFault::BadHandshake => "BadHandshake",
+        PacketFault::ShortLength => "ShortLength",
+        PacketFault::TooLong => "TooLong",
+        PacketFault::BadFlags => "BadFlags",
+    }
+}
+
+// Prints a line that was made, or nothing where memory ran out while it was.
+fn print_made<O: Output>(out: &mut O, line: Result<String, AllocError>, status: u8) -> u8
+    ensures { (wanted : List ℕ) → IfOk line (λ made. string_bytes made ≡ wanted)
+        → Prints (O.printed out.old) (O.printed out.new) wanted status result }
+{
+    match line {
+        Ok(line) => print_line(out, line.as_str(), status),
+        Err(_) => OUT_OF_MEMORY,
     }
 }
 

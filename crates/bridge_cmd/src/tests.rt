@@ -9,13 +9,45 @@ use std::test::Fail;
 use wire_core::{
     Entry, List, MemoryFiles, MemoryOutput, MemoryWires, NoMemory, Side, Step, Text, Word,
 };
-use world_model::{ClientFault, Ending};
+use world_model::{ClientFault, Ending, TargetFault};
 
 const INITIALIZE: &[u8] =
     b"Content-Length: 82\r\n\r\n{\"seq\":1,\"type\":\"request\",\"command\":\"initialize\",\"arguments\":{\"adapterID\":\"jdwp\"}}";
 
 const DISCONNECT: &[u8] =
     b"Content-Length: 49\r\n\r\n{\"seq\":2,\"type\":\"request\",\"command\":\"disconnect\"}";
+
+const ATTACH: &[u8] =
+    b"Content-Length: 84\r\n\r\n{\"seq\":1,\"type\":\"request\",\"command\":\"attach\",\"arguments\":{\"sourceRoots\":[\"/p/src\"]}}";
+
+// A target's answers to the question for its sizes of ids: sizes of 8, one of 9, and a refusal.
+const SIZES: &[u8] =
+    b"\x00\x00\x00\x1f\x00\x00\x00\x01\x80\x00\x00\x00\x00\x00\x08\x00\x00\x00\x08\x00\x00\x00\x08\x00\x00\x00\x08\x00\x00\x00\x08";
+
+const SIZES_OF_NINE: &[u8] =
+    b"\x00\x00\x00\x1f\x00\x00\x00\x01\x80\x00\x00\x00\x00\x00\x08\x00\x00\x00\x08\x00\x00\x00\x09\x00\x00\x00\x08\x00\x00\x00\x08";
+
+const REFUSED: &[u8] = b"\x00\x00\x00\x0b\x00\x00\x00\x01\x80\x00\x0d";
+
+// Its replies to the two event requests, in one piece, and to the command by which it is left.
+const BOTH_SET: &[u8] =
+    b"\x00\x00\x00\x0f\x00\x00\x00\x02\x80\x00\x00\x00\x00\x00\x01\x00\x00\x00\x0f\x00\x00\x00\x03\x80\x00\x00\x00\x00\x00\x02";
+
+const LEFT: &[u8] = b"\x00\x00\x00\x0b\x00\x00\x00\x04\x80\x00\x00";
+
+const HANDSHAKE: &[u8] = b"JDWP-Handshake";
+
+// Commands: the sizes of ids, the first event request, Dispose, and Exit with code 0.
+const ASKED_SIZES: &[u8] = b"\x00\x00\x00\x0b\x00\x00\x00\x01\x00\x01\x07";
+
+const SET_START: &[u8] = b"\x00\x00\x00\x11\x00\x00\x00\x02\x00\x0f\x01\x06\x00\x00\x00\x00\x00";
+
+const DISPOSE: &[u8] = b"\x00\x00\x00\x0b\x00\x00\x00\x04\x00\x01\x06";
+
+const EXIT: &[u8] = b"\x00\x00\x00\x0f\x00\x00\x00\x04\x00\x01\x0a\x00\x00\x00\x00";
+
+const TERMINATE: &[u8] =
+    b"Content-Length: 88\r\n\r\n{\"seq\":2,\"type\":\"request\",\"command\":\"disconnect\",\"arguments\":{\"terminateDebuggee\":true}}";
 
 const SERVE: &[&str] = &[
     "serve",
@@ -37,6 +69,7 @@ fn words_of(alloc: Global, texts: &[&str]) -> Result<List<Word>, NoMemory> {
     Ok(words)
 }
 
+// Wires that give these pieces of a client.
 fn wires_of(alloc: Global, pieces: &[&[u8]]) -> Result<MemoryWires, NoMemory>
     ensures { IfOk result (λ wires. (outside_of wires).asked ≡ []) }
 {
@@ -45,6 +78,36 @@ fn wires_of(alloc: Global, pieces: &[&[u8]]) -> Result<MemoryWires, NoMemory>
         steps.push(Step::Bytes(Side::Client, List::from_slice(alloc, bytes)?))?;
     }
     MemoryWires::new(alloc, steps, List::new(alloc))
+}
+
+// Wires that give these pieces of both sides behind a request to attach, and whose link to the target may fail then.
+fn wires_of_target(
+    alloc: Global,
+    pieces: &[(Side, &[u8])],
+    fails: bool,
+) -> Result<MemoryWires, NoMemory>
+    ensures { IfOk result (λ wires. (outside_of wires).asked ≡ []) }
+{
+    let mut steps = List::new(alloc);
+    steps.push(Step::Bytes(Side::Client, List::from_slice(alloc, ATTACH)?))?;
+    for (side, bytes) in pieces {
+        steps.push(Step::Bytes(*side, List::from_slice(alloc, bytes)?))?;
+    }
+    if fails {
+        steps.push(Step::Failed(Side::Target))?;
+    }
+    MemoryWires::new(alloc, steps, List::new(alloc))
+}
+
+// What the target was sent last.
+fn last_to_target(wires: &MemoryWires) -> Option<&[u8]> {
+    let mut last = None;
+    for entry in wires.log().as_slice() {
+        if let Entry::Out(Side::Target, bytes) = entry {
+            last = Some(bytes.as_slice());
+        }
+    }
+    last
 }
 
 // An output whose first write fails, or none.
@@ -111,13 +174,44 @@ fn words_are_taken(rt: HostRuntime) -> Result<(), Fail> {
 
 #[test]
 fn sessions_end_with_their_line(rt: HostRuntime) -> Result<(), Fail> {
-    let sessions: [(&[&[u8]], u8, &str, usize); 5] = [
+    let sessions: [(&[&[u8]], u8, &str, usize); 11] = [
         (&[INITIALIZE, DISCONNECT], 0, "ended 0 done\n", 2),
         (&[], 1, "ended 1 left\n", 0),
         (
             &[b"Content-Length: 2\r\nContent-Length: 2\r\n\r\n{}"],
             3,
             "ended 3 client TwoLengths at 33\n",
+            0,
+        ),
+        (
+            &[b"Content-Length: 16777216\r\n\r\n"],
+            1,
+            "ended 1 left\n",
+            0,
+        ),
+        (
+            &[b"Content-Length: 16777217\r\n\r\n"],
+            3,
+            "ended 3 client TooLong at 23\n",
+            0,
+        ),
+        (
+            &[b"Content-Length: 00000000002\r\n\r\n{}"],
+            3,
+            "ended 3 client BadLength at 26\n",
+            0,
+        ),
+        (&[b"X: y\r\n\r\n"], 3, "ended 3 client NoLength at 6\n", 0),
+        (
+            &[b"X:", &[b' '; 4071], b"\r\nContent-Length: 2\r\n\r\n{}"],
+            3,
+            "ended 3 client NotAMessage at 4096\n",
+            0,
+        ),
+        (
+            &[b"X:", &[b' '; 4096]],
+            3,
+            "ended 3 client HeaderTooLong at 4096\n",
             0,
         ),
         (
@@ -150,15 +244,110 @@ fn sessions_end_with_their_line(rt: HostRuntime) -> Result<(), Fail> {
 }
 
 #[test]
+fn sessions_with_a_target_end_with_their_line(rt: HostRuntime) -> Result<(), Fail> {
+    let client = Side::Client;
+    let target = Side::Target;
+    let sessions: [(&[(Side, &[u8])], bool, u8, &str, &[u8]); 10] = [
+        (&[], true, 6, "ended 6 target link\n", HANDSHAKE),
+        (
+            &[(target, b"JDWP-handshake")],
+            false,
+            4,
+            "ended 4 target BadHandshake at 5\n",
+            HANDSHAKE,
+        ),
+        (
+            &[(target, HANDSHAKE), (target, b"\x00\x00\x00\x0a")],
+            false,
+            4,
+            "ended 4 target ShortLength at 14\n",
+            ASKED_SIZES,
+        ),
+        (
+            &[(target, HANDSHAKE), (target, SIZES_OF_NINE)],
+            false,
+            4,
+            "ended 4 target BadSizes at 33\n",
+            ASKED_SIZES,
+        ),
+        (
+            &[(target, HANDSHAKE), (target, SIZES), (target, REFUSED)],
+            false,
+            4,
+            "ended 4 target UnknownReply at 45 id 1\n",
+            SET_START,
+        ),
+        (
+            &[(target, HANDSHAKE), (target, REFUSED)],
+            false,
+            11,
+            "ended 11 refused 1.7 error 13\n",
+            ASKED_SIZES,
+        ),
+        (
+            &[(target, HANDSHAKE), (target, SIZES)],
+            true,
+            6,
+            "ended 6 target link\n",
+            SET_START,
+        ),
+        // attached, a client leaves, disconnects, and has the target exit
+        (
+            &[(target, HANDSHAKE), (target, SIZES), (target, BOTH_SET)],
+            false,
+            1,
+            "ended 1 left\n",
+            DISPOSE,
+        ),
+        (
+            &[
+                (target, HANDSHAKE),
+                (target, SIZES),
+                (target, BOTH_SET),
+                (client, DISCONNECT),
+                (target, LEFT),
+            ],
+            false,
+            0,
+            "ended 0 done\n",
+            DISPOSE,
+        ),
+        (
+            &[
+                (target, HANDSHAKE),
+                (target, SIZES),
+                (target, BOTH_SET),
+                (client, TERMINATE),
+                (target, LEFT),
+            ],
+            false,
+            0,
+            "ended 0 done\n",
+            EXIT,
+        ),
+    ];
+    for (pieces, fails, wanted, line, last) in sessions {
+        let mut wires = wires_of_target(rt.alloc(), pieces, fails)?;
+        let mut out = output_of(rt.alloc(), false)?;
+        assert_eq!(rt; status(rt.alloc(), SERVE, &mut wires, &mut out)?, wanted);
+        assert_eq!(rt; out.bytes().as_slice(), line.as_bytes());
+        assert_eq!(rt; last_to_target(&wires).ok_or("nothing is sent")?, last);
+    }
+    Ok(())
+}
+
+#[test]
 fn outcomes_have_their_line(rt: HostRuntime) -> Result<(), Fail> {
-    let outcomes: [(Outcome, u8, &str); 9] = [
+    let outcomes: [(Outcome, u8, &str); 13] = [
         (Outcome::NotOpened, 7, NOT_OPENED),
         (
             Outcome::Ended(Ending::ClientLink),
             5,
             "ended 5 client link\n",
         ),
+        (Outcome::Ended(Ending::Idle), 12, "ended 12 idle\n"),
         (Outcome::Ended(Ending::Spent), 13, "ended 13 turns\n"),
+        (Outcome::Ended(Ending::Flood), 14, "ended 14 flood\n"),
         (Outcome::Ended(Ending::NoMemory), 70, "ended 70 memory\n"),
         (
             fault(FrameFault::NoLength, 6),
@@ -184,6 +373,24 @@ fn outcomes_have_their_line(rt: HostRuntime) -> Result<(), Fail> {
             fault(FrameFault::HeaderTooLong, 9_223_372_036_854_775_807),
             3,
             "ended 3 client HeaderTooLong at 9223372036854775807\n",
+        ),
+        (
+            Outcome::Ended(Ending::BadTarget {
+                fault: TargetFault::UnknownReply,
+                at: 75,
+                id: 4_294_967_295,
+            }),
+            4,
+            "ended 4 target UnknownReply at 75 id 4294967295\n",
+        ),
+        (
+            Outcome::Ended(Ending::BadTarget {
+                fault: TargetFault::PolicyThread,
+                at: 86,
+                id: 0,
+            }),
+            4,
+            "ended 4 target PolicyThread at 86\n",
         ),
     ];
     for (outcome, wanted, line) in outcomes {

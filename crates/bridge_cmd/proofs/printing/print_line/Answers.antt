@@ -1,4 +1,4 @@
-use Rattle.std.proofs.Common.{◌≡◌, ℕ, List, refl, subst, ne_eqb, rules}
+use Rattle.std.proofs.Common.{◌≡◌, ℕ, List, refl, subst, ne_eqb}
 use Rattle.bridge_cmd.specs.Lines.{Prints, unprinted_status}
 use Rattle.wire_core.specs.Output.{Printed, FailsToWrite}
 use Rattle.bridge_cmd.proofs.printing.print_line.Goals as goal
