@@ -1,27 +1,33 @@
 #!/bin/sh
 # Cuts 256 MiB of frames of 200 bytes and of packets of 60, in pieces of 65,536 and of 7 bytes, and reads a million small
 # requests: the bridge and a plain Rust loop over the same bytes in turn, five runs each. Printed is the least processor
-# time of both, in nanoseconds a byte, and their ratio.
+# time of each, in nanoseconds a byte, and their ratio. With COMMIT the bridge runs with the frames' cutter of that commit
+# too, in the same turns, to tell what a change of the cutter costs.
 #
-# usage: bench/run.sh [PROGRAM]
+# usage: bench/run.sh [COMMIT]
 set -e
 here=$(cd "$(dirname "$0")" && pwd)
-folder=$here/../crates/bridge_bench
+top=$(dirname "$here")
 work=$(mktemp -d)
 trap 'rm -rf "$work"' EXIT
 rustc -O -o "$work/streams" "$here/streams.rs"
 rustc -O -o "$work/requests" "$here/requests.rs"
-program=$1
-if [ -z "$program" ]; then
-    (cd "$folder" && rt run > "$work/build.txt" 2>&1) || { cat "$work/build.txt"; exit 1; }
-    program=$folder/out/bridge_bench
+build() { (cd "$1/crates/bridge_bench" && rt run > "$work/build.txt" 2>&1) || { cat "$work/build.txt"; exit 1; }; }
+build "$top"
+set -- "$top/crates/bridge_bench/out/bridge_bench" "$work" ${1:+"$1"}
+if [ -n "$3" ]; then
+    git -C "$top" archive --prefix=earlier/ HEAD HANDLES crates.txt crates | tar -x -C "$work"
+    rm -r "$work/earlier/crates/dap_frames"
+    git -C "$top" archive --prefix=earlier/ "$3" crates/dap_frames | tar -x -C "$work"
+    build "$work/earlier"
 fi
-python3 - "$program" "$work" <<'PYTHON'
+python3 - "$@" <<'PYTHON'
 import os
 import subprocess
 import sys
 
 PROGRAM, PLAIN = sys.argv[1:3]
+EARLIER = os.path.join(PLAIN, "earlier/crates/bridge_bench/out/bridge_bench") if sys.argv[3:] else None
 CASES = [(kind, piece) for kind in ("frames", "packets") for piece in ("65536", "7")] + [("requests", "1000000")]
 
 
@@ -33,16 +39,21 @@ def seconds(words):
 
 
 for kind, number in CASES:
-    plain = os.path.join(PLAIN, "requests" if kind == "requests" else "streams")
-    ours, other = [], []
+    rivals = {"plain loop": os.path.join(PLAIN, "requests" if kind == "requests" else "streams")}
+    if EARLIER and kind == "frames":
+        rivals["cutter of " + sys.argv[3]] = EARLIER
+    times = {name: [] for name in ["bridge", *rivals]}
     for _ in range(5):
-        (a, said), (b, expected) = seconds([PROGRAM, kind, number]), seconds([plain, kind, number])
-        if said != expected:
-            sys.exit(f"{kind} {number}: {said!r} is not {expected!r}")
-        ours.append(a)
-        other.append(b)
+        taken, expected = seconds([PROGRAM, kind, number])
+        times["bridge"].append(taken)
+        for name, program in rivals.items():
+            taken, said = seconds([program, kind, number])
+            if said != expected:
+                sys.exit(f"{kind} {number}: {expected!r}, but the {name} says {said!r}")
+            times[name].append(taken)
     total = 1_000_000 / 4 * (46 + 49 + 82 + 84) if kind == "requests" else 164 * 1_638_400
-    a, b = min(ours) * 1e9 / total, min(other) * 1e9 / total
+    least = {name: min(each) * 1e9 / total for name, each in times.items()}
     what = "a million requests" if kind == "requests" else f"{kind} in pieces of {number}"
-    print(f"{what}: {a:.2f} ns a byte, plain loop {b:.2f}, ratio {a / b:.2f}")
+    beside = [f"{name} {least[name]:.2f}, ratio {least['bridge'] / least[name]:.2f}" for name in rivals]
+    print(f"{what}: {least['bridge']:.2f} ns a byte; " + "; ".join(beside))
 PYTHON
