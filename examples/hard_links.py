@@ -3,7 +3,7 @@
 
 - A client that comes 3 s after the program, and a target that dropped its link, on which nothing went, after 2 s.
 - A connection that probes the client's port and closes without a byte, before the client comes.
-- A target that resets its link with bytes under way.
+- A target that resets its link with bytes under way, which is its end: the client is told so.
 - Requests that come byte by byte.
 
 usage: examples/hard_links.py [PROGRAM]
@@ -14,6 +14,8 @@ import sys
 import time
 
 from over_tcp import INITIALIZED, DISCONNECTED, Bridge, built, dial, request
+
+TERMINATED = b'{"event":"terminated","seq":2,"type":"event"}'
 
 
 def two_requests(client, by=None):
@@ -40,12 +42,12 @@ def reset_by_target(bridge):
     client = bridge.client()
     client.send(request(1, "initialize", {"adapterID": "jdwp"}))
     first = client.receive()
-    bridge.target.sendall(b"JDWP-Handshake" * 1000)
+    bridge.target.sendall(b"JDWP-Handshake" + b"\0\0")
     bridge.target.setsockopt(socket.SOL_SOCKET, socket.SO_LINGER, struct.pack("ii", 1, 0))
     bridge.target.close()
-    time.sleep(0.1)
+    told = client.receive()
     client.send(request(2, "disconnect"))
-    return [first, client.receive()] == [INITIALIZED, DISCONNECTED]
+    return [first, told, client.receive()] == [INITIALIZED, TERMINATED, DISCONNECTED.replace(b'"seq":2', b'"seq":3')]
 
 
 def byte_by_byte(bridge):

@@ -1,0 +1,184 @@
+#!/usr/bin/env python3
+"""Attaches the program to a Java machine, asks for its threads and leaves it, and prints what goes over both wires.
+
+The Java program that it compiles and runs has two threads with names, and ends some seconds later with status 0. Its
+threads are asked for twice: by `jdb`, which attaches first and quits, and by a client of the program. The status of the
+script is 0 where both show the same names, the program's status is 0, and the Java program ran on to its end. Where no
+JDK is there it says `skipped`.
+
+usage: examples/attach.py [PROGRAM]
+"""
+import json
+import os
+import re
+import shutil
+import socket
+import subprocess
+import sys
+import tempfile
+import threading
+
+from over_tcp import PATIENCE, TOP, Client, built, dial, free_port, request
+
+SOURCE = """
+public class Main {
+    public static void main(String[] words) throws Exception {
+        Thread first = new Thread(Main::rest, "first worker");
+        Thread second = new Thread(Main::rest, "second worker");
+        first.start();
+        second.start();
+        System.out.println("up");
+        first.join();
+        second.join();
+        System.out.println("down");
+    }
+
+    static void rest() {
+        try {
+            Thread.sleep(Long.getLong("rest"));
+        } catch (InterruptedException e) {
+            throw new IllegalStateException(e);
+        }
+    }
+}
+"""
+REST = 15
+
+# A line of jdb's `threads`: `(CLASS)ID NAME STATE`, NAME padded with blanks.
+STATES = "unknown|not started|running|sleeping|waiting in a monitor|cond. waiting|zombie"
+THREAD = re.compile(r"\s*\([^)]*\)(?:0x)?[0-9a-f]+\s+(.*?)\s+(?:%s)(?: \(at breakpoint\))?\s*$" % STATES)
+
+
+class Tap:
+    """A listener that hands what it hears on to a Java machine and back, and prints it."""
+
+    def __init__(self, port):
+        self.listener = socket.create_server(("127.0.0.1", 0))
+        self.port = self.listener.getsockname()[1]
+        self.java = port
+        self.worker = threading.Thread(target=self.run, daemon=True)
+        self.worker.start()
+
+    def run(self):
+        bridge, _ = self.listener.accept()
+        java = dial(self.java)
+        back = threading.Thread(target=self.pass_on, args=("target <", java, bridge), daemon=True)
+        back.start()
+        self.pass_on("target >", bridge, java)
+        back.join()
+
+    def pass_on(self, mark, source, sink):
+        while piece := source.recv(65536):
+            print(mark, piece.decode() if piece == b"JDWP-Handshake" else piece.hex())
+            sink.sendall(piece)
+        try:
+            sink.shutdown(socket.SHUT_WR)
+        except OSError:
+            pass
+
+
+def compiled(folder):
+    path = os.path.join(folder, "Main.java")
+    with open(path, "w", encoding="utf-8") as file:
+        file.write(SOURCE)
+    subprocess.run(["javac", "-d", folder, path], check=True)
+
+
+def started(folder, port):
+    agent = "-agentlib:jdwp=transport=dt_socket,server=y,suspend=n,address=127.0.0.1:%d" % port
+    words = ["java", "-Drest=%d" % (REST * 1000), agent, "-cp", folder, "Main"]
+    java = subprocess.Popen(words, stdout=subprocess.PIPE, text=True)
+    for line in java.stdout:
+        if line == "up\n":
+            return java
+    raise EOFError("the Java program ended before it was up")
+
+
+def threads_of_jdb(port):
+    """The names that jdb shows. It attaches and leaves, and the Java machine listens again."""
+    words = ["jdb", "-connect", "com.sun.jdi.SocketAttach:hostname=127.0.0.1,port=%d" % port]
+    jdb = subprocess.Popen(words, stdin=subprocess.PIPE, stdout=subprocess.PIPE, text=True)
+    while jdb.stdout.read(1) not in (">", ""):
+        pass
+    said, _ = jdb.communicate("threads\nquit\n", PATIENCE)
+    found = (THREAD.match(line.lstrip("> ")) for line in said.splitlines())
+    return [match[1] for match in found if match]
+
+
+def threads_of_bridge(program, port):
+    """The names that the program shows, and its status."""
+    tap = Tap(port)
+    listen = free_port()
+    words = ["serve", "--listen", "127.0.0.1:%d" % listen, "--target", "127.0.0.1:%d" % tap.port]
+    bridge = subprocess.Popen([program, *words])
+    try:
+        client = Client(dial(listen))
+        names = asked(client)
+        status = bridge.wait(PATIENCE)
+    finally:
+        bridge.kill()
+        bridge.wait()
+    tap.worker.join(PATIENCE)
+    return names, status
+
+
+def asked(client):
+    """Asks all four requests, each once the one before was answered, and gives the names of the threads."""
+    names = []
+    bodies = [
+        request(1, "initialize", {"adapterID": "jdwp"}),
+        request(2, "attach", {"sourceRoots": [TOP]}),
+        request(3, "threads"),
+        request(4, "disconnect"),
+    ]
+    for body in bodies:
+        print("client >", body.decode())
+        client.send(body)
+        for message in messages_to_response(client):
+            names += [thread["name"] for thread in message.get("body", {}).get("threads", [])]
+    return names
+
+
+def messages_to_response(client):
+    """The messages that come up to a response, and with `attach` the event that follows it."""
+    messages = []
+    while not messages or messages[-1]["type"] != "response":
+        messages.append(received(client))
+    if messages[-1]["command"] == "attach" and messages[-1]["success"]:
+        messages.append(received(client))
+    return messages
+
+
+def received(client):
+    body = client.receive()
+    print("client <", body.decode())
+    return json.loads(body)
+
+
+def main():
+    if not all(shutil.which(tool) for tool in ("java", "javac", "jdb")):
+        print("skipped: no JDK")
+        return 0
+    program = sys.argv[1] if len(sys.argv) > 1 else built()
+    with tempfile.TemporaryDirectory() as folder:
+        compiled(folder)
+        port = free_port()
+        java = started(folder, port)
+        try:
+            shown = threads_of_jdb(port)
+            names, status = threads_of_bridge(program, port)
+            ran_on = java.stdout.read().endswith("down\n") and java.wait(PATIENCE) == 0
+        finally:
+            java.kill()
+            java.wait()
+    print("threads by jdb:", shown)
+    print("threads by the program:", names)
+    print("status", status)
+    print("the Java program", "ran on to its end" if ran_on else "did NOT end by itself")
+    same = sorted(names) == sorted(shown) and {"first worker", "second worker"} <= set(names)
+    print("attach", "kept" if same and status == 0 and ran_on else "BROKEN")
+    return 0 if same and status == 0 and ran_on else 1
+
+
+if __name__ == "__main__":
+    sys.exit(main())
