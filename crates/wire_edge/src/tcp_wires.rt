@@ -10,7 +10,7 @@ use std::time::{Clock, Duration, Instant};
 use wire_core::{Happening, Links, Names, OpenFailed, SendFailed, Side, Text, Wires, raise};
 
 // How often both sides are asked again at once, after something came, before a call sleeps.
-const POLLS_AFTER_TRAFFIC: u32 = 1000;
+const POLLS_AFTER_TRAFFIC: u32 = 20_000;
 
 // How long a call sleeps where both sides are silent, in microseconds. With what the system adds, a wait in vain
 // takes 2 ms.
