@@ -1,7 +1,9 @@
 -- However a stream is cut into pieces, the same messages are handed out.
-use Rattle.std.proofs.Common.{◌≡◌, ℕ, ◌+◌, ◌≤◌, List, [], ◌∷◌, ◌++◌, length, refl, sym, ap, subst, ◌∙◌, arith, append_assoc}
+use Rattle.std.proofs.Common.{◌≡◌, ℕ, ◌+◌, ◌≤◌, List, [], ◌∷◌, ◌++◌, length, refl, sym, ap, subst, ◌∙◌, arith}
+use Rattle.std.proofs.Common.{append_assoc}
 use Rattle.std.proofs.lemmas.List.{append-nil, drop-append-le, length-drop}
-use Rattle.wire_core.specs.Streams.{Front, waits, whole, faulty, Uncut, fed, past, left, HasNoWhole, IsSteady, Hands, Cuts, Reads, joined}
+use Rattle.wire_core.specs.Streams.{Front, waits, whole, faulty, Uncut, fed, past, left, HasNoWhole, IsSteady, Hands}
+use Rattle.wire_core.specs.Streams.{Cuts, Reads, joined}
 
 module _ {M F : Type 0} (front : List ℕ → Front M F) where
   -- what is handed out of a stream is handed out of it whatever follows
@@ -10,10 +12,15 @@ module _ {M F : Type 0} (front : List ℕ → Front M F) where
   Hands-fed steady old [] new more h = ap (λ (u : Uncut). fed u more) h
   Hands-fed steady old (m ∷ ms) new more (n, here, at, rest) =
       let inside : n ≤ length old.pending = (steady.takes old.pending m.1 n here).1 in
-      let moved : Hands front (fed (past old n) more) ms (fed new more) = Hands-fed steady (past old n) ms new more rest in
-      let same : fed (past old n) more ≡ past (fed old more) n
-      = ap (λ (p : List ℕ). record { at = old.at + n; pending = p }) (sym (drop-append-le n old.pending more inside)) in
-      (n, steady.stays_whole old.pending more m.1 n here, at, subst (λ (u : Uncut). Hands front u ms (fed new more)) same moved)
+      let moved : Hands front (fed (past old n) more) ms (fed new more) =
+      Hands-fed steady (past old n) ms new more rest in
+      let same : fed (past old n) more ≡ past (fed old more) n =
+      ap (λ (p : List ℕ). record { at = old.at + n; pending = p }) (sym (drop-append-le n old.pending more inside)) in (
+        n,
+        steady.stays_whole old.pending more m.1 n here,
+        at,
+        subst (λ (u : Uncut). Hands front u ms (fed new more)) same moved,
+      )
 
   -- what is handed out first, and then what is handed out of what is left
   pub Hands-append : (old : Uncut) (first : List (ℕ × M)) (middle : Uncut) (second : List (ℕ × M)) (new : Uncut)
@@ -33,7 +40,8 @@ module _ {M F : Type 0} (front : List ℕ → Front M F) where
       subst (λ (ms : List (ℕ × M)). Hands front (fed old []) ms new) (sym none)
       (same ∙ ap (λ (p : List ℕ). record { at = old.at; pending = p }) (sym (append-nil old.pending)))
   Hands-pieces steady old (piece ∷ pieces) messages new (now, later, middle, first, rest, both) =
-      let second : Hands front (fed middle (joined pieces)) later new = Hands-pieces steady middle pieces later new rest in
+      let second : Hands front (fed middle (joined pieces)) later new =
+      Hands-pieces steady middle pieces later new rest in
       let start : Hands front (fed (fed old piece) (joined pieces)) now (fed middle (joined pieces)) =
       Hands-fed steady (fed old piece) now middle (joined pieces) first in
       let all : Hands front (fed (fed old piece) (joined pieces)) (now ++ later) new =
@@ -50,16 +58,20 @@ module _ {M F : Type 0} (front : List ℕ → Front M F) where
       → Cuts front old ms u → Cuts front old ns v → (ms ≡ ns) × (u ≡ v)
   Cuts-one old [] u [] v p q = (refl, p.hands ∙ sym q.hands)
   Cuts-one old [] u (n ∷ ns) v p q =
-      absurd (none_whole old.pending n.1 q.hands.0 q.hands.1 (subst (λ (w : Uncut). HasNoWhole (front w.pending)) p.hands p.rest))
+      absurd (none_whole old.pending n.1 q.hands.0 q.hands.1
+      (subst (λ (w : Uncut). HasNoWhole (front w.pending)) p.hands p.rest))
   Cuts-one old (m ∷ ms) u [] v p q =
-      absurd (none_whole old.pending m.1 p.hands.0 p.hands.1 (subst (λ (w : Uncut). HasNoWhole (front w.pending)) q.hands q.rest))
+      absurd (none_whole old.pending m.1 p.hands.0 p.hands.1
+      (subst (λ (w : Uncut). HasNoWhole (front w.pending)) q.hands q.rest))
   Cuts-one old (m ∷ ms) u (n ∷ ns) v p q =
       let taken : M → ℕ → Front M F = λ k l. whole k l in
       let same : taken m.1 p.hands.0 ≡ taken n.1 q.hands.0 = sym p.hands.1 ∙ q.hands.1 in
       let len : p.hands.0 ≡ q.hands.0 = cc in
       let message : m.1 ≡ n.1 = cc in
-      let second : Hands front (past old p.hands.0) ns v = subst (λ (k : ℕ). Hands front (past old k) ns v) (sym len) q.hands.3 in
-      let rest : (ms ≡ ns) × (u ≡ v) = Cuts-one (past old p.hands.0) ms u ns v (record { hands = p.hands.3; rest = p.rest })
+      let second : Hands front (past old p.hands.0) ns v =
+      subst (λ (k : ℕ). Hands front (past old k) ns v) (sym len) q.hands.3 in
+      let rest : (ms ≡ ns) × (u ≡ v) = Cuts-one (past old p.hands.0) ms u ns v
+      (record { hands = p.hands.3; rest = p.rest })
       (record { hands = second; rest = q.rest }) in
       let head : m ≡ n = ap (λ (x : ℕ × M). x) (pair m n (p.hands.2 ∙ sym q.hands.2) message) in
       (ap (λ (x : ℕ × M). x ∷ ms) head ∙ ap (λ (xs : List (ℕ × M)). n ∷ xs) rest.0, rest.1)
@@ -72,7 +84,8 @@ module _ {M F : Type 0} (front : List ℕ → Front M F) where
       (ns : List (ℕ × M)) (v : Uncut) → Reads front old pieces ms u → HasNoWhole (front u.pending)
       → Cuts front (fed old (joined pieces)) ns v → (ms ≡ ns) × (u ≡ v)
   any_cutting steady old pieces ms u ns v reads rest cuts =
-      Cuts-one (fed old (joined pieces)) ms u ns v (record { hands = Hands-pieces steady old pieces ms u reads; rest = rest }) cuts
+      Cuts-one (fed old (joined pieces)) ms u ns v
+      (record { hands = Hands-pieces steady old pieces ms u reads; rest = rest }) cuts
 
   -- Taking moves the front: as many bytes were fed as before.
   pub left_size : IsSteady front → (u : Uncut)

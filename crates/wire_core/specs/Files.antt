@@ -1,5 +1,6 @@
 -- The files of a run: what they tell of themselves, and what one call changes.
-use Rattle.std.specs.Prelude.{ℕ, ◌≡◌, ◌<◌, ◌≤◌, List, [], ◌∷◌, length, find, bytes_eq, Option, Some, None, option_map, IfSome, MatchOption, Result, Ok, Err}
+use Rattle.std.specs.Prelude.{ℕ, ◌≡◌, ◌<◌, ◌≤◌, List, [], ◌∷◌, length, find, bytes_eq, Option, Some, None, option_map}
+use Rattle.std.specs.Prelude.{IfSome, MatchOption, Result, Ok, Err}
 use Rattle.wire_core.specs.declared.files.FileRefusal.{FileRefusal}
 use Rattle.wire_core.specs.declared.files.FileRefusal.TheVariants.{NoMemory, Failed, TooLong}
 use Rattle.wire_core.specs.Outside.{Rose}

@@ -1,5 +1,5 @@
 -- The output of a run: what it tells of itself, and what one call changes.
-use Rattle.std.specs.Prelude.{ℕ, ◌≡◌, ◌≤◌, List, ◌++◌, take, Option, option_map, Result, Ok, Err}
+use Rattle.std.specs.Prelude.{ℕ, ◌≡◌, List, ◌++◌, take, Option, option_map, Result, Ok, Err}
 use Rattle.wire_core.specs.declared.output.OutRefusal.{OutRefusal}
 use Rattle.wire_core.specs.declared.output.OutRefusal.TheVariants.{NoMemory, Failed}
 use Rattle.wire_core.specs.Outside.{Rose}

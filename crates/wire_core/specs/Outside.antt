@@ -1,9 +1,11 @@
 -- The outside of a session: what its two byte streams tell of themselves, and what one call changes.
-use Rattle.std.specs.Prelude.{ℕ, ◌≡◌, ◌<◌, ◌≤◌, Bool, true, false, ◌⊎◌, List, [], ◌∷◌, ◌++◌, length, take, Option, option_map}
+use Rattle.std.specs.Prelude.{ℕ, ◌≡◌, ◌<◌, ◌≤◌, Bool, true, false, ◌⊎◌, List, [], ◌∷◌, ◌++◌, length, take, Option}
+use Rattle.std.specs.Prelude.{option_map}
 use Rattle.wire_core.specs.declared.outside.Side.{Side}
 use Rattle.wire_core.specs.declared.outside.Side.TheVariants.{Client, Target}
 use Rattle.wire_core.specs.declared.outside.Happening.{Happening}
-use Rattle.wire_core.specs.declared.outside.Happening.TheVariants.{Bytes, Shut as ends, Failed as fails, Quiet as nothing}
+use Rattle.wire_core.specs.declared.outside.Happening.TheVariants.{Bytes, Shut as ends, Failed as fails}
+use Rattle.wire_core.specs.declared.outside.Happening.TheVariants.{Quiet as nothing}
 use Rattle.wire_core.specs.declared.outside.Entry.{Entry}
 use Rattle.wire_core.specs.declared.outside.Entry.TheVariants.{In, Out, Shut, Failed, Quiet}
 

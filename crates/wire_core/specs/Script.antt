@@ -1,11 +1,14 @@
 -- What wires in memory are told to give: steps in order, and sends that fail.
-use Rattle.std.specs.Prelude.{ℕ, ◌≡◌, ◌+◌, ◌==◌, ◌&&◌, Bool, true, false, if◌then◌else◌, List, [], ◌∷◌, take, drop, Option, option_map, find}
+use Rattle.std.specs.Prelude.{ℕ, ◌≡◌, ◌+◌, ◌==◌, ◌&&◌, Bool, true, false, if◌then◌else◌, List, [], ◌∷◌, take, drop}
+use Rattle.std.specs.Prelude.{Option, option_map, find}
 use Rattle.wire_core.specs.declared.outside.Side.{Side}
 use Rattle.wire_core.specs.declared.outside.Side.TheVariants.{Client, Target}
 use Rattle.wire_core.specs.declared.outside.Happening.{Happening}
-use Rattle.wire_core.specs.declared.outside.Happening.TheVariants.{Bytes as came, Shut as ends, Failed as fails, Quiet as nothing}
+use Rattle.wire_core.specs.declared.outside.Happening.TheVariants.{Bytes as came, Shut as ends, Failed as fails}
+use Rattle.wire_core.specs.declared.outside.Happening.TheVariants.{Quiet as nothing}
 use Rattle.wire_core.specs.declared.outside.Entry.{Entry}
-use Rattle.wire_core.specs.declared.outside.Entry.TheVariants.{In, Shut as logs_end, Failed as logs_failure, Quiet as logs_quiet}
+use Rattle.wire_core.specs.declared.outside.Entry.TheVariants.{In, Shut as logs_end, Failed as logs_failure}
+use Rattle.wire_core.specs.declared.outside.Entry.TheVariants.{Quiet as logs_quiet}
 use Rattle.wire_core.specs.declared.script.Step.{Step}
 use Rattle.wire_core.specs.declared.script.Step.TheVariants.{Bytes, Shut, Failed, Quiet}
 use Rattle.wire_core.specs.declared.script.Cut.{Cut}

@@ -1,8 +1,9 @@
--- What it is to cut a stream into messages, for any grammar of messages: frames and packets each give their own `front`.
+-- What it is to cut a stream into messages, for any grammar of messages: frames and packets each give their own
+-- `front`.
 use Rattle.std.specs.Prelude.{◌≡◌, ℕ, ◌+◌, ◌<◌, ◌≤◌, List, [], ◌∷◌, ◌++◌, length, drop}
 
--- What stands at the front of some bytes: nothing that is decided yet; a message, and the number of bytes that it takes;
--- or a fault, and how far behind the front the refused byte stands.
+-- What stands at the front of some bytes: nothing that is decided yet; a message, and the number of bytes that it
+-- takes; or a fault, and how far behind the front the refused byte stands.
 pub data Front (M F : Type 0) : Type 0 where
   waits : Front M F
   whole : M → ℕ → Front M F
@@ -45,8 +46,10 @@ joined (piece ∷ pieces) = piece ++ joined pieces
 module _ {M F : Type 0} (front : List ℕ → Front M F) where
   -- What is whole or refused stays so, whatever follows, and a message takes bytes that are there.
   pub record IsSteady : Type 0 where
-    pub stays_whole : (bytes more : List ℕ) (m : M) (n : ℕ) → front bytes ≡ whole m n → front (bytes ++ more) ≡ whole m n
-    pub stays_faulty : (bytes more : List ℕ) (f : F) (d : ℕ) → front bytes ≡ faulty f d → front (bytes ++ more) ≡ faulty f d
+    pub stays_whole : (bytes more : List ℕ) (m : M) (n : ℕ) → front bytes ≡ whole m n
+        → front (bytes ++ more) ≡ whole m n
+    pub stays_faulty : (bytes more : List ℕ) (f : F) (d : ℕ) → front bytes ≡ faulty f d
+        → front (bytes ++ more) ≡ faulty f d
     pub takes : (bytes : List ℕ) (m : M) (n : ℕ) → front bytes ≡ whole m n → (0 < n) × (n ≤ length bytes)
 
   -- These messages, each with the offset of its first byte, are handed out one after the other, and `new` is left.

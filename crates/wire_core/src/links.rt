@@ -1,6 +1,7 @@
 ghost use Rattle.std.specs.Prelude.{◌≡◌};
 ghost use Rattle.wire_core.specs.declared.outside.Side.TheVariants.{Client, Target};
-ghost use Rattle.wire_core.specs.Links.{raised, told, open_link, shut_link, failed_link, empty_link, link_after, is_open_in, first_open, IsFresh, CountsOpen, open_count};
+ghost use Rattle.wire_core.specs.Links.{raised, told, open_link, shut_link, failed_link, empty_link, link_after};
+ghost use Rattle.wire_core.specs.Links.{is_open_in, first_open, IsFresh, CountsOpen, open_count};
 
 use crate::outside::{Happening, Side};
 

@@ -1,8 +1,10 @@
-ghost use Rattle.std.specs.Prelude.{◌≡◌, ◌+◌, ◌<◌, ◌≤◌, ◌↔◌, ◌⊎◌, true, false, [], ◌∷◌, ◌++◌, length, IfOk, IsOk, OnOk, OnErr, IsTrue};
+ghost use Rattle.std.specs.Prelude.{◌≡◌, ◌+◌, ◌<◌, ◌≤◌, ◌↔◌, ◌⊎◌, true, false, [], ◌∷◌, ◌++◌, length, IfOk, IsOk, OnOk};
+ghost use Rattle.std.specs.Prelude.{OnErr, IsTrue};
 ghost use Rattle.wire_core.specs.declared.outside.Side.TheVariants.{Client, Target};
 ghost use Rattle.wire_core.specs.declared.outside.Happening.TheVariants.{Failed as fails};
 ghost use Rattle.wire_core.specs.declared.outside.Entry.TheVariants.{Out, Failed};
-ghost use Rattle.wire_core.specs.Outside.{other_side, entry_of, Adds, IsOpen, HasOpen, Connects, FailsToConnect, Hears, Sends, FailsToSend};
+ghost use Rattle.wire_core.specs.Outside.{other_side, entry_of, Adds, IsOpen, HasOpen, Connects, FailsToConnect, Hears};
+ghost use Rattle.wire_core.specs.Outside.{Sends, FailsToSend};
 ghost use Rattle.wire_core.specs.Links.{raised, is_open_in, open_count, Counts, IsWithin};
 ghost use Rattle.wire_core.specs.SendCounts.{count_to};
 ghost use Rattle.wire_core.specs.Entries.{NeedsMemory};
@@ -73,7 +75,8 @@ impl SendCounts {
 }
 
 impl MemoryWires {
-    ghost use Rattle.wire_core.specs.MemoryWires.{outside_of, steps_of, failing_of, is_refused, IsNew, Refuses, LogsSend, BreaksSend};
+    ghost use Rattle.wire_core.specs.MemoryWires.{outside_of, steps_of, failing_of, is_refused, IsNew, Refuses};
+    ghost use Rattle.wire_core.specs.MemoryWires.{LogsSend, BreaksSend};
 
     /// Wires with both sides open that give these steps, and fail these sends.
     pub fn new(
@@ -246,7 +249,8 @@ fn log_happening(
 }
 
 impl Wires for MemoryWires {
-    ghost use Rattle.wire_core.specs.MemoryWires.{outside_of, KeepsScript, NextInMemory, SendsInMemory, KeepsSends, CountsSend};
+    ghost use Rattle.wire_core.specs.MemoryWires.{outside_of, KeepsScript, NextInMemory, SendsInMemory, KeepsSends};
+    ghost use Rattle.wire_core.specs.MemoryWires.{CountsSend};
 
     ghost outside = { outside_of };
 

@@ -1,5 +1,6 @@
 ghost use Rattle.std.specs.Prelude.{◌≡◌, ◌<◌, [], length, OnOk, OnErr, IsTrue, ◌⊎◌};
-ghost use Rattle.wire_core.specs.Outside.{Outside, other_side, IsOpen, HasOpen, Connects, FailsToConnect, Hears, Sends, FailsToSend};
+ghost use Rattle.wire_core.specs.Outside.{Outside, other_side, IsOpen, HasOpen, Connects, FailsToConnect, Hears, Sends};
+ghost use Rattle.wire_core.specs.Outside.{FailsToSend};
 
 use crate::list::Blob;
 use crate::text::Text;

@@ -1,7 +1,8 @@
 ghost use Rattle.std.specs.Prelude.{ℕ, ◌≡◌, ◌+◌, ◌<◌, ◌≤◌, ◌^◌, true, false, length, take, min, IsTrue, IfSome, IfNone};
 ghost use Rattle.wire_core.specs.Outside.{entry_of};
 ghost use Rattle.wire_core.specs.Links.{is_open_in, first_open, IsPossible};
-ghost use Rattle.wire_core.specs.Script.{step_from, steps_from, gives, due, given_by, comes, behind, names, kept_of, taken, IsBehind};
+ghost use Rattle.wire_core.specs.Script.{step_from, steps_from, gives, due, given_by, comes, behind, names, kept_of};
+ghost use Rattle.wire_core.specs.Script.{taken, IsBehind};
 
 use crate::links::Links;
 use crate::list::Blob;
