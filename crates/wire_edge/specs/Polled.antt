@@ -1,4 +1,4 @@
-use Rattle.std.specs.Prelude.{ℕ, ◌≡◌, ◌<◌, ◌≤◌}
+use Rattle.std.specs.Prelude.{ℕ, ◌<◌, ◌≤◌, Option, Some, None}
 use Rattle.wire_core.specs.declared.outside.Side.{Side}
 use Rattle.wire_core.specs.declared.outside.Happening.{Happening}
 use Rattle.wire_core.specs.declared.outside.Happening.TheVariants.{Bytes as came, Shut, Failed}
@@ -12,9 +12,9 @@ IsWithinPoll room Ended = Unit {0}
 IsWithinPoll room Broken = Unit {0}
 IsWithinPoll room Nothing = Unit {0}
 
--- what comes of a side that was asked
-abbrev pub IsHeard : Side → Polled → Happening → Type 0
-IsHeard side (Bytes n) happening = happening ≡ came side n
-IsHeard side Ended happening = happening ≡ Shut side
-IsHeard side Broken happening = happening ≡ Failed side
-IsHeard side Nothing happening = ⊥
+-- what comes of a side that was asked, where it had something
+abbrev pub heard_of : Side → Polled → Option Happening
+heard_of side (Bytes n) = Some (came side n)
+heard_of side Ended = Some (Shut side)
+heard_of side Broken = Some (Failed side)
+heard_of side Nothing = None

@@ -1,4 +1,6 @@
-ghost use Rattle.std.specs.Prelude.{◌≡◌};
+ghost use Rattle.std.specs.Prelude.{◌≡◌, ◌≤◌, IsErrOf};
+ghost use Rattle.wire_core.specs.declared.output.OutRefusal.TheVariants.{NoMemory};
+ghost use Rattle.wire_core.specs.Output.{WritesOut};
 ghost use Rattle.wire_edge.specs.StdOutput.{unprinted};
 
 use std::io::{self, Write};
@@ -23,7 +25,12 @@ impl<R: Print + Drop> StdOutput<R> {
 impl<R: Print + Drop> Output for StdOutput<R> {
     ghost printed = { λ o. unprinted o.faults };
 
-    fn write(&mut self, bytes: &[u8]) -> Result<(), OutRefusal> {
+    // Whatever keeps the bytes from being written is a fault.
+    fn write(&mut self, bytes: &[u8]) -> Result<(), OutRefusal>
+        ensures faults { self.old.faults ≤ self.new.faults }
+        ensures writes { WritesOut (unprinted self.old.faults) (unprinted self.new.faults) bytes.now result }
+        ensures no_memory { ¬ IsErrOf result NoMemory }
+    {
         match io::writer(&self.rt).write_all(bytes) {
             Ok(()) => Ok(()),
             Err(_) => {

@@ -1,6 +1,6 @@
 ghost use Rattle.std.specs.Prelude.{◌≡◌, ◌<◌, false, [], length, IfOk, IfSome};
 ghost use Rattle.wire_core.specs.Links.{IsFresh, IsPossible};
-ghost use Rattle.wire_edge.specs.Polled.{IsWithinPoll, IsHeard};
+ghost use Rattle.wire_edge.specs.Polled.{IsWithinPoll, heard_of};
 ghost use Rattle.wire_edge.specs.Tally.{told_by};
 
 use std::io::{self, ErrorKind, Read, Write};
@@ -296,7 +296,7 @@ fn is_closed(kind: ErrorKind) -> bool {
 
 // What comes of a side that was asked.
 fn heard(side: Side, polled: Polled) -> Option<Happening>
-    ensures { IfSome result (IsHeard side polled) }
+    ensures { result ≡ heard_of side polled }
 {
     match polled {
         Polled::Bytes(n) => Some(Happening::Bytes(side, n)),
