@@ -1,9 +1,11 @@
 -- What stands at the front of a stream is a frame just where a frame stands there.
-use Rattle.std.proofs.Common.{◌≡◌, ℕ, ◌+◌, ◌^◌, ◌<◌, ◌≤◌, Bool, true, false, cond, ltb, List, [], ◌∷◌, ◌++◌, length, take, drop, refl, sym, ap, subst, ◌∙◌, arith, inr, append_assoc, ◌&&◌}
+use Rattle.std.proofs.Common.{◌≡◌, ℕ, ◌+◌, ◌^◌, ◌<◌, ◌≤◌, Bool, true, false, cond, ltb, List, [], ◌∷◌, ◌++◌, length}
+use Rattle.std.proofs.Common.{take, drop, refl, sym, ap, subst, ◌∙◌, arith, inr, append_assoc, ◌&&◌}
 use Rattle.std.specs.Prelude.{codes, decimal}
 use Rattle.std.specs.List.{AllByRecursion}
 use Rattle.std.proofs.lemmas.Bool.{and_parts, ltb-false}
-use Rattle.std.proofs.lemmas.List.{append-nil, take_at, drop_at, take-append-drop, length-append, length-take, length-drop, drop-append-le, take-append-le}
+use Rattle.std.proofs.lemmas.List.{append-nil, take_at, drop_at, take-append-drop, length-append, length-take}
+use Rattle.std.proofs.lemmas.List.{length-drop, drop-append-le, take-append-le}
 use Rattle.std.proofs.lemmas.Fmt.{decimal_is_IsNumeral, length-decimal-le}
 use Rattle.wire_core.specs.Streams.{Front, waits, whole, faulty, IsSteady}
 use Rattle.dap_frames.specs.declared.fault.FrameFault.{FrameFault}
@@ -12,7 +14,8 @@ use Rattle.dap_frames.specs.declared.header.Head.TheVariants.{Reads, Ends, Refus
 use Rattle.dap_frames.specs.Reading.{is_name_byte}
 use Rattle.dap_frames.specs.Frames.{Frame, IsNameByte, IsHeader, Begins, header_of, front_by, frame_front, frame_bytes}
 use Rattle.dap_frames.proofs.Names.{name-byte-is}
-use Rattle.dap_frames.proofs.Fronts.{Bounded, bounded-is, bounded-read, ends-more, refused-more, ends-within, front-whole, front-refused}
+use Rattle.dap_frames.proofs.Fronts.{Bounded, bounded-is, bounded-read, ends-more, refused-more, ends-within}
+use Rattle.dap_frames.proofs.Fronts.{front-whole, front-refused}
 
 -- a frame of a front
 abbrev a_frame : Frame → ℕ → Front Frame FrameFault
@@ -31,7 +34,8 @@ unfolding frame_front
 whole-is bytes m n e = by (header_of bytes) refl e
   where
     found : (len h : ℕ) (short : Bool) → header_of bytes ≡ Ends len h → ltb (length bytes) (h + len) ≡ short
-        → cond short waits (a_frame (record { header = h; body = take len (drop h bytes) }) (h + len)) ≡ whole m n → Whole bytes m n
+        → cond short waits (a_frame (record { header = h; body = take len (drop h bytes) }) (h + len)) ≡ whole m n
+        → Whole bytes m n
     found len h true says test e = absurd cc
     found len h false says test e =
         let long : h + len ≤ length bytes = ltb-false (length bytes) (h + len) test in
@@ -62,7 +66,8 @@ whole-from bytes m n w =
     ∙ ap (λ (k : ℕ). a_frame m k) (sym w.taken)
 
 -- a refused byte is the header's
-pub faulty-is : (bytes : List ℕ) (f : FrameFault) (p : ℕ) → frame_front bytes ≡ faulty f p → header_of bytes ≡ Refused f p
+pub faulty-is : (bytes : List ℕ) (f : FrameFault) (p : ℕ) → frame_front bytes ≡ faulty f p
+    → header_of bytes ≡ Refused f p
 unfolding frame_front
 faulty-is bytes f p e = by (header_of bytes) refl e
   where
@@ -70,7 +75,8 @@ faulty-is bytes f p e = by (header_of bytes) refl e
     found true m n e = absurd cc
     found false m n e = absurd cc
 
-    refused : (g : FrameFault) (q : ℕ) → (let it : Front Frame FrameFault = faulty g q in it ≡ faulty f p) → Refused g q ≡ Refused f p
+    refused : (g : FrameFault) (q : ℕ) → (let it : Front Frame FrameFault = faulty g q in it ≡ faulty f p)
+        → Refused g q ≡ Refused f p
     refused g q e =
         let fault : g ≡ f = cc in
         let place : q ≡ p = cc in
@@ -78,7 +84,9 @@ faulty-is bytes f p e = by (header_of bytes) refl e
 
     by : (h : Head) → header_of bytes ≡ h → front_by h bytes ≡ faulty f p → header_of bytes ≡ Refused f p
     by (Reads r) says e = absurd cc
-    by (Ends len h) says e = absurd (found (ltb (length bytes) (h + len)) (record { header = h; body = take len (drop h bytes) }) (h + len) e)
+    by (Ends len h) says e =
+        absurd (found (ltb (length bytes) (h + len)) (record { header = h; body = take len (drop h bytes) })
+        (h + len) e)
     by (Refused g q) says e = says ∙ refused g q e
 
 -- What is whole or refused stays so.
@@ -93,11 +101,15 @@ front-steady = record {
       whole-from (bytes ++ more) m n (record {
         len = w.len;
         says = ends-more bytes more w.len m.header w.says;
-        body = w.body ∙ sym (ap (take w.len) (drop-append-le m.header bytes more room) ∙ take-append-le w.len (drop m.header bytes) more inside);
+        body =
+            w.body ∙ sym
+            (ap (take w.len) (drop-append-le m.header bytes more room) ∙ take-append-le w.len (drop m.header bytes)
+            more inside);
         taken = w.taken;
         within = omega (arith, length-append bytes more);
       });
-  stays_faulty = λ bytes more f p e. front-refused (bytes ++ more) f p (refused-more bytes more f p (faulty-is bytes f p e));
+  stays_faulty =
+      λ bytes more f p e. front-refused (bytes ++ more) f p (refused-more bytes more f p (faulty-is bytes f p e));
   takes = λ bytes m n e.
       let w = whole-is bytes m n e in
       let taken = w.taken in
@@ -113,7 +125,9 @@ frame-found bytes m n b =
     let taken = b.taken in
     whole-from bytes m n (record {
       len = length m.body;
-      says = ap header_of all ∙ bounded-read b.header (length m.body) (m.body ++ b.rest) b.is_header ∙ ap (λ (k : ℕ). Ends (length m.body) k) b.place;
+      says =
+          ap header_of all ∙ bounded-read b.header (length m.body) (m.body ++ b.rest) b.is_header ∙ ap
+          (λ (k : ℕ). Ends (length m.body) k) b.place;
       body = sym (ap (λ (l : List ℕ). take (length m.body) (drop m.header l)) all
           ∙ ap (take (length m.body)) (drop_at b.header (m.body ++ b.rest) m.header b.place)
           ∙ take_at m.body b.rest (length m.body) refl);
@@ -129,9 +143,11 @@ frame-is bytes m n e =
     let taken = w.taken in
     let within = w.within in
     let place = header.len in
-    let rest_is : drop m.header bytes ≡ header.rest = ap (drop m.header) header.parts ∙ drop_at header.header header.rest m.header header.len in
+    let rest_is : drop m.header bytes ≡ header.rest =
+    ap (drop m.header) header.parts ∙ drop_at header.header header.rest m.header header.len in
     let body_is : m.body ≡ take w.len header.rest = w.body ∙ ap (take w.len) rest_is in
-    let long : w.len ≤ length header.rest = omega (arith, ap length header.parts, length-append header.header header.rest) in
+    let long : w.len ≤ length header.rest =
+    omega (arith, ap length header.parts, length-append header.header header.rest) in
     let len : length m.body ≡ w.len = omega (arith, ap length body_is, length-take w.len header.rest) in
     record {
       header = header.header;
@@ -185,17 +201,25 @@ header-written n fits =
           refl,
         );
       };
-      bounded = omega (arith, length-append (codes "Content-Length: " ++ decimal n) (codes "\r\n\r\n"), length-append (codes "Content-Length: ") (decimal n));
+      bounded =
+          omega (
+            arith,
+            length-append (codes "Content-Length: " ++ decimal n) (codes "\r\n\r\n"),
+            length-append (codes "Content-Length: ") (decimal n),
+          );
     }
 
 -- What is written is found again, whatever follows it.
 pub frame-again : (body more : List ℕ) → length body ≤ 16777216
     → frame_front (frame_bytes body ++ more)
-    ≡ whole (record { header = length (codes "Content-Length: " ++ decimal (length body) ++ codes "\r\n\r\n"); body = body }) (length (frame_bytes body))
+    ≡ whole (record
+    { header = length (codes "Content-Length: " ++ decimal (length body) ++ codes "\r\n\r\n"); body = body })
+    (length (frame_bytes body))
 frame-again body more fits =
     let header : List ℕ = codes "Content-Length: " ++ decimal (length body) ++ codes "\r\n\r\n" in
     let n = length-append header body in
-    frame-found (frame_bytes body ++ more) (record { header = length header; body = body }) (length (frame_bytes body)) (record {
+    frame-found (frame_bytes body ++ more) (record { header = length header; body = body }) (length (frame_bytes body))
+    (record {
       header = header;
       rest = more;
       parts = refl;

@@ -1,7 +1,9 @@
 -- What stands at the front of a stream, by what its header says: a header has at most 4,096 bytes.
-use Rattle.std.proofs.Common.{◌≡◌, ℕ, ◌+◌, ◌-◌, ◌<◌, ◌≤◌, min, Bool, true, false, cond, ltb, List, [], ◌++◌, length, take, drop, None, refl, sym, ap, ◌∙◌, arith, ◌⊎◌, inl, inr, append_assoc}
+use Rattle.std.proofs.Common.{◌≡◌, ℕ, ◌+◌, ◌-◌, ◌<◌, ◌≤◌, min, Bool, true, false, cond, ltb, List, [], ◌++◌, length}
+use Rattle.std.proofs.Common.{take, drop, None, refl, sym, ap, ◌∙◌, arith, ◌⊎◌, inl, inr, append_assoc}
 use Rattle.std.proofs.lemmas.Bool.{lt-ltb, le-ltb, ltb-true, ltb-false, cases_lt}
-use Rattle.std.proofs.lemmas.List.{append-nil, take-append-drop, length-append, length-take, take_all, take_at, take-take, take-append-le, drop-take, take_min}
+use Rattle.std.proofs.lemmas.List.{append-nil, take-append-drop, length-append, length-take, take_all, take_at}
+use Rattle.std.proofs.lemmas.List.{take-take, take-append-le, drop-take, take_min}
 use Rattle.wire_core.specs.Streams.{waits, whole, faulty}
 use Rattle.dap_frames.specs.declared.fault.FrameFault.{FrameFault}
 use Rattle.dap_frames.specs.declared.fault.FrameFault.TheVariants.{HeaderTooLong}
@@ -45,7 +47,8 @@ reads-is bytes r e = by (start_of bytes) refl e
 pub ends-is : (bytes : List ℕ) (n h : ℕ) → header_of bytes ≡ Ends n h → start_of bytes ≡ Ends n h
 ends-is bytes n h e = by (start_of bytes) refl e
   where
-    found : (s : Reading) (many : Bool) → cond many (Refused HeaderTooLong 4096) (Reads s) ≡ Ends n h → start_of bytes ≡ Ends n h
+    found : (s : Reading) (many : Bool) → cond many (Refused HeaderTooLong 4096) (Reads s) ≡ Ends n h
+        → start_of bytes ≡ Ends n h
     found s true e = absurd cc
     found s false e = absurd cc
 
@@ -59,12 +62,14 @@ ends-from bytes n h e = ap (bounded_by (length bytes)) e
 
 -- a byte is refused for what it is, or for coming too late
 pub refused-is : (bytes : List ℕ) (f : FrameFault) (p : ℕ) → header_of bytes ≡ Refused f p
-    → (start_of bytes ≡ Refused f p) ⊎ ((r : Reading) × (start_of bytes ≡ Reads r) × (4096 < length bytes) × (f ≡ HeaderTooLong) × (p ≡ 4096))
+    → (start_of bytes ≡ Refused f p) ⊎
+    ((r : Reading) × (start_of bytes ≡ Reads r) × (4096 < length bytes) × (f ≡ HeaderTooLong) × (p ≡ 4096))
 refused-is bytes f p e = by (start_of bytes) refl e
   where
     found : (s : Reading) (many : Bool) → start_of bytes ≡ Reads s → ltb 4096 (length bytes) ≡ many
         → cond many (Refused HeaderTooLong 4096) (Reads s) ≡ Refused f p
-        → (start_of bytes ≡ Refused f p) ⊎ ((r : Reading) × (start_of bytes ≡ Reads r) × (4096 < length bytes) × (f ≡ HeaderTooLong) × (p ≡ 4096))
+        → (start_of bytes ≡ Refused f p) ⊎
+        ((r : Reading) × (start_of bytes ≡ Reads r) × (4096 < length bytes) × (f ≡ HeaderTooLong) × (p ≡ 4096))
     found s true says test e =
         let fault : HeaderTooLong ≡ f = cc in
         let place : 4096 ≡ p = cc in
@@ -72,17 +77,21 @@ refused-is bytes f p e = by (start_of bytes) refl e
     found s false says test e = absurd cc
 
     by : (x : Head) → start_of bytes ≡ x → bounded_by (length bytes) x ≡ Refused f p
-        → (start_of bytes ≡ Refused f p) ⊎ ((r : Reading) × (start_of bytes ≡ Reads r) × (4096 < length bytes) × (f ≡ HeaderTooLong) × (p ≡ 4096))
+        → (start_of bytes ≡ Refused f p) ⊎
+        ((r : Reading) × (start_of bytes ≡ Reads r) × (4096 < length bytes) × (f ≡ HeaderTooLong) × (p ≡ 4096))
     by (Reads s) says e = found s (ltb 4096 (length bytes)) says refl e
     by (Ends m k) says e = absurd cc
     by (Refused g q) says e = inl (says ∙ e)
 
-pub refused-from : (bytes : List ℕ) (f : FrameFault) (p : ℕ) → start_of bytes ≡ Refused f p → header_of bytes ≡ Refused f p
+pub refused-from : (bytes : List ℕ) (f : FrameFault) (p : ℕ) → start_of bytes ≡ Refused f p
+    → header_of bytes ≡ Refused f p
 refused-from bytes f p e = ap (bounded_by (length bytes)) e
 
-pub too-long-from : (bytes : List ℕ) (r : Reading) → start_of bytes ≡ Reads r → 4096 < length bytes → header_of bytes ≡ Refused HeaderTooLong 4096
+pub too-long-from : (bytes : List ℕ) (r : Reading) → start_of bytes ≡ Reads r → 4096 < length bytes
+    → header_of bytes ≡ Refused HeaderTooLong 4096
 too-long-from bytes r e many =
-    ap (bounded_by (length bytes)) e ∙ ap (λ (b : Bool). cond b (Refused HeaderTooLong 4096) (Reads r)) (lt-ltb 4096 (length bytes) many)
+    ap (bounded_by (length bytes)) e ∙ ap (λ (b : Bool). cond b (Refused HeaderTooLong 4096) (Reads r))
+    (lt-ltb 4096 (length bytes) many)
 
 -- ---- more bytes
 
@@ -92,7 +101,8 @@ take-more bytes more =
     elim (cases_lt (length bytes) 4096) [
       | inl few ↦
           let all : List ℕ = take 4096 (bytes ++ more) in
-          let first : take (length bytes) all ≡ bytes = take-take (length bytes) 4096 (bytes ++ more) (omega arith) ∙ take_at bytes more (length bytes) refl in (
+          let first : take (length bytes) all ≡ bytes = take-take (length bytes) 4096 (bytes ++ more) (omega arith) ∙
+          take_at bytes more (length bytes) refl in (
             drop (length bytes) all,
             sym (take-append-drop (length bytes) all)
                 ∙ ap (λ (l : List ℕ). l ++ drop (length bytes) all) (first ∙ sym (take_all 4096 bytes (omega arith))),
@@ -100,15 +110,20 @@ take-more bytes more =
       | inr many ↦ ([], take-append-le 4096 bytes more many ∙ sym (append-nil (take 4096 bytes)))
     ]
 
-start-more : (bytes more : List ℕ) (h : Head) → start_of bytes ≡ h → (tail : List ℕ) × (start_of (bytes ++ more) ≡ onward (length (take 4096 bytes)) h tail)
+start-more : (bytes more : List ℕ) (h : Head) → start_of bytes ≡ h
+    → (tail : List ℕ) × (start_of (bytes ++ more) ≡ onward (length (take 4096 bytes)) h tail)
 start-more bytes more h e =
-    let t = take-more bytes more in
-    (t.0, ap (head (Line None)) t.1 ∙ head-append (Line None) (take 4096 bytes) t.0 ∙ ap (λ (x : Head). onward (length (take 4096 bytes)) x t.0) e)
+    let t = take-more bytes more in (
+      t.0,
+      ap (head (Line None)) t.1 ∙ head-append (Line None) (take 4096 bytes) t.0 ∙ ap
+          (λ (x : Head). onward (length (take 4096 bytes)) x t.0) e,
+    )
 
 pub ends-more : (bytes more : List ℕ) (n h : ℕ) → header_of bytes ≡ Ends n h → header_of (bytes ++ more) ≡ Ends n h
 ends-more bytes more n h e = ends-from (bytes ++ more) n h (start-more bytes more (Ends n h) (ends-is bytes n h e)).1
 
-pub refused-more : (bytes more : List ℕ) (f : FrameFault) (p : ℕ) → header_of bytes ≡ Refused f p → header_of (bytes ++ more) ≡ Refused f p
+pub refused-more : (bytes more : List ℕ) (f : FrameFault) (p : ℕ) → header_of bytes ≡ Refused f p
+    → header_of (bytes ++ more) ≡ Refused f p
 refused-more bytes more f p e =
     elim (refused-is bytes f p e) [
       | inl says ↦ refused-from (bytes ++ more) f p (start-more bytes more (Refused f p) says).1
@@ -126,7 +141,8 @@ ends-within bytes n h e =
     let inside = head-within (Line None) (take 4096 bytes) n h (ends-is bytes n h e) in
     (inside.0, omega (arith, inside.1, length-take 4096 bytes), omega (arith, inside.1, length-take 4096 bytes))
 
-pub refused-within : (bytes : List ℕ) (f : FrameFault) (p : ℕ) → header_of bytes ≡ Refused f p → (p < length bytes) × (p ≤ 4096)
+pub refused-within : (bytes : List ℕ) (f : FrameFault) (p : ℕ) → header_of bytes ≡ Refused f p
+    → (p < length bytes) × (p ≤ 4096)
 refused-within bytes f p e =
     elim (refused-is bytes f p e) [
       | inl says ↦
@@ -158,18 +174,21 @@ bounded-is bytes n h e =
       len = found.len;
     }
 
-pub bounded-read : (header : List ℕ) (n : ℕ) (more : List ℕ) → IsHeader header n → header_of (header ++ more) ≡ Ends n (length header)
+pub bounded-read : (header : List ℕ) (n : ℕ) (more : List ℕ) → IsHeader header n
+    → header_of (header ++ more) ≡ Ends n (length header)
 bounded-read header n more is =
     let t = take-more header more in
     ends-from (header ++ more) n (length header)
-    (ap (head (Line None)) (t.1 ∙ ap (λ (l : List ℕ). l ++ t.0) (take_all 4096 header is.bounded)) ∙ header-read header n t.0 is.is_long)
+    (ap (head (Line None)) (t.1 ∙ ap (λ (l : List ℕ). l ++ t.0) (take_all 4096 header is.bounded)) ∙ header-read header
+    n t.0 is.is_long)
 
 -- ---- reading on
 
 -- what was read, and the rest of the first 4,096 bytes
 pub header_more : (r : Reading) (read : ℕ) (pending : List ℕ) → IsRead (Reads r) read pending
     → (read ≤ min 4096 (length pending))
-    × (bounded_by (length pending) (onward read (Reads r) (take (min 4096 (length pending) - read) (drop read pending))) ≡ header_of pending)
+    × (bounded_by (length pending) (onward read (Reads r) (take (min 4096 (length pending) - read) (drop read pending)))
+    ≡ header_of pending)
 header_more r read pending known =
     let inside : read ≤ length pending = known.within in
     let unended = reads-is (take read pending) r known.says in
@@ -185,12 +204,14 @@ header_more r read pending known =
     ∙ ap (λ (l : List ℕ). take read pending ++ l) (drop-take read (end - read) pending) in
     let on : head (Line None) (take 4096 pending) ≡ onward read (Reads r) rest =
     ap (head (Line None)) split ∙ head-append (Line None) (take read pending) rest
-    ∙ ap (λ (h : Head). onward (length (take read pending)) h rest) unended.says ∙ ap (λ (k : ℕ). onward k (Reads r) rest) len in
+    ∙ ap (λ (h : Head). onward (length (take read pending)) h rest) unended.says ∙ ap
+    (λ (k : ℕ). onward k (Reads r) rest) len in
     (before, ap (bounded_by (length pending)) (sym on))
 
 -- what is said already stays said
 pub header_kept : (h : Head) (read : ℕ) (pending : List ℕ) → IsRead h read pending
-    → ((n k : ℕ) → h ≡ Ends n k → header_of pending ≡ Ends n k) × ((f : FrameFault) (p : ℕ) → h ≡ Refused f p → header_of pending ≡ Refused f p)
+    → ((n k : ℕ) → h ≡ Ends n k → header_of pending ≡ Ends n k)
+    × ((f : FrameFault) (p : ℕ) → h ≡ Refused f p → header_of pending ≡ Refused f p)
 header_kept h read pending known =
     let whole_is : take read pending ++ drop read pending ≡ pending = take-append-drop read pending in (
       λ n k e. ap header_of (sym whole_is) ∙ ends-more (take read pending) (drop read pending) n k (known.says ∙ e),
@@ -198,7 +219,8 @@ header_kept h read pending known =
     )
 
 pub read_all : (h : Head) (pending : List ℕ) → header_of pending ≡ h → IsRead h (length pending) pending
-read_all h pending e = record { within = omega arith; says = ap header_of (take_all (length pending) pending (omega arith)) ∙ e }
+read_all h pending e =
+    record { within = omega arith; says = ap header_of (take_all (length pending) pending (omega arith)) ∙ e }
 
 -- ---- the front by each thing that the header may say
 

@@ -1,5 +1,6 @@
 -- Reading a header byte by byte, and on behind what was read.
-use Rattle.std.proofs.Common.{◌≡◌, ℕ, suc, ◌+◌, ◌<◌, ◌≤◌, List, [], ◌∷◌, ◌++◌, length, get_or, drop, refl, sym, ap, ◌∙◌, arith}
+use Rattle.std.proofs.Common.{◌≡◌, ℕ, suc, ◌+◌, ◌<◌, ◌≤◌, List, [], ◌∷◌, ◌++◌, length, get_or, drop, refl, sym, ap, ◌∙◌}
+use Rattle.std.proofs.Common.{arith}
 use Rattle.std.proofs.lemmas.List.{drop_more, drop_all}
 use Rattle.dap_frames.specs.declared.fault.FrameFault.{FrameFault}
 use Rattle.dap_frames.specs.declared.header.Reading.{Reading}
@@ -19,26 +20,28 @@ later-zero (heads.Reads r) = refl
 later-zero (heads.Ends n h) = ap (λ (m : ℕ). heads.Ends n m) (omega arith)
 later-zero (heads.Refused f p) = ap (λ (m : ℕ). heads.Refused f m) (omega arith)
 
--- The first i bytes lead from start to r: what is left says what all say.
-module _ (start r : Reading) (bytes : List ℕ) (i : ℕ) (so_far : later i (head r (drop i bytes)) ≡ head start bytes) where
+-- The first i bytes lead to r: what is left says what all say.
+module _ (all : Head) (r : Reading) (bytes : List ℕ) (i : ℕ) (so_far : later i (head r (drop i bytes)) ≡ all) where
   -- the byte at i, and what is behind it
-  at : i < length bytes → later i (after_step (step r (get_or bytes i 0)) (λ t. head t (drop (i + 1) bytes))) ≡ head start bytes
+  at : i < length bytes → later i (after_step (step r (get_or bytes i 0)) (λ t. head t (drop (i + 1) bytes))) ≡ all
   at inside = ap (λ (bs : List ℕ). later i (head r bs)) (sym (drop_more bytes i 0 inside)) ∙ so_far
 
   pub walk_goes : (t : Reading) → i < length bytes → step r (get_or bytes i 0) ≡ Goes t
-      → later (i + 1) (head t (drop (i + 1) bytes)) ≡ head start bytes
+      → later (i + 1) (head t (drop (i + 1) bytes)) ≡ all
   walk_goes t inside e =
       sym (later-later i 1 (head t (drop (i + 1) bytes)))
       ∙ ap (λ s. later i (after_step s (λ t. head t (drop (i + 1) bytes)))) (sym e) ∙ at inside
 
-  pub walk_ends : (n : ℕ) → i < length bytes → step r (get_or bytes i 0) ≡ Ends n → heads.Ends n (i + 1) ≡ head start bytes
+  pub walk_ends : (n : ℕ) → i < length bytes → step r (get_or bytes i 0) ≡ Ends n → heads.Ends n (i + 1) ≡ all
   walk_ends n inside e = ap (λ s. later i (after_step s (λ t. head t (drop (i + 1) bytes)))) (sym e) ∙ at inside
 
-  pub walk_refused : (f : FrameFault) → i < length bytes → step r (get_or bytes i 0) ≡ Refused f → heads.Refused f i ≡ head start bytes
+  pub walk_refused : (f : FrameFault) → i < length bytes → step r (get_or bytes i 0) ≡ Refused f
+      → heads.Refused f i ≡ all
   walk_refused f inside e =
-      ap (λ (k : ℕ). heads.Refused f k) (omega arith) ∙ ap (λ s. later i (after_step s (λ t. head t (drop (i + 1) bytes)))) (sym e) ∙ at inside
+      ap (λ (k : ℕ). heads.Refused f k) (omega arith) ∙ ap
+      (λ s. later i (after_step s (λ t. head t (drop (i + 1) bytes)))) (sym e) ∙ at inside
 
-  pub walk_done : length bytes ≤ i → heads.Reads r ≡ head start bytes
+  pub walk_done : length bytes ≤ i → heads.Reads r ≡ all
   walk_done over = ap (λ (bs : List ℕ). later i (head r bs)) (sym (drop_all i bytes over)) ∙ so_far
 
 -- What is said of bytes in two parts is what the first says, read on.
@@ -62,7 +65,8 @@ pub head-within : (r : Reading) (xs : List ℕ) (n h : ℕ) → head r xs ≡ he
 head-within r [] n h e = absurd cc
 head-within r (x ∷ xs) n h e = by (step r x) (λ t m k. head-within t xs m k) e
   where
-    through : (rest : Head) → ((m k : ℕ) → rest ≡ heads.Ends m k → (0 < k) × (k ≤ length xs)) → later 1 rest ≡ heads.Ends n h
+    through : (rest : Head) → ((m k : ℕ) → rest ≡ heads.Ends m k → (0 < k) × (k ≤ length xs))
+        → later 1 rest ≡ heads.Ends n h
         → (0 < h) × (h ≤ suc (length xs))
     through (heads.Reads t) inside e = absurd cc
     through (heads.Ends m k) inside e =
@@ -82,7 +86,8 @@ pub head-refused : (r : Reading) (xs : List ℕ) (f : FrameFault) (p : ℕ) → 
 head-refused r [] f p e = absurd cc
 head-refused r (x ∷ xs) f p e = by (step r x) (λ t g q. head-refused t xs g q) e
   where
-    through : (rest : Head) → ((g : FrameFault) (q : ℕ) → rest ≡ heads.Refused g q → q < length xs) → later 1 rest ≡ heads.Refused f p → p < suc (length xs)
+    through : (rest : Head) → ((g : FrameFault) (q : ℕ) → rest ≡ heads.Refused g q → q < length xs)
+        → later 1 rest ≡ heads.Refused f p → p < suc (length xs)
     through (heads.Reads t) inside e = absurd cc
     through (heads.Ends n h) inside e = absurd cc
     through (heads.Refused g q) inside e =

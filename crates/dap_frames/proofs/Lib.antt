@@ -7,3 +7,4 @@ pub mod FrameLaws
 pub mod Unfinished
 pub mod Causes
 pub mod Refusals
+pub mod UsualLines

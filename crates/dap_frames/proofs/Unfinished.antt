@@ -1,9 +1,12 @@
 -- What waits can go on to be a frame; what is refused can't, and what stands before it can.
-use Rattle.std.proofs.Common.{◌≡◌, ℕ, suc, ◌+◌, ◌-◌, ◌<◌, ◌≤◌, Bool, true, false, cond, ltb, List, [], ◌∷◌, ◌++◌, length, take, drop, replicate, Option, Some, None, refl, sym, ap, subst, ◌∙◌, arith, inl, inr, append_assoc}
+use Rattle.std.proofs.Common.{◌≡◌, ℕ, suc, ◌+◌, ◌-◌, ◌<◌, ◌≤◌, Bool, true, false, cond, ltb, List, [], ◌∷◌, ◌++◌}
+use Rattle.std.proofs.Common.{length, take, drop, replicate, Option, Some, None, refl, sym, ap, subst, ◌∙◌, arith, inl}
+use Rattle.std.proofs.Common.{inr, append_assoc}
 use Rattle.std.specs.Prelude.{codes}
 use Rattle.std.specs.Str.Parse.{digits_value}
 use Rattle.std.proofs.lemmas.Bool.{ltb-true, lt-ltb, eqb-true, cases_Bool, cases_eq}
-use Rattle.std.proofs.lemmas.List.{append-nil, take-take, take_all, length-append, length-take, length-replicate, nil_from_length}
+use Rattle.std.proofs.lemmas.List.{append-nil, take-take, take_all, length-append, length-take, length-replicate}
+use Rattle.std.proofs.lemmas.List.{nil_from_length}
 use Rattle.wire_core.specs.Streams.{Front, waits, whole, faulty}
 use Rattle.dap_frames.specs.declared.fault.FrameFault.{FrameFault}
 use Rattle.dap_frames.specs.declared.header.Reading.{Reading}
@@ -13,7 +16,8 @@ use Rattle.dap_frames.specs.declared.header.Step.TheVariants.{Goes, Ends, Refuse
 use Rattle.dap_frames.specs.declared.header.Head.{Head}
 use Rattle.dap_frames.specs.declared.header.Head.TheVariants as heads
 use Rattle.dap_frames.specs.Reading.{step, after_step, head, later, onward, is_length_name, behind_name, next_match}
-use Rattle.dap_frames.specs.Frames.{Frame, IsLongHeader, IsFrame, IsPart, IsUnfinished, HasNoFrame, IsRefused, header_of, front_by, frame_front}
+use Rattle.dap_frames.specs.Frames.{Frame, IsLongHeader, IsFrame, IsPart, IsUnfinished, HasNoFrame, IsRefused}
+use Rattle.dap_frames.specs.Frames.{header_of, front_by, frame_front}
 use Rattle.dap_frames.proofs.Heads.{head-append, head-refused}
 use Rattle.dap_frames.proofs.Lines.{header-read}
 use Rattle.dap_frames.proofs.LinesBack.{IsFront, Next, same_line, next_line, step-front, header-is}
@@ -34,7 +38,9 @@ leads r t b goes e = record {
   text = b ∷ e.text;
   some = omega arith;
   value = e.value;
-  ends = ap (λ s. after_step s (λ u. head u e.text)) goes ∙ ap (later 1) e.ends ∙ ap (λ (k : ℕ). heads.Ends e.value k) (omega arith);
+  ends =
+      ap (λ s. after_step s (λ u. head u e.text)) goes ∙ ap (later 1) e.ends ∙ ap (λ (k : ℕ). heads.Ends e.value k)
+      (omega arith);
 }
 
 line-ending : (said : Option ℕ) → Ending (Line said)
@@ -59,7 +65,8 @@ name-ending said (Some k) =
     elim (cases_Bool (is_length_name (Some k))) [
       | inl says ↦
           leads (Name said (Some k)) (Name said None) 120
-          (ap (λ (j : ℕ). Goes (Name said (next_match (Some j) 120))) (eqb-true k 14 says)) (other-ending said None refl)
+          (ap (λ (j : ℕ). Goes (Name said (next_match (Some j) 120))) (eqb-true k 14 says))
+          (other-ending said None refl)
       | inr none ↦ other-ending said (Some k) none
     ]
 
@@ -72,7 +79,8 @@ digits-ending count value empty =
           (leads (Digits 1 0) (LineEnd (Some 0)) 13 refl (line-end-ending (Some 0)))
       | inr some ↦
           let more : 0 < count = omega arith in
-          leads (Digits count value) (LineEnd (Some value)) 13 (digit-end count value more) (line-end-ending (Some value))
+          leads (Digits count value) (LineEnd (Some value)) 13 (digit-end count value more)
+          (line-end-ending (Some value))
     ]
   where
     digit-end : (c v : ℕ) → 0 < c → step (Digits c v) 13 ≡ Goes (LineEnd (Some v))
@@ -96,7 +104,8 @@ record Reached (r : Reading) : Type 0 where
   front : List ℕ
   is : IsFront r said front
 
-reached : (xs : List ℕ) (r t : Reading) (said : Option ℕ) (front : List ℕ) → IsFront r said front → head r xs ≡ heads.Reads t → Reached t
+reached : (xs : List ℕ) (r t : Reading) (said : Option ℕ) (front : List ℕ) → IsFront r said front
+    → head r xs ≡ heads.Reads t → Reached t
 reached [] r t said front is e =
     let same : r ≡ t = cc in
     subst (λ (u : Reading). Reached u) same (record { said = said; front = front; is = is })
@@ -108,12 +117,15 @@ reached (x ∷ xs) r t said front is e = by (step r x) refl e (λ u s f. reached
     inner (heads.Refused f p) e = absurd cc
 
     next : (u : Reading) → Next u said (front ++ x ∷ []) → head u xs ≡ heads.Reads t
-        → ((v : Reading) (s : Option ℕ) (f : List ℕ) → IsFront v s f → head v xs ≡ heads.Reads t → Reached t) → Reached t
+        → ((v : Reading) (s : Option ℕ) (f : List ℕ) → IsFront v s f → head v xs ≡ heads.Reads t → Reached t)
+        → Reached t
     next u (same_line is_front) e rest = rest u said (front ++ x ∷ []) is_front e
-    next u (next_line after line_is is_line) e rest = rest (Line after) after [] (refl, refl) (ap (λ (v : Reading). head v xs) (sym line_is) ∙ e)
+    next u (next_line after line_is is_line) e rest =
+        rest (Line after) after [] (refl, refl) (ap (λ (v : Reading). head v xs) (sym line_is) ∙ e)
 
     by : (s : Step) → step r x ≡ s → after_step s (λ u. head u xs) ≡ heads.Reads t
-        → ((v : Reading) (s : Option ℕ) (f : List ℕ) → IsFront v s f → head v xs ≡ heads.Reads t → Reached t) → Reached t
+        → ((v : Reading) (s : Option ℕ) (f : List ℕ) → IsFront v s f → head v xs ≡ heads.Reads t → Reached t)
+        → Reached t
     by (Goes u) goes e rest = next u (step-front r u x said front is goes) (inner (head u xs) e) rest
     by (Ends n) goes e rest = absurd cc
     by (Refused f) goes e rest = absurd cc
@@ -121,12 +133,15 @@ reached (x ∷ xs) r t said front is e = by (step r x) refl e (λ u s f. reached
 -- ---- parts of frames
 
 -- bytes that are a header, all of them
-all-header : (bytes : List ℕ) (value : ℕ) → head (Line None) bytes ≡ heads.Ends value (length bytes) → IsLongHeader bytes value
+all-header : (bytes : List ℕ) (value : ℕ) → head (Line None) bytes ≡ heads.Ends value (length bytes)
+    → IsLongHeader bytes value
 all-header bytes value e =
     let found = header-is bytes value (length bytes) e in
     let len = found.len in
-    let none : found.rest ≡ [] = nil_from_length found.rest (omega (arith, ap length found.parts, length-append found.header found.rest)) in
-    let same : found.header ≡ bytes = sym (found.parts ∙ ap (λ (l : List ℕ). found.header ++ l) none ∙ append-nil found.header) in
+    let none : found.rest ≡ [] =
+    nil_from_length found.rest (omega (arith, ap length found.parts, length-append found.header found.rest)) in
+    let same : found.header ≡ bytes =
+    sym (found.parts ∙ ap (λ (l : List ℕ). found.header ++ l) none ∙ append-nil found.header) in
     subst (λ (l : List ℕ). IsLongHeader l value) same found.is_header
 
 -- what is still read is a part of a frame with as many zeros as its body has
@@ -138,7 +153,8 @@ part-of-reads bytes r e =
     let some = last.some in
     let all : IsLongHeader (bytes ++ last.text) last.value =
     all-header (bytes ++ last.text) last.value
-    (head-append (Line None) bytes last.text ∙ ap (λ (h : Head). onward (length bytes) h last.text) e ∙ ap (later (length bytes)) last.ends
+    (head-append (Line None) bytes last.text ∙ ap (λ (h : Head). onward (length bytes) h last.text) e ∙ ap
+    (later (length bytes)) last.ends
     ∙ ap (λ (k : ℕ). heads.Ends last.value k) (sym (length-append bytes last.text))) in
     record {
       more = last.text ++ zeros;
@@ -157,13 +173,16 @@ part-of-body bytes n h e short =
     let missing : ℕ = n - length header.rest in
     let zeros : List ℕ = replicate missing 0 in
     let count : length zeros ≡ missing = length-replicate missing 0 in
-    let here : length bytes ≡ length header.header + length header.rest = ap length header.parts ∙ length-append header.header header.rest in
+    let here : length bytes ≡ length header.header + length header.rest =
+    ap length header.parts ∙ length-append header.header header.rest in
     record {
       more = zeros;
       some = omega arith;
       header = header.header;
       body = header.rest ++ zeros;
-      is_header = subst (λ (k : ℕ). IsLongHeader header.header k) (omega (arith, length-append header.rest zeros)) header.is_header.is_long;
+      is_header =
+          subst (λ (k : ℕ). IsLongHeader header.header k) (omega (arith, length-append header.rest zeros))
+          header.is_header.is_long;
       parts = ap (λ (l : List ℕ). l ++ zeros) header.parts ∙ append_assoc header.header header.rest zeros;
     }
 
@@ -173,7 +192,8 @@ pub waits-is : (bytes : List ℕ) → frame_front bytes ≡ waits → IsUnfinish
 unfolding frame_front
 waits-is bytes e = by (header_of bytes) refl e
   where
-    found : (n h : ℕ) (short : Bool) → header_of bytes ≡ heads.Ends n h → ltb (length bytes) (h + n) ≡ short → (m : Frame) (k : ℕ)
+    found : (n h : ℕ) (short : Bool) → header_of bytes ≡ heads.Ends n h → ltb (length bytes) (h + n) ≡ short
+        → (m : Frame) (k : ℕ)
         → (let it : Front Frame FrameFault = cond short waits (whole m k) in it ≡ waits) → IsUnfinished bytes
     found n h true says test m k e =
         let header = bounded-is bytes n h says in
@@ -201,7 +221,8 @@ ends-one : (m n h k : ℕ) → heads.Ends m h ≡ heads.Ends n k → (m ≡ n) �
 ends-one m n h k e = (cc, cc)
 
 -- a header that ended in the front is that of the whole
-same-header : (bytes more : List ℕ) (p : IsPart bytes) (n h : ℕ) → head (Line None) bytes ≡ heads.Ends n h → (n ≡ length p.body) × (h ≡ length p.header)
+same-header : (bytes more : List ℕ) (p : IsPart bytes) (n h : ℕ) → head (Line None) bytes ≡ heads.Ends n h
+    → (n ≡ length p.body) × (h ≡ length p.header)
 same-header bytes more p n h e =
     ends-one n (length p.body) h (length p.header)
     (sym (head-append (Line None) bytes p.more ∙ ap (λ (x : Head). onward (length bytes) x p.more) e)
@@ -218,7 +239,8 @@ waits-from bytes u =
       | inl few ↦ by-size few (header_of bytes) refl
       | inr h ↦
           let says : header_of bytes ≡ heads.Ends h.2 (length h.0) = ap header_of h.4 ∙ bounded-read h.0 h.2 h.1 h.3 in
-          let raw : head (Line None) bytes ≡ heads.Ends h.2 (length h.0) = ap (head (Line None)) h.4 ∙ header-read h.0 h.2 h.1 h.3.is_long in
+          let raw : head (Line None) bytes ≡ heads.Ends h.2 (length h.0) =
+          ap (head (Line None)) h.4 ∙ header-read h.0 h.2 h.1 h.3.is_long in
           let same = same-header bytes [] u.is_part h.2 (length h.0) raw in
           front-short bytes h.2 (length h.0) says (omega (arith, same.0, same.1, part-size bytes u.is_part))
     ]
@@ -226,14 +248,18 @@ waits-from bytes u =
     by-size : length bytes ≤ 4096 → (x : Head) → header_of bytes ≡ x → frame_front bytes ≡ waits
     by-size few (heads.Reads r) e = front-reads bytes r e
     by-size few (heads.Ends n h) e =
-        let raw : head (Line None) bytes ≡ heads.Ends n h = ap (head (Line None)) (sym (take_all 4096 bytes few)) ∙ ends-is bytes n h e in
+        let raw : head (Line None) bytes ≡ heads.Ends n h =
+        ap (head (Line None)) (sym (take_all 4096 bytes few)) ∙ ends-is bytes n h e in
         let same = same-header bytes [] u.is_part n h raw in
         front-short bytes n h e (omega (arith, same.0, same.1, part-size bytes u.is_part))
     by-size few (heads.Refused f p) e =
         elim (refused-is bytes f p e) [
           | inl says ↦
-              let raw : head (Line None) bytes ≡ heads.Refused f p = ap (head (Line None)) (sym (take_all 4096 bytes few)) ∙ says in
-              absurd (clash f p (sym (head-append (Line None) bytes u.is_part.more ∙ ap (λ (x : Head). onward (length bytes) x u.is_part.more) raw)
+              let raw : head (Line None) bytes ≡ heads.Refused f p =
+              ap (head (Line None)) (sym (take_all 4096 bytes few)) ∙ says in
+              absurd (clash f p
+              (sym (head-append (Line None) bytes u.is_part.more ∙ ap
+              (λ (x : Head). onward (length bytes) x u.is_part.more) raw)
               ∙ long-read (bytes ++ u.is_part.more) u.is_part.header u.is_part.body [] u.is_part.is_header
               (u.is_part.parts ∙ sym (append-nil (u.is_part.header ++ u.is_part.body)))))
           | inr late ↦ absurd (omega (arith, late.2))
@@ -271,7 +297,8 @@ prefix (x ∷ xs) r f p e = by (step r x) refl e (λ t g q. prefix xs t g q)
             }
 
     through : (t : Reading) (h : Head) → step r x ≡ Goes t → head t xs ≡ h → later 1 h ≡ heads.Refused f p
-        → ((u : Reading) (g : FrameFault) (q : ℕ) → head u xs ≡ heads.Refused g q → Prefix u xs g q) → Prefix r (x ∷ xs) f p
+        → ((u : Reading) (g : FrameFault) (q : ℕ) → head u xs ≡ heads.Refused g q → Prefix u xs g q)
+        → Prefix r (x ∷ xs) f p
     through t (heads.Reads s) goes is e rest = absurd cc
     through t (heads.Ends n h) goes is e rest = absurd cc
     through t (heads.Refused g q) goes is e rest =
@@ -280,7 +307,8 @@ prefix (x ∷ xs) r f p e = by (step r x) refl e (λ t g q. prefix xs t g q)
         deeper t q goes place (rest t f q (is ∙ ap (λ (k : FrameFault). heads.Refused k q) fault))
 
     by : (s : Step) → step r x ≡ s → after_step s (λ u. head u xs) ≡ heads.Refused f p
-        → ((u : Reading) (g : FrameFault) (q : ℕ) → head u xs ≡ heads.Refused g q → Prefix u xs g q) → Prefix r (x ∷ xs) f p
+        → ((u : Reading) (g : FrameFault) (q : ℕ) → head u xs ≡ heads.Refused g q → Prefix u xs g q)
+        → Prefix r (x ∷ xs) f p
     by (Goes t) goes e rest = through t (head t xs) goes refl e rest
     by (Ends n) goes e rest = absurd cc
     by (Refused g) goes e rest =
@@ -289,7 +317,9 @@ prefix (x ∷ xs) r f p e = by (step r x) refl e (λ t g q. prefix xs t g q)
         record {
           state = r;
           before = ap (λ (k : ℕ). head r (take k (x ∷ xs))) (sym place);
-          with_it = ap (λ (k : ℕ). head r (take (k + 1) (x ∷ xs))) (sym place) ∙ ap (λ s. after_step s (λ u. head u [])) goes ∙ e;
+          with_it =
+              ap (λ (k : ℕ). head r (take (k + 1) (x ∷ xs))) (sym place) ∙ ap (λ s. after_step s (λ u. head u []))
+              goes ∙ e;
         }
 
 -- nothing that begins with a refused byte is a frame
@@ -318,12 +348,14 @@ refusal-is bytes f p e =
       | inr late ↦
           record {
             here = omega (arith, late.2, late.4);
-            before = subst (λ (k : ℕ). IsPart (take k bytes)) (sym late.4) (part-of-reads (take 4096 bytes) late.0 late.1);
+            before =
+                subst (λ (k : ℕ). IsPart (take k bytes)) (sym late.4) (part-of-reads (take 4096 bytes) late.0 late.1);
             why = inl (
               late.3,
               late.4,
               λ header rest n is parts.
-                  clash (sym late.1 ∙ ends-is bytes n (length header) (ap header_of parts ∙ bounded-read header n rest is)),
+                  clash (sym late.1 ∙ ends-is bytes n (length header)
+                  (ap header_of parts ∙ bounded-read header n rest is)),
             );
           }
     ]
@@ -334,7 +366,8 @@ refusal-is bytes f p e =
 -- ---- two frames
 
 -- a frame stands at the front of bytes that begin with it
-frame-here : (text rest body : List ℕ) → IsFrame text body → (m : Frame) × (frame_front (text ++ rest) ≡ whole m (length text))
+frame-here : (text rest body : List ℕ) → IsFrame text body
+    → (m : Frame) × (frame_front (text ++ rest) ≡ whole m (length text))
 frame-here text rest body is =
     let frame : Frame = record { header = length is.header; body = body } in
     let size : length text ≡ length is.header + length body = ap length is.parts ∙ length-append is.header body in (
@@ -355,7 +388,8 @@ no-prefix text more body other first second =
     let a = frame-here text more body first in
     let b = frame-here (text ++ more) [] other second in
     let same : length text ≡ length (text ++ more) =
-    same-size a.0 b.0 (length text) (length (text ++ more)) (sym a.1 ∙ ap frame_front (sym (append-nil (text ++ more))) ∙ b.1) in
+    same-size a.0 b.0 (length text) (length (text ++ more))
+    (sym a.1 ∙ ap frame_front (sym (append-nil (text ++ more))) ∙ b.1) in
     nil_from_length more (omega (arith, length-append text more))
   where
     same-size : (m k : Frame) (n l : ℕ) → (let it : Front Frame FrameFault = whole m n in it ≡ whole k l) → n ≡ l

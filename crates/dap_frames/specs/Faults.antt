@@ -5,7 +5,8 @@ use Rattle.std.specs.List.{AllByRecursion}
 use Rattle.std.specs.Str.Parse.{AllDigits, digits_value}
 use Rattle.wire_core.specs.Streams.{joined}
 use Rattle.dap_frames.specs.declared.fault.FrameFault.{FrameFault}
-use Rattle.dap_frames.specs.declared.fault.FrameFault.TheVariants.{HeaderTooLong, NoLength, TwoLengths, TooLong, BadLength, BadHeader}
+use Rattle.dap_frames.specs.declared.fault.FrameFault.TheVariants.{HeaderTooLong, NoLength, TwoLengths, TooLong}
+use Rattle.dap_frames.specs.declared.fault.FrameFault.TheVariants.{BadLength, BadHeader}
 use Rattle.dap_frames.specs.Frames.{IsName, IsLengthName, IsOtherLine, AreLines}
 
 -- `0` to `9`
@@ -41,7 +42,8 @@ pub record IsInLength (before : List ℕ) (digits : List ℕ) : Type 0 where
   pub short : length digits ≤ 10
   pub bounded : digits_value 10 digits ≤ 16777216
 
--- No byte of a length: no digit and no blank in front of the first, neither a digit nor `\r` behind one, or an eleventh.
+-- No byte of a length: no digit and no blank in front of the first, neither a digit nor `\r` behind one, or an
+-- eleventh.
 abbrev pub IsNoneOfLength : List ℕ → ℕ → Type 0
 IsNoneOfLength [] byte = (¬ IsDigit byte) × (byte ≢ 32)
 IsNoneOfLength (d ∷ ds) byte = ((¬ IsDigit byte) × (byte ≢ 13)) ⊎ (IsDigit byte × (length (d ∷ ds) ≡ 10))
@@ -53,7 +55,8 @@ abbrev pub Applies : FrameFault → List ℕ → ℕ → Type 0
 Applies HeaderTooLong before byte = length before ≡ 4096
 Applies NoLength before byte = IsUnsaid before × (byte ≡ 13)
 Applies TwoLengths before byte = IsSecondName before × (byte ≡ 58)
-Applies TooLong before byte = (digits : List ℕ) × IsInLength before digits × IsDigit byte × (16777216 < digits_value 10 (digits ++ byte ∷ []))
+Applies TooLong before byte =
+    (digits : List ℕ) × IsInLength before digits × IsDigit byte × (16777216 < digits_value 10 (digits ++ byte ∷ []))
 Applies BadLength before byte = (digits : List ℕ) × IsInLength before digits × IsNoneOfLength digits byte
 Applies BadHeader before byte = Unit {0}
 

@@ -1,5 +1,6 @@
 -- The frames of a client's stream (DAP overview, Base protocol).
-use Rattle.std.specs.Prelude.{◌≡◌, ◌≢◌, ℕ, ◌+◌, ◌<◌, ◌≤◌, ◌⊎◌, List, [], ◌∷◌, ◌++◌, length, take, drop, map, replicate, nat_lt, if◌then◌else◌, codes, decimal, Option, Some, None}
+use Rattle.std.specs.Prelude.{◌≡◌, ◌≢◌, ℕ, ◌+◌, ◌<◌, ◌≤◌, ◌⊎◌, List, [], ◌∷◌, ◌++◌, length, take, drop, map, replicate}
+use Rattle.std.specs.Prelude.{nat_lt, if◌then◌else◌, codes, decimal, Option, Some, None}
 use Rattle.std.specs.Char.{to_ascii_lowercase}
 use Rattle.std.specs.List.{AllByRecursion}
 use Rattle.std.specs.Str.Parse.{IsNumeral, digits_value}
@@ -135,9 +136,10 @@ pub record IsUnfinished (bytes : List ℕ) : Type 0 where
   pub in_bounds : (length bytes ≤ 4096)
       ⊎ ((header : List ℕ) × (rest : List ℕ) × (n : ℕ) × IsHeader header n × (bytes ≡ header ++ rest))
 
--- The first byte that is refused: what stands before it is the beginning of a frame, and with it, it is of none; or it is
--- the 4,097th, and no header ended before it.
+-- The first byte that is refused: what stands before it is the beginning of a frame, and with it, it is of none; or it
+-- is the 4,097th, and no header ended before it.
 pub record IsRefused (bytes : List ℕ) (fault : FrameFault) (place : ℕ) : Type 0 where
   pub here : place < length bytes
   pub before : IsPart (take place bytes)
-  pub why : ((fault ≡ HeaderTooLong) × (place ≡ 4096) × HasNoHeader bytes) ⊎ ((place < 4096) × HasNoFrame (take (place + 1) bytes))
+  pub why : ((fault ≡ HeaderTooLong) × (place ≡ 4096) × HasNoHeader bytes)
+      ⊎ ((place < 4096) × HasNoFrame (take (place + 1) bytes))

@@ -1,5 +1,6 @@
 -- How a header is read, byte by byte, and at which byte it is refused. `IsHeader` says what is read so.
-use Rattle.std.specs.Prelude.{ℕ, ◌+◌, ◌-◌, ◌*◌, Bool, false, ◌&&◌, not, ◌==◌, nat_lt, nat_le, if◌then◌else◌, List, [], ◌∷◌, slice_index, Option, Some, None}
+use Rattle.std.specs.Prelude.{ℕ, ◌+◌, ◌-◌, ◌*◌, Bool, false, ◌&&◌, not, ◌==◌, nat_lt, nat_le, if◌then◌else◌, List, []}
+use Rattle.std.specs.Prelude.{◌∷◌, slice_index, Option, Some, None}
 use Rattle.std.specs.Char.{to_ascii_lowercase}
 use Rattle.dap_frames.specs.declared.fault.FrameFault.TheVariants.{NoLength, TwoLengths, BadLength, TooLong, BadHeader}
 use Rattle.dap_frames.specs.declared.header.Reading.{Reading}
@@ -25,7 +26,8 @@ with_digit value b = value * 10 + (b - 48)
 -- how many bytes of `content-length` a name has with one more byte, where it has no others
 abbrev pub next_match : Option ℕ → ℕ → Option ℕ
 next_match None b = None
-next_match (Some read) b = if nat_lt read 14 && (slice_index LENGTH_NAME read == to_ascii_lowercase b) then Some (read + 1) else None
+next_match (Some read) b =
+    if nat_lt read 14 && (slice_index LENGTH_NAME read == to_ascii_lowercase b) then Some (read + 1) else None
 
 abbrev pub is_length_name : Option ℕ → Bool
 is_length_name None = false

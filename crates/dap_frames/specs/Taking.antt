@@ -1,5 +1,6 @@
 -- What a cutter keeps and answers.
-use Rattle.std.specs.Prelude.{◌≡◌, ℕ, ◌+◌, ◌≤◌, List, length, take, drop, Ok, Err, None, Option, Result, IsOkAnd, IsSomeAnd}
+use Rattle.std.specs.Prelude.{◌≡◌, ℕ, ◌+◌, ◌≤◌, List, length, take, drop, Ok, Err, None, Option, Result, IsOkAnd}
+use Rattle.std.specs.Prelude.{IsSomeAnd}
 use Rattle.wire_core.specs.Streams.{Front, waits, whole, faulty, Uncut}
 use Rattle.dap_frames.specs.declared.fault.FrameFault.{FrameFault}
 use Rattle.dap_frames.specs.declared.fault.FrameTrouble.{FrameTrouble}
@@ -18,13 +19,15 @@ pub record IsRead (head : Head) (read : ℕ) (pending : List ℕ) : Type 0 where
 abbrev pub IsFound : Found → Front Frame FrameFault → List ℕ → Type 0
 IsFound Waits front bytes = front ≡ waits
 IsFound (Whole header size) front bytes =
-    (front ≡ whole (record { header = header; body = drop header (take size bytes) }) size) × (header ≤ size) × (size ≤ length bytes)
+    (front ≡ whole (record { header = header; body = drop header (take size bytes) }) size) × (header ≤ size)
+    × (size ≤ length bytes)
 IsFound (Refused fault behind) front bytes = (front ≡ faulty fault behind) × (behind ≤ length bytes)
 
 -- a body and its offset, nothing, or a fault with its offset, by what stands at the front
 abbrev pub IsAnswer : Front Frame FrameFault → ℕ → Result (Option Body) FrameTrouble → Type 0
 IsAnswer waits at result = result ≡ Ok None
-IsAnswer (whole frame n) at result = IsOkAnd result (λ found. IsSomeAnd found (λ body. (body.at ≡ at + frame.header) × (body.bytes.now ≡ frame.body)))
+IsAnswer (whole frame n) at result =
+    IsOkAnd result (λ found. IsSomeAnd found (λ body. (body.at ≡ at + frame.header) × (body.bytes.now ≡ frame.body)))
 IsAnswer (faulty fault behind) at result = result ≡ Err (record { fault = fault; at = at + behind })
 
 -- the answer of a cutter with these bytes

@@ -22,7 +22,8 @@ pub struct Body<'a> {
 
 /// Cuts a client's stream, which comes in any pieces, into the bodies of its frames (DAP overview, Base protocol).
 ///
-/// Each byte of a header is read once. Contracts see the bytes that were fed and not handed out, with their offset.
+/// No byte of a header is read again when the next piece comes. Contracts see the bytes that were fed and not handed
+/// out, with their offset.
 #[derive(Debug, Drop)]
 pub struct Cutter {
     stream: StreamBuffer,
@@ -66,7 +67,8 @@ impl Cutter {
     /// front. After a trouble the same trouble comes again.
     pub fn take(&mut self) -> Result<Option<Body<'_>>, FrameTrouble>
         ensures taken { IsTaken self.old result }
-        ensures* after_borrow { sem 𝓛 (Rests the_row self.entry (λ new. new ≡ left (frame_front self.old.pending) self.old)) }
+        ensures* after_borrow { sem 𝓛
+            (Rests the_row self.entry (λ new. new ≡ left (frame_front self.old.pending) self.old)) }
     {
         let at = self.stream.at();
         match look(&mut self.head, &mut self.read, self.stream.pending()) {

@@ -1,7 +1,9 @@
-ghost use Rattle.std.specs.Prelude.{◌≡◌, ◌+◌, ◌^◌, ◌<◌, ◌≤◌, length};
-ghost use Rattle.dap_frames.specs.Reading.{step, end_of, behind_name, next_match, is_name_byte, is_length_name, more_digits, head, onward};
+ghost use Rattle.std.specs.Prelude.{◌≡◌, ◌+◌, ◌^◌, ◌<◌, ◌≤◌, length, drop};
+ghost use Rattle.dap_frames.specs.Reading.{step, end_of, behind_name, next_match, is_name_byte, is_length_name};
+ghost use Rattle.dap_frames.specs.Reading.{more_digits, head, later, onward};
 
 use crate::fault::FrameFault;
+use crate::usual::past_usual;
 
 /// The name of the line that says how long the body is, in lower case.
 pub const LENGTH_NAME: [u8; 14] = *b"content-length";
@@ -204,9 +206,18 @@ fn is_length_name(matched: Option<u8>) -> bool
 fn head_of(start: Reading, bytes: &[u8]) -> Head
     ensures { result ≡ head start bytes.now }
 {
+    let past = past_usual(start, bytes);
+    head_behind(past.reading, past.count, bytes)
+}
+
+// What is said of the bytes behind the first `from`, up to which `start` was read.
+fn head_behind(start: Reading, from: usize, bytes: &[u8]) -> Head
+    requires { from ≤ length bytes.now }
+    ensures { result ≡ later from (head start (drop from bytes.now)) }
+{
     let mut reading = start;
-    for (i, byte) in bytes.iter().enumerate() {
-        match step_of(reading, *byte) {
+    for i in from..bytes.len() {
+        match step_of(reading, bytes[i]) {
             Step::Goes(next) => reading = next,
             Step::Ends(length) => return Head::Ends(length, i + 1),
             Step::Refused(fault) => return Head::Refused(fault, i),

@@ -43,14 +43,20 @@ pub fn refused_for_the_first_cause()
 pub fn written_is_found()
     ensures { (body more : List ℕ) → length body ≤ 16777216
         → frame_front (frame_bytes body ++ more)
-        ≡ whole (record { header = length (codes "Content-Length: " ++ decimal (length body) ++ codes "\r\n\r\n"); body = body })
+        ≡ whole
+        (record {
+          header = length (codes "Content-Length: " ++ decimal (length body) ++ codes "\r\n\r\n");
+          body = body;
+        })
         (length (frame_bytes body)) }
 {}
 
 /// In whatever pieces a stream comes, the frames that are handed out are those of the whole stream, and no others are.
 pub fn any_pieces()
-    ensures handed { (pieces : List (List ℕ)) (frames : List (ℕ × Frame)) (left : Uncut) → Reads frame_front uncut pieces frames left
+    ensures handed { (pieces : List (List ℕ)) (frames : List (ℕ × Frame)) (left : Uncut)
+        → Reads frame_front uncut pieces frames left
         → HasNoWhole (frame_front left.pending) → Cuts frame_front (fed uncut (joined pieces)) frames left }
-    ensures only { (stream : Uncut) (frames others : List (ℕ × Frame)) (left rest : Uncut) → Cuts frame_front stream frames left
+    ensures only { (stream : Uncut) (frames others : List (ℕ × Frame)) (left rest : Uncut)
+        → Cuts frame_front stream frames left
         → Cuts frame_front stream others rest → (frames ≡ others) × (left ≡ rest) }
 {}

@@ -8,6 +8,7 @@ mod header;
 pub mod laws;
 #[cfg(test)]
 mod tests;
+mod usual;
 mod writing;
 
 pub use cutter::{Body, Cutter};

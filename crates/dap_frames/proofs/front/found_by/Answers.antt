@@ -11,16 +11,23 @@ returns-in-Reads c = front-reads c.args.pending.now c.in-Reads.field-0 (c.requir
 pub returns-in-Refused : goal.returns-in-Refused
 returns-in-Refused c = (
   front-refused c.args.pending.now c.in-Refused.fault c.in-Refused.place (c.requires.says ∙ c.in-Refused.is),
-  omega (arith, (refused-within c.args.pending.now c.in-Refused.fault c.in-Refused.place (c.requires.says ∙ c.in-Refused.is)).0),
+  omega (
+    arith,
+    (refused-within c.args.pending.now c.in-Refused.fault c.in-Refused.place (c.requires.says ∙ c.in-Refused.is)).0,
+  ),
 )
 
 pub overflow_sub-pending : goal.overflow_sub-pending
-overflow_sub-pending c = (ends-within c.args.pending.now c.in-Ends.length c.in-Ends.header (c.requires.says ∙ c.in-Ends.is)).1
+overflow_sub-pending c =
+    (ends-within c.args.pending.now c.in-Ends.length c.in-Ends.header (c.requires.says ∙ c.in-Ends.is)).1
 
 pub returns-then-pending-header : goal.returns-then-pending-header
 returns-then-pending-header c =
     front-short c.args.pending.now c.in-Ends.length c.in-Ends.header (c.requires.says ∙ c.in-Ends.is)
-    (omega (arith, (ends-within c.args.pending.now c.in-Ends.length c.in-Ends.header (c.requires.says ∙ c.in-Ends.is)).1))
+    (omega (
+      arith,
+      (ends-within c.args.pending.now c.in-Ends.length c.in-Ends.header (c.requires.says ∙ c.in-Ends.is)).1,
+    ))
 
 pub returns-else-pending-header : goal.returns-else-pending-header
 returns-else-pending-header c =
@@ -28,7 +35,8 @@ returns-else-pending-header c =
     (ends-within c.args.pending.now c.in-Ends.length c.in-Ends.header (c.requires.says ∙ c.in-Ends.is)).1 in
     let long : c.in-Ends.header + c.in-Ends.length ≤ length c.args.pending.now = omega arith in (
       front-whole c.args.pending.now c.in-Ends.length c.in-Ends.header (c.requires.says ∙ c.in-Ends.is) long
-          ∙ ap (λ (b : List ℕ). whole (record { header = c.in-Ends.header; body = b }) (c.in-Ends.header + c.in-Ends.length))
+          ∙ ap (λ (b : List ℕ). whole (record { header = c.in-Ends.header; body = b })
+          (c.in-Ends.header + c.in-Ends.length))
           (sym (drop-take c.in-Ends.header c.in-Ends.length c.args.pending.now)),
       omega arith,
       long,

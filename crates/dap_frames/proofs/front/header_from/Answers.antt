@@ -20,5 +20,7 @@ slice_bounds-read_on-start c =
 pub returns : goal.returns
 returns c =
     c.bounded.ensures ∙ ap (bounded_by (length c.args.pending.now)) c.read_on.ensures
-    ∙ ap (λ (e : ℕ). bounded_by (length c.args.pending.now) (onward c.args.read (Reads c.args.reading) (take (e - c.args.read) (drop c.args.read c.args.pending.now)))) c.min-end.ensures
+    ∙ ap (λ (e : ℕ). bounded_by (length c.args.pending.now)
+    (onward c.args.read (Reads c.args.reading) (take (e - c.args.read) (drop c.args.read c.args.pending.now))))
+    c.min-end.ensures
     ∙ (header_more c.args.reading c.args.read c.args.pending.now c.requires.read).1
