@@ -30,7 +30,8 @@ module _ (bytes : List ℕ) where
         lt-ltb (length bytes) 9 few,
       ) refl
 
-  pub front-bad_flags : IsSized bytes → 9 ≤ length bytes → has_kind (flags_of bytes) ≡ false → packet_front bytes ≡ faulty BadFlags 0
+  pub front-bad_flags : IsSized bytes → 9 ≤ length bytes → has_kind (flags_of bytes) ≡ false
+      → packet_front bytes ≡ faulty BadFlags 0
   front-bad_flags sized nine bad =
       rw (
         le-ltb (length bytes) 4 sized.0,
@@ -40,7 +41,8 @@ module _ (bytes : List ℕ) where
         bad,
       ) refl
 
-  pub front-part : IsSized bytes → 9 ≤ length bytes → has_kind (flags_of bytes) ≡ true → length bytes < size_of bytes → packet_front bytes ≡ waits
+  pub front-part : IsSized bytes → 9 ≤ length bytes → has_kind (flags_of bytes) ≡ true → length bytes < size_of bytes
+      → packet_front bytes ≡ waits
   front-part sized nine good few =
       rw (
         le-ltb (length bytes) 4 sized.0,
@@ -78,12 +80,18 @@ module _ (bytes : List ℕ) where
   seen-sized : IsSized bytes → 9 ≤ length bytes → Seen
   seen-sized sized nine =
       elim (cases_Bool (has_kind (flags_of bytes))) [
-        | inl good ↦ elim (cases_lt (length bytes) (size_of bytes)) [ inl few ↦ part sized nine good few | inr enough ↦ all sized good enough ]
+        | inl good ↦
+            elim (cases_lt (length bytes) (size_of bytes)) [
+              | inl few ↦
+                  part sized nine good few
+              | inr enough ↦ all sized good enough
+            ]
         | inr bad ↦ bad_flags sized nine bad
       ]
 
   seen-flags : IsSized bytes → Seen
-  seen-flags sized = elim (cases_lt (length bytes) 9) [ inl few ↦ no_flags sized few | inr nine ↦ seen-sized sized nine ]
+  seen-flags sized =
+      elim (cases_lt (length bytes) 9) [ inl few ↦ no_flags sized few | inr nine ↦ seen-sized sized nine ]
 
   seen-size : 4 ≤ length bytes → Seen
   seen-size four =

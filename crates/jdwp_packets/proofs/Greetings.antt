@@ -1,5 +1,6 @@
 -- The greeting, byte by byte.
-use Rattle.std.proofs.Common.{◌≡◌, ℕ, zero, suc, ◌+◌, ◌<◌, ◌≤◌, Bool, true, false, cond, eqb, List, [], ◌∷◌, ◌++◌, length, get_or, take, drop, refl, sym, ap, subst, ◌∙◌, arith, ◌↔◌}
+use Rattle.std.proofs.Common.{◌≡◌, ℕ, zero, suc, ◌+◌, ◌<◌, ◌≤◌, Bool, true, false, cond, eqb, List, [], ◌∷◌, ◌++◌}
+use Rattle.std.proofs.Common.{length, get_or, take, drop, refl, sym, ap, subst, ◌∙◌, arith, ◌↔◌}
 use Rattle.std.proofs.lemmas.Bool.{eq-eqb, ne_eqb, eqb-true, eqb-false}
 use Rattle.std.proofs.lemmas.List.{drop_more, drop_all}
 use Rattle.wire_core.specs.Streams.{Front, waits, whole, faulty}
@@ -11,13 +12,16 @@ abbrev Greeting : Type 0
 Greeting = Front (Unit {0}) PacketFault
 
 -- The first i bytes are the text's: what is left decides.
-module _ (text bytes : List ℕ) (i : ℕ) (so_far : greeting_from i (drop i text) (drop i bytes) ≡ greeting_from 0 text bytes) where
+module _ (text bytes : List ℕ) (i : ℕ)
+    (so_far : greeting_from i (drop i text) (drop i bytes) ≡ greeting_from 0 text bytes) where
   both : i < length text → i < length bytes
-      → cond (eqb (get_or bytes i 0) (get_or text i 0)) (greeting_from (i + 1) (drop (i + 1) text) (drop (i + 1) bytes)) (faulty BadHandshake i)
+      → cond (eqb (get_or bytes i 0) (get_or text i 0)) (greeting_from (i + 1) (drop (i + 1) text) (drop (i + 1) bytes))
+      (faulty BadHandshake i)
       ≡ greeting_from 0 text bytes
   both inside here =
       sym (ap (λ (hs : List ℕ). greeting_from i hs (drop i bytes)) (drop_more text i 0 inside)
-      ∙ ap (λ (bs : List ℕ). greeting_from i (get_or text i 0 ∷ drop (i + 1) text) bs) (drop_more bytes i 0 here)) ∙ so_far
+      ∙ ap (λ (bs : List ℕ). greeting_from i (get_or text i 0 ∷ drop (i + 1) text) bs) (drop_more bytes i 0 here)) ∙
+      so_far
 
   pub goes : i < length text → i < length bytes → get_or bytes i 0 ≡ get_or text i 0
       → greeting_from (i + 1) (drop (i + 1) text) (drop (i + 1) bytes) ≡ greeting_from 0 text bytes
@@ -25,9 +29,11 @@ module _ (text bytes : List ℕ) (i : ℕ) (so_far : greeting_from i (drop i tex
       ap (λ (b : Bool). cond b (greeting_from (i + 1) (drop (i + 1) text) (drop (i + 1) bytes)) (faulty BadHandshake i))
       (sym (eq-eqb (get_or bytes i 0) (get_or text i 0) same)) ∙ both inside here
 
-  pub differs : i < length text → i < length bytes → (get_or bytes i 0 ≡ get_or text i 0 → ⊥) → greeting_from 0 text bytes ≡ faulty BadHandshake i
+  pub differs : i < length text → i < length bytes → (get_or bytes i 0 ≡ get_or text i 0 → ⊥)
+      → greeting_from 0 text bytes ≡ faulty BadHandshake i
   differs inside here other =
-      sym (ap (λ (b : Bool). cond b (greeting_from (i + 1) (drop (i + 1) text) (drop (i + 1) bytes)) (faulty BadHandshake i))
+      sym (ap (λ (b : Bool). cond b (greeting_from (i + 1) (drop (i + 1) text) (drop (i + 1) bytes))
+      (faulty BadHandshake i))
       (sym (ne_eqb (get_or bytes i 0) (get_or text i 0) other)) ∙ both inside here)
 
   pub unfinished : i < length text → length bytes ≤ i → greeting_from 0 text bytes ≡ waits
@@ -73,7 +79,8 @@ greeted-from k (h ∷ hs) more =
     rw (eq-eqb h h refl) (greeted-from (k + 1) hs more ∙ ap whole_greeting (omega arith))
 
 -- What waits is the beginning of a greeting, and not all of it.
-pub waits-is : (k : ℕ) (text bytes : List ℕ) → greeting_from k text bytes ≡ waits → (more : List ℕ) × (0 < length more) × (bytes ++ more ≡ text)
+pub waits-is : (k : ℕ) (text bytes : List ℕ) → greeting_from k text bytes ≡ waits
+    → (more : List ℕ) × (0 < length more) × (bytes ++ more ≡ text)
 waits-is k [] bytes e = absurd (clash e)
   where
     clash : whole_greeting k ≡ waits → ⊥
@@ -95,7 +102,8 @@ waits-from k [] (m ∷ more) some = refl
 waits-from k (b ∷ bs) more some = rw (eq-eqb b b refl) (waits-from (k + 1) bs more some)
 
 -- What is refused is the first byte that differs.
-pub differs-is : (k : ℕ) (text bytes : List ℕ) (f : PacketFault) (place : ℕ) → greeting_from k text bytes ≡ faulty f place
+pub differs-is : (k : ℕ) (text bytes : List ℕ) (f : PacketFault) (place : ℕ)
+    → greeting_from k text bytes ≡ faulty f place
     → (f ≡ BadHandshake) × (n : ℕ) × (place ≡ k + n) × Differs text bytes n
 differs-is k [] bytes f place e = absurd (clash e)
   where
@@ -108,7 +116,8 @@ differs-is k (h ∷ hs) [] f place e = absurd (clash e)
 differs-is k (h ∷ hs) (b ∷ bs) f place e = by (eqb b h) refl e (differs-is (k + 1) hs bs f place)
   where
     by : (same : Bool) → eqb b h ≡ same → cond same (greeting_from (k + 1) hs bs) (bad k) ≡ faulty f place
-        → (greeting_from (k + 1) hs bs ≡ faulty f place → (f ≡ BadHandshake) × (n : ℕ) × (place ≡ k + 1 + n) × Differs hs bs n)
+        → (greeting_from (k + 1) hs bs ≡ faulty f place → (f ≡ BadHandshake) × (n : ℕ) × (place ≡ k + 1 + n)
+        × Differs hs bs n)
         → (f ≡ BadHandshake) × (n : ℕ) × (place ≡ k + n) × Differs (h ∷ hs) (b ∷ bs) n
     by true same e rest =
         let r = rest e in
@@ -129,7 +138,8 @@ differs-is k (h ∷ hs) (b ∷ bs) f place e = by (eqb b h) refl e (differs-is (
         let at : k ≡ place = cc in
         (sym fault, 0, omega arith, (omega arith, omega arith, refl, eqb-false b h same))
 
-pub differs-from : (k : ℕ) (text bytes : List ℕ) (n : ℕ) → Differs text bytes n → greeting_from k text bytes ≡ faulty BadHandshake (k + n)
+pub differs-from : (k : ℕ) (text bytes : List ℕ) (n : ℕ) → Differs text bytes n
+    → greeting_from k text bytes ≡ faulty BadHandshake (k + n)
 differs-from k [] bytes n d = absurd (omega (arith, d.0))
 differs-from k (h ∷ hs) [] n d = absurd (omega (arith, d.1))
 differs-from k (h ∷ hs) (b ∷ bs) zero d = rw (ne_eqb b h d.3) (ap bad (omega arith))
@@ -155,13 +165,17 @@ handshake-whole bytes n = (
 )
 
 pub handshake-waits : (bytes : List ℕ) → (greeting_front bytes ≡ waits) ↔ IsGreetingPart bytes
-handshake-waits bytes =
-    (waits-is 0 handshake bytes, λ p. ap (λ (text : List ℕ). greeting_from 0 text bytes) (sym p.2) ∙ waits-from 0 bytes p.0 p.1)
+handshake-waits bytes = (
+  waits-is 0 handshake bytes,
+  λ p. ap (λ (text : List ℕ). greeting_from 0 text bytes) (sym p.2) ∙ waits-from 0 bytes
+      p.0 p.1,
+)
 
 pub handshake-refused : (bytes : List ℕ) (f : PacketFault) (place : ℕ) → (greeting_front bytes ≡ faulty f place)
     ↔ ((f ≡ BadHandshake) × Differs handshake bytes place)
 handshake-refused bytes f place = (
   λ e. let d = differs-is 0 handshake bytes f place e in
       (d.0, subst (λ (k : ℕ). Differs handshake bytes k) (omega (arith, d.2)) d.3),
-  λ d. differs-from 0 handshake bytes place d.1 ∙ ap bad (omega arith) ∙ ap (λ (g : PacketFault). faulty g place) (sym d.0),
+  λ d. differs-from 0 handshake bytes place d.1 ∙ ap bad (omega arith) ∙ ap (λ (g : PacketFault). faulty g place)
+      (sym d.0),
 )

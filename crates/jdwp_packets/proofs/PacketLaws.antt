@@ -1,20 +1,28 @@
 -- What stands at the front of a stream is a packet just where a packet is spelled there.
-use Rattle.std.proofs.Common.{◌≡◌, ◌≢◌, ℕ, ◌+◌, ◌^◌, ◌<◌, ◌≤◌, true, false, eqb, List, [], ◌∷◌, ◌++◌, length, get_or, take, drop, refl, sym, ap, subst, ◌∙◌, arith, inl, inr, ◌⊎◌, ◌↔◌, append_assoc}
+use Rattle.std.proofs.Common.{◌≡◌, ◌≢◌, ℕ, ◌+◌, ◌^◌, ◌<◌, ◌≤◌, true, false, eqb, List, [], ◌∷◌, ◌++◌, length, get_or}
+use Rattle.std.proofs.Common.{take, drop, refl, sym, ap, subst, ◌∙◌, arith, inl, inr, ◌⊎◌, ◌↔◌, append_assoc}
 use Rattle.std.specs.Int.{w16, w32, to_be_bytes, from_be_bytes}
 use Rattle.std.proofs.lemmas.Bool.{eqb-true, eq-eqb, ne_eqb, or_cases, cases_lt, both_ways}
-use Rattle.std.proofs.lemmas.List.{length-append, length-drop, length-take, length-take-le, take_at, take-take, take-append-le, take-append-drop, drop-drop, drop_more, get_or_append_left, get_or-take, get_or-drop, get_or_past}
+use Rattle.std.proofs.lemmas.List.{length-append, length-drop, length-take, length-take-le, take_at, take-take}
+use Rattle.std.proofs.lemmas.List.{take-append-le, take-append-drop, drop-drop, drop_more, get_or_append_left}
+use Rattle.std.proofs.lemmas.List.{get_or-take, get_or-drop, get_or_past}
 use Rattle.std.proofs.lemmas.Nat.{be_bytes_2, be_bytes_4, from_be_bytes-to_be_bytes_2, from_be_bytes-to_be_bytes_4}
 use Rattle.wire_core.specs.Streams.{Front, waits, whole, faulty, IsSteady}
 use Rattle.jdwp_packets.specs.declared.fault.PacketFault.{PacketFault}
 use Rattle.jdwp_packets.specs.declared.fault.PacketFault.TheVariants.{ShortLength, TooLong, BadFlags}
-use Rattle.jdwp_packets.specs.Packets.{Packet, command_packet, reply_packet, packet_bytes, Fits, size_of, flags_of, packet_of, packet_front, Begins, AreBytes, IsSized}
-use Rattle.jdwp_packets.proofs.Fronts.{has_kind, front-no_length, front-short, front-long, front-no_flags, front-bad_flags, front-part, front-whole, Seen, no_length, short, long, no_flags, bad_flags, part, all, seen}
+use Rattle.jdwp_packets.specs.Packets.{Packet, command_packet, reply_packet, packet_bytes, Fits, size_of, flags_of}
+use Rattle.jdwp_packets.specs.Packets.{packet_of, packet_front, Begins, AreBytes, IsSized}
+use Rattle.jdwp_packets.proofs.Fronts.{has_kind, front-no_length, front-short, front-long, front-no_flags}
+use Rattle.jdwp_packets.proofs.Fronts.{front-bad_flags, front-part, front-whole, Seen, no_length, short, long, no_flags}
+use Rattle.jdwp_packets.proofs.Fronts.{bad_flags, part, all, seen}
 
 -- ---- what is written
 
 -- the front of a packet's bytes, by its size and its kind
-found : (p : Packet) (more : List ℕ) → size_of (packet_bytes p ++ more) ≡ length (packet_bytes p) → 11 ≤ length (packet_bytes p)
-    → length (packet_bytes p) ≤ 67108864 → has_kind (flags_of (packet_bytes p ++ more)) ≡ true → packet_of (packet_bytes p) ≡ p
+found : (p : Packet) (more : List ℕ) → size_of (packet_bytes p ++ more) ≡ length (packet_bytes p)
+    → 11 ≤ length (packet_bytes p)
+    → length (packet_bytes p) ≤ 67108864 → has_kind (flags_of (packet_bytes p ++ more)) ≡ true
+    → packet_of (packet_bytes p) ≡ p
     → packet_front (packet_bytes p ++ more) ≡ whole p (length (packet_bytes p))
 found p more size least most kind same =
     let bytes : List ℕ = packet_bytes p ++ more in
@@ -22,11 +30,13 @@ found p more size least most kind same =
     let sized : IsSized bytes = (omega arith, omega arith, omega arith) in
     front-whole bytes sized kind (omega arith)
     ∙ ap (λ (n : ℕ). whole (packet_of (take n bytes)) n) size
-    ∙ ap (λ (text : List ℕ). whole (packet_of text) (length (packet_bytes p))) (take_at (packet_bytes p) more (length (packet_bytes p)) refl)
+    ∙ ap (λ (text : List ℕ). whole (packet_of text) (length (packet_bytes p)))
+    (take_at (packet_bytes p) more (length (packet_bytes p)) refl)
     ∙ ap (λ (q : Packet). whole q (length (packet_bytes p))) same
 
 -- A packet that is spelled is found, whatever follows it.
-pub packet-again : (p : Packet) (more : List ℕ) → Fits p → packet_front (packet_bytes p ++ more) ≡ whole p (length (packet_bytes p))
+pub packet-again : (p : Packet) (more : List ℕ) → Fits p
+    → packet_front (packet_bytes p ++ more) ≡ whole p (length (packet_bytes p))
 packet-again (command_packet id set number body) more fits =
     let small : 11 + length body < 2 ^ 32 = omega (arith, fits.3) in
     found (command_packet id set number body) more
@@ -38,7 +48,8 @@ packet-again (reply_packet id error body) more fits =
     found (reply_packet id error body) more
     (from_be_bytes-to_be_bytes_4 (11 + length body) small ∙ omega arith)
     (omega arith) (omega (arith, fits.2)) refl
-    (ap (λ (n : ℕ). reply_packet n (from_be_bytes w16 (to_be_bytes w16 error)) body) (from_be_bytes-to_be_bytes_4 id fits.0)
+    (ap (λ (n : ℕ). reply_packet n (from_be_bytes w16 (to_be_bytes w16 error)) body)
+    (from_be_bytes-to_be_bytes_4 id fits.0)
     ∙ ap (λ (n : ℕ). reply_packet id n body) (from_be_bytes-to_be_bytes_2 error fits.1))
 
 pub packet-found : (bytes : List ℕ) (p : Packet) (n : ℕ) → Begins bytes p n → packet_front bytes ≡ whole p n
@@ -82,7 +93,8 @@ record Spelled (text : List ℕ) : Type 0 where
   bytes : packet_bytes (packet_of text) ≡ text
   fits : Fits (packet_of text)
 
-spelled-command : (text : List ℕ) → AreBytes text → 11 ≤ length text → length text ≤ 67108864 → size_of text ≡ length text → flags_of text ≡ 0 → Spelled text
+spelled-command : (text : List ℕ) → AreBytes text → 11 ≤ length text → length text ≤ 67108864
+    → size_of text ≡ length text → flags_of text ≡ 0 → Spelled text
 spelled-command text are least most size flags =
     let first = four-spelled text are (omega arith) in
     let second = four-spelled (drop 4 text) (AreBytes-drop 4 text are) (omega (arith, length-drop 4 text)) in
@@ -90,20 +102,28 @@ spelled-command text are least most size flags =
     let len : 11 + length body ≡ size_of text = omega (arith, length-drop 11 text) in
     let rest : drop 8 text ≡ 0 ∷ get_or text 9 0 ∷ get_or text 10 0 ∷ body =
     drop_more text 8 0 (omega arith) ∙ ap (λ (b : ℕ). b ∷ drop 9 text) flags
-    ∙ ap (λ (l : List ℕ). 0 ∷ l) (drop_more text 9 0 (omega arith) ∙ ap (λ (l : List ℕ). get_or text 9 0 ∷ l) (drop_more text 10 0 (omega arith))) in
-    let is : packet_of text ≡ command_packet (from_be_bytes w32 (take 4 (drop 4 text))) (get_or text 9 0) (get_or text 10 0) body
+    ∙ ap (λ (l : List ℕ). 0 ∷ l)
+    (drop_more text 9 0 (omega arith) ∙ ap (λ (l : List ℕ). get_or text 9 0 ∷ l)
+    (drop_more text 10 0 (omega arith))) in
+    let is : packet_of text ≡ command_packet (from_be_bytes w32 (take 4 (drop 4 text))) (get_or text 9 0)
+    (get_or text 10 0) body
     = rw (eq-eqb (flags_of text) 0 flags) refl in
     record {
       bytes = ap packet_bytes is
-          ∙ ap (λ (n : ℕ). ((to_be_bytes w32 n ++ to_be_bytes w32 (from_be_bytes w32 (take 4 (drop 4 text)))) ++ 0 ∷ get_or text 9 0 ∷ get_or text 10 0 ∷ []) ++ body) len
-          ∙ ap (λ (l : List ℕ). ((l ++ to_be_bytes w32 (from_be_bytes w32 (take 4 (drop 4 text)))) ++ 0 ∷ get_or text 9 0 ∷ get_or text 10 0 ∷ []) ++ body) first.0
+          ∙ ap (λ (n : ℕ).
+          ((to_be_bytes w32 n ++ to_be_bytes w32 (from_be_bytes w32 (take 4 (drop 4 text)))) ++ 0 ∷ get_or text 9 0
+          ∷ get_or text 10 0 ∷ []) ++ body) len
+          ∙ ap (λ (l : List ℕ).
+          ((l ++ to_be_bytes w32 (from_be_bytes w32 (take 4 (drop 4 text)))) ++ 0 ∷ get_or text 9 0 ∷ get_or text 10
+          0 ∷ []) ++ body) first.0
           ∙ ap (λ (l : List ℕ). ((take 4 text ++ l) ++ 0 ∷ get_or text 9 0 ∷ get_or text 10 0 ∷ []) ++ body) second.0
           ∙ append_assoc (take 4 text ++ take 4 (drop 4 text)) (0 ∷ get_or text 9 0 ∷ get_or text 10 0 ∷ []) body
           ∙ ap (λ (l : List ℕ). (take 4 text ++ take 4 (drop 4 text)) ++ l) (sym rest) ∙ eight-parts text;
       fits = subst Fits (sym is) (second.1, are 9, are 10, omega arith);
     }
 
-spelled-reply : (text : List ℕ) → AreBytes text → 11 ≤ length text → length text ≤ 67108864 → size_of text ≡ length text → flags_of text ≡ 128 → Spelled text
+spelled-reply : (text : List ℕ) → AreBytes text → 11 ≤ length text → length text ≤ 67108864 → size_of text ≡ length text
+    → flags_of text ≡ 128 → Spelled text
 spelled-reply text are least most size flags =
     let first = four-spelled text are (omega arith) in
     let second = four-spelled (drop 4 text) (AreBytes-drop 4 text are) (omega (arith, length-drop 4 text)) in
@@ -112,15 +132,24 @@ spelled-reply text are least most size flags =
     let len : 11 + length body ≡ size_of text = omega (arith, length-drop 11 text) in
     let rest : drop 8 text ≡ 128 ∷ (take 2 (drop 9 text) ++ body) =
     drop_more text 8 0 (omega arith) ∙ ap (λ (b : ℕ). b ∷ drop 9 text) flags
-    ∙ ap (λ (l : List ℕ). 128 ∷ l) (sym (take-append-drop 2 (drop 9 text)) ∙ ap (λ (l : List ℕ). take 2 (drop 9 text) ++ l) (drop-drop 2 9 text)) in
-    let is : packet_of text ≡ reply_packet (from_be_bytes w32 (take 4 (drop 4 text))) (from_be_bytes w16 (take 2 (drop 9 text))) body
+    ∙ ap (λ (l : List ℕ). 128 ∷ l)
+    (sym (take-append-drop 2 (drop 9 text)) ∙ ap (λ (l : List ℕ). take 2 (drop 9 text) ++ l)
+    (drop-drop 2 9 text)) in
+    let is : packet_of text ≡ reply_packet (from_be_bytes w32 (take 4 (drop 4 text)))
+    (from_be_bytes w16 (take 2 (drop 9 text))) body
     = rw (ne_eqb (flags_of text) 0 (omega arith)) refl in
     let front : List ℕ = take 4 text ++ take 4 (drop 4 text) in
     record {
       bytes = ap packet_bytes is
-          ∙ ap (λ (n : ℕ). (((to_be_bytes w32 n ++ to_be_bytes w32 (from_be_bytes w32 (take 4 (drop 4 text)))) ++ 128 ∷ []) ++ to_be_bytes w16 (from_be_bytes w16 (take 2 (drop 9 text)))) ++ body) len
-          ∙ ap (λ (l : List ℕ). (((l ++ to_be_bytes w32 (from_be_bytes w32 (take 4 (drop 4 text)))) ++ 128 ∷ []) ++ to_be_bytes w16 (from_be_bytes w16 (take 2 (drop 9 text)))) ++ body) first.0
-          ∙ ap (λ (l : List ℕ). (((take 4 text ++ l) ++ 128 ∷ []) ++ to_be_bytes w16 (from_be_bytes w16 (take 2 (drop 9 text)))) ++ body) second.0
+          ∙ ap (λ (n : ℕ).
+          (((to_be_bytes w32 n ++ to_be_bytes w32 (from_be_bytes w32 (take 4 (drop 4 text)))) ++ 128 ∷ []) ++
+          to_be_bytes w16 (from_be_bytes w16 (take 2 (drop 9 text)))) ++ body) len
+          ∙ ap (λ (l : List ℕ).
+          (((l ++ to_be_bytes w32 (from_be_bytes w32 (take 4 (drop 4 text)))) ++ 128 ∷ []) ++ to_be_bytes w16
+          (from_be_bytes w16 (take 2 (drop 9 text)))) ++ body) first.0
+          ∙ ap (λ (l : List ℕ).
+          (((take 4 text ++ l) ++ 128 ∷ []) ++ to_be_bytes w16 (from_be_bytes w16 (take 2 (drop 9 text)))) ++ body)
+          second.0
           ∙ ap (λ (l : List ℕ). ((front ++ 128 ∷ []) ++ l) ++ body) third.0
           ∙ append_assoc (front ++ 128 ∷ []) (take 2 (drop 9 text)) body
           ∙ append_assoc front (128 ∷ []) (take 2 (drop 9 text) ++ body)
@@ -128,7 +157,8 @@ spelled-reply text are least most size flags =
       fits = subst Fits (sym is) (second.1, third.1, omega arith);
     }
 
-spelled : (text : List ℕ) → AreBytes text → 11 ≤ length text → length text ≤ 67108864 → size_of text ≡ length text → has_kind (flags_of text) ≡ true → Spelled text
+spelled : (text : List ℕ) → AreBytes text → 11 ≤ length text → length text ≤ 67108864 → size_of text ≡ length text
+    → has_kind (flags_of text) ≡ true → Spelled text
 spelled text are least most size kind =
     elim (or_cases (eqb (flags_of text) 0) (eqb (flags_of text) 128) kind) [
       | inl none ↦ spelled-command text are least most size (eqb-true (flags_of text) 0 none)
@@ -138,16 +168,19 @@ spelled text are least most size kind =
 -- ---- what stands at the front
 
 -- no two kinds of fronts are one
-whole-one : {p q : Packet} {m n : ℕ} → (let it : Front Packet PacketFault = whole p m in it ≡ whole q n) → (p ≡ q) × (m ≡ n)
+whole-one : {p q : Packet} {m n : ℕ} → (let it : Front Packet PacketFault = whole p m in it ≡ whole q n) → (p ≡ q)
+    × (m ≡ n)
 whole-one e = (cc, cc)
 
 waits-whole : {q : Packet} {n : ℕ} → (let it : Front Packet PacketFault = waits in it ≡ whole q n) → ⊥
 waits-whole e = cc
 
-faulty-whole : {f : PacketFault} {d : ℕ} {q : Packet} {n : ℕ} → (let it : Front Packet PacketFault = faulty f d in it ≡ whole q n) → ⊥
+faulty-whole : {f : PacketFault} {d : ℕ} {q : Packet} {n : ℕ}
+    → (let it : Front Packet PacketFault = faulty f d in it ≡ whole q n) → ⊥
 faulty-whole e = cc
 
-faulty-one : {f g : PacketFault} {c d : ℕ} → (let it : Front Packet PacketFault = faulty f c in it ≡ faulty g d) → (f ≡ g) × (c ≡ d)
+faulty-one : {f g : PacketFault} {c d : ℕ} → (let it : Front Packet PacketFault = faulty f c in it ≡ faulty g d)
+    → (f ≡ g) × (c ≡ d)
 faulty-one e = (cc, cc)
 
 waits-faulty : {f : PacketFault} {d : ℕ} → (let it : Front Packet PacketFault = waits in it ≡ faulty f d) → ⊥
@@ -176,7 +209,8 @@ whole-is bytes p n e = by (seen bytes)
         record { sized = sized; kind = kind; here = here; is = same.0; taken = same.1 }
 
 -- What is found in bytes is spelled there.
-pub packet-is : (bytes : List ℕ) (p : Packet) (n : ℕ) → AreBytes bytes → packet_front bytes ≡ whole p n → Begins bytes p n
+pub packet-is : (bytes : List ℕ) (p : Packet) (n : ℕ) → AreBytes bytes → packet_front bytes ≡ whole p n
+    → Begins bytes p n
 packet-is bytes p n are e =
     let w = whole-is bytes p n e in
     let size : ℕ = size_of bytes in
@@ -185,7 +219,9 @@ packet-is bytes p n are e =
     let len : length text ≡ size = length-take-le size bytes w.here in
     let says : size_of text ≡ size_of bytes = ap (from_be_bytes w32) (take-take 4 size bytes (omega arith)) in
     let flags : flags_of text ≡ flags_of bytes = get_or-take size bytes 8 0 (omega arith) in
-    let s = spelled text (AreBytes-take size bytes are) (omega arith) (omega arith) (says ∙ sym len) (ap has_kind flags ∙ w.kind) in
+    let s =
+    spelled text (AreBytes-take size bytes are) (omega arith) (omega arith) (says ∙ sym len)
+    (ap has_kind flags ∙ w.kind) in
     let whole_text : packet_bytes p ≡ text = ap packet_bytes (sym w.is) ∙ s.bytes in
     record {
       rest = drop size bytes;
@@ -253,7 +289,13 @@ refused-more bytes more f d r = record {
         inl (w.0, omega (arith, length-append bytes more, w.1), omega (arith, w.2))
     | inr (inl w) ↦ let same = size-more bytes more w.1 in
         inr (inl (w.0, omega (arith, length-append bytes more, w.1), omega (arith, w.2)))
-    | inr (inr w) ↦ inr (inr (w.0, sized-more bytes more w.1, omega (arith, length-append bytes more, w.2), ap has_kind (flags-more bytes more w.2) ∙ w.3))
+    | inr (inr w) ↦
+        inr (inr (
+          w.0,
+          sized-more bytes more w.1,
+          omega (arith, length-append bytes more, w.2),
+          ap has_kind (flags-more bytes more w.2) ∙ w.3,
+        ))
   ];
 }
 
@@ -265,12 +307,15 @@ packet-steady = record {
       let sized = w.sized in
       let here = w.here in
       let size : size_of (bytes ++ more) ≡ size_of bytes = size-more bytes more (w.sized.0) in
-      front-whole (bytes ++ more) (sized-more bytes more w.sized) (ap has_kind (flags-more bytes more (omega arith)) ∙ w.kind)
+      front-whole (bytes ++ more) (sized-more bytes more w.sized)
+      (ap has_kind (flags-more bytes more (omega arith)) ∙ w.kind)
       (omega (arith, length-append bytes more))
       ∙ ap (λ (k : ℕ). whole (packet_of (take k (bytes ++ more))) k) size
-      ∙ ap (λ (text : List ℕ). whole (packet_of text) (size_of bytes)) (take-append-le (size_of bytes) bytes more w.here)
+      ∙ ap (λ (text : List ℕ). whole (packet_of text) (size_of bytes))
+      (take-append-le (size_of bytes) bytes more w.here)
       ∙ ap (λ (q : Packet). whole q (size_of bytes)) w.is ∙ ap (λ (k : ℕ). whole p k) w.taken;
-  stays_faulty = λ bytes more f d e. refused-from (bytes ++ more) f d (refused-more bytes more f d (refused-is bytes f d e));
+  stays_faulty =
+      λ bytes more f d e. refused-from (bytes ++ more) f d (refused-more bytes more f d (refused-is bytes f d e));
   takes = λ bytes p n e.
       let w = whole-is bytes p n e in
       let sized = w.sized in
@@ -286,7 +331,8 @@ not-both (inl e) = absurd cc
 not-both (inr (inl e)) = absurd cc
 not-both (inr (inr e)) = absurd cc
 
-pub short-is : (bytes : List ℕ) → (packet_front bytes ≡ faulty ShortLength 0) ↔ ((4 ≤ length bytes) × (size_of bytes < 11))
+pub short-is : (bytes : List ℕ)
+    → (packet_front bytes ≡ faulty ShortLength 0) ↔ ((4 ≤ length bytes) × (size_of bytes < 11))
 short-is bytes = (λ e. by (refused-is bytes ShortLength 0 e).why, λ s. front-short bytes s.0 s.1)
   where
     by : ((ShortLength ≡ ShortLength) × (4 ≤ length bytes) × (size_of bytes < 11))
@@ -297,7 +343,8 @@ short-is bytes = (λ e. by (refused-is bytes ShortLength 0 e).why, λ s. front-s
     by (inr (inl w)) = not-both (inl w.0)
     by (inr (inr w)) = not-both (inr (inl w.0))
 
-pub long-is : (bytes : List ℕ) → (packet_front bytes ≡ faulty TooLong 0) ↔ ((4 ≤ length bytes) × (67108864 < size_of bytes))
+pub long-is : (bytes : List ℕ)
+    → (packet_front bytes ≡ faulty TooLong 0) ↔ ((4 ≤ length bytes) × (67108864 < size_of bytes))
 long-is bytes = (λ e. by (refused-is bytes TooLong 0 e).why, λ s. front-long bytes s.0 s.1)
   where
     by : ((TooLong ≡ ShortLength) × (4 ≤ length bytes) × (size_of bytes < 11))

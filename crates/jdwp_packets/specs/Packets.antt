@@ -1,5 +1,6 @@
 -- The target's stream: its greeting, and its packets (JDWP, "JDWP Packets" and "Handshake").
-use Rattle.std.specs.Prelude.{◌≡◌, ◌≢◌, ℕ, ◌+◌, ◌^◌, ◌<◌, ◌≤◌, ◌||◌, ◌==◌, not, List, [], ◌∷◌, ◌++◌, length, take, drop, nat_lt, if◌then◌else◌, slice_index, codes}
+use Rattle.std.specs.Prelude.{◌≡◌, ◌≢◌, ℕ, ◌+◌, ◌^◌, ◌<◌, ◌≤◌, ◌||◌, ◌==◌, not, List, [], ◌∷◌, ◌++◌, length, take, drop}
+use Rattle.std.specs.Prelude.{nat_lt, if◌then◌else◌, slice_index, codes}
 use Rattle.std.specs.Int.{w16, w32, to_be_bytes, from_be_bytes}
 use Rattle.wire_core.specs.Streams.{Front, waits, whole, faulty}
 use Rattle.jdwp_packets.specs.declared.fault.PacketFault.{PacketFault}
@@ -34,11 +35,13 @@ flags_of bytes = slice_index bytes 8
 -- the packet of just these bytes
 abbrev pub packet_of : List ℕ → Packet
 packet_of bytes =
-    if flags_of bytes == 0 then command_packet (from_be_bytes w32 (take 4 (drop 4 bytes))) (slice_index bytes 9) (slice_index bytes 10) (drop 11 bytes)
-    else reply_packet (from_be_bytes w32 (take 4 (drop 4 bytes))) (from_be_bytes w16 (take 2 (drop 9 bytes))) (drop 11 bytes)
+    if flags_of bytes == 0 then command_packet (from_be_bytes w32 (take 4 (drop 4 bytes))) (slice_index bytes 9)
+    (slice_index bytes 10) (drop 11 bytes)
+    else reply_packet (from_be_bytes w32 (take 4 (drop 4 bytes))) (from_be_bytes w16 (take 2 (drop 9 bytes)))
+    (drop 11 bytes)
 
--- The packet at the front of some bytes. A fault of the length is known once four bytes are there, one of the flags once
--- nine are, and it stands at the packet's first byte.
+-- The packet at the front of some bytes. A fault of the length is known once four bytes are there, one of the flags
+-- once nine are, and it stands at the packet's first byte.
 abbrev pub packet_front : List ℕ → Front Packet PacketFault
 packet_front bytes =
     if nat_lt (length bytes) 4 then waits
@@ -88,4 +91,5 @@ IsGreetingPart bytes = (more : List ℕ) × (0 < length more) × (bytes ++ more 
 -- this byte is the first that isn't the greeting's
 abbrev pub Differs : List ℕ → List ℕ → ℕ → Type 0
 Differs text bytes place =
-    (place < length text) × (place < length bytes) × (take place bytes ≡ take place text) × (slice_index bytes place ≢ slice_index text place)
+    (place < length text) × (place < length bytes) × (take place bytes ≡ take place text)
+    × (slice_index bytes place ≢ slice_index text place)

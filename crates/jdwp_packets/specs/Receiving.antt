@@ -40,12 +40,14 @@ received_front false bytes = before_greeting (greeting_front bytes)
 
 -- what is left once it was taken
 abbrev pub left_behind : Received → Received
-left_behind old = record { greeted = old.greeted; stream = left (received_front old.greeted old.stream.pending) old.stream }
+left_behind old =
+    record { greeted = old.greeted; stream = left (received_front old.greeted old.stream.pending) old.stream }
 
 -- Of these bytes, all that came, these packets were handed out, each with its offset, and this is left.
 abbrev pub HandsOut : List ℕ → List (ℕ × Packet) → Bool → Uncut → Type 0
 HandsOut bytes packets true stream =
-    (more : List ℕ) × (bytes ≡ handshake ++ more) × Hands packet_front (record { at = 14; pending = more }) packets stream
+    (more : List ℕ) × (bytes ≡ handshake ++ more) × Hands packet_front (record { at = 14; pending = more }) packets
+    stream
 HandsOut bytes packets false stream = (packets ≡ []) × (stream ≡ record { at = 0; pending = bytes })
 
 -- what a take hands out, by what stands at the front

@@ -13,7 +13,8 @@ use Rattle.jdwp_packets.specs.Receiving.{Received, received_front}
 -- what was found is what stands at the front of these bytes
 abbrev pub IsFound : Found → Front Packet PacketFault → List ℕ → Type 0
 IsFound Waits front bytes = front ≡ waits
-IsFound (Whole size) front bytes = (front ≡ whole (packet_of (take size bytes)) size) × (11 ≤ size) × (size ≤ length bytes)
+IsFound (Whole size) front bytes =
+    (front ≡ whole (packet_of (take size bytes)) size) × (11 ≤ size) × (size ≤ length bytes)
 IsFound (Refused fault behind) front bytes = (front ≡ faulty fault behind) × (behind ≤ length bytes)
 
 -- the same of the greeting

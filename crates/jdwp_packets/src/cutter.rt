@@ -99,7 +99,8 @@ impl PacketCutter {
 
 // Takes the greeting where all of it is there.
 fn take_greeting(stream: &mut StreamBuffer) -> bool
-    ensures { record { greeted = result; stream = stream.new } ≡ greeted_by (greeting_front stream.old.pending) stream.old }
+    ensures { record { greeted = result; stream = stream.new }
+        ≡ greeted_by (greeting_front stream.old.pending) stream.old }
 {
     match front::greeting(stream.pending()) {
         Found::Whole(size) => {

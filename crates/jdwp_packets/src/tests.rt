@@ -12,7 +12,8 @@ const CAPTURED: [u8; 89] = *b"JDWP-Handshake\
 
 // Adds a line for each whole packet: kind, offset, id, set and command or error code, last byte of the data.
 fn take_all(cutter: &mut PacketCutter, said: &mut Vec<u8>) -> Result<Option<PacketTrouble>, Fail>
-    ensures { cutter.new.stream.at + length cutter.new.stream.pending ≡ cutter.old.stream.at + length cutter.old.stream.pending }
+    ensures { cutter.new.stream.at + length cutter.new.stream.pending
+        ≡ cutter.old.stream.at + length cutter.old.stream.pending }
 {
     for _ in 0..4 {
         match cutter.take() {

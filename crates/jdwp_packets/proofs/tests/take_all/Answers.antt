@@ -5,8 +5,10 @@ use Rattle.jdwp_packets.proofs.tests.take_all.Goals as goal
 
 pub returns-in_err-say-in-Ok-Some : goal.returns-in_err-say-in-Ok-Some
 returns-in_err-say-in-Ok-Some c =
-    ap (λ (r : Received). r.stream.at + length r.stream.pending) c.take.follows.holds-at-none ∙ left_behind_size c.loop.cutter ∙ c.loop.invariant
+    ap (λ (r : Received). r.stream.at + length r.stream.pending) c.take.follows.holds-at-none ∙ left_behind_size
+    c.loop.cutter ∙ c.loop.invariant
 
 pub loop-preserved : goal.loop-preserved
 loop-preserved c =
-    ap (λ (r : Received). r.stream.at + length r.stream.pending) c.take.follows.holds-at-none ∙ left_behind_size c.loop.cutter ∙ c.loop.invariant
+    ap (λ (r : Received). r.stream.at + length r.stream.pending) c.take.follows.holds-at-none ∙ left_behind_size
+    c.loop.cutter ∙ c.loop.invariant
