@@ -1,5 +1,5 @@
 -- The numbers of a command are those of the one command that has them.
-use Rattle.std.proofs.Common.{◌≡◌, ℕ, ◌==◌, ◌&&◌, Option, Some, refl, sym, ap, ◌∙◌}
+use Rattle.std.proofs.Common.{◌≡◌, ℕ, ◌==◌, ◌&&◌, Some, refl, ap, ◌∙◌}
 use Rattle.std.proofs.lemmas.Bool.{eqb-true, and_parts}
 use Rattle.jdwp_values.proofs.PartLaws.{found_passes}
 use Rattle.jdwp_commands.specs.declared.kind.CommandKind.{CommandKind}
@@ -8,9 +8,11 @@ use Rattle.jdwp_commands.specs.declared.kind.EffectKind.TheVariants as effects
 use Rattle.jdwp_commands.specs.declared.kind.QuestionKind.TheVariants as questions
 use Rattle.jdwp_commands.specs.Kinds.{numbers, kinds, kind_of_numbers}
 
-pub kind_back : (set command : ℕ) (kind : CommandKind) → kind_of_numbers set command ≡ Some kind → numbers kind ≡ (set, command)
+pub kind_back : (set command : ℕ) (kind : CommandKind) → kind_of_numbers set command ≡ Some kind
+    → numbers kind ≡ (set, command)
 kind_back set command kind e =
-    let both = and_parts ((numbers kind).0 == set) ((numbers kind).1 == command) (found_passes (λ k. (numbers k).0 == set && (numbers k).1 == command) kinds kind e) in
+    let both = and_parts ((numbers kind).0 == set) ((numbers kind).1 == command)
+    (found_passes (λ k. (numbers k).0 == set && (numbers k).1 == command) kinds kind e) in
     ap (λ (n : ℕ). (n, (numbers kind).1)) (eqb-true _ _ both.0) ∙ ap (λ (n : ℕ). (set, n)) (eqb-true _ _ both.1)
 
 pub kind_of-numbers : (kind : CommandKind) → kind_of_numbers (numbers kind).0 (numbers kind).1 ≡ Some kind

@@ -1,5 +1,5 @@
 -- What the answers are made of (JDWP, "Detailed Command Information"): for each command the items of its answer's body.
-use Rattle.std.specs.Prelude.{◌≡◌, ℕ, ℤ, pos, negsuc, nat_abs, int_lt, List, [], ◌∷◌, length, Result, Ok, Err, if◌then◌else◌}
+use Rattle.std.specs.Prelude.{◌≡◌, ℕ, ℤ, pos, negsuc, nat_abs, int_lt, List, [], ◌∷◌, length, Result, if◌then◌else◌}
 use Rattle.jdwp_values.specs.declared.class.Line.{Line}
 use Rattle.jdwp_values.specs.declared.fault.RowFault.{RowFault}
 use Rattle.jdwp_values.specs.declared.limit.Limit.{Limit}
@@ -22,7 +22,9 @@ use Rattle.jdwp_commands.specs.declared.question.Question.{Question}
 use Rattle.jdwp_commands.specs.declared.question.Question.TheVariants as questions
 use Rattle.jdwp_commands.specs.Bodies.{whole}
 use Rattle.jdwp_commands.specs.Commands.{kind_of}
-use Rattle.jdwp_commands.specs.Items.{threads, values, methods, fields, lines, variables, class_statuses, loaded_classes, frames, Item, part, many, region, items_at, Saying, says, spell_sayings, FitsSayings, InRangeSayings}
+use Rattle.jdwp_commands.specs.Items.{threads, values, methods, fields, lines, variables, class_statuses}
+use Rattle.jdwp_commands.specs.Items.{loaded_classes, frames, Item, part, many, region, items_at, Saying, says}
+use Rattle.jdwp_commands.specs.Items.{spell_sayings, FitsSayings, InRangeSayings}
 
 abbrev pub kind_of_answer : Answer → CommandKind
 kind_of_answer (answers.ClassesBySignature _) = commands.Question question_kinds.ClassesBySignature
@@ -96,7 +98,8 @@ abbrev pub question_answer_row : QuestionKind → Limit → List Item
 question_answer_row question_kinds.ClassesBySignature limit = many Any class_statuses ∷ []
 question_answer_row question_kinds.AllClasses limit = many Any loaded_classes ∷ []
 question_answer_row question_kinds.AllThreads limit = many Any threads ∷ []
-question_answer_row question_kinds.IdSizes limit = part number ∷ part number ∷ part number ∷ part number ∷ part number ∷ []
+question_answer_row question_kinds.IdSizes limit =
+    part number ∷ part number ∷ part number ∷ part number ∷ part number ∷ []
 question_answer_row question_kinds.Signature limit = part text ∷ []
 question_answer_row question_kinds.Fields limit = many Any fields ∷ []
 question_answer_row question_kinds.Methods limit = many Any methods ∷ []
@@ -130,27 +133,48 @@ abbrev pub line_table : ℤ → ℤ → List Line → Answer
 line_table start end ls = answers.LineTable (record { start = start; end = end; lines = ls })
 
 abbrev pub question_answer_at : QuestionKind → Limit → Place → Result (Answer × Place) RowFault
-question_answer_at question_kinds.ClassesBySignature limit = items_at (question_answer_row question_kinds.ClassesBySignature limit) answers.ClassesBySignature
-question_answer_at question_kinds.AllClasses limit = items_at (question_answer_row question_kinds.AllClasses limit) answers.AllClasses
-question_answer_at question_kinds.AllThreads limit = items_at (question_answer_row question_kinds.AllThreads limit) answers.AllThreads
-question_answer_at question_kinds.IdSizes limit = items_at (question_answer_row question_kinds.IdSizes limit) answers.IdSizes
-question_answer_at question_kinds.Signature limit = items_at (question_answer_row question_kinds.Signature limit) answers.Signature
-question_answer_at question_kinds.Fields limit = items_at (question_answer_row question_kinds.Fields limit) answers.Fields
-question_answer_at question_kinds.Methods limit = items_at (question_answer_row question_kinds.Methods limit) answers.Methods
-question_answer_at question_kinds.SourceFile limit = items_at (question_answer_row question_kinds.SourceFile limit) answers.SourceFile
-question_answer_at question_kinds.Superclass limit = items_at (question_answer_row question_kinds.Superclass limit) answers.Superclass
-question_answer_at question_kinds.LineTable limit = items_at (question_answer_row question_kinds.LineTable limit) line_table
-question_answer_at question_kinds.VariableTable limit = items_at (question_answer_row question_kinds.VariableTable limit) answers.VariableTable
-question_answer_at question_kinds.ObjectType limit = items_at (question_answer_row question_kinds.ObjectType limit) answers.ObjectType
-question_answer_at question_kinds.GetFields limit = items_at (question_answer_row question_kinds.GetFields limit) answers.GetFields
-question_answer_at question_kinds.StringValue limit = items_at (question_answer_row question_kinds.StringValue limit) answers.StringValue
-question_answer_at question_kinds.ThreadName limit = items_at (question_answer_row question_kinds.ThreadName limit) answers.ThreadName
-question_answer_at question_kinds.Frames limit = items_at (question_answer_row question_kinds.Frames limit) answers.Frames
-question_answer_at question_kinds.FrameCount limit = items_at (question_answer_row question_kinds.FrameCount limit) answers.FrameCount
-question_answer_at question_kinds.ArrayLength limit = items_at (question_answer_row question_kinds.ArrayLength limit) answers.ArrayLength
-question_answer_at question_kinds.GetElements limit = items_at (question_answer_row question_kinds.GetElements limit) answers.GetElements
-question_answer_at question_kinds.GetSlots limit = items_at (question_answer_row question_kinds.GetSlots limit) answers.GetSlots
-question_answer_at question_kinds.ThisObject limit = items_at (question_answer_row question_kinds.ThisObject limit) answers.ThisObject
+question_answer_at question_kinds.ClassesBySignature limit =
+    items_at (question_answer_row question_kinds.ClassesBySignature limit) answers.ClassesBySignature
+question_answer_at question_kinds.AllClasses limit =
+    items_at (question_answer_row question_kinds.AllClasses limit) answers.AllClasses
+question_answer_at question_kinds.AllThreads limit =
+    items_at (question_answer_row question_kinds.AllThreads limit) answers.AllThreads
+question_answer_at question_kinds.IdSizes limit =
+    items_at (question_answer_row question_kinds.IdSizes limit) answers.IdSizes
+question_answer_at question_kinds.Signature limit =
+    items_at (question_answer_row question_kinds.Signature limit) answers.Signature
+question_answer_at question_kinds.Fields limit =
+    items_at (question_answer_row question_kinds.Fields limit) answers.Fields
+question_answer_at question_kinds.Methods limit =
+    items_at (question_answer_row question_kinds.Methods limit) answers.Methods
+question_answer_at question_kinds.SourceFile limit =
+    items_at (question_answer_row question_kinds.SourceFile limit) answers.SourceFile
+question_answer_at question_kinds.Superclass limit =
+    items_at (question_answer_row question_kinds.Superclass limit) answers.Superclass
+question_answer_at question_kinds.LineTable limit =
+    items_at (question_answer_row question_kinds.LineTable limit) line_table
+question_answer_at question_kinds.VariableTable limit =
+    items_at (question_answer_row question_kinds.VariableTable limit) answers.VariableTable
+question_answer_at question_kinds.ObjectType limit =
+    items_at (question_answer_row question_kinds.ObjectType limit) answers.ObjectType
+question_answer_at question_kinds.GetFields limit =
+    items_at (question_answer_row question_kinds.GetFields limit) answers.GetFields
+question_answer_at question_kinds.StringValue limit =
+    items_at (question_answer_row question_kinds.StringValue limit) answers.StringValue
+question_answer_at question_kinds.ThreadName limit =
+    items_at (question_answer_row question_kinds.ThreadName limit) answers.ThreadName
+question_answer_at question_kinds.Frames limit =
+    items_at (question_answer_row question_kinds.Frames limit) answers.Frames
+question_answer_at question_kinds.FrameCount limit =
+    items_at (question_answer_row question_kinds.FrameCount limit) answers.FrameCount
+question_answer_at question_kinds.ArrayLength limit =
+    items_at (question_answer_row question_kinds.ArrayLength limit) answers.ArrayLength
+question_answer_at question_kinds.GetElements limit =
+    items_at (question_answer_row question_kinds.GetElements limit) answers.GetElements
+question_answer_at question_kinds.GetSlots limit =
+    items_at (question_answer_row question_kinds.GetSlots limit) answers.GetSlots
+question_answer_at question_kinds.ThisObject limit =
+    items_at (question_answer_row question_kinds.ThisObject limit) answers.ThisObject
 
 abbrev pub effect_answer_at : EffectKind → Place → Result (Answer × Place) RowFault
 effect_answer_at effect_kinds.Dispose = items_at (effect_answer_row effect_kinds.Dispose) answers.Dispose
@@ -172,13 +196,16 @@ abbrev pub told_answer : Limit → Answer → List Saying
 told_answer limit (answers.ClassesBySignature cs) = says (many Any class_statuses) cs ∷ []
 told_answer limit (answers.AllClasses cs) = says (many Any loaded_classes) cs ∷ []
 told_answer limit (answers.AllThreads ts) = says (many Any threads) ts ∷ []
-told_answer limit (answers.IdSizes f m o c r) = says (part number) f ∷ says (part number) m ∷ says (part number) o ∷ says (part number) c ∷ says (part number) r ∷ []
+told_answer limit (answers.IdSizes f m o c r) =
+    says (part number) f ∷ says (part number) m ∷ says (part number) o ∷ says (part number) c
+    ∷ says (part number) r ∷ []
 told_answer limit (answers.Signature s) = says (part text) s ∷ []
 told_answer limit (answers.Fields fs) = says (many Any fields) fs ∷ []
 told_answer limit (answers.Methods ms) = says (many Any methods) ms ∷ []
 told_answer limit (answers.SourceFile s) = says (part text) s ∷ []
 told_answer limit (answers.Superclass c) = says (part class) c ∷ []
-told_answer limit (answers.LineTable t) = says (part long) t.start ∷ says (part long) t.end ∷ says (many Any lines) t.lines ∷ []
+told_answer limit (answers.LineTable t) =
+    says (part long) t.start ∷ says (part long) t.end ∷ says (many Any lines) t.lines ∷ []
 told_answer limit (answers.VariableTable n vs) = says (part int) n ∷ says (many Any variables) vs ∷ []
 told_answer limit (answers.ObjectType tag c) = says (part type_tag) tag ∷ says (part class) c ∷ []
 told_answer limit (answers.GetFields vs) = says (many limit values) vs ∷ []

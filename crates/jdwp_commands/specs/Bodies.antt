@@ -1,5 +1,5 @@
--- The body of a command or of an answer: all of it is read, from left to right, and its fault is that of the first part that
--- can't be read.
+-- The body of a command or of an answer: all of it is read, from left to right, and its fault is that of the first part
+-- that can't be read.
 use Rattle.std.specs.Prelude.{◌≡◌, ℕ, List, length, Result, Ok, Err, ◌==◌, if◌then◌else◌}
 use Rattle.jdwp_values.specs.declared.fault.RowFault.{RowFault}
 use Rattle.jdwp_values.specs.declared.fault.RowFault.TheVariants as faults
@@ -9,7 +9,8 @@ use Rattle.jdwp_values.specs.declared.sizes.IdSizes.{IdSizes}
 use Rattle.jdwp_values.specs.Reading.{Place, offset}
 use Rattle.jdwp_values.specs.Rows.{◌>>=◌}
 use Rattle.jdwp_commands.specs.declared.fault.BodyFault.{BodyFault}
-use Rattle.jdwp_commands.specs.declared.fault.BodyFault.TheVariants.{NoMemory, UnknownCommand, Short, BadTag, BadCount, Trailing}
+use Rattle.jdwp_commands.specs.declared.fault.BodyFault.TheVariants.{NoMemory, UnknownCommand, Short, BadTag, BadCount}
+use Rattle.jdwp_commands.specs.declared.fault.BodyFault.TheVariants.{Trailing}
 
 -- a part's fault, in a body
 abbrev pub fault_at : ValueFault → ℕ → BodyFault

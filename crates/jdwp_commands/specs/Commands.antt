@@ -1,5 +1,5 @@
 -- What the commands are made of (JDWP, "Detailed Command Information"): for each the items of its body.
-use Rattle.std.specs.Prelude.{◌≡◌, ℕ, List, [], ◌∷◌, Option, Some, None, Result, Ok, Err}
+use Rattle.std.specs.Prelude.{ℕ, List, [], ◌∷◌, Option, Some, None, Result, Ok, Err}
 use Rattle.jdwp_values.specs.declared.fault.RowFault.{RowFault}
 use Rattle.jdwp_values.specs.declared.limit.Limit.TheVariants.{Any, Exactly}
 use Rattle.jdwp_values.specs.declared.sizes.IdSizes.{IdSizes}
@@ -21,7 +21,8 @@ use Rattle.jdwp_commands.specs.declared.kind.QuestionKind.TheVariants as questio
 use Rattle.jdwp_commands.specs.declared.question.Question.{Question}
 use Rattle.jdwp_commands.specs.declared.question.Question.TheVariants as questions
 use Rattle.jdwp_commands.specs.Bodies.{whole}
-use Rattle.jdwp_commands.specs.Items.{field_ids, modifiers, slots, Item, part, many, event_kind, policy, items_at, Saying, says, spell_sayings, FitsSayings, InRangeSayings}
+use Rattle.jdwp_commands.specs.Items.{field_ids, modifiers, slots, Item, part, many, event_kind, policy, items_at}
+use Rattle.jdwp_commands.specs.Items.{Saying, says, spell_sayings, FitsSayings, InRangeSayings}
 use Rattle.jdwp_commands.specs.Kinds.{numbers, kind_of_numbers}
 
 abbrev pub kind_of_question : Question → QuestionKind
@@ -102,7 +103,8 @@ effect_row effect_kinds.Clear = event_kind ∷ part number ∷ []
 effect_row effect_kinds.SetSlot = part thread ∷ part frame ∷ part (count (Exactly 1)) ∷ part int ∷ part value ∷ []
 
 abbrev pub question_at : QuestionKind → Place → Result (Question × Place) RowFault
-question_at question_kinds.ClassesBySignature = items_at (question_row question_kinds.ClassesBySignature) questions.ClassesBySignature
+question_at question_kinds.ClassesBySignature =
+    items_at (question_row question_kinds.ClassesBySignature) questions.ClassesBySignature
 question_at question_kinds.AllClasses = items_at (question_row question_kinds.AllClasses) questions.AllClasses
 question_at question_kinds.AllThreads = items_at (question_row question_kinds.AllThreads) questions.AllThreads
 question_at question_kinds.IdSizes = items_at (question_row question_kinds.IdSizes) questions.IdSizes
@@ -130,10 +132,12 @@ effect_at effect_kinds.Suspend = items_at (effect_row effect_kinds.Suspend) effe
 effect_at effect_kinds.Resume = items_at (effect_row effect_kinds.Resume) effects.Resume
 effect_at effect_kinds.Exit = items_at (effect_row effect_kinds.Exit) effects.Exit
 effect_at effect_kinds.SetField = items_at (effect_row effect_kinds.SetField) (λ o one f v. effects.SetField o f v)
-effect_at effect_kinds.SetElement = items_at (effect_row effect_kinds.SetElement) (λ a first one v. effects.SetElement a first v)
+effect_at effect_kinds.SetElement =
+    items_at (effect_row effect_kinds.SetElement) (λ a first one v. effects.SetElement a first v)
 effect_at effect_kinds.Set = items_at (effect_row effect_kinds.Set) effects.Set
 effect_at effect_kinds.Clear = items_at (effect_row effect_kinds.Clear) effects.Clear
-effect_at effect_kinds.SetSlot = items_at (effect_row effect_kinds.SetSlot) (λ t f one slot v. effects.SetSlot t f slot v)
+effect_at effect_kinds.SetSlot =
+    items_at (effect_row effect_kinds.SetSlot) (λ t f one slot v. effects.SetSlot t f slot v)
 
 -- what a question says in the items of its row
 abbrev pub told_question : Question → List Saying
@@ -165,11 +169,15 @@ told_effect effects.Dispose = []
 told_effect effects.Suspend = []
 told_effect effects.Resume = []
 told_effect (effects.Exit n) = says (part int) n ∷ []
-told_effect (effects.SetField o f v) = says (part object) o ∷ says (part (count (Exactly 1))) 1 ∷ says (part field) f ∷ says (part tail) v ∷ []
-told_effect (effects.SetElement a first v) = says (part object) a ∷ says (part int) first ∷ says (part (count (Exactly 1))) 1 ∷ says (part tail) v ∷ []
+told_effect (effects.SetField o f v) =
+    says (part object) o ∷ says (part (count (Exactly 1))) 1 ∷ says (part field) f ∷ says (part tail) v ∷ []
+told_effect (effects.SetElement a first v) =
+    says (part object) a ∷ says (part int) first ∷ says (part (count (Exactly 1))) 1 ∷ says (part tail) v ∷ []
 told_effect (effects.Set k p ms) = says event_kind k ∷ says policy p ∷ says (many Any modifiers) ms ∷ []
 told_effect (effects.Clear k r) = says event_kind k ∷ says (part number) r ∷ []
-told_effect (effects.SetSlot t f slot v) = says (part thread) t ∷ says (part frame) f ∷ says (part (count (Exactly 1))) 1 ∷ says (part int) slot ∷ says (part value) v ∷ []
+told_effect (effects.SetSlot t f slot v) =
+    says (part thread) t ∷ says (part frame) f ∷ says (part (count (Exactly 1))) 1 ∷ says (part int) slot
+    ∷ says (part value) v ∷ []
 
 abbrev pub told : Asked → List Saying
 told (a_question q) = told_question q

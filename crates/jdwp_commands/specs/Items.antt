@@ -1,7 +1,7 @@
--- What the bodies of commands and answers are made of (JDWP, "Detailed Command Information"): parts, lists and a region,
--- the bytes of an event kind and of a suspend policy. A body is its items spelled one after the other, and it is read item
--- by item from left to right.
-use Rattle.std.specs.Prelude.{◌≡◌, ℕ, true, List, [], ◌∷◌, ◌++◌, length, Result, Ok, Err}
+-- What the bodies of commands and answers are made of (JDWP, "Detailed Command Information"): parts, lists and a
+-- region, the bytes of an event kind and of a suspend policy. A body is its items spelled one after the other, and it
+-- is read item by item from left to right.
+use Rattle.std.specs.Prelude.{◌≡◌, ℕ, true, List, [], ◌∷◌, ◌++◌, length, Result, Ok}
 use Rattle.std.specs.List.{AllByRecursion}
 use Rattle.std.specs.Int.{bytes_high_first}
 use Rattle.jdwp_values.specs.declared.class.Method.{Method}
@@ -14,11 +14,12 @@ use Rattle.jdwp_values.specs.declared.id.FieldId.{FieldId}
 use Rattle.jdwp_values.specs.declared.limit.Limit.{Limit}
 use Rattle.jdwp_values.specs.declared.sizes.IdSizes.{IdSizes}
 use Rattle.jdwp_values.specs.declared.value.Value.{Value}
-use Rattle.jdwp_values.specs.Classes.{method_at, spell_method, FitsMethod, InRangeMethod, field_at, spell_field, FitsField, InRangeField, line_at, spell_line, FitsLine, InRangeLine, variable_at, spell_variable, FitsVariable, InRangeVariable}
+use Rattle.jdwp_values.specs.Classes.{method_row, field_row, line_row, variable_row}
 use Rattle.jdwp_values.specs.Counts.{allows}
 use Rattle.jdwp_values.specs.Parts.{Part, thread, field, value, Of}
 use Rattle.jdwp_values.specs.Reading.{Place, part_at}
-use Rattle.jdwp_values.specs.Rows.{◌>>=◌, in_row, row_at, list_at, spell_list, FitsList}
+use Rattle.jdwp_values.specs.Rows.{◌>>=◌, in_row, row_at, read_by, spell_by, FitsBy, InRangeBy, list_at, spell_list}
+use Rattle.jdwp_values.specs.Rows.{FitsList}
 use Rattle.jdwp_values.specs.Spelling.{spell_part, FitsPart, InRangePart}
 use Rattle.jdwp_events.specs.declared.kind.EventKind.{EventKind}
 use Rattle.jdwp_events.specs.declared.kind.Policy.{Policy}
@@ -30,7 +31,7 @@ use Rattle.jdwp_commands.specs.declared.listed.LoadedClass.{LoadedClass}
 use Rattle.jdwp_commands.specs.declared.listed.Frame.{Frame}
 use Rattle.jdwp_commands.specs.declared.listed.Slot.{Slot}
 use Rattle.jdwp_commands.specs.declared.region.Region.{Region}
-use Rattle.jdwp_commands.specs.Listed.{class_status_at, spell_class_status, FitsClassStatus, InRangeClassStatus, loaded_class_at, spell_loaded_class, FitsLoadedClass, InRangeLoadedClass, frame_at, spell_frame, FitsFrame, InRangeFrame, slot_at, spell_slot, FitsSlot, InRangeSlot}
+use Rattle.jdwp_commands.specs.Listed.{class_status_row, loaded_class_row, frame_row, slot_row}
 use Rattle.jdwp_commands.specs.Regions.{meaning_at, region_at, spell_region, FitsRegion, InRangeRegion}
 
 -- what a list is made of
@@ -67,56 +68,56 @@ listed_at threads = row_at (thread ∷ []) (λ id. id)
 listed_at field_ids = row_at (field ∷ []) (λ id. id)
 listed_at values = row_at (value ∷ []) (λ v. v)
 listed_at modifiers = modifier_at
-listed_at methods = method_at
-listed_at fields = field_at
-listed_at lines = line_at
-listed_at variables = variable_at
-listed_at class_statuses = class_status_at
-listed_at loaded_classes = loaded_class_at
-listed_at frames = frame_at
-listed_at slots = slot_at
+listed_at methods = read_by method_row
+listed_at fields = read_by field_row
+listed_at lines = read_by line_row
+listed_at variables = read_by variable_row
+listed_at class_statuses = read_by class_status_row
+listed_at loaded_classes = read_by loaded_class_row
+listed_at frames = read_by frame_row
+listed_at slots = read_by slot_row
 
 abbrev pub spell_listed : (l : Listed) → IdSizes → OfListed l → List ℕ
 spell_listed threads = λ sizes id. spell_part sizes thread id
 spell_listed field_ids = λ sizes id. spell_part sizes field id
 spell_listed values = λ sizes v. spell_part sizes value v
 spell_listed modifiers = spell_modifier
-spell_listed methods = spell_method
-spell_listed fields = spell_field
-spell_listed lines = spell_line
-spell_listed variables = spell_variable
-spell_listed class_statuses = spell_class_status
-spell_listed loaded_classes = spell_loaded_class
-spell_listed frames = spell_frame
-spell_listed slots = spell_slot
+spell_listed methods = spell_by method_row
+spell_listed fields = spell_by field_row
+spell_listed lines = spell_by line_row
+spell_listed variables = spell_by variable_row
+spell_listed class_statuses = spell_by class_status_row
+spell_listed loaded_classes = spell_by loaded_class_row
+spell_listed frames = spell_by frame_row
+spell_listed slots = spell_by slot_row
 
 abbrev pub FitsListed : (l : Listed) → IdSizes → OfListed l → Type 0
 FitsListed threads = λ sizes id. FitsPart sizes thread id
 FitsListed field_ids = λ sizes id. FitsPart sizes field id
 FitsListed values = λ sizes v. FitsPart sizes value v
 FitsListed modifiers = FitsModifier
-FitsListed methods = FitsMethod
-FitsListed fields = FitsField
-FitsListed lines = FitsLine
-FitsListed variables = FitsVariable
-FitsListed class_statuses = FitsClassStatus
-FitsListed loaded_classes = FitsLoadedClass
-FitsListed frames = FitsFrame
-FitsListed slots = FitsSlot
+FitsListed methods = FitsBy method_row
+FitsListed fields = FitsBy field_row
+FitsListed lines = FitsBy line_row
+FitsListed variables = FitsBy variable_row
+FitsListed class_statuses = FitsBy class_status_row
+FitsListed loaded_classes = FitsBy loaded_class_row
+FitsListed frames = FitsBy frame_row
+FitsListed slots = FitsBy slot_row
 
 abbrev pub InRangeListed : (l : Listed) → OfListed l → Type 0
 InRangeListed threads = λ id. InRangePart thread id
 InRangeListed field_ids = λ id. InRangePart field id
 InRangeListed values = λ v. InRangePart value v
 InRangeListed modifiers = InRangeModifier
-InRangeListed methods = InRangeMethod
-InRangeListed fields = InRangeField
-InRangeListed lines = InRangeLine
-InRangeListed variables = InRangeVariable
-InRangeListed class_statuses = InRangeClassStatus
-InRangeListed loaded_classes = InRangeLoadedClass
-InRangeListed frames = InRangeFrame
-InRangeListed slots = InRangeSlot
+InRangeListed methods = InRangeBy method_row
+InRangeListed fields = InRangeBy field_row
+InRangeListed lines = InRangeBy line_row
+InRangeListed variables = InRangeBy variable_row
+InRangeListed class_statuses = InRangeBy class_status_row
+InRangeListed loaded_classes = InRangeBy loaded_class_row
+InRangeListed frames = InRangeBy frame_row
+InRangeListed slots = InRangeBy slot_row
 
 -- A limit says how many a list or a region may have.
 pub data Item : Type 0 where

@@ -1,4 +1,5 @@
--- Which command it is, and its numbers: that of its command set, and its own in there (JDWP, "Detailed Command Information").
+-- Which command it is, and its numbers: that of its command set, and its own in there (JDWP, "Detailed Command
+-- Information").
 use Rattle.std.specs.Prelude.{ℕ, List, [], ◌∷◌, Option, find, ◌==◌, ◌&&◌}
 use Rattle.jdwp_commands.specs.declared.kind.CommandKind.{CommandKind}
 use Rattle.jdwp_commands.specs.declared.kind.CommandKind.TheVariants.{Question, Effect}

@@ -1,6 +1,7 @@
--- A region of an array (JDWP, "arrayregion"): the byte of a tag, and a list of values. Where the tag is a reference's each
--- value stands behind a reference's tag of its own, else behind none.
-use Rattle.std.specs.Prelude.{◌≡◌, ℕ, Bool, true, false, ◌==◌, List, [], ◌∷◌, ◌++◌, length, Option, Some, None, Result, Ok, Err, find}
+-- A region of an array (JDWP, "arrayregion"): the byte of a tag, and a list of values. Where the tag is a reference's
+-- each value stands behind a reference's tag of its own, else behind none.
+use Rattle.std.specs.Prelude.{◌≡◌, ℕ, Bool, true, false, ◌==◌, List, [], ◌∷◌, ◌++◌, length, Option, Some, None, Result}
+use Rattle.std.specs.Prelude.{Ok, Err, find}
 use Rattle.std.specs.List.{AllByRecursion}
 use Rattle.std.specs.Int.{bytes_high_first}
 use Rattle.jdwp_values.specs.declared.fault.RowFault.{RowFault}
@@ -59,7 +60,8 @@ abbrev pub spell_element : Tag → IdSizes → Value → List ℕ
 spell_element tag = spell_behind (is_reference tag) tag
 
 abbrev pub spell_region : IdSizes → Region → List ℕ
-spell_region sizes region = bytes_high_first 1 (byte_of_tag region.tag) ++ spell_list (spell_element region.tag sizes) region.values
+spell_region sizes region =
+    bytes_high_first 1 (byte_of_tag region.tag) ++ spell_list (spell_element region.tag sizes) region.values
 
 abbrev pub FitsBehind : Bool → Tag → IdSizes → Value → Type 0
 FitsBehind true tag sizes v = FitsPart sizes reference v

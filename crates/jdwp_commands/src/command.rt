@@ -5,9 +5,13 @@ ghost use Rattle.jdwp_values.specs.Rows.{Tells};
 ghost use Rattle.jdwp_values.specs.Spelling.{Writes};
 ghost use Rattle.jdwp_commands.specs.declared.asked.Asked.{Asked as AnAsked};
 ghost use Rattle.jdwp_commands.specs.declared.fault.BodyFault.TheVariants.{UnknownCommand as unknown_command};
+ghost use Rattle.jdwp_commands.specs.declared.effect.Effect.TheVariants as effects;
 ghost use Rattle.jdwp_commands.specs.declared.kind.EffectKind.TheVariants as effect_kinds;
+ghost use Rattle.jdwp_commands.specs.declared.kind.QuestionKind.TheVariants as question_kinds;
+ghost use Rattle.jdwp_commands.specs.declared.question.Question.TheVariants as questions;
 ghost use Rattle.jdwp_commands.specs.Bodies.{IsRead, whole};
-ghost use Rattle.jdwp_commands.specs.Commands.{number_of, question_at, effect_at, asked_at, told_question, told_effect, told, spell_command, FitsCommand, InRangeCommand, command_at};
+ghost use Rattle.jdwp_commands.specs.Commands.{number_of, question_at, effect_at, asked_at, told_question, told_effect};
+ghost use Rattle.jdwp_commands.specs.Commands.{told, spell_command, FitsCommand, InRangeCommand, command_at};
 ghost use Rattle.jdwp_commands.specs.Items.{spell_sayings, FitsSayings};
 ghost use Rattle.jdwp_commands.specs.Kinds.{kind_of_numbers};
 
@@ -15,11 +19,105 @@ use crate::asked::Asked;
 use crate::effect::Effect;
 use crate::fault::BodyFault;
 use crate::kind::{CommandKind, EffectKind, QuestionKind};
+use crate::listed::Slot;
 use crate::meaning;
 use crate::question::Question;
-use jdwp_values::{IdSizes, Limit, Reader, RowFault, Writer, read_list, write_list};
+use jdwp_events::{EventKind, Modifier, Policy};
+use jdwp_values::{
+    ClassId, FieldId, FrameId, IdSizes, Limit, MethodId, ObjectId, Reader, RowFault, ThreadId,
+    Value, Writer, read_list, write_list,
+};
 use std::alloc::Global;
-use wire_core::{Blob, NoMemory};
+use wire_core::{Blob, List, NoMemory};
+
+// LineTable and VariableTable ask of a method.
+#[tactic(auto, using(jdwp_values::proofs::Appends::appends))]
+fn write_table_of(class: ClassId, method: MethodId, writer: &mut Writer) -> Result<(), NoMemory>
+    requires { FitsSayings writer.old.sizes (told_question (questions.LineTable class method)) }
+    ensures { Writes (spell_sayings writer.old.sizes (told_question (questions.LineTable class method)))
+        writer.old writer.new result }
+{
+    writer.class(class)?;
+    writer.method(method)?;
+    Ok(())
+}
+
+#[tactic(auto, using(jdwp_values::proofs::Appends::appends))]
+fn write_get_fields(
+    object: ObjectId,
+    fields: &List<FieldId>,
+    writer: &mut Writer,
+) -> Result<(), NoMemory>
+    requires { FitsSayings writer.old.sizes (told_question (questions.GetFields object fields.now)) }
+    ensures { Writes (spell_sayings writer.old.sizes (told_question (questions.GetFields object fields.now)))
+        writer.old writer.new result }
+{
+    writer.object(object)?;
+    write_list(writer, fields.as_slice())?;
+    Ok(())
+}
+
+#[tactic(auto, using(jdwp_values::proofs::Appends::appends))]
+fn write_frames(
+    thread: ThreadId,
+    start: i32,
+    length: i32,
+    writer: &mut Writer,
+) -> Result<(), NoMemory>
+    requires { FitsSayings writer.old.sizes (told_question (questions.Frames thread start length)) }
+    ensures { Writes (spell_sayings writer.old.sizes (told_question (questions.Frames thread start length)))
+        writer.old writer.new result }
+{
+    writer.thread(thread)?;
+    writer.int(start)?;
+    writer.int(length)?;
+    Ok(())
+}
+
+#[tactic(auto, using(jdwp_values::proofs::Appends::appends))]
+fn write_get_elements(
+    array: ObjectId,
+    first: i32,
+    length: i32,
+    writer: &mut Writer,
+) -> Result<(), NoMemory>
+    requires { FitsSayings writer.old.sizes (told_question (questions.GetElements array first length)) }
+    ensures { Writes (spell_sayings writer.old.sizes (told_question (questions.GetElements array first length)))
+        writer.old writer.new result }
+{
+    writer.object(array)?;
+    writer.int(first)?;
+    writer.int(length)?;
+    Ok(())
+}
+
+#[tactic(auto, using(jdwp_values::proofs::Appends::appends))]
+fn write_get_slots(
+    thread: ThreadId,
+    frame: FrameId,
+    slots: &List<Slot>,
+    writer: &mut Writer,
+) -> Result<(), NoMemory>
+    requires { FitsSayings writer.old.sizes (told_question (questions.GetSlots thread frame slots.now)) }
+    ensures { Writes (spell_sayings writer.old.sizes (told_question (questions.GetSlots thread frame slots.now)))
+        writer.old writer.new result }
+{
+    writer.thread(thread)?;
+    writer.frame(frame)?;
+    write_list(writer, slots.as_slice())?;
+    Ok(())
+}
+
+#[tactic(auto, using(jdwp_values::proofs::Appends::appends))]
+fn write_this_object(thread: ThreadId, frame: FrameId, writer: &mut Writer) -> Result<(), NoMemory>
+    requires { FitsSayings writer.old.sizes (told_question (questions.ThisObject thread frame)) }
+    ensures { Writes (spell_sayings writer.old.sizes (told_question (questions.ThisObject thread frame)))
+        writer.old writer.new result }
+{
+    writer.thread(thread)?;
+    writer.frame(frame)?;
+    Ok(())
+}
 
 #[tactic(auto, using(jdwp_values::proofs::Appends::appends))]
 fn write_question(question: &Question, writer: &mut Writer) -> Result<(), NoMemory>
@@ -36,55 +134,104 @@ fn write_question(question: &Question, writer: &mut Writer) -> Result<(), NoMemo
         Question::Methods(class) => writer.class(*class)?,
         Question::SourceFile(class) => writer.class(*class)?,
         Question::Superclass(class) => writer.class(*class)?,
-        Question::LineTable { class, method } => {
-            writer.class(*class)?;
-            writer.method(*method)?;
-        }
-        Question::VariableTable { class, method } => {
-            writer.class(*class)?;
-            writer.method(*method)?;
-        }
+        Question::LineTable { class, method } => write_table_of(*class, *method, writer)?,
+        Question::VariableTable { class, method } => write_table_of(*class, *method, writer)?,
         Question::ObjectType(object) => writer.object(*object)?,
-        Question::GetFields { object, fields } => {
-            writer.object(*object)?;
-            write_list(writer, fields.as_slice())?;
-        }
+        Question::GetFields { object, fields } => write_get_fields(*object, fields, writer)?,
         Question::StringValue(object) => writer.object(*object)?,
         Question::ThreadName(thread) => writer.thread(*thread)?,
         Question::Frames {
             thread,
             start,
             length,
-        } => {
-            writer.thread(*thread)?;
-            writer.int(*start)?;
-            writer.int(*length)?;
-        }
+        } => write_frames(*thread, *start, *length, writer)?,
         Question::FrameCount(thread) => writer.thread(*thread)?,
         Question::ArrayLength(object) => writer.object(*object)?,
         Question::GetElements {
             array,
             first,
             length,
-        } => {
-            writer.object(*array)?;
-            writer.int(*first)?;
-            writer.int(*length)?;
-        }
+        } => write_get_elements(*array, *first, *length, writer)?,
         Question::GetSlots {
             thread,
             frame,
             slots,
-        } => {
-            writer.thread(*thread)?;
-            writer.frame(*frame)?;
-            write_list(writer, slots.as_slice())?;
-        }
-        Question::ThisObject { thread, frame } => {
-            writer.thread(*thread)?;
-            writer.frame(*frame)?;
-        }
+        } => write_get_slots(*thread, *frame, slots, writer)?,
+        Question::ThisObject { thread, frame } => write_this_object(*thread, *frame, writer)?,
     }
+    Ok(())
+}
+
+#[tactic(auto, using(jdwp_values::proofs::Appends::appends))]
+fn write_set_field(
+    object: ObjectId,
+    field: FieldId,
+    value: &Blob,
+    writer: &mut Writer,
+) -> Result<(), NoMemory>
+    requires { FitsSayings writer.old.sizes (told_effect (effects.SetField object field value.now)) }
+    ensures { Writes (spell_sayings writer.old.sizes (told_effect (effects.SetField object field value.now)))
+        writer.old writer.new result }
+{
+    writer.object(object)?;
+    writer.count(1)?;
+    writer.field(field)?;
+    writer.tail(value.as_slice())?;
+    Ok(())
+}
+
+#[tactic(auto, using(jdwp_values::proofs::Appends::appends))]
+fn write_set_element(
+    array: ObjectId,
+    first: i32,
+    value: &Blob,
+    writer: &mut Writer,
+) -> Result<(), NoMemory>
+    requires { FitsSayings writer.old.sizes (told_effect (effects.SetElement array first value.now)) }
+    ensures { Writes (spell_sayings writer.old.sizes (told_effect (effects.SetElement array first value.now)))
+        writer.old writer.new result }
+{
+    writer.object(array)?;
+    writer.int(first)?;
+    writer.count(1)?;
+    writer.tail(value.as_slice())?;
+    Ok(())
+}
+
+#[tactic(auto, using(jdwp_values::proofs::Appends::appends))]
+fn write_set(
+    kind: EventKind,
+    policy: Policy,
+    modifiers: &List<Modifier>,
+    writer: &mut Writer,
+) -> Result<(), NoMemory>
+    requires { FitsSayings writer.old.sizes (told_effect (effects.Set kind policy modifiers.now)) }
+    ensures { Writes (spell_sayings writer.old.sizes (told_effect (effects.Set kind policy modifiers.now)))
+        writer.old writer.new result }
+{
+    writer.byte(kind.byte())?;
+    writer.byte(policy.byte())?;
+    write_list(writer, modifiers.as_slice())?;
+    Ok(())
+}
+
+#[tactic(auto, using(jdwp_values::proofs::Appends::appends))]
+fn write_set_slot(
+    thread: ThreadId,
+    frame: FrameId,
+    slot: i32,
+    value: &Value,
+    writer: &mut Writer,
+) -> Result<(), NoMemory>
+    requires { FitsSayings writer.old.sizes (told_effect (effects.SetSlot thread frame slot value.now)) }
+    ensures { Writes (spell_sayings writer.old.sizes (told_effect (effects.SetSlot thread frame slot value.now)))
+        writer.old writer.new result }
+{
+    writer.thread(thread)?;
+    writer.frame(frame)?;
+    writer.count(1)?;
+    writer.int(slot)?;
+    writer.value(value)?;
     Ok(())
 }
 
@@ -102,31 +249,17 @@ fn write_effect(effect: &Effect, writer: &mut Writer) -> Result<(), NoMemory>
             object,
             field,
             value,
-        } => {
-            writer.object(*object)?;
-            writer.count(1)?;
-            writer.field(*field)?;
-            writer.tail(value.as_slice())?;
-        }
+        } => write_set_field(*object, *field, value, writer)?,
         Effect::SetElement {
             array,
             first,
             value,
-        } => {
-            writer.object(*array)?;
-            writer.int(*first)?;
-            writer.count(1)?;
-            writer.tail(value.as_slice())?;
-        }
+        } => write_set_element(*array, *first, value, writer)?,
         Effect::Set {
             kind,
             policy,
             modifiers,
-        } => {
-            writer.byte(kind.byte())?;
-            writer.byte(policy.byte())?;
-            write_list(writer, modifiers.as_slice())?;
-        }
+        } => write_set(*kind, *policy, modifiers, writer)?,
         Effect::Clear { kind, request } => {
             writer.byte(kind.byte())?;
             writer.number(*request)?;
@@ -136,13 +269,7 @@ fn write_effect(effect: &Effect, writer: &mut Writer) -> Result<(), NoMemory>
             frame,
             slot,
             value,
-        } => {
-            writer.thread(*thread)?;
-            writer.frame(*frame)?;
-            writer.count(1)?;
-            writer.int(*slot)?;
-            writer.value(value)?;
-        }
+        } => write_set_slot(*thread, *frame, *slot, value, writer)?,
     }
     Ok(())
 }
@@ -169,6 +296,45 @@ pub fn write(alloc: Global, sizes: IdSizes, asked: &Asked) -> Result<(u8, u8, Bl
     write_asked(asked, &mut writer)?;
     let (set, command) = asked.kind().numbers();
     Ok((set, command, writer.done()))
+}
+
+fn read_get_fields(alloc: Global, reader: &mut Reader<'_>) -> Result<Question, RowFault>
+    ensures { Tells (λ x. x) (question_at question_kinds.GetFields reader.old) reader.new result }
+{
+    Ok(Question::GetFields {
+        object: reader.object()?,
+        fields: read_list(alloc, Limit::Any, reader)?,
+    })
+}
+
+fn read_frames(reader: &mut Reader<'_>) -> Result<Question, RowFault>
+    ensures { Tells (λ x. x) (question_at question_kinds.Frames reader.old) reader.new result }
+{
+    Ok(Question::Frames {
+        thread: reader.thread()?,
+        start: reader.int()?,
+        length: reader.int()?,
+    })
+}
+
+fn read_get_elements(reader: &mut Reader<'_>) -> Result<Question, RowFault>
+    ensures { Tells (λ x. x) (question_at question_kinds.GetElements reader.old) reader.new result }
+{
+    Ok(Question::GetElements {
+        array: reader.object()?,
+        first: reader.int()?,
+        length: reader.int()?,
+    })
+}
+
+fn read_get_slots(alloc: Global, reader: &mut Reader<'_>) -> Result<Question, RowFault>
+    ensures { Tells (λ x. x) (question_at question_kinds.GetSlots reader.old) reader.new result }
+{
+    Ok(Question::GetSlots {
+        thread: reader.thread()?,
+        frame: reader.frame()?,
+        slots: read_list(alloc, Limit::Any, reader)?,
+    })
 }
 
 fn read_question(
@@ -200,29 +366,14 @@ fn read_question(
             method: reader.method()?,
         }),
         QuestionKind::ObjectType => Ok(Question::ObjectType(reader.object()?)),
-        QuestionKind::GetFields => Ok(Question::GetFields {
-            object: reader.object()?,
-            fields: read_list(alloc, Limit::Any, reader)?,
-        }),
+        QuestionKind::GetFields => read_get_fields(alloc, reader),
         QuestionKind::StringValue => Ok(Question::StringValue(reader.object()?)),
         QuestionKind::ThreadName => Ok(Question::ThreadName(reader.thread()?)),
-        QuestionKind::Frames => Ok(Question::Frames {
-            thread: reader.thread()?,
-            start: reader.int()?,
-            length: reader.int()?,
-        }),
+        QuestionKind::Frames => read_frames(reader),
         QuestionKind::FrameCount => Ok(Question::FrameCount(reader.thread()?)),
         QuestionKind::ArrayLength => Ok(Question::ArrayLength(reader.object()?)),
-        QuestionKind::GetElements => Ok(Question::GetElements {
-            array: reader.object()?,
-            first: reader.int()?,
-            length: reader.int()?,
-        }),
-        QuestionKind::GetSlots => Ok(Question::GetSlots {
-            thread: reader.thread()?,
-            frame: reader.frame()?,
-            slots: read_list(alloc, Limit::Any, reader)?,
-        }),
+        QuestionKind::GetElements => read_get_elements(reader),
+        QuestionKind::GetSlots => read_get_slots(alloc, reader),
         QuestionKind::ThisObject => Ok(Question::ThisObject {
             thread: reader.thread()?,
             frame: reader.frame()?,

@@ -36,13 +36,14 @@ pub struct Slot {
 }
 
 impl Row for ClassStatus {
-    ghost use Rattle.jdwp_commands.specs.Listed.{class_status_at, spell_class_status, FitsClassStatus};
+    ghost use Rattle.jdwp_commands.specs.Listed.{class_status_row};
+    ghost use Rattle.jdwp_values.specs.Rows.{read_by, spell_by, FitsBy};
 
-    ghost read_at = { class_status_at };
+    ghost read_at = { read_by class_status_row };
 
-    ghost spell = { spell_class_status };
+    ghost spell = { spell_by class_status_row };
 
-    ghost Fits = { FitsClassStatus };
+    ghost Fits = { FitsBy class_status_row };
 
     fn read(_alloc: Global, reader: &mut Reader<'_>) -> Result<ClassStatus, RowFault> {
         Ok(ClassStatus {
@@ -62,13 +63,14 @@ impl Row for ClassStatus {
 }
 
 impl Row for LoadedClass {
-    ghost use Rattle.jdwp_commands.specs.Listed.{loaded_class_at, spell_loaded_class, FitsLoadedClass};
+    ghost use Rattle.jdwp_commands.specs.Listed.{loaded_class_row};
+    ghost use Rattle.jdwp_values.specs.Rows.{read_by, spell_by, FitsBy};
 
-    ghost read_at = { loaded_class_at };
+    ghost read_at = { read_by loaded_class_row };
 
-    ghost spell = { spell_loaded_class };
+    ghost spell = { spell_by loaded_class_row };
 
-    ghost Fits = { FitsLoadedClass };
+    ghost Fits = { FitsBy loaded_class_row };
 
     fn read(alloc: Global, reader: &mut Reader<'_>) -> Result<LoadedClass, RowFault> {
         Ok(LoadedClass {
@@ -90,13 +92,14 @@ impl Row for LoadedClass {
 }
 
 impl Row for Frame {
-    ghost use Rattle.jdwp_commands.specs.Listed.{frame_at, spell_frame, FitsFrame};
+    ghost use Rattle.jdwp_commands.specs.Listed.{frame_row};
+    ghost use Rattle.jdwp_values.specs.Rows.{read_by, spell_by, FitsBy};
 
-    ghost read_at = { frame_at };
+    ghost read_at = { read_by frame_row };
 
-    ghost spell = { spell_frame };
+    ghost spell = { spell_by frame_row };
 
-    ghost Fits = { FitsFrame };
+    ghost Fits = { FitsBy frame_row };
 
     fn read(_alloc: Global, reader: &mut Reader<'_>) -> Result<Frame, RowFault> {
         Ok(Frame {
@@ -114,13 +117,14 @@ impl Row for Frame {
 }
 
 impl Row for Slot {
-    ghost use Rattle.jdwp_commands.specs.Listed.{slot_at, spell_slot, FitsSlot};
+    ghost use Rattle.jdwp_commands.specs.Listed.{slot_row};
+    ghost use Rattle.jdwp_values.specs.Rows.{read_by, spell_by, FitsBy};
 
-    ghost read_at = { slot_at };
+    ghost read_at = { read_by slot_row };
 
-    ghost spell = { spell_slot };
+    ghost spell = { spell_by slot_row };
 
-    ghost Fits = { FitsSlot };
+    ghost Fits = { FitsBy slot_row };
 
     fn read(_alloc: Global, reader: &mut Reader<'_>) -> Result<Slot, RowFault> {
         Ok(Slot {

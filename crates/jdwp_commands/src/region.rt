@@ -2,7 +2,8 @@ ghost use Rattle.std.specs.Prelude.{◌≡◌};
 ghost use Rattle.std.specs.List.{AllByRecursion};
 ghost use Rattle.jdwp_values.specs.Rows.{Tells, times_at, list_at, spell_list, FitsList};
 ghost use Rattle.jdwp_values.specs.Spelling.{Writes};
-ghost use Rattle.jdwp_commands.specs.Regions.{region_tag_of, meaning_at, element_at, region_at, spell_element, spell_region, FitsElement, FitsRegion};
+ghost use Rattle.jdwp_commands.specs.Regions.{region_tag_of, meaning_at, element_at, region_at, spell_element};
+ghost use Rattle.jdwp_commands.specs.Regions.{spell_region, FitsElement, FitsRegion};
 
 use crate::meaning::bad_tag;
 use jdwp_values::{Limit, Reader, RowFault, Tag, Value, Writer};

@@ -6,8 +6,11 @@ ghost use Rattle.jdwp_values.specs.Rows.{Tells};
 ghost use Rattle.jdwp_values.specs.Spelling.{Writes};
 ghost use Rattle.jdwp_commands.specs.declared.answer.Answer.{Answer as AnAnswer};
 ghost use Rattle.jdwp_commands.specs.declared.answer.Answer.TheVariants.{IdSizes as the_sizes, LineTable as the_lines};
+ghost use Rattle.jdwp_commands.specs.declared.answer.Answer.TheVariants.{ObjectType as the_type};
+ghost use Rattle.jdwp_commands.specs.declared.answer.Answer.TheVariants.{VariableTable as the_variables};
 ghost use Rattle.jdwp_commands.specs.declared.kind.QuestionKind.TheVariants as question_kinds;
-ghost use Rattle.jdwp_commands.specs.Answers.{question_answer_at, effect_answer_at, answered_at, told_answer, spell_answer, FitsAnswer, InRangeAnswer, IsAnswerTo, answer_at};
+ghost use Rattle.jdwp_commands.specs.Answers.{question_answer_at, effect_answer_at, answered_at, told_answer};
+ghost use Rattle.jdwp_commands.specs.Answers.{spell_answer, FitsAnswer, InRangeAnswer, IsAnswerTo, answer_at};
 ghost use Rattle.jdwp_commands.specs.Bodies.{IsRead};
 ghost use Rattle.jdwp_commands.specs.Items.{spell_sayings, FitsSayings};
 
@@ -16,9 +19,12 @@ use crate::asked::Asked;
 use crate::fault::BodyFault;
 use crate::kind::{CommandKind, EffectKind, QuestionKind};
 use crate::region::{read_region, write_region};
-use jdwp_values::{IdSizes, Limit, LineTable, Reader, RowFault, Writer, read_list, write_list};
+use jdwp_values::{
+    ClassId, IdSizes, Limit, LineTable, Reader, RowFault, TypeTag, Variable, Writer, read_list,
+    write_list,
+};
 use std::alloc::Global;
-use wire_core::{Blob, NoMemory};
+use wire_core::{Blob, List, NoMemory};
 
 fn read_sizes(reader: &mut Reader<'_>) -> Result<Answer, RowFault>
     ensures { Tells (λ x. x) (question_answer_at question_kinds.IdSizes any_count reader.old) reader.new result }
@@ -40,6 +46,24 @@ fn read_lines(alloc: Global, reader: &mut Reader<'_>) -> Result<Answer, RowFault
         end: reader.long()?,
         lines: read_list(alloc, Limit::Any, reader)?,
     }))
+}
+
+fn read_variables(alloc: Global, reader: &mut Reader<'_>) -> Result<Answer, RowFault>
+    ensures { Tells (λ x. x) (question_answer_at question_kinds.VariableTable any_count reader.old) reader.new result }
+{
+    Ok(Answer::VariableTable {
+        arguments: reader.int()?,
+        variables: read_list(alloc, Limit::Any, reader)?,
+    })
+}
+
+fn read_type(reader: &mut Reader<'_>) -> Result<Answer, RowFault>
+    ensures { Tells (λ x. x) (question_answer_at question_kinds.ObjectType any_count reader.old) reader.new result }
+{
+    Ok(Answer::ObjectType {
+        tag: reader.type_tag()?,
+        class: reader.class()?,
+    })
 }
 
 /// The answer to a question; the limit says how many items it may have.
@@ -70,14 +94,8 @@ fn read_question_answer(
         }
         QuestionKind::Superclass => Ok(Answer::Superclass(reader.class()?)),
         QuestionKind::LineTable => read_lines(alloc, reader),
-        QuestionKind::VariableTable => Ok(Answer::VariableTable {
-            arguments: reader.int()?,
-            variables: read_list(alloc, Limit::Any, reader)?,
-        }),
-        QuestionKind::ObjectType => Ok(Answer::ObjectType {
-            tag: reader.type_tag()?,
-            class: reader.class()?,
-        }),
+        QuestionKind::VariableTable => read_variables(alloc, reader),
+        QuestionKind::ObjectType => read_type(reader),
         QuestionKind::GetFields => Ok(Answer::GetFields(read_list(alloc, limit, reader)?)),
         QuestionKind::StringValue => {
             Ok(Answer::StringValue(Blob::from_slice(alloc, reader.text()?)?))
@@ -165,7 +183,8 @@ fn write_sizes(
     frame: u32,
     writer: &mut Writer,
 ) -> Result<(), NoMemory>
-    ensures { Writes (spell_sayings writer.old.sizes (told_answer any_count (the_sizes field method object class frame)))
+    ensures { Writes (spell_sayings writer.old.sizes
+        (told_answer any_count (the_sizes field method object class frame)))
         writer.old writer.new result }
 {
     writer.number(field)?;
@@ -185,6 +204,32 @@ fn write_lines(table: &LineTable, writer: &mut Writer) -> Result<(), NoMemory>
     writer.long(table.start)?;
     writer.long(table.end)?;
     write_list(writer, table.lines.as_slice())?;
+    Ok(())
+}
+
+#[tactic(auto, using(jdwp_values::proofs::Appends::appends))]
+fn write_variables(
+    arguments: i32,
+    variables: &List<Variable>,
+    writer: &mut Writer,
+) -> Result<(), NoMemory>
+    requires { FitsSayings writer.old.sizes (told_answer any_count (the_variables arguments variables.now)) }
+    ensures { Writes (spell_sayings writer.old.sizes (told_answer any_count (the_variables arguments variables.now)))
+        writer.old writer.new result }
+{
+    writer.int(arguments)?;
+    write_list(writer, variables.as_slice())?;
+    Ok(())
+}
+
+#[tactic(auto, using(jdwp_values::proofs::Appends::appends))]
+fn write_type(tag: TypeTag, class: ClassId, writer: &mut Writer) -> Result<(), NoMemory>
+    requires { FitsSayings writer.old.sizes (told_answer any_count (the_type tag class)) }
+    ensures { Writes (spell_sayings writer.old.sizes (told_answer any_count (the_type tag class)))
+        writer.old writer.new result }
+{
+    writer.type_tag(tag)?;
+    writer.class(class)?;
     Ok(())
 }
 
@@ -213,14 +258,8 @@ fn write_reply(answer: &Answer, writer: &mut Writer) -> Result<(), NoMemory>
         Answer::VariableTable {
             arguments,
             variables,
-        } => {
-            writer.int(*arguments)?;
-            write_list(writer, variables.as_slice())?;
-        }
-        Answer::ObjectType { tag, class } => {
-            writer.type_tag(*tag)?;
-            writer.class(*class)?;
-        }
+        } => write_variables(*arguments, variables, writer)?,
+        Answer::ObjectType { tag, class } => write_type(*tag, *class, writer)?,
         Answer::GetFields(values) => write_list(writer, values.as_slice())?,
         Answer::StringValue(text) => writer.text(text.as_slice())?,
         Answer::ThreadName(text) => writer.text(text.as_slice())?,

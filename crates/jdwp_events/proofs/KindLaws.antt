@@ -1,5 +1,5 @@
 -- A byte is the byte of the kind, the modifier or the policy that it stands for.
-use Rattle.std.proofs.Common.{◌≡◌, ℕ, zero, suc, ◌<◌, ◌^◌, Option, Some, None, refl, subst, arith, ◌==◌}
+use Rattle.std.proofs.Common.{◌≡◌, ℕ, zero, suc, ◌<◌, ◌^◌, Some, refl, subst, arith, ◌==◌}
 use Rattle.std.proofs.lemmas.Bool.{eqb-true}
 use Rattle.jdwp_values.proofs.PartLaws.{found_passes, some_is}
 use Rattle.jdwp_events.specs.declared.kind.EventKind.{EventKind}
@@ -59,8 +59,10 @@ modifier_small modifiers.Step = omega arith
 
 pub policy_back : (n : ℕ) (policy : Policy) → policy_of_byte n ≡ Some policy → byte_of_policy policy ≡ n
 policy_back zero policy e = subst (λ (p : Policy). byte_of_policy p ≡ 0) (some_is policies.NoThread policy e) refl
-policy_back (suc zero) policy e = subst (λ (p : Policy). byte_of_policy p ≡ 1) (some_is policies.EventThread policy e) refl
-policy_back (suc (suc zero)) policy e = subst (λ (p : Policy). byte_of_policy p ≡ 2) (some_is policies.All policy e) refl
+policy_back (suc zero) policy e =
+    subst (λ (p : Policy). byte_of_policy p ≡ 1) (some_is policies.EventThread policy e) refl
+policy_back (suc (suc zero)) policy e =
+    subst (λ (p : Policy). byte_of_policy p ≡ 2) (some_is policies.All policy e) refl
 policy_back (suc (suc (suc n))) policy e = absurd cc
 
 pub policy_of-byte : (policy : Policy) → policy_of_byte (byte_of_policy policy) ≡ Some policy

@@ -1,8 +1,7 @@
 -- A composite (JDWP, Event command set, "Composite"): the byte of a suspend policy, and a list of events.
-use Rattle.std.specs.Prelude.{◌≡◌, ℕ, List, [], ◌∷◌, ◌++◌, length, Option, Some, None, Result, Ok, Err, ◌==◌, if◌then◌else◌}
+use Rattle.std.specs.Prelude.{◌≡◌, ℕ, List, ◌++◌, length, Option, Some, None, Result, Ok, Err, ◌==◌, if◌then◌else◌}
 use Rattle.std.specs.List.{AllByRecursion}
 use Rattle.std.specs.Int.{bytes_high_first}
-use Rattle.jdwp_values.specs.declared.fault.ReadTrouble.{ReadTrouble}
 use Rattle.jdwp_values.specs.declared.fault.RowFault.{RowFault}
 use Rattle.jdwp_values.specs.declared.fault.RowFault.TheVariants as faults
 use Rattle.jdwp_values.specs.declared.fault.ValueFault.{ValueFault}
@@ -14,8 +13,8 @@ use Rattle.jdwp_values.specs.Reading.{Place, offset, part_at}
 use Rattle.jdwp_values.specs.Rows.{◌>>=◌, in_row, list_at, spell_list, FitsList}
 use Rattle.jdwp_events.specs.declared.composite.Composite.{Composite}
 use Rattle.jdwp_events.specs.declared.composite.CompositeFault.{CompositeFault}
-use Rattle.jdwp_events.specs.declared.composite.CompositeFault.TheVariants.{NoMemory, Short, BadKind, BadPolicy, BadCount, BadTag, Trailing}
-use Rattle.jdwp_events.specs.declared.event.Event.{Event}
+use Rattle.jdwp_events.specs.declared.composite.CompositeFault.TheVariants.{NoMemory, Short, BadKind, BadPolicy}
+use Rattle.jdwp_events.specs.declared.composite.CompositeFault.TheVariants.{BadCount, BadTag, Trailing}
 use Rattle.jdwp_events.specs.declared.kind.Policy.{Policy}
 use Rattle.jdwp_events.specs.Events.{event_at, spell_event, FitsEvent, InRangeEvent}
 use Rattle.jdwp_events.specs.Kinds.{byte_of_policy, policy_of_byte}
@@ -53,7 +52,8 @@ composite_at sizes body =
     ended events.1 (record { policy = policy; events = events.0 })
 
 unfoldable pub spell_composite : IdSizes → Composite → List ℕ
-spell_composite sizes composite = bytes_high_first 1 (byte_of_policy composite.policy) ++ spell_list (spell_event sizes) composite.events
+spell_composite sizes composite =
+    bytes_high_first 1 (byte_of_policy composite.policy) ++ spell_list (spell_event sizes) composite.events
 
 -- a composite that has a spelling: its ids fit, its texts and its list have fewer than 2 ^ 31 bytes and events
 abbrev pub FitsComposite : IdSizes → Composite → Type 0

@@ -1,13 +1,15 @@
 -- The events of a composite (JDWP, Event command set, "Composite"): a byte that says which kind it is, and the parts of
 -- the kind's row.
-use Rattle.std.specs.Prelude.{◌≡◌, ℕ, List, [], ◌∷◌, ◌++◌, Option, Some, None, Result, Ok, Err}
+use Rattle.std.specs.Prelude.{ℕ, ℤ, List, [], ◌∷◌, ◌++◌, Option, Some, None, Result, Err}
 use Rattle.std.specs.Int.{bytes_high_first}
 use Rattle.jdwp_values.specs.declared.fault.RowFault.{RowFault}
 use Rattle.jdwp_values.specs.declared.fault.RowFault.TheVariants as faults
+use Rattle.jdwp_values.specs.declared.id.ClassId.{ClassId}
 use Rattle.jdwp_values.specs.declared.sizes.IdSizes.{IdSizes}
+use Rattle.jdwp_values.specs.declared.tag.TypeTag.{TypeTag}
 use Rattle.jdwp_values.specs.Parts.{Part, byte, int, number, thread, class, type_tag, text, location, reference}
 use Rattle.jdwp_values.specs.Reading.{Place, offset, part_at}
-use Rattle.jdwp_values.specs.Rows.{Holds, ◌>>=◌, in_row, row_at, Said, said, spell_told, FitsTold, InRangeTold}
+use Rattle.jdwp_values.specs.Rows.{◌>>=◌, in_row, row_at, Said, said, spell_told, FitsTold, InRangeTold}
 use Rattle.jdwp_events.specs.declared.event.Event.{Event}
 use Rattle.jdwp_events.specs.declared.event.Event.TheVariants as events
 use Rattle.jdwp_events.specs.declared.kind.EventKind.{EventKind}
@@ -52,14 +54,19 @@ event_of_kind None at place = Err (faults.BadKind at)
 unfoldable pub event_at : Place → Result (Event × Place) RowFault
 event_at place = in_row (part_at byte place) >>= λ b. event_of_kind (kind_of_byte b.0) (offset place) b.1
 
+-- what an event says of a class
+abbrev pub told_class : TypeTag → ClassId → List ℕ → ℤ → List Said
+told_class tag c s status = said type_tag tag ∷ said class c ∷ said text s ∷ said int status ∷ []
+
 -- what an event says in the parts of its kind's row
 abbrev pub told : Event → List Said
 told (events.SingleStep r t at) = said number r ∷ said thread t ∷ said location at ∷ []
 told (events.Breakpoint r t at) = said number r ∷ said thread t ∷ said location at ∷ []
-told (events.Exception r t at e catch) = said number r ∷ said thread t ∷ said location at ∷ said reference e ∷ said location catch ∷ []
+told (events.Exception r t at e catch) =
+    said number r ∷ said thread t ∷ said location at ∷ said reference e ∷ said location catch ∷ []
 told (events.ThreadStart r t) = said number r ∷ said thread t ∷ []
 told (events.ThreadDeath r t) = said number r ∷ said thread t ∷ []
-told (events.ClassPrepare r t tag c s status) = said number r ∷ said thread t ∷ said type_tag tag ∷ said class c ∷ said text s ∷ said int status ∷ []
+told (events.ClassPrepare r t tag c s status) = said number r ∷ said thread t ∷ told_class tag c s status
 told (events.VMStart r t) = said number r ∷ said thread t ∷ []
 told (events.VMDeath r) = said number r ∷ []
 

@@ -1,5 +1,6 @@
--- The modifiers of an event request (JDWP, EventRequest command set, "Set"): a byte that says which it is, and its parts.
-use Rattle.std.specs.Prelude.{◌≡◌, ℕ, List, [], ◌∷◌, ◌++◌, Option, Some, None, Result, Ok, Err, ◌==◌, find}
+-- The modifiers of an event request (JDWP, EventRequest command set, "Set"): a byte that says which it is, and its
+-- parts.
+use Rattle.std.specs.Prelude.{ℕ, List, [], ◌∷◌, ◌++◌, Option, Some, None, Result, Err, ◌==◌, find}
 use Rattle.std.specs.Int.{bytes_high_first}
 use Rattle.jdwp_values.specs.declared.fault.RowFault.{RowFault}
 use Rattle.jdwp_values.specs.declared.fault.RowFault.TheVariants as faults
@@ -7,7 +8,7 @@ use Rattle.jdwp_values.specs.declared.fault.ValueFault.TheVariants.{BadTag}
 use Rattle.jdwp_values.specs.declared.sizes.IdSizes.{IdSizes}
 use Rattle.jdwp_values.specs.Parts.{Part, byte, int, thread, class, text, location}
 use Rattle.jdwp_values.specs.Reading.{Place, offset, part_at}
-use Rattle.jdwp_values.specs.Rows.{Holds, ◌>>=◌, in_row, row_at, Said, said, spell_told, FitsTold, InRangeTold}
+use Rattle.jdwp_values.specs.Rows.{◌>>=◌, in_row, row_at, Said, said, spell_told, FitsTold, InRangeTold}
 use Rattle.jdwp_events.specs.declared.modifier.Modifier.{Modifier}
 use Rattle.jdwp_events.specs.declared.modifier.Modifier.TheVariants as modifiers
 use Rattle.jdwp_events.specs.declared.modifier.ModifierKind.{ModifierKind}
@@ -82,7 +83,8 @@ told (modifiers.ExceptionOnly c caught uncaught) = said class c ∷ said byte ca
 told (modifiers.Step t size depth) = said thread t ∷ said int size ∷ said int depth ∷ []
 
 abbrev pub spell_modifier : IdSizes → Modifier → List ℕ
-spell_modifier sizes modifier = bytes_high_first 1 (byte_of_modifier (kind_of modifier)) ++ spell_told sizes (told modifier)
+spell_modifier sizes modifier =
+    bytes_high_first 1 (byte_of_modifier (kind_of modifier)) ++ spell_told sizes (told modifier)
 
 abbrev pub FitsModifier : IdSizes → Modifier → Type 0
 FitsModifier sizes modifier = FitsTold sizes (told modifier)

@@ -1,6 +1,7 @@
 ghost use Rattle.std.specs.Prelude.{◌≡◌, ◌<◌, ◌^◌, length, Ok, IfOk};
 ghost use Rattle.jdwp_events.specs.declared.composite.Composite.{Composite as AComposite};
-ghost use Rattle.jdwp_events.specs.Composites.{composite_fault, composite_at, spell_composite, FitsComposite, InRangeComposite, IsRead};
+ghost use Rattle.jdwp_events.specs.Composites.{composite_fault, composite_at, spell_composite, FitsComposite};
+ghost use Rattle.jdwp_events.specs.Composites.{InRangeComposite, IsRead};
 
 use crate::event::Event;
 use crate::kind::Policy;

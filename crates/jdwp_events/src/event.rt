@@ -1,8 +1,10 @@
 ghost use Rattle.std.specs.Prelude.{◌≡◌};
 ghost use Rattle.jdwp_values.specs.Rows.{Tells, spell_told, FitsTold};
 ghost use Rattle.jdwp_values.specs.Spelling.{Writes};
-ghost use Rattle.jdwp_events.specs.declared.kind.EventKind.TheVariants.{SingleStep, Breakpoint, Exception, ThreadStart, ThreadDeath, ClassPrepare, VMStart, VMDeath};
-ghost use Rattle.jdwp_events.specs.Events.{kind_of, told, event_behind};
+ghost use Rattle.jdwp_events.specs.declared.event.Event.TheVariants as events;
+ghost use Rattle.jdwp_events.specs.declared.kind.EventKind.TheVariants.{SingleStep, Breakpoint, Exception, ThreadStart};
+ghost use Rattle.jdwp_events.specs.declared.kind.EventKind.TheVariants.{ThreadDeath, ClassPrepare, VMStart, VMDeath};
+ghost use Rattle.jdwp_events.specs.Events.{kind_of, told_class, told, event_behind};
 
 use crate::kind::EventKind;
 use jdwp_values::{ClassId, Location, Reader, Row, RowFault, ThreadId, TypeTag, Value, Writer};
@@ -145,6 +147,55 @@ impl Event {
     }
 }
 
+// The request and the thread of an event.
+#[tactic(auto, using(jdwp_values::proofs::Appends::appends))]
+fn write_thread(request: u32, thread: ThreadId, writer: &mut Writer) -> Result<(), NoMemory>
+    requires { FitsTold writer.old.sizes (told (events.VMStart request thread)) }
+    ensures { Writes (spell_told writer.old.sizes (told (events.VMStart request thread))) writer.old writer.new result }
+{
+    writer.number(request)?;
+    writer.thread(thread)?;
+    Ok(())
+}
+
+// The request, the thread and the place of an event.
+#[tactic(auto, using(jdwp_values::proofs::Appends::appends))]
+fn write_place(
+    request: u32,
+    thread: ThreadId,
+    at: Location,
+    writer: &mut Writer,
+) -> Result<(), NoMemory>
+    requires { FitsTold writer.old.sizes (told (events.Breakpoint request thread at)) }
+    ensures { Writes (spell_told writer.old.sizes (told (events.Breakpoint request thread at)))
+        writer.old writer.new result }
+{
+    writer.number(request)?;
+    writer.thread(thread)?;
+    writer.location(at)?;
+    Ok(())
+}
+
+// The class of an event.
+#[tactic(auto, using(jdwp_values::proofs::Appends::appends))]
+fn write_class(
+    tag: TypeTag,
+    class: ClassId,
+    signature: &Blob,
+    status: i32,
+    writer: &mut Writer,
+) -> Result<(), NoMemory>
+    requires { FitsTold writer.old.sizes (told_class tag class signature.now status) }
+    ensures { Writes (spell_told writer.old.sizes (told_class tag class signature.now status))
+        writer.old writer.new result }
+{
+    writer.type_tag(tag)?;
+    writer.class(class)?;
+    writer.text(signature.as_slice())?;
+    writer.int(status)?;
+    Ok(())
+}
+
 #[tactic(auto, using(jdwp_values::proofs::Appends::appends))]
 fn write_parts(event: &Event, writer: &mut Writer) -> Result<(), NoMemory>
     requires { FitsTold writer.old.sizes (told event.now) }
@@ -155,20 +206,12 @@ fn write_parts(event: &Event, writer: &mut Writer) -> Result<(), NoMemory>
             request,
             thread,
             at,
-        } => {
-            writer.number(*request)?;
-            writer.thread(*thread)?;
-            writer.location(*at)?;
-        }
+        } => write_place(*request, *thread, *at, writer)?,
         Event::Breakpoint {
             request,
             thread,
             at,
-        } => {
-            writer.number(*request)?;
-            writer.thread(*thread)?;
-            writer.location(*at)?;
-        }
+        } => write_place(*request, *thread, *at, writer)?,
         Event::Exception {
             request,
             thread,
@@ -176,20 +219,12 @@ fn write_parts(event: &Event, writer: &mut Writer) -> Result<(), NoMemory>
             exception,
             catch,
         } => {
-            writer.number(*request)?;
-            writer.thread(*thread)?;
-            writer.location(*at)?;
+            write_place(*request, *thread, *at, writer)?;
             writer.reference(exception)?;
             writer.location(*catch)?;
         }
-        Event::ThreadStart { request, thread } => {
-            writer.number(*request)?;
-            writer.thread(*thread)?;
-        }
-        Event::ThreadDeath { request, thread } => {
-            writer.number(*request)?;
-            writer.thread(*thread)?;
-        }
+        Event::ThreadStart { request, thread } => write_thread(*request, *thread, writer)?,
+        Event::ThreadDeath { request, thread } => write_thread(*request, *thread, writer)?,
         Event::ClassPrepare {
             request,
             thread,
@@ -198,17 +233,10 @@ fn write_parts(event: &Event, writer: &mut Writer) -> Result<(), NoMemory>
             signature,
             status,
         } => {
-            writer.number(*request)?;
-            writer.thread(*thread)?;
-            writer.type_tag(*tag)?;
-            writer.class(*class)?;
-            writer.text(signature.as_slice())?;
-            writer.int(*status)?;
+            write_thread(*request, *thread, writer)?;
+            write_class(*tag, *class, signature, *status, writer)?;
         }
-        Event::VMStart { request, thread } => {
-            writer.number(*request)?;
-            writer.thread(*thread)?;
-        }
+        Event::VMStart { request, thread } => write_thread(*request, *thread, writer)?,
         Event::VMDeath { request } => writer.number(*request)?,
     }
     Ok(())

@@ -1,5 +1,6 @@
 -- Reading a part at the front of some bytes: its value and the bytes behind it, or why it can't be read.
-use Rattle.std.specs.Prelude.{◌≡◌, ℕ, ℤ, ◌-◌, ◌^◌, ◌&&◌, List, [], ◌∷◌, length, take, drop, Option, Some, None, Result, Ok, Err, nat_lt, if◌then◌else◌}
+use Rattle.std.specs.Prelude.{◌≡◌, ℕ, ℤ, ◌-◌, ◌^◌, ◌&&◌, List, [], ◌∷◌, length, take, drop, Option, Some, None, Result}
+use Rattle.std.specs.Prelude.{Ok, Err, nat_lt, if◌then◌else◌}
 use Rattle.std.specs.Int.{Width, w8, w16, w32, w64, byte_len, cast_signed}
 use Rattle.std.specs.Borrow.{Bor}
 use Rattle.std.specs.Int.Digits.{number_from_digits}
@@ -16,7 +17,9 @@ use Rattle.jdwp_values.specs.declared.tag.TypeTag.{TypeTag}
 use Rattle.jdwp_values.specs.declared.value.Value.{Value}
 use Rattle.jdwp_values.specs.declared.value.Value.TheVariants as values
 use Rattle.jdwp_values.specs.Counts.{allows}
-use Rattle.jdwp_values.specs.Parts.{Simple, unsigned, signed, object_id, thread_id, class_id, method_id, field_id, frame_id, type_tag_byte, nothing, OfSimple, Part, simple, count, text, location, value, reference, untagged, tail, Of}
+use Rattle.jdwp_values.specs.Parts.{Simple, unsigned, signed, object_id, thread_id, class_id, method_id, field_id}
+use Rattle.jdwp_values.specs.Parts.{frame_id, type_tag_byte, nothing, OfSimple, Part, simple, count, text, location}
+use Rattle.jdwp_values.specs.Parts.{value, reference, untagged, tail, Of}
 use Rattle.jdwp_values.specs.Tags.{type_tag_of, tag_of, is_reference}
 
 infixl 10 ◌>>=◌
@@ -77,7 +80,8 @@ simple_at sizes frame_id bytes = do
 simple_at sizes type_tag_byte bytes = type_tag_at bytes
 simple_at sizes nothing bytes = Ok (tt, bytes)
 
--- A count is an int. A negative one, whose unsigned number is 2 ^ 31 or more, and one that the place doesn't allow are bad.
+-- A count is an int. A negative one, whose unsigned number is 2 ^ 31 or more, and one that the place doesn't allow are
+-- bad.
 unfoldable pub count_at : Limit → List ℕ → Result (ℕ × List ℕ) ValueFault
 count_at limit bytes = do
   x ← unsigned_at 4 bytes
@@ -179,7 +183,8 @@ unfoldable pub part_at : (p : Part) → Place → Result (Of p × Place) ReadTro
 part_at p place = placed place (read_part place.sizes p place.rest)
 
 -- What a reading call answers, seen by view, and where it leaves the reader: an error leaves it where it stood.
-abbrev pub Reads : {X Y : Type 0} → (X → Y) → Result (Y × Place) ReadTrouble → Place → Place → Result X ReadTrouble → Type 0
+abbrev pub Reads : {X Y : Type 0} → (X → Y) → Result (Y × Place) ReadTrouble → Place → Place → Result X ReadTrouble
+    → Type 0
 Reads view read old new (Ok x) = read ≡ Ok (view x, new)
 Reads view read old new (Err trouble) = (read ≡ Err trouble) × (new ≡ old)
 

@@ -1,6 +1,6 @@
 -- A row of a table is a list of parts. Its spelling is its parts' spellings one after the other, and it is read part by
 -- part from left to right, so that its fault is that of the first part that can't be read.
-use Rattle.std.specs.Prelude.{◌≡◌, ℕ, zero, suc, ◌<◌, ◌^◌, true, List, [], ◌∷◌, ◌++◌, length, Result, Ok, Err}
+use Rattle.std.specs.Prelude.{◌≡◌, ℕ, zero, suc, ◌<◌, ◌^◌, List, [], ◌∷◌, ◌++◌, length, Result, Ok, Err}
 use Rattle.std.specs.List.{flat_map, AllByRecursion}
 use Rattle.std.specs.Int.{bytes_high_first}
 use Rattle.jdwp_values.specs.declared.fault.ReadTrouble.{ReadTrouble}
@@ -8,10 +8,9 @@ use Rattle.jdwp_values.specs.declared.fault.RowFault.{RowFault}
 use Rattle.jdwp_values.specs.declared.fault.RowFault.TheVariants as faults
 use Rattle.jdwp_values.specs.declared.limit.Limit.{Limit}
 use Rattle.jdwp_values.specs.declared.sizes.IdSizes.{IdSizes}
-use Rattle.jdwp_values.specs.Counts.{allows}
 use Rattle.jdwp_values.specs.Parts.{Part, count, Of}
 use Rattle.jdwp_values.specs.Reading.{Place, part_at}
-use Rattle.jdwp_values.specs.Spelling.{spell_part, FitsPart, InRangePart, Ends}
+use Rattle.jdwp_values.specs.Spelling.{spell_part, FitsPart, InRangePart}
 
 -- the values of a row's parts
 abbrev pub Holds : List Part → Type 0
@@ -59,13 +58,34 @@ abbrev pub row_at : (row : List Part) {A : Type 0} → From row A → Place → 
 row_at [] make place = Ok (make, place)
 row_at (p ∷ row) make place = in_row (part_at p place) >>= λ x. row_at row (make x.0) x.1
 
+-- What one kind of thing is told by: a row of parts, what is made of their values, and the values that it has.
+pub record RowOf (A : Type 0) : Type 0 where
+  pub parts : List Part
+  pub make : From parts A
+  pub values : A → Holds parts
+
+abbrev pub read_by : {A : Type 0} → RowOf A → Place → Result (A × Place) RowFault
+read_by row place = row_at row.parts row.make place
+
+abbrev pub spell_by : {A : Type 0} → RowOf A → IdSizes → A → List ℕ
+spell_by row sizes x = spell_row sizes row.parts (row.values x)
+
+abbrev pub FitsBy : {A : Type 0} → RowOf A → IdSizes → A → Type 0
+FitsBy row sizes x = FitsRow sizes row.parts (row.values x)
+
+abbrev pub InRangeBy : {A : Type 0} → RowOf A → A → Type 0
+InRangeBy row x = InRangeRow row.parts (row.values x)
+
 -- so many of what a row's reading reads
-unfoldable pub times_at : {A : Type 0} → ℕ → (Place → Result (A × Place) RowFault) → Place → Result (List A × Place) RowFault
+unfoldable pub times_at : {A : Type 0} → ℕ → (Place → Result (A × Place) RowFault) → Place
+    → Result (List A × Place) RowFault
 times_at zero read place = Ok ([], place)
-times_at (suc n) read place = read place >>= λ first. times_at n read first.1 >>= λ others. Ok (first.0 ∷ others.0, others.1)
+times_at (suc n) read place =
+    read place >>= λ first. times_at n read first.1 >>= λ others. Ok (first.0 ∷ others.0, others.1)
 
 -- a list: how many, and so many rows
-unfoldable pub list_at : {A : Type 0} → Limit → (Place → Result (A × Place) RowFault) → Place → Result (List A × Place) RowFault
+unfoldable pub list_at : {A : Type 0} → Limit → (Place → Result (A × Place) RowFault) → Place
+    → Result (List A × Place) RowFault
 list_at limit read place = in_row (part_at (count limit) place) >>= λ n. times_at n.0 read n.1
 
 abbrev pub spell_list : {A : Type 0} → (A → List ℕ) → List A → List ℕ
@@ -84,8 +104,10 @@ Tells view read new (Err (faults.Part trouble)) = read ≡ Err (faults.Part trou
 Tells view read new (Err (faults.BadKind at)) = read ≡ Err (faults.BadKind at)
 
 -- a row, and something behind it
-abbrev pub row_then_at : (row : List Part) {A B : Type 0} → From row (B → A) → (Place → Result (B × Place) RowFault) → Place → Result (A × Place) RowFault
-row_then_at row make read place = row_at row make place >>= λ front. read front.1 >>= λ last. Ok (front.0 last.0, last.1)
+abbrev pub row_then_at : (row : List Part) {A B : Type 0} → From row (B → A) → (Place → Result (B × Place) RowFault)
+    → Place → Result (A × Place) RowFault
+row_then_at row make read place =
+    row_at row make place >>= λ front. read front.1 >>= λ last. Ok (front.0 last.0, last.1)
 
 -- a part with its value, as something that was made of a row says it
 pub data Said : Type 0 where

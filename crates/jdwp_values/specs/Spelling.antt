@@ -3,11 +3,12 @@ use Rattle.std.specs.Prelude.{◌≡◌, ℕ, ◌<◌, ◌≤◌, ◌^◌, true,
 use Rattle.std.specs.Int.{w8, w16, w32, w64, byte_len, bytes_high_first, cast_unsigned}
 use Rattle.jdwp_values.specs.declared.location.Location.{Location}
 use Rattle.jdwp_values.specs.declared.sizes.IdSizes.{IdSizes}
-use Rattle.jdwp_values.specs.declared.tag.Tag.{Tag}
 use Rattle.jdwp_values.specs.declared.value.Value.{Value}
 use Rattle.jdwp_values.specs.declared.value.Value.TheVariants as values
 use Rattle.jdwp_values.specs.Counts.{allows}
-use Rattle.jdwp_values.specs.Parts.{Simple, unsigned, signed, object_id, thread_id, class_id, method_id, field_id, frame_id, type_tag_byte, nothing, OfSimple, tag_of_value, Part, simple, count, text, location, value, reference, untagged, tail, Of}
+use Rattle.jdwp_values.specs.Parts.{Simple, unsigned, signed, object_id, thread_id, class_id, method_id, field_id}
+use Rattle.jdwp_values.specs.Parts.{frame_id, type_tag_byte, nothing, OfSimple, tag_of_value, Part, simple, count, text}
+use Rattle.jdwp_values.specs.Parts.{location, value, reference, untagged, tail, Of}
 use Rattle.jdwp_values.specs.Tags.{byte_of_type_tag, byte_of_tag, is_reference}
 
 abbrev pub spell_simple : IdSizes → (s : Simple) → OfSimple s → List ℕ

@@ -54,13 +54,14 @@ pub struct Variable {
 }
 
 impl Row for Method {
-    ghost use Rattle.jdwp_values.specs.Classes.{method_at, spell_method, FitsMethod};
+    ghost use Rattle.jdwp_values.specs.Classes.{method_row};
+    ghost use Rattle.jdwp_values.specs.Rows.{read_by, spell_by, FitsBy};
 
-    ghost read_at = { method_at };
+    ghost read_at = { read_by method_row };
 
-    ghost spell = { spell_method };
+    ghost spell = { spell_by method_row };
 
-    ghost Fits = { FitsMethod };
+    ghost Fits = { FitsBy method_row };
 
     fn read(alloc: Global, reader: &mut Reader<'_>) -> Result<Method, RowFault> {
         Ok(Method {
@@ -82,13 +83,14 @@ impl Row for Method {
 }
 
 impl Row for Field {
-    ghost use Rattle.jdwp_values.specs.Classes.{field_at, spell_field, FitsField};
+    ghost use Rattle.jdwp_values.specs.Classes.{field_row};
+    ghost use Rattle.jdwp_values.specs.Rows.{read_by, spell_by, FitsBy};
 
-    ghost read_at = { field_at };
+    ghost read_at = { read_by field_row };
 
-    ghost spell = { spell_field };
+    ghost spell = { spell_by field_row };
 
-    ghost Fits = { FitsField };
+    ghost Fits = { FitsBy field_row };
 
     fn read(alloc: Global, reader: &mut Reader<'_>) -> Result<Field, RowFault> {
         Ok(Field {
@@ -110,13 +112,14 @@ impl Row for Field {
 }
 
 impl Row for Line {
-    ghost use Rattle.jdwp_values.specs.Classes.{line_at, spell_line, FitsLine};
+    ghost use Rattle.jdwp_values.specs.Classes.{line_row};
+    ghost use Rattle.jdwp_values.specs.Rows.{read_by, spell_by, FitsBy};
 
-    ghost read_at = { line_at };
+    ghost read_at = { read_by line_row };
 
-    ghost spell = { spell_line };
+    ghost spell = { spell_by line_row };
 
-    ghost Fits = { FitsLine };
+    ghost Fits = { FitsBy line_row };
 
     fn read(_alloc: Global, reader: &mut Reader<'_>) -> Result<Line, RowFault> {
         Ok(Line {
@@ -134,13 +137,14 @@ impl Row for Line {
 }
 
 impl Row for Variable {
-    ghost use Rattle.jdwp_values.specs.Classes.{variable_at, spell_variable, FitsVariable};
+    ghost use Rattle.jdwp_values.specs.Classes.{variable_row};
+    ghost use Rattle.jdwp_values.specs.Rows.{read_by, spell_by, FitsBy};
 
-    ghost read_at = { variable_at };
+    ghost read_at = { read_by variable_row };
 
-    ghost spell = { spell_variable };
+    ghost spell = { spell_by variable_row };
 
-    ghost Fits = { FitsVariable };
+    ghost Fits = { FitsBy variable_row };
 
     fn read(alloc: Global, reader: &mut Reader<'_>) -> Result<Variable, RowFault> {
         Ok(Variable {

@@ -4,7 +4,9 @@ ghost use Rattle.std.specs.Prelude.{◌≡◌, ◌<◌, ◌≤◌, ◌^◌, true
 ghost use Rattle.std.specs.Int.{w8, w16, w32, w64};
 ghost use Rattle.std.specs.Int.Digits.{number_from_digits};
 ghost use Rattle.jdwp_values.specs.Parts.{object_id, thread_id, class_id, method_id, field_id, frame_id};
-ghost use Rattle.jdwp_values.specs.Reading.{Gives, bytes_at, unsigned_at, signed_at, type_tag_at, simple_at, count_at, text_at, location_at, of_tag_at, untagged_at, value_at, reference_at, tail_at};
+ghost use Rattle.jdwp_values.specs.Reading.{Gives, bytes_at, unsigned_at, signed_at, type_tag_at, simple_at, count_at};
+ghost use Rattle.jdwp_values.specs.Reading.{text_at, location_at, of_tag_at, untagged_at, value_at, reference_at};
+ghost use Rattle.jdwp_values.specs.Reading.{tail_at};
 ghost use Rattle.jdwp_values.specs.Tags.{is_reference};
 
 use crate::fault::ValueFault;

@@ -1,5 +1,6 @@
 ghost use Rattle.std.specs.Prelude.{◌≡◌, ◌+◌, ◌-◌, ◌<◌, ◌≤◌, ◌^◌, length, Ok, Err};
-ghost use Rattle.jdwp_values.specs.Parts.{simple, byte, int, long, index, number, object, thread, class, method, field, frame, type_tag, count, text, location, value, reference, untagged, tail};
+ghost use Rattle.jdwp_values.specs.Parts.{simple, byte, int, long, index, number, object, thread, class, method, field};
+ghost use Rattle.jdwp_values.specs.Parts.{frame, type_tag, count, text, location, value, reference, untagged, tail};
 ghost use Rattle.jdwp_values.specs.Reading.{offset, part_at, Reads, Settles};
 
 use crate::fault::{ReadTrouble, ValueFault};

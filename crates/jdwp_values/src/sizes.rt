@@ -38,7 +38,8 @@ impl IdSizes {
 }
 
 fn size_at(size: u32, place: u32) -> Result<u8, BadSizes>
-    ensures { MatchResult result (λ n. (n ≡ size) × IsSize n × (is_no_size size ≡ false)) (λ bad. (bad.0 ≡ place) × (is_no_size size ≡ true)) }
+    ensures { MatchResult result (λ n. (n ≡ size) × IsSize n × (is_no_size size ≡ false))
+        (λ bad. (bad.0 ≡ place) × (is_no_size size ≡ true)) }
 {
     if size == 0 || size > 8 {
         return Err(BadSizes(place));

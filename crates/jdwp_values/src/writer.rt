@@ -1,6 +1,7 @@
 ghost use Rattle.std.specs.Prelude.{◌≡◌, ◌≤◌, ◌<◌, ◌^◌, [], length};
 ghost use Rattle.std.specs.Int.{bytes_high_first};
-ghost use Rattle.jdwp_values.specs.Parts.{simple, unsigned, signed, byte, int, long, index, number, object, thread, class, method, field, frame, type_tag, text, location, value, reference};
+ghost use Rattle.jdwp_values.specs.Parts.{simple, unsigned, signed, byte, int, long, index, number, object, thread};
+ghost use Rattle.jdwp_values.specs.Parts.{class, method, field, frame, type_tag, text, location, value, reference};
 ghost use Rattle.jdwp_values.specs.Spelling.{spell_part, FitsPart, spell_untagged, FitsValue, Writes};
 
 use crate::id::{ClassId, FieldId, FrameId, MethodId, ObjectId, ThreadId};

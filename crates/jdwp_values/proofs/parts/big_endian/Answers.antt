@@ -1,4 +1,4 @@
-use Rattle.std.proofs.Common.{◌≡◌, ◌+◌, ◌*◌, ◌<◌, ◌≤◌, ◌^◌, length, get_or, arith, refl}
+use Rattle.std.proofs.Common.{◌+◌, ◌*◌, ◌<◌, ◌≤◌, get_or, arith, refl}
 use Rattle.std.proofs.lemmas.Int.Digits.{number_more}
 use Rattle.jdwp_values.proofs.Numbers.{below_more, fits_64}
 use Rattle.jdwp_values.proofs.parts.big_endian.Goals as goal
@@ -24,4 +24,5 @@ loop-byte-preserved c =
     let b = get_or c.args.bytes.now i 0 in
     let small : b < 256 = omega (arith, c.type_inv.bytes i) in
     let more = below_more c.loop-byte.number i b c.loop-byte.invariant.1 small in
-    rw c.from.ensures (rw (number_more 256 c.args.bytes.now i c.loop-byte-test.true, ← c.loop-byte.invariant.0) refl, more)
+    rw c.from.ensures
+    (rw (number_more 256 c.args.bytes.now i c.loop-byte-test.true, ← c.loop-byte.invariant.0) refl, more)

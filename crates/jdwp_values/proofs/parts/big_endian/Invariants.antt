@@ -3,4 +3,5 @@ use Rattle.std.specs.Int.Digits.{number_from_digits}
 use Rattle.jdwp_values.proofs.parts.big_endian.Given as goal
 
 abbrev pub invariant-loop-byte : goal.invariant-loop-byte
-invariant-loop-byte l = (l.number ≡ number_from_digits 256 (take l.byte-index l.bytes)) × (l.number < 256 ^ l.byte-index)
+invariant-loop-byte l =
+    (l.number ≡ number_from_digits 256 (take l.byte-index l.bytes)) × (l.number < 256 ^ l.byte-index)

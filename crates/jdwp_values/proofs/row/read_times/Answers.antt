@@ -1,4 +1,3 @@
-use Rattle.std.proofs.Common.{◌≡◌, ◌++◌, ◌∷◌, []}
 use Rattle.std.proofs.lemmas.Result.{err_from_is_err_and}
 use Rattle.jdwp_values.specs.Rows.{times_at}
 use Rattle.jdwp_values.proofs.Times.{goes_on, fails, is_done}
@@ -7,11 +6,19 @@ use Rattle.jdwp_values.proofs.row.read_times.Goals as goal
 pub returns-in_err-read : goal.returns-in_err-read
 returns-in_err-read g c =
     let p = err_from_is_err_and c.from_residual.result c.from_residual.ensures.1 in
-    rw (p.1, p.2) (fails g.T.Row.read_at c.in_err-read.field-0.0 c.loop.items c.args.count c.loop.counter c.loop.reader c.read.new.reader c.read.new.reader (times_at c.args.count g.T.Row.read_at c.args.reader.now) c.loop-test.true c.in_err-read.ensures c.loop.invariant)
+    rw (p.1, p.2)
+    (fails g.T.Row.read_at c.in_err-read.field-0.0 c.loop.items c.args.count c.loop.counter c.loop.reader
+    c.read.new.reader c.read.new.reader (times_at c.args.count g.T.Row.read_at c.args.reader.now)
+    c.loop-test.true c.in_err-read.ensures c.loop.invariant)
 
 pub loop-preserved : goal.loop-preserved
 loop-preserved g c =
-    rw c.in_ok-push.ensures.ok (goes_on g.T.Row.read_at c.loop.items c.args.count c.loop.counter c.loop.reader c.in_ok-read.field-0 c.read.new.reader (times_at c.args.count g.T.Row.read_at c.args.reader.now) c.loop-test.true c.in_ok-read.ensures c.loop.invariant)
+    rw c.in_ok-push.ensures.ok
+    (goes_on g.T.Row.read_at c.loop.items c.args.count c.loop.counter c.loop.reader c.in_ok-read.field-0
+    c.read.new.reader (times_at c.args.count g.T.Row.read_at c.args.reader.now) c.loop-test.true
+    c.in_ok-read.ensures c.loop.invariant)
 
 pub returns : goal.returns
-returns g c = is_done g.T.Row.read_at c.loop.items c.args.count c.loop.counter c.loop.reader (times_at c.args.count g.T.Row.read_at c.args.reader.now) c.loop-test.false c.loop.invariant
+returns g c =
+    is_done g.T.Row.read_at c.loop.items c.args.count c.loop.counter c.loop.reader
+    (times_at c.args.count g.T.Row.read_at c.args.reader.now) c.loop-test.false c.loop.invariant

@@ -8,5 +8,6 @@ pub returns : goal.returns
 returns c =
     let sizes = c.args.writer.now.sizes in
     let x = c.args.self.now in
-    then_wrote c.args.writer.now c.index.new.self c.int.new.self (spell_part sizes index x.index) (spell_part sizes int x.line ++ []) c.in_ok-index.ensures
+    then_wrote c.args.writer.now c.index.new.self c.int.new.self (spell_part sizes index x.index)
+    (spell_part sizes int x.line ++ []) c.in_ok-index.ensures
     (last_wrote c.index.new.self c.int.new.self (spell_part sizes int x.line) (search rules))

@@ -12,8 +12,10 @@ returns c =
     let len = spell_part sizes number x.length ++ slot in
     let signature = spell_part sizes text x.signature ++ len in
     let name = spell_part sizes text x.name ++ signature in
-    then_wrote c.args.writer.now c.index.new.self c.int.new.self (spell_part sizes index x.index) name c.in_ok-index.ensures
+    then_wrote c.args.writer.now c.index.new.self c.int.new.self (spell_part sizes index x.index) name
+    c.in_ok-index.ensures
     (then_wrote c.index.new.self c.text.new.self c.int.new.self (spell_part sizes text x.name) signature (search rules)
     (then_wrote c.text.new.self c.text-2.new.self c.int.new.self (spell_part sizes text x.signature) len (search rules)
-    (then_wrote c.text-2.new.self c.number.new.self c.int.new.self (spell_part sizes number x.length) slot c.in_ok-number.ensures
+    (then_wrote c.text-2.new.self c.number.new.self c.int.new.self (spell_part sizes number x.length) slot
+    c.in_ok-number.ensures
     (last_wrote c.number.new.self c.int.new.self (spell_part sizes int x.slot) (search rules)))))
