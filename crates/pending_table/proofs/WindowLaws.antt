@@ -1,9 +1,11 @@
 -- Commands behind different ids, and how the ids go.
-use Rattle.std.proofs.Common.{◌≡◌, ℕ, ◌+◌, ◌%◌, Bool, true, false, cond, List, [], ◌∷◌, ◌++◌, length, Some, None, refl, sym, ap, subst, ◌∙◌, arith}
+use Rattle.std.proofs.Common.{◌≡◌, ℕ, ◌+◌, ◌%◌, Bool, true, false, cond, List, [], ◌∷◌, ◌++◌, length, Some, None, refl}
+use Rattle.std.proofs.Common.{sym, ap, subst, ◌∙◌, arith}
 use Rattle.std.specs.Prelude.{◌==◌}
 use Rattle.std.proofs.lemmas.Bool.{cond-false, eqb-true}
 use Rattle.jdwp_commands.specs.declared.asked.Asked.{Asked}
-use Rattle.pending_table.specs.Windows.{pending_under, without, LackOne, turn, id_of, Move, sends, settles, after, sends_in}
+use Rattle.pending_table.specs.Windows.{pending_under, without, LackOne, turn, id_of, Move, sends, settles, after}
+use Rattle.pending_table.specs.Windows.{sends_in}
 use Rattle.pending_table.specs.Places.{AreApart}
 
 abbrev Commands : Type 0

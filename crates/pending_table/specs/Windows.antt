@@ -1,6 +1,7 @@
 -- The window of pending commands (JDWP, "JDWP Packets", the field id: a reply has the id of its command, and the
 -- sender sees to it that the ids of commands without a reply differ).
-use Rattle.std.specs.Prelude.{◌≡◌, ℕ, suc, ◌+◌, ◌-◌, ◌%◌, ◌^◌, Bool, ◌==◌, ◌||◌, if◌then◌else◌, List, [], ◌∷◌, ◌++◌, length, Option, Some, None, is_some}
+use Rattle.std.specs.Prelude.{◌≡◌, ℕ, suc, ◌+◌, ◌-◌, ◌%◌, ◌^◌, Bool, ◌==◌, ◌||◌, if◌then◌else◌, List, [], ◌∷◌, ◌++◌}
+use Rattle.std.specs.Prelude.{length, Option, Some, None, is_some}
 use Rattle.jdwp_commands.specs.declared.asked.Asked.{Asked}
 
 -- how many ids there are: all that four bytes hold, but 0

@@ -14,4 +14,5 @@ overflow_add-self c =
 pub invariant_of-self : goal.invariant_of-self
 invariant_of-self c =
     table_sent _ _ _ _ _ c.self.invariant c.put.auto.places c.put.ensures.packed c.put.ensures.sent
-    (rw (c.next_id-id.ensures, ← c.self.view_is) (id_left c.self.inside.places c.self.inside.next _ c.self.view_is c.requires))
+    (rw (c.next_id-id.ensures, ← c.self.view_is)
+    (id_left c.self.inside.places c.self.inside.next _ c.self.view_is c.requires))

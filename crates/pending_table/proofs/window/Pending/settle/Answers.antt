@@ -5,12 +5,14 @@ use Rattle.pending_table.proofs.window.Pending.settle.Goals as goal
 
 pub invariant_of-self : goal.invariant_of-self
 invariant_of-self c =
-    table_settled c.args.id _ _ _ _ c.in-Some.asked c.self.invariant c.take_out.auto.places c.take_out.ensures.packed c.take_out.ensures.others
+    table_settled c.args.id _ _ _ _ c.in-Some.asked c.self.invariant c.take_out.auto.places c.take_out.ensures.packed
+    c.take_out.ensures.others
     (sym c.take_out.ensures.taken ∙ c.in-Some.is)
 
 pub invariant_of-self-in-None : goal.invariant_of-self-in-None
 invariant_of-self-in-None c =
-    table_kept c.args.id _ _ _ _ c.self.invariant c.take_out.auto.places c.take_out.ensures.packed c.take_out.ensures.others
+    table_kept c.args.id _ _ _ _ c.self.invariant c.take_out.auto.places c.take_out.ensures.packed
+    c.take_out.ensures.others
     (sym c.take_out.ensures.taken ∙ c.in-None.is)
 
 pub returns-in-Some-clause-once : goal.returns-in-Some-clause-once
