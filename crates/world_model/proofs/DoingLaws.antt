@@ -17,7 +17,7 @@ use Rattle.jdwp_commands.specs.declared.asked.Replied.{Replied}
 use Rattle.jdwp_commands.specs.declared.asked.Replied.TheVariants.{Answer as an_answer, Error as an_error}
 use Rattle.jdwp_commands.specs.declared.question.Question.{Question}
 use Rattle.wire_core.specs.declared.outside.Entry.{Entry}
-use Rattle.world_model.specs.Laws.{request_by, requests_of, EndsWith}
+use Rattle.world_model.specs.Causes.{request_by, requests_of, EndsWith}
 use Rattle.world_model.specs.Machine.{Hand, State, Need, Named, Due, Message, Allows, due, due_in, due_part, due_next}
 use Rattle.world_model.specs.Machine.{due_for, beside, without_target, asks_some, window, greeted_by, measured_by}
 use Rattle.world_model.specs.Machine.{changed_by}

@@ -1,28 +1,45 @@
 -- An ending has its cause.
-use Rattle.std.proofs.Common.{◌≡◌, ℕ, Bool, true, false, List, [], ◌∷◌, ◌++◌, Option, Some, None, Result, Ok, Err}
+use Rattle.std.proofs.Common.{◌≡◌, ℕ, ◌+◌, Bool, true, false, List, [], ◌∷◌, ◌++◌, Some, None, Result, Ok, Err}
 use Rattle.std.proofs.Common.{take, refl, sym, ap, subst, ◌∙◌, append_assoc}
-use Rattle.std.specs.List.{AllByRecursion}
+use Rattle.std.proofs.lemmas.List.{append-nil}
+use Rattle.std.specs.Prelude.{replicate}
 use Rattle.dap_frames.specs.Frames.{Frame, frame_front}
 use Rattle.dap_messages.specs.declared.requests.Request.{Request}
+use Rattle.jdwp_commands.specs.Answers.{answer_at}
+use Rattle.jdwp_commands.specs.declared.answer.Answer.{Answer}
+use Rattle.jdwp_commands.specs.declared.asked.Asked.{Asked}
 use Rattle.jdwp_commands.specs.declared.fault.BodyFault.{BodyFault}
 use Rattle.jdwp_commands.specs.declared.fault.BodyFault.TheVariants as body_faults
+use Rattle.jdwp_events.specs.Composites.{composite_at}
 use Rattle.jdwp_events.specs.declared.composite.Composite.{Composite}
 use Rattle.jdwp_events.specs.declared.composite.CompositeFault.{CompositeFault}
 use Rattle.jdwp_events.specs.declared.composite.CompositeFault.TheVariants as composite_faults
+use Rattle.jdwp_packets.specs.Packets.{reply_packet}
+use Rattle.jdwp_values.specs.declared.sizes.IdSizes.{IdSizes}
+use Rattle.pending_table.specs.Windows.{pending_under}
 use Rattle.wire_core.specs.Outside.{broken_send}
-use Rattle.wire_core.specs.Streams.{IsSteady, Uncut}
+use Rattle.wire_core.specs.Streams.{Front, IsSteady}
 use Rattle.wire_core.specs.declared.outside.Entry.{Entry}
-use Rattle.wire_core.specs.declared.outside.Entry.TheVariants.{Out, Failed}
+use Rattle.wire_core.specs.declared.outside.Entry.TheVariants.{Out, Failed, Quiet}
 use Rattle.wire_core.specs.declared.outside.Side.{Side}
 use Rattle.wire_core.specs.declared.outside.Side.TheVariants.{Client, Target}
-use Rattle.world_model.specs.Laws.{requests_of, AreRead, IsFault, is_sending, IsLast, StandsAs, is_of_other_kind, Cause}
-use Rattle.world_model.specs.Machine.{State, is_disconnect, due, Due, Message}
-use Rattle.world_model.specs.Session.{At, Place, ended, Word, word_said, word_side, word_bytes, Happens, Stops, Session}
-use Rattle.world_model.specs.Session.{link_ending, waiting_requests, body_ending, composite_ending}
+use Rattle.world_model.specs.Causes.{requests_of, AreLast, IsClientFault, IsBodyFault}
+use Rattle.world_model.specs.Causes.{IsCompositeFault, RefusesComposite, HasAnswer, IsTargetFault, Cause}
+use Rattle.world_model.specs.Laws.{AreRead}
+use Rattle.world_model.specs.Machine.{is_disconnect, Due, Message}
+use Rattle.world_model.specs.Session.{At, Place, ended, Word, word_said, word_side, word_bytes}
+use Rattle.world_model.specs.Session.{Serve, ReadsTarget, Happens, Stops, Session, link_ending}
+use Rattle.world_model.specs.Session.{target_front, waiting_requests, body_ending, composite_ending}
 use Rattle.world_model.specs.declared.ending.Ending.{Ending}
+use Rattle.world_model.specs.declared.ending.Ending.TheVariants.{BadTarget}
 use Rattle.world_model.specs.declared.ending.Limits.{Limits}
+use Rattle.world_model.specs.declared.ending.TargetFault.{TargetFault}
+use Rattle.world_model.proofs.AlikeLaws.{answered_alike}
+use Rattle.world_model.proofs.CauseLaws.{words_said, reads_then, hears_then, waits_then, AreSends, cause_on}
 use Rattle.world_model.proofs.DoingLaws.{IsDone, does_due, does}
+use Rattle.world_model.proofs.FaultLaws.{IsOfBody, answer_fault, composite_fault_in}
 use Rattle.world_model.proofs.HearingLaws.{are_heard}
+use Rattle.world_model.proofs.QuietLaws.{EndsQuiet, quiet_so}
 
 -- A `disconnect` is the last request ---------------------------------------------------------------------------------
 
@@ -78,183 +95,210 @@ done steady {limits} {log} {messages} {turns} {at} {next} s h =
     (Cause.disconnected (
       h.before,
       h.all ∙ ap (λ (left : List Request). h.before ++ h.request ∷ left) none_waits,
-    ) h.disconnects h.last (record { seq = refl; command = refl }))
+    ) h.disconnects h.last)
 
--- Last words leave a cause as it was ---------------------------------------------------------------------------------
+-- Last words -------------------------------------------------------------------------------------------------------
 
-abbrev AreSends : List Entry → Type 0
-AreSends log = AllByRecursion (λ (entry : Entry). is_sending entry ≡ true) log
+abbrev IsCaused : Limits → List Entry → List Message → ℕ → At → Type 0
+IsCaused limits log messages turns at =
+    (ending : Ending) → at.ending ≡ Some ending → Cause limits log messages turns at ending
 
-more_sends : (log more : List Entry) → AreSends log → AreSends more → AreSends (log ++ more)
-more_sends [] more sends others = others
-more_sends (entry ∷ log) more sends others = (sends.0, more_sends log more sends.1 others)
+caused_on : {limits : Limits} {log : List Entry} (more : List Entry) {messages : List Message} {turns : ℕ} {at : At}
+    (told : ℕ) (said left : List Word) (broken : ℕ) → AreSends more → IsCaused limits log messages turns at
+    → IsCaused limits (log ++ more) messages turns (words_said at at.ending told said left broken)
+caused_on more {at} told said left broken sends h =
+    λ ending is. cause_on more at.ending told said left broken sends (h ending is)
 
-last_on : {log : List Entry} (more : List Entry) {x : Entry} → AreSends more → IsLast log x → IsLast (log ++ more) x
-last_on more {x} sends h = record {
-  before = h.before;
-  after = h.after ++ more;
-  log_is = ap (λ (log : List Entry). log ++ more) h.log_is ∙ append_assoc h.before (x ∷ h.after) more;
-  only_words = more_sends h.after more h.only_words sends;
-}
-
-cause_on : {limits : Limits} {log : List Entry} (more : List Entry) {messages : List Message} {turns : ℕ} {at next : At}
-    {ending : Ending} → AreSends more → StandsAs at next → Cause limits log messages turns at ending
-    → Cause limits (log ++ more) messages turns next ending
-cause_on more sends same (Cause.shut last) = Cause.shut (last_on more sends last)
-cause_on more sends same (Cause.lost last) = Cause.lost (last_on more sends last)
-cause_on more sends same (Cause.lost_target last) = Cause.lost_target (last_on more sends last)
-cause_on more sends same (Cause.disconnected last is told answer) = Cause.disconnected last is told answer
-cause_on more sends same (Cause.faulty {fault} {offset} bad idle) = Cause.faulty
-    (subst (λ (u : Uncut). IsFault u fault offset) (sym same.client) bad)
-    (ap (λ (s : State). due s) same.state ∙ idle)
-cause_on more sends same (Cause.stands other stops standing) = Cause.stands other stops (record {
-  state = same.state ∙ standing.state;
-  client = same.client ∙ standing.client;
-  target = same.target ∙ standing.target;
-})
-
-abbrev IsCaused : Limits → List Entry → List Message → ℕ → At → Option Ending → Type 0
-IsCaused limits log messages turns at None = Unit {0}
-IsCaused limits log messages turns at (Some ending) = Cause limits log messages turns at ending
-
-caused_on : (limits : Limits) (log more : List Entry) (messages : List Message) (turns : ℕ) (at next : At)
-    (ending : Option Ending) → AreSends more → StandsAs at next → IsCaused limits log messages turns at ending
-    → IsCaused limits (log ++ more) messages turns next ending
-caused_on limits log more messages turns at next None sends same h = tt
-caused_on limits log more messages turns at next (Some ending) sends same h = cause_on more sends same h
-
-word_stands : {at next : At} (word : Word) → next.state ≡ at.state → next.place ≡ word_said at.place word
-    → StandsAs at next
-word_stands (Word.tells told) same place = record {
-  state = same;
-  client = ap (λ (p : Place). p.client) place;
-  target = ap (λ (p : Place). p.target) place;
-}
-word_stands Word.disposes same place = record {
-  state = same;
-  client = ap (λ (p : Place). p.client) place;
-  target = ap (λ (p : Place). p.target) place;
-}
+caused_word : {limits : Limits} {log : List Entry} {messages : List Message} {turns : ℕ} {at : At} (word : Word)
+    (said left : List Word) (bytes : List ℕ) → IsCaused limits log messages turns at
+    → IsCaused limits (log ++ Out (word_side word) bytes ∷ []) messages turns
+    (record at { place = word_said at.place word; said = said; left = left })
+caused_word {at} (Word.tells told) said left bytes h =
+    caused_on (Out Client bytes ∷ []) (at.place.told + 1) said left at.broken (refl, tt) h
+caused_word {at} Word.disposes said left bytes h =
+    caused_on (Out Target bytes ∷ []) at.place.told said left at.broken (refl, tt) h
 
 broken_sends : (side : Side) (bytes : List ℕ) → AreSends (broken_send side bytes)
 broken_sends side [] = (refl, tt)
 broken_sends side (b ∷ bytes) = (refl, (refl, tt))
 
--- Each ending has its cause -----------------------------------------------------------------------------------------
+-- What comes, and what breaks ----------------------------------------------------------------------------------------
+
+-- the one ending
+at_end : {limits : Limits} {log : List Entry} {messages : List Message} {turns : ℕ} {at : At} {last : Ending}
+    → Cause limits log messages turns at last → (ending : Ending) → Some last ≡ Some ending
+    → Cause limits log messages turns at ending
+at_end {limits} {log} {messages} {turns} {at} {last} h ending is =
+    let same : last ≡ ending = cc in subst (λ (e : Ending). Cause limits log messages turns at e) same h
 
 -- where nothing has ended there is nothing to say
-uncaused : (limits : Limits) (log : List Entry) (messages : List Message) (turns : ℕ) (at : At) (ending : Option Ending)
-    → ending ≡ None → IsCaused limits log messages turns at ending
-uncaused limits log messages turns at None goes_on = tt
-uncaused limits log messages turns at (Some ending) goes_on = cc
+uncaused : {limits : Limits} {log : List Entry} {messages : List Message} {turns : ℕ} (at : At) → at.ending ≡ None
+    → IsCaused limits log messages turns at
+uncaused at goes_on = λ ending is. cc
 
-last_now : (log : List Entry) (x : Entry) → IsLast (log ++ x ∷ []) x
-last_now log x = record { before = log; after = []; log_is = refl; only_words = tt }
+last_now : (log : List Entry) (x : Entry) → AreLast (log ++ x ∷ []) (x ∷ [])
+last_now log x = record { before = log; after = []; log_is = sym (append-nil (log ++ x ∷ [])); only_words = tt }
 
-caused_outside : (limits : Limits) (log : List Entry) (messages : List Message) (turns : ℕ) {at next : At}
-    {entry : Entry}
-    (later : At) → at.ending ≡ None → Happens at entry next
-    → IsCaused limits (log ++ entry ∷ []) messages turns later next.ending
-caused_outside limits log messages turns {at} later goes_on Happens.piece = uncaused _ _ _ _ _ at.ending goes_on
-caused_outside limits log messages turns {at} later goes_on Happens.packets = uncaused _ _ _ _ _ at.ending goes_on
-caused_outside limits log messages turns later goes_on Happens.leaves = Cause.shut (last_now log _)
-caused_outside limits log messages turns later goes_on Happens.loses = Cause.lost (last_now log _)
-caused_outside limits log messages turns {at} later goes_on Happens.ends = uncaused _ _ _ _ _ at.ending goes_on
-caused_outside limits log messages turns later goes_on Happens.loses_target = Cause.lost_target (last_now log _)
-caused_outside limits log messages turns {at} later goes_on Happens.passes_quiet = uncaused _ _ _ _ _ at.ending goes_on
+caused_outside : {limits : Limits} {messages : List Message} {turns : ℕ} {at next : At} {entry : Entry}
+    (log : List Entry) (n : ℕ) → at.ending ≡ None → Happens at entry next
+    → IsCaused limits (log ++ entry ∷ []) messages turns (record next { quiets = n })
+caused_outside log n goes_on Happens.piece = uncaused _ goes_on
+caused_outside log n goes_on Happens.packets = uncaused _ goes_on
+caused_outside log n goes_on Happens.leaves = at_end (Cause.shut (last_now log _))
+caused_outside log n goes_on Happens.loses = at_end (Cause.lost (last_now log _))
+caused_outside log n goes_on Happens.ends = uncaused _ goes_on
+caused_outside log n goes_on Happens.loses_target = at_end (Cause.lost_target (last_now log _))
+caused_outside log n goes_on Happens.passes_quiet = uncaused _ goes_on
 
 -- a broken send leaves its failure last in the log
-last_broken : (log : List Entry) (side : Side) (bytes : List ℕ) → IsLast (log ++ broken_send side bytes) (Failed side)
+last_broken : (log : List Entry) (side : Side) (bytes : List ℕ)
+    → AreLast (log ++ broken_send side bytes) (Failed side ∷ [])
 last_broken log side [] = last_now log (Failed side)
-last_broken log side (b ∷ bytes) = record {
-  before = log ++ Out side (b ∷ bytes) ∷ [];
-  after = [];
-  log_is = sym (append_assoc log (Out side (b ∷ bytes) ∷ []) (Failed side ∷ []));
-  only_words = tt;
-}
+last_broken log side (b ∷ bytes) =
+    subst (λ (log : List Entry). AreLast log (Failed side ∷ []))
+    (append_assoc log (Out side (b ∷ bytes) ∷ []) (Failed side ∷ []))
+    (last_now (log ++ Out side (b ∷ bytes) ∷ []) (Failed side))
 
 caused_broken : (limits : Limits) (log : List Entry) (messages : List Message) (turns : ℕ) (at : At) (side : Side)
     (bytes : List ℕ) → Cause limits (log ++ broken_send side bytes) messages turns at (link_ending side)
 caused_broken limits log messages turns at Client bytes = Cause.lost (last_broken log Client bytes)
 caused_broken limits log messages turns at Target bytes = Cause.lost_target (last_broken log Target bytes)
 
-stands_now : (at : At) (ending : Ending) → StandsAs at (ended at ending)
-stands_now at ending = record { state = refl; client = refl; target = refl }
+-- What stands where the session ends ---------------------------------------------------------------------------------
 
--- a fault of the target's bodies is no ending of the client
-other_composite : (result : Result Composite CompositeFault) (at : ℕ)
-    → is_of_other_kind (composite_ending result at) ≡ true
-other_composite (Ok composite) at = refl
-other_composite (Err composite_faults.NoMemory) at = refl
-other_composite (Err (composite_faults.Short place)) at = refl
-other_composite (Err (composite_faults.BadKind place)) at = refl
-other_composite (Err (composite_faults.BadPolicy place)) at = refl
-other_composite (Err (composite_faults.BadCount place)) at = refl
-other_composite (Err (composite_faults.BadTag place)) at = refl
-other_composite (Err (composite_faults.Trailing place)) at = refl
+-- an ending whose target's fault this is
+abbrev IsBlamed : Place → Ending → Type 0
+IsBlamed place ending = (fault : TargetFault) × (offset : ℕ) × (id : ℕ) × (ending ≡ BadTarget fault offset id)
+    × IsTargetFault place fault offset id
 
-other_body : (fault : BodyFault) (at : ℕ) → is_of_other_kind (body_ending fault at) ≡ true
-other_body body_faults.NoMemory at = refl
-other_body body_faults.UnknownCommand at = refl
-other_body (body_faults.Short place) at = refl
-other_body (body_faults.BadTag place) at = refl
-other_body (body_faults.BadCount place) at = refl
-other_body (body_faults.Trailing place) at = refl
+misheard : {limits : Limits} {log : List Entry} {messages : List Message} {turns : ℕ} {at : At} {ending : Ending}
+    → ReadsTarget limits at → IsBlamed at.place ending → Cause limits log messages turns (ended at ending) ending
+misheard {limits} {log} {messages} {turns} {at} {ending} reads (fault, offset, id, is, bad) =
+    subst (λ (e : Ending). Cause limits log messages turns (ended at e) e) (sym is)
+    (Cause.misheard (hears_then (BadTarget fault offset id) reads) bad)
+
+-- the answer that a reply at the front gives
+has_answer : {limits : Limits} {log : List Entry} {messages : List Message} {turns : ℕ} {at : At} {id n : ℕ}
+    {body : List ℕ} {asked : Asked} {sizes : IdSizes} {read : Result Answer BodyFault}
+    → Session limits log messages turns at → target_front at.place ≡ Front.whole (reply_packet id 0 body) n
+    → pending_under id at.place.commands.sent ≡ Some asked → Serve at.place.sizes sizes
+    → answer_at sizes asked body ≡ read → HasAnswer at.place asked read
+has_answer {id} {n} {body} {asked} {sizes} s front under serve reads = record {
+  body = body;
+  reply = record { id = id; taken = n; front = front; pending = under };
+  reads = λ other served. answered_alike s id asked body other sizes under served serve ∙ reads;
+}
+
+-- a composite that is refused, by what its reading gave
+composite_ends : {sizes : IdSizes} {body : List ℕ} {at : ℕ} (P : Ending → Type 0)
+    → ((fault : TargetFault) (offset : ℕ) → RefusesComposite sizes body at fault offset → P (BadTarget fault offset 0))
+    → (read : Result Composite CompositeFault) → composite_at sizes body ≡ read → P (composite_ending read at)
+composite_ends P bad (Ok composite) is = bad _ _ (RefusesComposite.not_served is)
+composite_ends {sizes} {body} P bad (Err composite_faults.NoMemory) is =
+    absurd (composite_fault_in sizes body composite_faults.NoMemory is)
+composite_ends P bad (Err (composite_faults.Short place)) is =
+    bad _ _ (RefusesComposite.bad_body is IsCompositeFault.short)
+composite_ends P bad (Err (composite_faults.BadKind place)) is =
+    bad _ _ (RefusesComposite.bad_body is IsCompositeFault.bad_kind)
+composite_ends P bad (Err (composite_faults.BadPolicy place)) is =
+    bad _ _ (RefusesComposite.bad_body is IsCompositeFault.bad_policy)
+composite_ends P bad (Err (composite_faults.BadCount place)) is =
+    bad _ _ (RefusesComposite.bad_body is IsCompositeFault.bad_count)
+composite_ends P bad (Err (composite_faults.BadTag place)) is =
+    bad _ _ (RefusesComposite.bad_body is IsCompositeFault.bad_tag)
+composite_ends P bad (Err (composite_faults.Trailing place)) is =
+    bad _ _ (RefusesComposite.bad_body is IsCompositeFault.trailing)
+
+-- an answer's body has a fault
+body_ends : {place : Place} {asked : Asked} (fault : BodyFault) → IsOfBody fault → HasAnswer place asked (Err fault)
+    → IsBlamed place (body_ending fault place.target.stream.at)
+body_ends body_faults.NoMemory of answer = absurd of
+body_ends body_faults.UnknownCommand of answer = absurd of
+body_ends (body_faults.Short within) of answer = (_, _, _, refl, IsTargetFault.bad_answer answer IsBodyFault.short)
+body_ends (body_faults.BadTag within) of answer = (_, _, _, refl, IsTargetFault.bad_answer answer IsBodyFault.bad_tag)
+body_ends (body_faults.BadCount within) of answer =
+    (_, _, _, refl, IsTargetFault.bad_answer answer IsBodyFault.bad_count)
+body_ends (body_faults.Trailing within) of answer =
+    (_, _, _, refl, IsTargetFault.bad_answer answer IsBodyFault.trailing)
+
+-- a composite is refused: the one at the front, or one that was kept
+blames_composite : {limits : Limits} {log : List Entry} {messages : List Message} {turns : ℕ} {at : At}
+    (sizes : IdSizes) (body : List ℕ) (offset : ℕ) → ReadsTarget limits at
+    → ((fault : TargetFault) (stands : ℕ) → RefusesComposite sizes body offset fault stands
+    → IsTargetFault at.place fault stands 0)
+    → Cause limits log messages turns (ended at (composite_ending (composite_at sizes body) offset))
+    (composite_ending (composite_at sizes body) offset)
+blames_composite {limits} {log} {messages} {turns} {at} sizes body offset reads bad =
+    composite_ends (λ (ending : Ending). Cause limits log messages turns (ended at ending) ending)
+    (λ fault stands refused. misheard reads (fault, stands, 0, refl, bad fault stands refused))
+    (composite_at sizes body) refl
+
+-- as many waits in vain as the limit says
+idle_so : {log : List Entry} (count most : ℕ) → count ≡ most → EndsQuiet log count
+    → AreLast log (replicate most Quiet)
+idle_so count most all quiet = record {
+  before = quiet.before;
+  after = [];
+  log_is = quiet.log_is ∙ ap (λ (n : ℕ). quiet.before ++ replicate n Quiet) all
+      ∙ sym (append-nil (quiet.before ++ replicate most Quiet));
+  only_words = tt;
+}
 
 caused_inside : IsSteady frame_front
     → {limits : Limits} {log : List Entry} {messages : List Message} {turns : ℕ} {at : At} {ending : Ending}
-    → Session limits log messages turns at → Stops limits turns at ending
+    → Session limits log messages turns at → at.ending ≡ None → Stops limits turns at ending
     → Cause limits log messages turns (ended at ending) ending
-caused_inside steady {messages} {at} {ending} s (Stops.over on is) =
+caused_inside steady {messages} {at} {ending} s goes_on (Stops.over on is) =
     done steady s (does_due messages at.state (Due.over ending) is (does s))
-caused_inside steady s (Stops.misframed reads front) = Cause.faulty (IsFault.bad_frame front) reads.nothing_due
-caused_inside steady s (Stops.not_json reads front body) = Cause.faulty (IsFault.bad_json front body) reads.nothing_due
-caused_inside steady s (Stops.not_a_message reads front body) =
-    Cause.faulty (IsFault.bad_message front body) reads.nothing_due
-caused_inside steady {at} s (Stops.flood many) = Cause.stands refl (Stops.flood {at = at} many) (stands_now at _)
-caused_inside steady s (Stops.mispacked reads front) = Cause.stands refl (Stops.mispacked reads front) (stands_now _ _)
-caused_inside steady s (Stops.bad_command reads front other) =
-    Cause.stands refl (Stops.bad_command reads front other) (stands_now _ _)
-caused_inside steady s (Stops.bad_composite reads front is known) =
-    Cause.stands (other_composite _ _) (Stops.bad_composite reads front is known) (stands_now _ _)
-caused_inside steady s (Stops.unknown reads front nothing) =
-    Cause.stands refl (Stops.unknown reads front nothing) (stands_now _ _)
-caused_inside steady s (Stops.refused reads front asked some intolerable) =
-    Cause.stands refl (Stops.refused reads front asked some intolerable) (stands_now _ _)
-caused_inside steady s (Stops.bad_answer reads front asked serves answer) =
-    Cause.stands (other_body _ _) (Stops.bad_answer reads front asked serves answer) (stands_now _ _)
-caused_inside steady s (Stops.bad_sizes reads front asked serves answer numbers bad) =
-    Cause.stands refl (Stops.bad_sizes reads front asked serves answer numbers bad) (stands_now _ _)
-caused_inside steady s (Stops.bad_raw found reads front asked serves answer numbers raw) =
-    Cause.stands (other_composite _ _) (Stops.bad_raw found reads front asked serves answer numbers raw)
-    (stands_now _ _)
-caused_inside steady s (Stops.idle waits more quiet) = Cause.stands refl (Stops.idle waits more quiet) (stands_now _ _)
-caused_inside steady s (Stops.spent waits all) = Cause.stands refl (Stops.spent waits all) (stands_now _ _)
+caused_inside steady s goes_on (Stops.flood many) = Cause.flood many
+caused_inside steady {ending} s goes_on (Stops.misframed reads front) =
+    Cause.misread (reads_then ending reads) (IsClientFault.bad_frame front)
+caused_inside steady {ending} s goes_on (Stops.not_json reads front body) =
+    Cause.misread (reads_then ending reads) (IsClientFault.bad_json front body)
+caused_inside steady {ending} s goes_on (Stops.not_a_message reads front body) =
+    Cause.misread (reads_then ending reads) (IsClientFault.bad_message front body)
+caused_inside steady s goes_on (Stops.mispacked reads front) =
+    misheard reads (_, _, _, refl, IsTargetFault.bad_packet front)
+caused_inside steady s goes_on (Stops.bad_command reads front other) =
+    misheard reads (_, _, _, refl, IsTargetFault.bad_command front other)
+caused_inside steady {at} s goes_on (Stops.bad_composite {body} {sizes} reads front is known) =
+    blames_composite sizes body at.place.target.stream.at reads
+    (λ fault offset refused. IsTargetFault.bad_composite front is known refused)
+caused_inside steady s goes_on (Stops.unknown reads front nothing) =
+    misheard reads (_, _, _, refl, IsTargetFault.unknown_reply front nothing)
+caused_inside steady {ending} s goes_on (Stops.refused {id} {n} reads front asked some intolerable) =
+    Cause.refused (hears_then ending reads) (record { id = id; taken = n; front = front; pending = asked }) some
+    intolerable
+caused_inside steady s goes_on (Stops.bad_answer {body} {asked} {fault} {sizes} reads front under serves answer) =
+    misheard reads (body_ends fault (answer_fault sizes asked body fault answer)
+    (has_answer s front under serves answer))
+caused_inside steady s goes_on (Stops.bad_sizes reads front under serves answer numbers bad) =
+    misheard reads (_, _, _, refl, IsTargetFault.bad_sizes (has_answer s front under serves answer) numbers bad)
+caused_inside steady s goes_on (Stops.bad_raw found {first} reads front under serves answer numbers raw) =
+    blames_composite found first.body first.at reads
+    (λ fault offset refused. IsTargetFault.bad_kept (has_answer s front under serves answer) numbers raw refused)
+caused_inside steady {at} {ending} s goes_on (Stops.idle waits more all) =
+    Cause.idle (waits_then ending waits) more (idle_so at.quiets _ all (quiet_so s goes_on))
+caused_inside steady {ending} s goes_on (Stops.spent waits all) = Cause.spent (waits_then ending waits) all
 
-is_caused : IsSteady frame_front → {limits : Limits} {log : List Entry} {messages : List Message} {turns : ℕ} {at : At}
-    → Session limits log messages turns at → IsCaused limits log messages turns at at.ending
-is_caused steady Session.begins = tt
-is_caused steady (Session.goes {at} s on is) = uncaused _ _ _ _ _ at.ending on.goes_on
-is_caused steady (Session.speaks {at} s on allows speaks) = uncaused _ _ _ _ _ at.ending on.goes_on
-is_caused steady (Session.hears {at} s on allows says) = uncaused _ _ _ _ _ at.ending on.goes_on
-is_caused steady (Session.ignores {at} s reads whole reading) = uncaused _ _ _ _ _ at.ending reads.on.goes_on
-is_caused steady (Session.keeps {at} s reads whole composite unknown) = uncaused _ _ _ _ _ at.ending reads.on.goes_on
-is_caused steady (Session.drops {at} s on gone) = uncaused _ _ _ _ _ at.ending on.goes_on
-is_caused steady {limits} {messages} {turns} (Session.happens {log} s waits more patient comes) =
-    caused_outside limits log messages turns _ waits.on.goes_on comes
-is_caused steady {limits} {messages} {turns} {at}
-    (Session.breaks {log} {kept} {side} {bytes} s on allows speaks proper) =
-    caused_broken limits log messages turns at side (take kept bytes)
-is_caused steady (Session.stops s on cause) = caused_inside steady s cause
-is_caused steady {limits} {messages} {turns} {at = now} (Session.says {log} {at} {word} s more) =
-    caused_on limits log _ messages turns at now at.ending (refl, tt) (word_stands word refl refl) (is_caused steady s)
-is_caused steady {limits} {messages} {turns} {at = now} (Session.silences {log} {kept} {at} {word} s more proper) =
-    caused_on limits log _ messages turns at now at.ending
-    (broken_sends (word_side word) (take kept (word_bytes at.place word)))
-    (record { state = refl; client = refl; target = refl }) (is_caused steady s)
+-- Each ending has its cause ------------------------------------------------------------------------------------------
 
 pub cause : IsSteady frame_front → {limits : Limits} {log : List Entry} {messages : List Message} {turns : ℕ} {at : At}
-    → Session limits log messages turns at → (ending : Ending) → at.ending ≡ Some ending
-    → Cause limits log messages turns at ending
-cause steady {limits} {log} {messages} {turns} {at} s ending is =
-    subst (λ (e : Option Ending). IsCaused limits log messages turns at e) is (is_caused steady s)
+    → Session limits log messages turns at → IsCaused limits log messages turns at
+cause steady Session.begins = uncaused _ refl
+cause steady (Session.goes s on is) = uncaused _ on.goes_on
+cause steady (Session.speaks s on allows speaks) = uncaused _ on.goes_on
+cause steady (Session.hears s on allows says) = uncaused _ on.goes_on
+cause steady (Session.ignores s reads whole reading) = uncaused _ reads.on.goes_on
+cause steady (Session.keeps s reads whole composite unknown) = uncaused _ reads.on.goes_on
+cause steady (Session.drops s on gone) = uncaused _ on.goes_on
+cause steady (Session.happens {log} s waits more patient comes) = caused_outside log _ waits.on.goes_on comes
+cause steady {limits} {messages} {turns} {at} (Session.breaks {log} {kept} {side} {bytes} s on allows speaks proper) =
+    at_end (caused_broken limits log messages turns at side (take kept bytes))
+cause steady (Session.stops s goes_on stops) = at_end (caused_inside steady s goes_on stops)
+cause steady (Session.says {at} {word} {left} s more) =
+    caused_word word (at.said ++ word ∷ []) left (word_bytes at.place word) (cause steady s)
+cause steady (Session.silences {log} {kept} {at} {word} s more proper) =
+    caused_on (broken_send (word_side word) (take kept (word_bytes at.place word))) at.place.told at.said []
+    (at.broken + 1) (broken_sends (word_side word) (take kept (word_bytes at.place word)))
+    (cause steady s)

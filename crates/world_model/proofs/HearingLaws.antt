@@ -20,7 +20,7 @@ use Rattle.world_model.specs.declared.ending.Limits.{Limits}
 use Rattle.world_model.proofs.StepLaws.{flat_map_one_more, Comes, Happens-comes, keeps_due, keeps_ended, keeps_answered}
 
 -- what is left once messages were handed out are the bytes from its offset on
-Hands-rest : {M F : Type 0} (front : List ℕ → Front M F) (old : Uncut) (messages : List (ℕ × M)) (new : Uncut)
+pub Hands-rest : {M F : Type 0} (front : List ℕ → Front M F) (old : Uncut) (messages : List (ℕ × M)) (new : Uncut)
     → Hands front old messages new → (n : ℕ) × (new.at ≡ old.at + n) × (new.pending ≡ drop n old.pending)
 Hands-rest front old [] new same = (0, rw same (omega arith), rw same refl)
 Hands-rest front old (m ∷ messages) new (n, here, offset, rest) =

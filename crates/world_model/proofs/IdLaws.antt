@@ -1,6 +1,7 @@
 -- The ids in the commands of a session were read before them.
 use Rattle.std.proofs.Common.{◌≡◌, ◌⊎◌, inl, inr, ℕ, Bool, true, false, if◌then◌else◌, List, [], ◌∷◌, ◌++◌, Option}
-use Rattle.std.proofs.Common.{Some, None, option_map, take, drop, refl, sym, ap, subst, ◌∙◌, append_assoc, take-append-drop}
+use Rattle.std.proofs.Common.{Some, None, option_map, take, drop, refl, sym, ap, subst, ◌∙◌, append_assoc}
+use Rattle.std.proofs.Common.{take-append-drop}
 use Rattle.dap_messages.specs.declared.told.Event.{Event}
 use Rattle.dap_messages.specs.declared.told.Event.TheVariants.{Initialized, Terminated}
 use Rattle.dap_messages.specs.declared.told.Outcome.{Outcome}
@@ -41,12 +42,12 @@ use Rattle.world_model.proofs.StepLaws.{by_taken}
 -- Messages -----------------------------------------------------------------------------------------------------------
 
 -- this message is among them
-record Has (messages : List Message) (message : Message) : Type 0 where
+pub record Has (messages : List Message) (message : Message) : Type 0 where
   pub before : List Message
   pub after : List Message
   pub are : messages ≡ before ++ message ∷ after
 
-still_has : {messages : List Message} {message : Message} (last : Message) → Has messages message
+pub still_has : {messages : List Message} {message : Message} (last : Message) → Has messages message
     → Has (messages ++ last ∷ []) message
 still_has {message} last h = record {
   before = h.before;
@@ -57,13 +58,13 @@ still_has {message} last h = record {
 -- What was answered --------------------------------------------------------------------------------------------------
 
 -- the answers that an item has were given in these messages
-data Are (messages : List Message) : List Answered → Type 0 where
+pub data Are (messages : List Message) : List Answered → Type 0 where
   no_more : Are messages []
   more : {first : Answered} {others : List Answered}
       → Has messages (Message.answers (a_question first.question) first.replied) → Are messages others
       → Are messages (first ∷ others)
 
-data InHand (messages : List Message) : Option Hand → Type 0 where
+pub data InHand (messages : List Message) : Option Hand → Type 0 where
   no_hand : InHand messages None
   one_hand : {hand : Hand} → Are messages hand.answers → InHand messages (Some hand)
 
@@ -152,11 +153,12 @@ all_given {messages} threads has earlier later thread is = record {
   earlier = earlier;
   later = later;
   messages_are = subst (λ (all : List ThreadId). messages ≡ has.before
-      ++ Message.answers (a_question questions.AllThreads) (an_answer (variants.AllThreads all)) ∷ has.after) is has.are;
+      ++ Message.answers (a_question questions.AllThreads) (an_answer (variants.AllThreads all)) ∷ has.after) is
+      has.are;
 }
 
 -- what a reply to the question for all threads says was said in these messages
-abbrev WasSaid : List Message → Option Replied → Type 0
+abbrev pub WasSaid : List Message → Option Replied → Type 0
 WasSaid messages None = Unit {0}
 WasSaid messages (Some replied) = Has messages (Message.answers (a_question questions.AllThreads) replied)
 
@@ -170,7 +172,7 @@ said_by : (messages : List Message) (question : Question) (replied : Replied)
 said_by messages questions.AllThreads replied has = has
 said_by messages _ replied has = tt
 
-said_among : {messages : List Message} {given : List Answered} → Are messages given
+pub said_among : {messages : List Message} {given : List Answered} → Are messages given
     → WasSaid messages (reply_among threads_reply given)
 said_among Are.no_more = tt
 said_among {messages} (Are.more {first} {others} has rest) =
@@ -319,26 +321,26 @@ abbrev AllRead : List Message → Type 0
 AllRead messages = (before after : List Message) (asked : Asked) → messages ≡ before ++ Message.sends asked ∷ after
     → HasReadIds before asked
 
--- a message among these and one more is that one, or among these
-last_or_not : (messages : List Message) (last message : Message) (before after : List Message)
-    → messages ++ last ∷ [] ≡ before ++ message ∷ after
-    → ((messages ≡ before) × (last ≡ message)) ⊎ ((rest : List Message) × (messages ≡ before ++ message ∷ rest))
-last_or_not [] last message [] after is = inl (refl, cc)
-last_or_not [] last message (first ∷ []) after is = cc
-last_or_not [] last message (first ∷ second ∷ before) after is = cc
-last_or_not (first ∷ messages) last message [] after is =
-    let same : first ≡ message = cc in inr (messages, ap (λ (m : Message). m ∷ messages) same)
-last_or_not (first ∷ messages) last message (other ∷ before) after is =
+-- one among these and one more is that one, or among these
+pub last_or_not : {A : Type 0} (all : List A) (last one : A) (before after : List A)
+    → all ++ last ∷ [] ≡ before ++ one ∷ after
+    → ((all ≡ before) × (last ≡ one)) ⊎ ((rest : List A) × (all ≡ before ++ one ∷ rest))
+last_or_not [] last one [] after is = inl (refl, cc)
+last_or_not [] last one (first ∷ []) after is = cc
+last_or_not [] last one (first ∷ second ∷ before) after is = cc
+last_or_not {A} (first ∷ all) last one [] after is =
+    let same : first ≡ one = cc in inr (all, ap (λ (m : A). m ∷ all) same)
+last_or_not {A} (first ∷ all) last one (other ∷ before) after is =
     let same : first ≡ other = cc in
-    let rest_is : messages ++ last ∷ [] ≡ before ++ message ∷ after = cc in
-    behind first other same (last_or_not messages last message before after rest_is)
+    let rest_is : all ++ last ∷ [] ≡ before ++ one ∷ after = cc in
+    behind first other same (last_or_not all last one before after rest_is)
   where
-    behind : {messages before : List Message} {last message : Message} (first other : Message) → first ≡ other
-        → ((messages ≡ before) × (last ≡ message)) ⊎ ((rest : List Message) × (messages ≡ before ++ message ∷ rest))
-        → ((first ∷ messages ≡ other ∷ before) × (last ≡ message))
-        ⊎ ((rest : List Message) × (first ∷ messages ≡ other ∷ (before ++ message ∷ rest)))
-    behind first other same (inl (all, it)) = inl (cc, it)
-    behind first other same (inr (rest, all)) = inr (rest, cc)
+    behind : {all before : List A} {last one : A} (first other : A) → first ≡ other
+        → ((all ≡ before) × (last ≡ one)) ⊎ ((rest : List A) × (all ≡ before ++ one ∷ rest))
+        → ((first ∷ all ≡ other ∷ before) × (last ≡ one))
+        ⊎ ((rest : List A) × (first ∷ all ≡ other ∷ (before ++ one ∷ rest)))
+    behind first other same (inl (all_same, it)) = inl (cc, it)
+    behind first other same (inr (rest, all_more)) = inr (rest, cc)
 
 -- one more message, which is no command or has only ids that were read
 all_read_more : {messages : List Message} (last : Message)
@@ -412,3 +414,8 @@ reads_run is (Run.moves run allows) = reads_allowed allows (reads_run is run)
 pub are_read : {limits : Limits} {log : List Entry} {messages : List Message} {turns : ℕ} {at : At}
     → Session limits log messages turns at → AllRead messages
 are_read s = (reads_run refl (is_run s)).all
+
+-- what the item in hand was answered, the target replied
+pub hand_answered : {limits : Limits} {log : List Entry} {messages : List Message} {turns : ℕ} {at : At}
+    → Session limits log messages turns at → InHand messages at.state.hand
+hand_answered s = (reads_run refl (is_run s)).given

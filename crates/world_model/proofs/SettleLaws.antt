@@ -8,9 +8,18 @@ use Rattle.world_model.specs.declared.ending.Limits.{Limits}
 use Rattle.world_model.specs.declared.machine.Phase.TheVariants.{Attached}
 use Rattle.world_model.proofs.DoingLaws.{does}
 use Rattle.world_model.proofs.RestLaws.{rests}
+use Rattle.world_model.proofs.WishLaws.{wishing, both_stand}
 
 pub is_settled : {limits : Limits} {log : List Entry} {messages : List Message} {turns : ℕ} {at : At}
-    → Session limits log messages turns at → IsAtRest at.state → at.state.phase ≡ Attached → IsSettled at.state
+    → Session limits log messages turns at → IsAtRest at.state → at.state.phase ≡ Attached
+    → IsSettled messages at.state
 is_settled {messages} {at} s at_rest attached =
     let clear = rests messages at.state (does s) at_rest in
-    record { no_wish = (does s).settled attached; none_in_hand = clear.0; none_waits = clear.1 }
+    let stand = both_stand ((does s).settled attached) (wishing s) in
+    record {
+      no_wish = (does s).settled attached;
+      start_replied = stand.0;
+      death_replied = stand.1;
+      none_in_hand = clear.0;
+      none_waits = clear.1;
+    }

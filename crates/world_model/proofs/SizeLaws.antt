@@ -54,7 +54,7 @@ use Rattle.world_model.proofs.StepLaws.{by_taken}
 
 -- Sizes --------------------------------------------------------------------------------------------------------------
 
-abbrev AreKnown : Option IdSizes → Type 0
+abbrev pub AreKnown : Option IdSizes → Type 0
 AreKnown None = ⊥
 AreKnown (Some sizes) = Unit {0}
 
@@ -110,14 +110,14 @@ record Sized (known : Option IdSizes) (s : State) : Type 0 where
   pub attached : s.phase ≡ Attached → AreKnown known
   pub fresh : s.phase ≡ Fresh → HandFine known s.hand
 
--- a question that has no id in it, or comes behind the sizes
-abbrev is_named : Question → Bool
-is_named (questions.ThreadName thread) = true
-is_named _ = false
+-- a question that comes behind the one for the sizes
+abbrev pub is_sized : Question → Bool
+is_sized questions.IdSizes = false
+is_sized _ = true
 
 abbrev MayAsk : Option IdSizes → State → List Question → Type 0
 MayAsk known s asked = HasTarget s.phase → (before after : List Question) (question : Question)
-    → asked ≡ before ++ question ∷ after → AreKnown known ⊎ (is_named question ≡ false)
+    → asked ≡ before ++ question ∷ after → AreKnown known ⊎ (is_sized question ≡ false)
 
 may_take : (known : Option IdSizes) (s : State) (n : ℕ) (asked : List Question) → MayAsk known s asked
     → MayAsk known s (take n asked)
@@ -148,9 +148,9 @@ sized_greeted known s true next h = h
 sized_greeted known s false next h = tt
 
 only_sizes : (known : Option IdSizes) (before after : List Question) (question : Question)
-    → questions.IdSizes ∷ [] ≡ before ++ question ∷ after → AreKnown known ⊎ (is_named question ≡ false)
+    → questions.IdSizes ∷ [] ≡ before ++ question ∷ after → AreKnown known ⊎ (is_sized question ≡ false)
 only_sizes known [] after question is =
-    let same : questions.IdSizes ≡ question = cc in inr (ap is_named (sym same))
+    let same : questions.IdSizes ≡ question = cc in inr (ap is_sized (sym same))
 only_sizes known (first ∷ []) after question is = cc
 only_sizes known (first ∷ second ∷ before) after question is = cc
 
@@ -271,7 +271,7 @@ sized_due known s step is h =
 -- Replies ------------------------------------------------------------------------------------------------------------
 
 -- what a row's items make
-made : {A : Type 0} (P : A → Type 0) (row : List RowItem) (make : FromItems row A)
+pub made : {A : Type 0} (P : A → Type 0) (row : List RowItem) (make : FromItems row A)
     → ((held : Holding row) → P (made_of row make held)) → (place : BodyPlace) (x : A × BodyPlace)
     → items_at row make place ≡ Ok x → P x.0
 made {A} P [] make holds place x e =
@@ -291,7 +291,7 @@ sizes_given sizes body answer e =
     (made (λ (a : Answer). ¬ (numbers_in (an_answer a) ≡ None))
     (question_answer_row question_kinds.IdSizes (limit_of asked)) variants.IdSizes (λ held none. cc) _ w.found w.reads)
 
-still_known : {known later : Option IdSizes} {replied : Replied} → Measures known replied later → AreKnown known
+pub still_known : {known later : Option IdSizes} {replied : Replied} → Measures known replied later → AreKnown known
     → AreKnown later
 still_known (Measures.measures is) are = tt
 still_known (Measures.keeps none) are = are
@@ -490,23 +490,35 @@ served_alike Serve.known Serve.known ids either = refl
 served_alike Serve.any Serve.any ids (inl are) = absurd are
 served_alike {used} {other} Serve.any Serve.any ids (inr no_name) = alike used other ids no_name
 
-unnamed_so : (known : Option IdSizes) (question : Question) → AreKnown known ⊎ (is_named question ≡ false)
+unnamed_so : (known : Option IdSizes) (question : Question) → AreKnown known ⊎ (is_sized question ≡ false)
     → AreKnown known ⊎ ((thread : ThreadId) → ¬ (a_question question ≡ a_question (questions.ThreadName thread)))
 unnamed_so known question (inl are) = inl are
 unnamed_so known question (inr none) = inr (λ thread is.
     let same : question ≡ questions.ThreadName thread = cc in
-    let named : true ≡ false = sym (ap is_named same) ∙ none in cc)
+    let named : true ≡ false = sym (ap is_sized same) ∙ none in cc)
+
+-- the sizes are known, or it is asked for them, or nothing is asked
+abbrev pub ComesBehind : Option IdSizes → Asked → Type 0
+ComesBehind known (a_question question) = AreKnown known ⊎ (is_sized question ≡ false)
+ComesBehind known (an_effect effect) = Unit {0}
+
+-- so does the next command
+pub asked_behind : {limits : Limits} {log : List Entry} {messages : List Message} {turns : ℕ} {at : At} {asked : Asked}
+    {next : State} → Session limits log messages turns at → Allows at.state (Message.sends asked) next
+    → ComesBehind at.place.sizes asked
+asked_behind s (Allows.sends is) = tt
+asked_behind {messages} {at} s (Allows.asks {question} first others is) =
+    let target = (does_due messages at.state (Due.asks (first ++ question ∷ others)) is (does s)).0 in
+    sized_due at.place.sizes at.state (Due.asks (first ++ question ∷ others)) is (sized s) target
+    first others question refl
 
 -- the sizes are known, or no thread's name is asked for
 sized_command : {limits : Limits} {log : List Entry} {messages : List Message} {turns : ℕ} {at : At} {asked : Asked}
     {next : State} → Session limits log messages turns at → Allows at.state (Message.sends asked) next
     → AreKnown at.place.sizes ⊎ ((thread : ThreadId) → ¬ (asked ≡ a_question (questions.ThreadName thread)))
 sized_command {at} s (Allows.sends {next} {effect} is) = inr (λ thread named. cc)
-sized_command {messages} {at} s (Allows.asks {question} first others is) =
-    let target = (does_due messages at.state (Due.asks (first ++ question ∷ others)) is (does s)).0 in
-    unnamed_so at.place.sizes question
-    (sized_due at.place.sizes at.state (Due.asks (first ++ question ∷ others)) is (sized s) target
-    first others question refl)
+sized_command {at} s (Allows.asks {question} first others is) =
+    unnamed_so at.place.sizes question (asked_behind s (Allows.asks {question = question} first others is))
 
 -- whichever sizes serve, the body of the next command is the same
 pub spelled_alike : {limits : Limits} {log : List Entry} {messages : List Message} {turns : ℕ} {at : At}

@@ -1,13 +1,11 @@
 -- What holds of every session, in the words of its two sides. The laws stand at the end, behind what they speak of.
 use Rattle.std.specs.Prelude.{ℕ, ℤ, ◌≡◌, ◌<◌, ◌+◌, ◌∷◌, ◌++◌, Bool, true, false, List, [], length}
-use Rattle.std.specs.Prelude.{take, drop, count_by, Option, Some, None, Ok, Err}
-use Rattle.std.specs.List.{flat_map, AllByRecursion}
+use Rattle.std.specs.Prelude.{take, drop, count_by, Option, Some, None, Ok}
+use Rattle.std.specs.List.{flat_map}
 use Rattle.dap_frames.specs.Frames.{Frame, frame_front, frame_bytes}
-use Rattle.dap_frames.specs.declared.fault.FrameFault.{FrameFault}
 use Rattle.dap_messages.specs.Reading.{reading_of}
 use Rattle.dap_messages.specs.Telling.{told_text}
 use Rattle.dap_messages.specs.declared.requests.Incoming.TheVariants.{Request as a_request, Ignored as ignored}
-use Rattle.dap_messages.specs.declared.requests.ReadFault.TheVariants.{NotJson as no_json, NotAMessage as no_message}
 use Rattle.dap_messages.specs.declared.requests.Request.{Request}
 use Rattle.dap_messages.specs.declared.told.Response.{Response}
 use Rattle.dap_messages.specs.declared.told.Told.{Told}
@@ -27,22 +25,23 @@ use Rattle.jdwp_values.specs.declared.id.ThreadId.{ThreadId}
 use Rattle.jdwp_values.specs.declared.sizes.IdSizes.{IdSizes}
 use Rattle.pending_table.specs.Windows.{id_of}
 use Rattle.wire_core.specs.Outside.{broken_send}
-use Rattle.wire_core.specs.Streams.{Front, Uncut, uncut, fed, Hands}
+use Rattle.wire_core.specs.Streams.{uncut, fed, Hands}
 use Rattle.wire_core.specs.declared.outside.Entry.{Entry}
 use Rattle.wire_core.specs.declared.outside.Entry.TheVariants.{In, Out, Shut, Failed, Quiet}
 use Rattle.wire_core.specs.declared.outside.Side.{Side}
 use Rattle.wire_core.specs.declared.outside.Side.TheVariants.{Client, Target}
+use Rattle.world_model.specs.Causes.{Cause}
+pub use Rattle.world_model.specs.Causes.{request_by, requests_of}
 use Rattle.world_model.specs.Machine.{State, fresh, is_disconnect, is_at_rest, due, Due, next_wish, Message}
 use Rattle.world_model.specs.Machine.{Allows, Run}
+use Rattle.world_model.specs.Replies.{AreReplied}
+use Rattle.world_model.specs.Standings.{StandsAsReplied}
 use Rattle.world_model.specs.Session.{At, Place, Word, without_response, last_words, told_bytes, word_side, word_bytes}
-use Rattle.world_model.specs.Session.{Serve, Speaks, Measures, Stops, Session}
-use Rattle.world_model.specs.declared.ending.ClientFault.{ClientFault}
-use Rattle.world_model.specs.declared.ending.ClientFault.TheVariants.{Frame as misframed, NotJson, NotAMessage}
+use Rattle.world_model.specs.Session.{Serve, Speaks, Measures, Session}
 use Rattle.world_model.specs.declared.ending.Ending.{Ending}
-use Rattle.world_model.specs.declared.ending.Ending.TheVariants.{Done, Left, BadClient, BadTarget, ClientLink, TargetLink}
-use Rattle.world_model.specs.declared.ending.Ending.TheVariants.{TargetRefused, Idle, Spent, Flood, NoMemory}
 use Rattle.world_model.specs.declared.ending.Limits.{Limits}
 use Rattle.world_model.specs.declared.machine.Phase.TheVariants.{Attached}
+use Rattle.world_model.specs.declared.machine.Wish.TheVariants.{ThreadStart, ThreadDeath}
 
 -- the bytes, where their side is the client
 abbrev pub client_bytes : Side → List ℕ → List ℕ
@@ -71,10 +70,6 @@ heard log = flat_map heard_by log
 abbrev pub sent : List Entry → List ℕ
 sent log = flat_map sent_by log
 
-abbrev pub request_by : Message → List Request
-request_by (Message.hears request) = request ∷ []
-request_by _ = []
-
 abbrev pub told_by : Message → List Told
 told_by (Message.tells told) = told ∷ []
 told_by _ = []
@@ -86,10 +81,6 @@ told_by_word Word.disposes = []
 abbrev pub response_told : Told → List Response
 response_told (a_response response) = response ∷ []
 response_told (an_event event) = []
-
--- the requests that were heard, in order
-abbrev pub requests_of : List Message → List Request
-requests_of messages = flat_map request_by messages
 
 -- what the client was told by the machine, in order
 abbrev pub told_of : List Message → List Told
@@ -164,10 +155,12 @@ pub record AreServed (messages : List Message) (s : State) : Type 0 where
 
 -- The target's requests ----------------------------------------------------------------------------------------------
 
--- At rest, once the session is attached, each event request that is wished was set, and the target installed or refused
--- it; and no item waits.
-pub record IsSettled (s : State) : Type 0 where
+-- At rest, once the session is attached, each event request that is wished was set, and the target's reply says that it
+-- is installed or refused; and no item waits (JDWP, EventRequest command set, Set).
+pub record IsSettled (messages : List Message) (s : State) : Type 0 where
   pub no_wish : next_wish s ≡ None
+  pub start_replied : StandsAsReplied messages ThreadStart s.start
+  pub death_replied : StandsAsReplied messages ThreadDeath s.death
   pub none_in_hand : s.hand ≡ None
   pub none_waits : s.waiting ≡ []
 
@@ -192,72 +185,6 @@ pub record AreHeard (log : List Entry) (messages : List Message) (at : At) : Typ
   pub read : AreRead frames (requests_of messages) at.state.closing
   pub uncut_bytes : at.place.client.pending ≡ drop at.place.client.at (heard log)
 
--- Endings ----------------------------------------------------------------------------------------------------------
-
--- x is the last of them
-abbrev pub EndsWith : {A : Type 0} → List A → A → Type 0
-EndsWith {A} xs x = (before : List A) × (xs ≡ before ++ x ∷ [])
-
--- The uncut bytes begin with this fault: a byte that no frame has at this offset, or a whole frame whose body begins at
--- this offset and is no JSON value, or no message.
-pub data IsFault (u : Uncut) : ClientFault → ℕ → Type 0 where
-  bad_frame : {fault : FrameFault} {distance : ℕ} → frame_front u.pending ≡ Front.faulty fault distance
-      → IsFault u (misframed fault) (u.at + distance)
-  bad_json : {frame : Frame} {n : ℕ} → frame_front u.pending ≡ Front.whole frame n
-      → reading_of frame.body ≡ Err no_json → IsFault u NotJson (u.at + frame.header)
-  bad_message : {frame : Frame} {n : ℕ} → frame_front u.pending ≡ Front.whole frame n
-      → reading_of frame.body ≡ Err no_message → IsFault u NotAMessage (u.at + frame.header)
-
--- what is sent, or is left of a send that failed
-abbrev pub is_sending : Entry → Bool
-is_sending (In side bytes) = false
-is_sending (Out side bytes) = true
-is_sending (Shut side) = false
-is_sending (Failed side) = true
-is_sending Quiet = false
-
--- x stands in the log, and after it nothing but last words
-pub record IsLast (log : List Entry) (x : Entry) : Type 0 where
-  pub before : List Entry
-  pub after : List Entry
-  pub log_is : log ≡ before ++ x ∷ after
-  pub only_words : AllByRecursion (λ (entry : Entry). is_sending entry ≡ true) after
-
--- the last words leave the state and the uncut bytes as they were
-pub record StandsAs (before at : At) : Type 0 where
-  pub state : at.state ≡ before.state
-  pub client : at.place.client ≡ before.place.client
-  pub target : at.place.target ≡ before.place.target
-
--- the ending stands in the machine, the target's bytes, or a limit: not in what the client did, and in no link
-abbrev pub is_of_other_kind : Ending → Bool
-is_of_other_kind Done = false
-is_of_other_kind Left = false
-is_of_other_kind (BadClient fault at) = false
-is_of_other_kind (BadTarget fault at id) = true
-is_of_other_kind ClientLink = false
-is_of_other_kind TargetLink = false
-is_of_other_kind (TargetRefused set command code) = true
-is_of_other_kind Idle = true
-is_of_other_kind Spent = true
-is_of_other_kind Flood = true
-is_of_other_kind NoMemory = true
-
--- Why a session has ended: the client's stream ended, or a link failed, and nothing came after that; the last request is a
--- `disconnect`, and the last message is the response to it; the client's next bytes have a fault, and nothing is due that
--- came before it; or a cause of another kind stands in the machine, the target's bytes, or a limit.
-pub data Cause (limits : Limits) (log : List Entry) (messages : List Message) (turns : ℕ) (at : At) : Ending → Type 0 where
-  shut : IsLast log (Shut Client) → Cause limits log messages turns at Left
-  lost : IsLast log (Failed Client) → Cause limits log messages turns at ClientLink
-  lost_target : IsLast log (Failed Target) → Cause limits log messages turns at TargetLink
-  disconnected : {request : Request} {response : Response} → EndsWith (requests_of messages) request
-      → is_disconnect request.command ≡ true → EndsWith messages (Message.tells (a_response response))
-      → IsAnswer request response → Cause limits log messages turns at Done
-  faulty : {fault : ClientFault} {offset : ℕ} → IsFault at.place.client fault offset → due at.state ≡ Due.waits
-      → Cause limits log messages turns at (BadClient fault offset)
-  stands : {before : At} {ending : Ending} → is_of_other_kind ending ≡ true → Stops limits turns before ending
-      → StandsAs before at → Cause limits log messages turns at ending
-
 -- Last words ---------------------------------------------------------------------------------------------------------
 
 -- Before an ending there are no last words. After it those that were said and those that are left are the ending's, but
@@ -267,7 +194,8 @@ pub data SaysLast (log : List Entry) (at : At) : Option Ending → Type 0 where
   all_said : {ending : Ending} → at.said ++ at.left ≡ last_words ending at.state → SaysLast log at (Some ending)
   cut_short : {ending : Ending} {kept : ℕ} (before : List Entry) (word : Word) (unsaid : List Word)
       → at.said ++ word ∷ unsaid ≡ last_words ending at.state → at.left ≡ [] → kept < length (word_bytes at.place word)
-      → log ≡ before ++ broken_send (word_side word) (take kept (word_bytes at.place word)) → SaysLast log at (Some ending)
+      → log ≡ before ++ broken_send (word_side word) (take kept (word_bytes at.place word))
+      → SaysLast log at (Some ending)
 
 -- Commands -----------------------------------------------------------------------------------------------------------
 
@@ -421,9 +349,10 @@ Runs = Always (λ limits log messages turns at. Run fresh messages at.state)
 abbrev pub Turns : Type 0
 Turns = Always (λ limits log messages turns at. count_by comes log ≡ turns + at.broken)
 
--- At rest, once attached, the event requests that are wished are settled with the target, and no item waits.
+-- At rest, once attached, the event requests that are wished stand as the target replied to them, and no item waits.
 abbrev pub Settles : Type 0
-Settles = Always (λ limits log messages turns at. IsAtRest at.state → at.state.phase ≡ Attached → IsSettled at.state)
+Settles = Always (λ limits log messages turns at. IsAtRest at.state → at.state.phase ≡ Attached
+    → IsSettled messages at.state)
 
 -- After an ending nothing is said but its last words, in their order, up to the first that can't be sent.
 abbrev pub LastWords : Type 0
@@ -437,3 +366,7 @@ Commands = Always (λ limits log messages turns at. AreGiven log messages at)
 abbrev pub Ids : Type 0
 Ids = Always (λ limits log messages turns at. (before after : List Message) (asked : Asked)
     → messages ≡ before ++ Message.sends asked ∷ after → HasReadIds before asked)
+
+-- What the target's bytes say are its handshake and its replies, one each to a command with its id, and its composites.
+abbrev pub Replies : Type 0
+Replies = Always (λ limits log messages turns at. AreReplied log messages at)

@@ -1,11 +1,12 @@
 -- The translation machine: what the bridge has to do next, as a function of what it knows. It is pure, and knows no
 -- bytes, no log, no ids of commands and no buffers.
-use Rattle.std.specs.Prelude.{ℕ, pos, ◌≡◌, ◌+◌, ◌-◌, ◌==◌, ◌∷◌, ◌++◌, Bool, true, false, not, if◌then◌else◌, List, [], length, take}
-use Rattle.std.specs.Prelude.{Option, None, Some, option_map, map}
+use Rattle.std.specs.Prelude.{ℕ, pos, ◌≡◌, ◌+◌, ◌-◌, ◌==◌, ◌∷◌, ◌++◌, Bool, true, false, not, if◌then◌else◌, List, []}
+use Rattle.std.specs.Prelude.{length, take, Option, None, Some, option_map, map}
 use Rattle.dap_messages.specs.Telling.{unsupported, bad_arguments, already_attached, not_attached, target_gone}
 use Rattle.dap_messages.specs.Telling.{unknown_thread, target_error}
 use Rattle.dap_messages.specs.declared.requests.Command.{Command}
-use Rattle.dap_messages.specs.declared.requests.Command.TheVariants.{Initialize, Attach, Threads, Disconnect, Unsupported, BadArguments}
+use Rattle.dap_messages.specs.declared.requests.Command.TheVariants.{Initialize, Attach, Threads, Disconnect}
+use Rattle.dap_messages.specs.declared.requests.Command.TheVariants.{Unsupported, BadArguments}
 use Rattle.dap_messages.specs.declared.requests.InitializeArguments.{InitializeArguments}
 use Rattle.dap_messages.specs.declared.requests.Request.{Request}
 use Rattle.dap_messages.specs.declared.told.Event.{Event}
@@ -41,7 +42,8 @@ use Rattle.world_model.specs.declared.machine.Item.TheVariants as items
 use Rattle.world_model.specs.declared.machine.Leaving.{Leaving}
 use Rattle.world_model.specs.declared.machine.Leaving.TheVariants.{Disposes, Exits}
 use Rattle.world_model.specs.declared.machine.Part.{Part}
-use Rattle.world_model.specs.declared.machine.Part.TheVariants.{Greets, Awaits, Measures, Changes, Attaches, Shows, Leaves, Responds, Announces, Serves, Finishes}
+use Rattle.world_model.specs.declared.machine.Part.TheVariants.{Greets, Awaits, Measures, Changes, Attaches, Shows}
+use Rattle.world_model.specs.declared.machine.Part.TheVariants.{Leaves, Responds, Announces, Serves, Finishes}
 use Rattle.world_model.specs.declared.machine.Phase.{Phase}
 use Rattle.world_model.specs.declared.machine.Phase.TheVariants.{Fresh, Attached, Gone}
 use Rattle.world_model.specs.declared.machine.Standing.{Standing}
@@ -188,10 +190,12 @@ if_gone phase (Attach arguments) = late phase
 if_gone phase Threads = late phase
 if_gone phase _ = None
 
--- the failure that is known before anything is done: the first that applies (DAP overview, Base protocol, ErrorResponse)
+-- the failure that is known before anything is done: the first that applies (DAP overview, Base protocol,
+-- ErrorResponse)
 abbrev pub failure_of : Phase → Command → Option Failure
 failure_of phase command =
-    first_of (if_unsupported command ∷ if_bad command ∷ if_attached phase command ∷ if_fresh phase command ∷ if_gone phase command ∷ [])
+    first_of (if_unsupported command ∷ if_bad command ∷ if_attached phase command ∷ if_fresh phase command
+    ∷ if_gone phase command ∷ [])
 
 -- Rows ---------------------------------------------------------------------------------------------------------------
 
@@ -212,9 +216,11 @@ leaves_from Gone leaving = []
 -- what a request does that doesn't fail (DAP specification, Requests)
 abbrev pub row_of : Phase → Command → List Part
 row_of phase (Initialize arguments) = Responds (Success Capabilities) ∷ Serves (manner_of arguments) ∷ []
-row_of phase (Attach arguments) = Greets ∷ Awaits ∷ Measures ∷ Changes ∷ Responds (Success Nothing) ∷ Announces Initialized ∷ Attaches ∷ []
+row_of phase (Attach arguments) =
+    Greets ∷ Awaits ∷ Measures ∷ Changes ∷ Responds (Success Nothing) ∷ Announces Initialized ∷ Attaches ∷ []
 row_of phase Threads = Shows ∷ []
-row_of phase (Disconnect arguments) = leaves_from phase (leaving_by arguments.terminate_debuggee) ++ Responds (Success Nothing) ∷ Finishes ∷ []
+row_of phase (Disconnect arguments) =
+    leaves_from phase (leaving_by arguments.terminate_debuggee) ++ Responds (Success Nothing) ∷ Finishes ∷ []
 row_of phase Unsupported = []
 row_of phase (BadArguments name) = []
 
@@ -240,8 +246,8 @@ is_disconnect _ = false
 
 -- Look-ups -----------------------------------------------------------------------------------------------------------
 
--- What a row needs: it has it; it fails, since the target refused a question with this error; or it lacks the answers to
--- these questions.
+-- What a row needs: it has it; it fails, since the target refused a question with this error; or it lacks the answers
+-- to these questions.
 pub data Need (A : Type 0) : Type 0 where
   has : A → Need A
   fails : ℕ → Need A
@@ -363,7 +369,8 @@ pub data Due : Type 0 where
 
 -- the response to a request: its sequence number and its command come back (DAP overview, Base protocol, Response)
 abbrev pub response_to : Request → Outcome → Told
-response_to request outcome = a_response (record { request_seq = request.seq; command = request.name; outcome = outcome })
+response_to request outcome =
+    a_response (record { request_seq = request.seq; command = request.name; outcome = outcome })
 
 abbrev pub in_hand : State → Hand → List Part → State
 in_hand s hand parts = record s { hand = Some (record hand { parts = parts }) }
@@ -491,7 +498,8 @@ is_at_rest s = rests_in s.phase s.pending s.hand
 
 -- a request is heard and waits for its turn
 abbrev pub queued : State → Request → State
-queued s request = record s { waiting = s.waiting ++ items.Request request ∷ []; closing = is_disconnect request.command }
+queued s request =
+    record s { waiting = s.waiting ++ items.Request request ∷ []; closing = is_disconnect request.command }
 
 -- a command was sent
 abbrev pub sent : State → Asked → State
@@ -537,7 +545,8 @@ abbrev pub is_end : Asked → Replied → Bool
 is_end asked replied = if is_leaving asked then false else is_dead replied
 
 abbrev pub with_answer : Question → Replied → Hand → Hand
-with_answer question replied hand = record hand { answers = hand.answers ++ record { question = question; replied = replied } ∷ [] }
+with_answer question replied hand =
+    record hand { answers = hand.answers ++ record { question = question; replied = replied } ∷ [] }
 
 abbrev pub wish_settled : State → Option Wish → Replied → State
 wish_settled s None replied = s
@@ -566,13 +575,15 @@ pub data Message : Type 0 where
 
 -- What the machine allows: to tell and to send what is due; and, where nothing is due, what comes from outside.
 pub data Allows : State → Message → State → Type 0 where
-  hears : {s : State} {request : Request} → due s ≡ Due.waits → s.closing ≡ false → Allows s (Message.hears request) (queued s request)
+  hears : {s : State} {request : Request} → due s ≡ Due.waits → s.closing ≡ false
+      → Allows s (Message.hears request) (queued s request)
   tells : {s next : State} {told : Told} → due s ≡ Due.tells told next → Allows s (Message.tells told) next
   greets : {s next : State} → due s ≡ Due.greets next → Allows s Message.greets next
   greeted : {s : State} → due s ≡ Due.waits → s.greeted ≡ false → Allows s Message.greeted (record s { greeted = true })
   sends : {s next : State} {effect : Effect} → due s ≡ Due.sends effect next
       → Allows s (Message.sends (an_effect effect)) (sent next (an_effect effect))
-  asks : {s : State} {question : Question} (before after : List Question) → due s ≡ Due.asks (before ++ question ∷ after)
+  asks : {s : State} {question : Question} (before after : List Question)
+      → due s ≡ Due.asks (before ++ question ∷ after)
       → Allows s (Message.sends (a_question question)) (sent s (a_question question))
   answers : {s : State} {asked : Asked} {replied : Replied} (before after : List Asked) → due s ≡ Due.waits
       → s.pending ≡ before ++ asked ∷ after
@@ -582,6 +593,8 @@ pub data Allows : State → Message → State → Type 0 where
 -- The machine's runs over a list of messages, with the steps that nobody sees.
 pub data Run : State → List Message → State → Type 0 where
   stays : {s : State} → Run s [] s
-  goes : {s middle next : State} {messages : List Message} → Run s messages middle → due middle ≡ Due.goes next → Run s messages next
-  moves : {s middle next : State} {messages : List Message} {message : Message} → Run s messages middle → Allows middle message next
+  goes : {s middle next : State} {messages : List Message} → Run s messages middle → due middle ≡ Due.goes next
+      → Run s messages next
+  moves : {s middle next : State} {messages : List Message} {message : Message} → Run s messages middle
+      → Allows middle message next
       → Run s (messages ++ message ∷ []) next

@@ -1,6 +1,6 @@
 -- A session: what the log of a run of the bridge may be, step by step, and why it ended.
-use Rattle.std.specs.Prelude.{ℕ, ◌≡◌, ◌<◌, ◌≤◌, ◌+◌, ◌*◌, ◌==◌, ◌∷◌, ◌++◌, ◌⊎◌, Bool, true, false, if◌then◌else◌, List, [], length, take, map, position}
-use Rattle.std.specs.Prelude.{Option, None, Some, Result, Ok, Err}
+use Rattle.std.specs.Prelude.{ℕ, ◌≡◌, ◌<◌, ◌≤◌, ◌+◌, ◌*◌, ◌==◌, ◌∷◌, ◌++◌, ◌⊎◌, Bool, true, false, if◌then◌else◌, List}
+use Rattle.std.specs.Prelude.{[], length, take, map, position, Option, None, Some, Result, Ok, Err}
 use Rattle.dap_frames.specs.Frames.{Frame, frame_front, frame_bytes}
 use Rattle.dap_frames.specs.declared.fault.FrameFault.{FrameFault}
 use Rattle.dap_messages.specs.Reading.{reading_of}
@@ -46,10 +46,14 @@ use Rattle.wire_core.specs.declared.outside.Side.TheVariants.{Client, Target}
 use Rattle.world_model.specs.Machine.{State, Hand, fresh, due, Due, Message, Allows, response_to}
 use Rattle.world_model.specs.declared.ending.ClientFault.TheVariants.{Frame as frame_fault, NotJson, NotAMessage}
 use Rattle.world_model.specs.declared.ending.Ending.{Ending}
-use Rattle.world_model.specs.declared.ending.Ending.TheVariants.{Done, Left, BadClient, BadTarget, ClientLink, TargetLink, TargetRefused, Idle, Spent, Flood, NoMemory}
+use Rattle.world_model.specs.declared.ending.Ending.TheVariants.{Done, Left, BadClient, BadTarget, ClientLink}
+use Rattle.world_model.specs.declared.ending.Ending.TheVariants.{TargetLink, TargetRefused, Idle, Spent, Flood}
+use Rattle.world_model.specs.declared.ending.Ending.TheVariants.{NoMemory}
 use Rattle.world_model.specs.declared.ending.Limits.{Limits}
 use Rattle.world_model.specs.declared.ending.TargetFault.{TargetFault}
-use Rattle.world_model.specs.declared.ending.TargetFault.TheVariants.{Packet as packet_fault, Short, BadTag, BadCount, BadKind, BadPolicy, Trailing, BadSizes, BadCommand, UnknownReply}
+use Rattle.world_model.specs.declared.ending.TargetFault.TheVariants.{Packet as packet_fault, Short, BadTag, BadCount}
+use Rattle.world_model.specs.declared.ending.TargetFault.TheVariants.{BadKind, BadPolicy, Trailing, BadSizes}
+use Rattle.world_model.specs.declared.ending.TargetFault.TheVariants.{BadCommand, UnknownReply}
 use Rattle.world_model.specs.declared.machine.Item.{Item}
 use Rattle.world_model.specs.declared.machine.Item.TheVariants as items
 use Rattle.world_model.specs.declared.machine.Part.{Part}
@@ -66,8 +70,8 @@ pub record Raw : Type 0 where
 
 -- Where a session stands in the bytes of its two sides: how many messages the client was told, and the client's bytes
 -- that are not cut into frames yet; the same of the target's bytes and packets, and whether the end of its stream came
--- and wasn't taken up yet; the sizes of its ids; the commands that have no reply yet, with their ids; and the composites
--- that can't be read yet.
+-- and wasn't taken up yet; the sizes of its ids; the commands that have no reply yet, with their ids; and the
+-- composites that can't be read yet.
 pub record Place : Type 0 where
   pub told : ℕ
   pub client : Uncut
@@ -162,7 +166,8 @@ last_words NoMemory s = []
 -- Where a session stands ---------------------------------------------------------------------------------------------
 
 -- Where a session stands: the machine's state, the place in the bytes, and how many waits in a row were in vain; the
--- ending once its cause has come, the last words that were said and those that are left; and how many sends have failed.
+-- ending once its cause has come, the last words that were said and those that are left; and how many sends have
+-- failed.
 pub record At : Type 0 where
   pub state : State
   pub place : Place
@@ -184,16 +189,16 @@ waiting_count at = length at.state.waiting + length at.place.raw
 
 -- Bytes of messages --------------------------------------------------------------------------------------------------
 
--- The bytes of the next message that the client is told: messages are numbered 1, 2, 3, and so on, and each is one frame
--- (DAP overview, Base protocol: `seq`, and the header's `Content-Length`).
+-- The bytes of the next message that the client is told: messages are numbered 1, 2, 3, and so on, and each is one
+-- frame (DAP overview, Base protocol: `seq`, and the header's `Content-Length`).
 abbrev pub told_bytes : Place → Told → List ℕ
 told_bytes place told = frame_bytes (told_text (place.told + 1) told)
 
 abbrev pub one_told : Place → Place
 one_told place = record place { told = place.told + 1 }
 
--- These sizes of ids serve: the target's, once they are known. Before that any do, since nothing with an id in it is sent
--- and nothing is asked for but the sizes themselves.
+-- These sizes of ids serve: the target's, once they are known. Before that any do, since nothing with an id in it is
+-- sent and nothing is asked for but the sizes themselves.
 pub data Serve : Option IdSizes → IdSizes → Type 0 where
   any : {sizes : IdSizes} → Serve None sizes
   known : {sizes : IdSizes} → Serve (Some sizes) sizes
@@ -201,14 +206,16 @@ pub data Serve : Option IdSizes → IdSizes → Type 0 where
 -- the bytes of the next command: its id, its set and number, and its body (JDWP, Command packets)
 abbrev pub command_bytes : Place → IdSizes → Asked → List ℕ
 command_bytes place sizes asked =
-    packet_bytes (command_packet (id_of place.commands.next) (number_of asked).0 (number_of asked).1 (spell_command sizes asked))
+    packet_bytes
+    (command_packet (id_of place.commands.next) (number_of asked).0 (number_of asked).1 (spell_command sizes asked))
 
 abbrev pub one_sent : Place → Asked → Place
 one_sent place asked = record place { commands = with_sent asked place.commands }
 
 -- what goes out, to which side, as which bytes
 pub data Speaks : Place → Message → Side → List ℕ → Place → Type 0 where
-  tells : {place : Place} {told : Told} → Speaks place (Message.tells told) Client (told_bytes place told) (one_told place)
+  tells : {place : Place} {told : Told}
+      → Speaks place (Message.tells told) Client (told_bytes place told) (one_told place)
   greets : {place : Place} → Speaks place Message.greets Target handshake place
   sends : {place : Place} {asked : Asked} {sizes : IdSizes} → Serve place.sizes sizes
       → Speaks place (Message.sends asked) Target (command_bytes place sizes asked) (one_sent place asked)
@@ -236,12 +243,15 @@ is_tolerated asked code = if is_essential asked then code == 112 else true
 -- What the reply packet to a command says (JDWP, Reply packets): the error 0 stands for an answer; the body of another
 -- error is not looked at.
 pub data IsReply (sizes : IdSizes) (asked : Asked) : ℕ → List ℕ → Replied → Type 0 where
-  answers : {body : List ℕ} {answer : Answer} → answer_at sizes asked body ≡ Ok answer → IsReply sizes asked 0 body (an_answer answer)
-  refuses : {error : ℕ} {body : List ℕ} → 0 < error → is_tolerated asked error ≡ true → IsReply sizes asked error body (an_error error)
+  answers : {body : List ℕ} {answer : Answer} → answer_at sizes asked body ≡ Ok answer
+      → IsReply sizes asked 0 body (an_answer answer)
+  refuses : {error : ℕ} {body : List ℕ} → 0 < error → is_tolerated asked error ≡ true
+      → IsReply sizes asked error body (an_error error)
 
 -- the sizes that a reply gives, if it gives any (JDWP, VirtualMachine command set, IDSizes)
 abbrev pub numbers_in : Replied → Option (List ℕ)
-numbers_in (an_answer (variants.IdSizes field method object class frame)) = Some (field ∷ method ∷ object ∷ class ∷ frame ∷ [])
+numbers_in (an_answer (variants.IdSizes field method object class frame)) =
+    Some (field ∷ method ∷ object ∷ class ∷ frame ∷ [])
 numbers_in (an_answer _) = None
 numbers_in (an_error code) = None
 
@@ -260,11 +270,14 @@ pub data Says : Place → Message → Place → Type 0 where
       → frame_front place.client.pending ≡ Front.whole frame n → reading_of frame.body ≡ Ok (a_request heard)
       → Says place (Message.hears heard) (record place { client = past place.client n })
   greeted : {place : Place} → place.target.greeted ≡ true → Says place Message.greeted place
-  answers : {place : Place} {id error n : ℕ} {body : List ℕ} {asked : Asked} {replied : Replied} {sizes : IdSizes} {later : Option IdSizes}
-      → target_front place ≡ Front.whole (reply_packet id error body) n → pending_under id place.commands.sent ≡ Some asked
+  answers : {place : Place} {id error n : ℕ} {body : List ℕ} {asked : Asked} {replied : Replied} {sizes : IdSizes}
+      {later : Option IdSizes}
+      → target_front place ≡ Front.whole (reply_packet id error body) n
+      → pending_under id place.commands.sent ≡ Some asked
       → Serve place.sizes sizes → IsReply sizes asked error body replied → Measures place.sizes replied later
       → (numbers_in replied ≡ None) ⊎ (place.raw ≡ [])
-      → Says place (Message.answers asked replied) (record (past_packet place n) { commands = settled id place.commands; sizes = later })
+      → Says place (Message.answers asked replied)
+      (record (past_packet place n) { commands = settled id place.commands; sizes = later })
   ends : {place : Place} → place.ended ≡ true → Says place Message.ends (record place { ended = false })
 
 -- Going on -----------------------------------------------------------------------------------------------------------
@@ -287,9 +300,9 @@ module _ (limits : Limits) where
     pub greeted : at.state.greeted ≡ at.place.target.greeted
     pub on : IsOn at
 
-  -- The session waits: nothing is due; no whole frame and no refused byte stands at the front of the client's uncut bytes,
-  -- or a `disconnect` was heard, so that nothing more is cut; the same of the target's packets; and what came of the
-  -- target was taken up.
+  -- The session waits: nothing is due; no whole frame and no refused byte stands at the front of the client's uncut
+  -- bytes, or a `disconnect` was heard, so that nothing more is cut; the same of the target's packets; and what came of
+  -- the target was taken up.
   pub record Waits (at : At) : Type 0 where
     pub nothing_due : due at.state ≡ Due.waits
     pub nothing_whole : (at.state.closing ≡ true) ⊎ (frame_front at.place.client.pending ≡ Front.waits)
@@ -301,8 +314,10 @@ module _ (limits : Limits) where
 
 -- What may come from the outside where the session waits.
 pub data Happens : At → Entry → At → Type 0 where
-  piece : {at : At} {bytes : List ℕ} → Happens at (In Client bytes) (record at { place = record at.place { client = fed at.place.client bytes } })
-  packets : {at : At} {bytes : List ℕ} → Happens at (In Target bytes) (record at { place = record at.place { target = received at.place.target bytes } })
+  piece : {at : At} {bytes : List ℕ}
+      → Happens at (In Client bytes) (record at { place = record at.place { client = fed at.place.client bytes } })
+  packets : {at : At} {bytes : List ℕ}
+      → Happens at (In Target bytes) (record at { place = record at.place { target = received at.place.target bytes } })
   leaves : {at : At} → Happens at (Shut Client) (ended at Left)
   loses : {at : At} → Happens at (Failed Client) (ended at ClientLink)
   ends : {at : At} → Happens at (Shut Target) (record at { place = record at.place { ended = true } })
@@ -352,11 +367,13 @@ abbrev pub is_composite : ℕ → ℕ → Bool
 is_composite set number = if set == 64 then number == 100 else false
 
 module _ (limits : Limits) where
-  -- A cause that ends the session stands in the machine, in the number of items that wait, at the front of one side's uncut
-  -- bytes, or in a limit that was reached. A body that is no JSON value or no message is told by the offset of its first byte,
-  -- a fault of a packet's body by its own offset, any other of a packet by that of the packet's first byte.
+  -- A cause that ends the session stands in the machine, in the number of items that wait, at the front of one side's
+  -- uncut bytes, or in a limit that was reached. A body that is no JSON value or no message is told by the offset of
+  -- its first byte, a fault of a packet's body by its own offset, any other of a packet by that of the packet's first
+  -- byte.
   pub data Stops : ℕ → At → Ending → Type 0 where
-    over : {turns : ℕ} {at : At} {ending : Ending} → IsOn limits at → due at.state ≡ Due.over ending → Stops turns at ending
+    over : {turns : ℕ} {at : At} {ending : Ending} → IsOn limits at → due at.state ≡ Due.over ending
+        → Stops turns at ending
     flood : {turns : ℕ} {at : At} → limits.waiting < waiting_count at → Stops turns at Flood
     misframed : {turns : ℕ} {at : At} {fault : FrameFault} {distance : ℕ} → Reads limits at
         → frame_front at.place.client.pending ≡ Front.faulty fault distance
@@ -373,35 +390,46 @@ module _ (limits : Limits) where
     bad_command : {turns : ℕ} {at : At} {id set number n : ℕ} {body : List ℕ} → ReadsTarget limits at
         → target_front at.place ≡ Front.whole (command_packet id set number body) n → is_composite set number ≡ false
         → Stops turns at (target_fault BadCommand at.place.target.stream.at)
-    bad_composite : {turns : ℕ} {at : At} {id set number n : ℕ} {body : List ℕ} {sizes : IdSizes} → ReadsTarget limits at
+    bad_composite : {turns : ℕ} {at : At} {id set number n : ℕ} {body : List ℕ} {sizes : IdSizes}
+        → ReadsTarget limits at
         → target_front at.place ≡ Front.whole (command_packet id set number body) n → is_composite set number ≡ true
         → at.place.sizes ≡ Some sizes
         → Stops turns at (composite_ending (composite_at sizes body) at.place.target.stream.at)
     unknown : {turns : ℕ} {at : At} {id error n : ℕ} {body : List ℕ} → ReadsTarget limits at
-        → target_front at.place ≡ Front.whole (reply_packet id error body) n → pending_under id at.place.commands.sent ≡ None
+        → target_front at.place ≡ Front.whole (reply_packet id error body) n
+        → pending_under id at.place.commands.sent ≡ None
         → Stops turns at (BadTarget UnknownReply at.place.target.stream.at id)
     refused : {turns : ℕ} {at : At} {id error n : ℕ} {body : List ℕ} {asked : Asked} → ReadsTarget limits at
-        → target_front at.place ≡ Front.whole (reply_packet id error body) n → pending_under id at.place.commands.sent ≡ Some asked
+        → target_front at.place ≡ Front.whole (reply_packet id error body) n
+        → pending_under id at.place.commands.sent ≡ Some asked
         → 0 < error → is_tolerated asked error ≡ false
         → Stops turns at (TargetRefused (number_of asked).0 (number_of asked).1 error)
     bad_answer : {turns : ℕ} {at : At} {id n : ℕ} {body : List ℕ} {asked : Asked} {fault : BodyFault} {sizes : IdSizes}
         → ReadsTarget limits at
-        → target_front at.place ≡ Front.whole (reply_packet id 0 body) n → pending_under id at.place.commands.sent ≡ Some asked
+        → target_front at.place ≡ Front.whole (reply_packet id 0 body) n
+        → pending_under id at.place.commands.sent ≡ Some asked
         → Serve at.place.sizes sizes → answer_at sizes asked body ≡ Err fault
         → Stops turns at (body_ending fault at.place.target.stream.at)
-    bad_sizes : {turns : ℕ} {at : At} {id n place : ℕ} {body numbers : List ℕ} {asked : Asked} {answer : Answer} {sizes : IdSizes}
+    bad_sizes : {turns : ℕ} {at : At} {id n place : ℕ} {body numbers : List ℕ} {asked : Asked} {answer : Answer}
+        {sizes : IdSizes}
         → ReadsTarget limits at
-        → target_front at.place ≡ Front.whole (reply_packet id 0 body) n → pending_under id at.place.commands.sent ≡ Some asked
-        → Serve at.place.sizes sizes → answer_at sizes asked body ≡ Ok answer → numbers_in (an_answer answer) ≡ Some numbers
+        → target_front at.place ≡ Front.whole (reply_packet id 0 body) n
+        → pending_under id at.place.commands.sent ≡ Some asked
+        → Serve at.place.sizes sizes → answer_at sizes asked body ≡ Ok answer
+        → numbers_in (an_answer answer) ≡ Some numbers
         → position is_no_size numbers ≡ Some place
         → Stops turns at (target_fault BadSizes (at.place.target.stream.at + header + 4 * place))
-    bad_raw : {turns : ℕ} {at : At} {id n : ℕ} {body : List ℕ} {asked : Asked} {answer : Answer} {sizes : IdSizes} (found : IdSizes) {first : Raw} {others : List Raw}
+    bad_raw : {turns : ℕ} {at : At} {id n : ℕ} {body : List ℕ} {asked : Asked} {answer : Answer} {sizes : IdSizes}
+        (found : IdSizes) {first : Raw} {others : List Raw}
         → ReadsTarget limits at
-        → target_front at.place ≡ Front.whole (reply_packet id 0 body) n → pending_under id at.place.commands.sent ≡ Some asked
-        → Serve at.place.sizes sizes → answer_at sizes asked body ≡ Ok answer → numbers_in (an_answer answer) ≡ Some (numbers_of found)
+        → target_front at.place ≡ Front.whole (reply_packet id 0 body) n
+        → pending_under id at.place.commands.sent ≡ Some asked
+        → Serve at.place.sizes sizes → answer_at sizes asked body ≡ Ok answer
+        → numbers_in (an_answer answer) ≡ Some (numbers_of found)
         → at.place.raw ≡ first ∷ others
         → Stops turns at (composite_ending (composite_at found first.body) first.at)
-    idle : {turns : ℕ} {at : At} → Waits limits at → turns < limits.turns → at.quiets ≡ limits.quiet → Stops turns at Idle
+    idle : {turns : ℕ} {at : At} → Waits limits at → turns < limits.turns → at.quiets ≡ limits.quiet
+        → Stops turns at Idle
     spent : {turns : ℕ} {at : At} → Waits limits at → turns ≡ limits.turns → Stops turns at Spent
 
 -- Sessions -----------------------------------------------------------------------------------------------------------
@@ -410,8 +438,8 @@ abbrev pub link_ending : Side → Ending
 link_ending Client = ClientLink
 link_ending Target = TargetLink
 
--- the last words as bytes: what is told is numbered on, and the target gets one more command (JDWP, VirtualMachine command
--- set, Dispose)
+-- the last words as bytes: what is told is numbered on, and the target gets one more command (JDWP, VirtualMachine
+-- command set, Dispose)
 abbrev pub word_side : Word → Side
 word_side (Word.tells told) = Client
 word_side Word.disposes = Target
@@ -433,16 +461,22 @@ pub data Session (limits : Limits) : List Entry → List Message → ℕ → At 
       → Session limits log messages turns at → IsOn limits at → due at.state ≡ Due.goes next
       → Session limits log messages turns (record at { state = next })
   -- a message that the machine allows goes out, whole
-  speaks : {log : List Entry} {messages : List Message} {turns : ℕ} {at : At} {message : Message} {next : State} {side : Side} {bytes : List ℕ} {place : Place}
-      → Session limits log messages turns at → IsOn limits at → Allows at.state message next → Speaks at.place message side bytes place
-      → Session limits (log ++ Out side bytes ∷ []) (messages ++ message ∷ []) turns (record at { state = next; place = place })
+  speaks : {log : List Entry} {messages : List Message} {turns : ℕ} {at : At} {message : Message} {next : State}
+      {side : Side} {bytes : List ℕ} {place : Place}
+      → Session limits log messages turns at → IsOn limits at → Allows at.state message next
+      → Speaks at.place message side bytes place
+      → Session limits (log ++ Out side bytes ∷ []) (messages ++ message ∷ []) turns
+      (record at { state = next; place = place })
   -- a message that the machine allows comes in
-  hears : {log : List Entry} {messages : List Message} {turns : ℕ} {at : At} {message : Message} {next : State} {place : Place}
-      → Session limits log messages turns at → IsOn limits at → Allows at.state message next → Says at.place message place
+  hears : {log : List Entry} {messages : List Message} {turns : ℕ} {at : At} {message : Message} {next : State}
+      {place : Place}
+      → Session limits log messages turns at → IsOn limits at → Allows at.state message next
+      → Says at.place message place
       → Session limits log (messages ++ message ∷ []) turns (record at { state = next; place = place })
   -- a response or an event of the client is passed over
   ignores : {log : List Entry} {messages : List Message} {turns : ℕ} {at : At} {frame : Frame} {n : ℕ}
-      → Session limits log messages turns at → Reads limits at → frame_front at.place.client.pending ≡ Front.whole frame n → reading_of frame.body ≡ Ok ignored
+      → Session limits log messages turns at → Reads limits at
+      → frame_front at.place.client.pending ≡ Front.whole frame n → reading_of frame.body ≡ Ok ignored
       → Session limits log messages turns (record at { place = record at.place { client = past at.place.client n } })
   -- a composite that comes before the sizes of ids are known is kept as it is
   keeps : {log : List Entry} {messages : List Message} {turns : ℕ} {at : At} {id set number n : ℕ} {body : List ℕ}
@@ -459,13 +493,17 @@ pub data Session (limits : Limits) : List Entry → List Message → ℕ → At 
       → Session limits log messages turns (record at { place = record at.place { raw = [] } })
   -- something comes where the session waits, and a turn is taken
   happens : {log : List Entry} {messages : List Message} {turns : ℕ} {at next : At} {entry : Entry}
-      → Session limits log messages turns at → Waits limits at → turns < limits.turns → at.quiets < limits.quiet → Happens at entry next
+      → Session limits log messages turns at → Waits limits at → turns < limits.turns → at.quiets < limits.quiet
+      → Happens at entry next
       → Session limits (log ++ entry ∷ []) messages (turns + 1) (record next { quiets = quiets_after entry at.quiets })
   -- a send fails after a proper prefix of the bytes of the message that is due, and the link with it
-  breaks : {log : List Entry} {messages : List Message} {turns kept : ℕ} {at : At} {message : Message} {next : State} {side : Side} {bytes : List ℕ} {place : Place}
-      → Session limits log messages turns at → IsOn limits at → Allows at.state message next → Speaks at.place message side bytes place
+  breaks : {log : List Entry} {messages : List Message} {turns kept : ℕ} {at : At} {message : Message} {next : State}
+      {side : Side} {bytes : List ℕ} {place : Place}
+      → Session limits log messages turns at → IsOn limits at → Allows at.state message next
+      → Speaks at.place message side bytes place
       → kept < length bytes
-      → Session limits (log ++ broken_send side (take kept bytes)) messages turns (record (ended at (link_ending side)) { broken = 1 })
+      → Session limits (log ++ broken_send side (take kept bytes)) messages turns
+      (record (ended at (link_ending side)) { broken = 1 })
   -- a cause stands here, and the session has ended
   stops : {log : List Entry} {messages : List Message} {turns : ℕ} {at : At} {ending : Ending}
       → Session limits log messages turns at → at.ending ≡ None → Stops limits turns at ending
@@ -488,8 +526,8 @@ pub record AreLimits (limits : Limits) : Type 0 where
   pub some_quiet : 0 < limits.quiet
   pub some_waiting : 0 < limits.waiting
 
--- Why a session that stands here is left: its cause has come, and all last words were said, up to the first that can't be;
--- or memory ran out, which may be at any time.
+-- Why a session that stands here is left: its cause has come, and all last words were said, up to the first that can't
+-- be; or memory ran out, which may be at any time.
 pub data Ends (at : At) : Ending → Type 0 where
   caused : {ending : Ending} → at.ending ≡ Some ending → at.left ≡ [] → Ends at ending
   no_memory : Ends at NoMemory

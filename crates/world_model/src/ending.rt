@@ -28,8 +28,8 @@ impl Limits {
     }
 }
 
-/// What is wrong with the client's bytes: a byte that no frame has there, a body that is no JSON value, or one that is no
-/// message (DAP overview, Base protocol).
+/// What is wrong with the client's bytes: a byte that no frame has there, a body that is no JSON value, or one that is
+/// no message (DAP overview, Base protocol).
 #[derive(Clone, Copy, Debug, PartialEq, Eq)]
 pub enum ClientFault {
     Frame(FrameFault),
@@ -38,7 +38,8 @@ pub enum ClientFault {
 }
 
 /// What is wrong with the target's bytes: a packet, a part of a body, sizes of ids outside 1 to 8, a composite that
-/// suspends one thread alone, a command that the bridge doesn't take, or a reply to no command (JDWP, JDWP Packets and Protocol details).
+/// suspends one thread alone, a command that the bridge doesn't take, or a reply to no command (JDWP, JDWP Packets and
+/// Protocol details).
 #[derive(Clone, Copy, Debug, PartialEq, Eq)]
 pub enum TargetFault {
     Packet(PacketFault),
@@ -54,10 +55,10 @@ pub enum TargetFault {
     UnknownReply,
 }
 
-/// How a session ended: `disconnect` was answered; the client's stream ended before that; the client's bytes have a fault,
-/// at this offset in its stream; the target's have one, in its own, with the id of the packet where that answers no
-/// command, and 0 else; a link failed; the target refused this command with this error; too many waits in a row were in
-/// vain; the limit of happenings was reached; too many items waited; or memory ran out.
+/// How a session ended: `disconnect` was answered; the client's stream ended before that; the client's bytes have a
+/// fault, at this offset in its stream; the target's have one, in its own, with the id of the packet where that answers
+/// no command, and 0 else; a link failed; the target refused this command with this error; too many waits in a row were
+/// in vain; the limit of happenings was reached; too many items waited; or memory ran out.
 #[derive(Clone, Copy, Debug, PartialEq, Eq)]
 pub enum Ending {
     Done,

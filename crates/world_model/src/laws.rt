@@ -1,5 +1,7 @@
 ghost use Rattle.world_model.specs.Laws.{Numbers, Responses, Requests, Endings, Runs, Turns, Settles, LastWords};
-ghost use Rattle.world_model.specs.Laws.{Ids, Commands};
+ghost use Rattle.world_model.specs.Laws.{Ids, Commands, Replies};
+ghost use Rattle.world_model.specs.Outcomes.{Outcomes};
+ghost use Rattle.world_model.specs.Shown.{Shows};
 
 /// What the client is sent are the frames of what it is told, numbered 1, 2, 3, and so on, with nothing between them.
 /// Behind them stands less than the whole of one more frame only where the client's link failed (DAP overview, Base
@@ -20,9 +22,11 @@ pub fn requests()
     ensures { Requests }
 {}
 
-/// A session that has ended has a cause: the end or the failure of a link was the last thing that came; the response to a
-/// `disconnect` is its last message; the client's next byte, or next body, is refused at this offset; or the machine, the
-/// target's bytes or a limit gave it. Nothing comes after it but last words.
+/// A session that has ended has a cause: the end or the failure of a link was the last thing that came; the response
+/// to a `disconnect` is its last message; the client's next bytes have a fault at this offset, or the target's have;
+/// the target's next packet refuses a pending command that nothing can stand in for; more items wait than may; as many
+/// waits in vain as may be, in a row, were the last things that came; or as many turns were taken as may be. In the
+/// last two cases nothing is left to do. Nothing comes after it but last words. Want of memory is none of the causes.
 pub fn endings()
     ensures { Endings }
 {}
@@ -37,8 +41,9 @@ pub fn turns()
     ensures { Turns }
 {}
 
-/// At rest in an attached session each event request that is wished was set, and the target installed or refused it (JDWP,
-/// EventRequest command set, Set).
+/// At rest in an attached session each event request that is wished was set: its command was sent, once, later the
+/// target replied to it, once, and it stands as the reply says, installed under the id that was answered or refused
+/// with an error (JDWP, EventRequest command set, Set).
 pub fn settles()
     ensures { Settles }
 {}
@@ -60,4 +65,40 @@ pub fn ids()
 /// more whole only where the target's link failed (JDWP, JDWP Handshake and Command packets).
 pub fn commands()
     ensures { Commands }
+{}
+
+/// What came from the target are its handshake, once it came, and packets, with nothing between them, up to the bytes
+/// that aren't cut. In order they are the replies that are heard and composites. Each reply is to the command with its
+/// id, which had none yet, and is the answer or the error that its body and error say. A body is read with the sizes of
+/// ids that the target had replied; before it did, all sizes give the same. A composite comes before those, and is kept
+/// unread, or dropped where the target has gone. The handshake is taken up only where the bytes begin with it, at most
+/// once, and before any command is sent; each end of the target's stream is taken up, but one that has just come (JDWP,
+/// JDWP Handshake and Reply packets).
+pub fn replies()
+    ensures { Replies }
+{}
+
+/// Each list of threads that the client is told is of the threads that the target answered, in their order, each under
+/// the name that the target answered for it; left out are those whose names it refused. An error of the target's is
+/// told only where the target refused with it to say which threads there are. Each of these questions was asked, once,
+/// and replied to, once, since the `threads` request was heard and since the response before it. One thread has one
+/// number in a session, and different threads have different ones: 1, 2, 3 and so on in the order in which they are
+/// first told (DAP specification, Threads request; JDWP, VirtualMachine command set, AllThreads; ThreadReference
+/// command set, Name).
+pub fn shows()
+    ensures { Shows }
+{}
+
+/// Each request is answered with the outcome that it has by then. One whose command isn't served fails with
+/// `unsupported`, and one with a bad argument with `badArguments` and its name. `initialize` succeeds with the
+/// capabilities, and `disconnect` with no body. Once the target has ended, `attach` and `threads` fail with
+/// `targetGone`. Until then `attach` succeeds where none did before, and fails with `alreadyAttached` where one did;
+/// and `threads` fails with `notAttached` where none did, and else tells a list, where the target answered which
+/// threads there are, or fails with the error with which it refused to. `initialized` is told directly behind the
+/// success of an `attach`, and nowhere else; `terminated` at most once, after the target has ended, and by the time
+/// that nothing is due it was told. The last words to the client fail the requests that have no response with
+/// `targetGone`, and tell `terminated` where it wasn't told (DAP overview, Base protocol, Response; DAP specification,
+/// Requests and Events).
+pub fn outcomes()
+    ensures { Outcomes }
 {}

@@ -8,7 +8,8 @@ mod manner;
 
 pub use ending::{ClientFault, Ending, Limits, TargetFault};
 pub use laws::{
-    commands, endings, ids, last_words, numbers, requests, responses, runs, settles, turns,
+    commands, endings, ids, last_words, numbers, outcomes, replies, requests, responses, runs,
+    settles, shows, turns,
 };
 pub use machine::{Answered, Item, Leaving, Part, Phase, Standing, Wish};
 pub use manner::Manner;

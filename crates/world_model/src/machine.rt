@@ -25,7 +25,8 @@ pub enum Standing {
     Refused,
 }
 
-/// How a session leaves its target: the target runs on, or it exits (JDWP, VirtualMachine command set, Dispose and Exit).
+/// How a session leaves its target: the target runs on, or it exits (JDWP, VirtualMachine command set, Dispose and
+/// Exit).
 #[derive(Clone, Copy, Debug, PartialEq, Eq)]
 pub enum Leaving {
     Disposes,
@@ -39,8 +40,8 @@ pub enum Item {
     TargetEnd,
 }
 
-/// One part of what an item does, in order. Changes of the state are parts too, so that what holds afterwards is the tail
-/// of the list.
+/// One part of what an item does, in order. Changes of the state are parts too, so that what holds afterwards is the
+/// tail of the list.
 #[derive(Debug, Drop)]
 pub enum Part {
     /// The handshake goes to the target (JDWP, Handshake).
