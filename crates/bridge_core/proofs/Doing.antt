@@ -1,5 +1,5 @@
 -- What each part of an item leads to.
-use Rattle.std.proofs.Common.{◌≡◌, ◌∷◌, ◌∙◌, ℕ, refl, sym, ap, Bool, true, false, List, [], Option, Some, None}
+use Rattle.std.proofs.Common.{◌≡◌, ◌∷◌, ◌∙◌, ℕ, refl, sym, ap, true, false, List, [], Option, Some, None}
 use Rattle.std.specs.Option.{is_some}
 use Rattle.dap_messages.specs.declared.told.Event.TheVariants.{Initialized, Terminated}
 use Rattle.dap_messages.specs.declared.told.Outcome.{Outcome}
@@ -16,9 +16,11 @@ use Rattle.bridge_core.specs.declared.threads.Need.TheVariants as needs
 use Rattle.bridge_core.specs.declared.machine.Step.{Step}
 use Rattle.bridge_core.specs.declared.machine.Step.TheVariants as steps
 use Rattle.bridge_core.proofs.Stepping.{waits_is, goes_is, tells_is, over_is, greets_is, sends_is, gone_is, asks_on_is}
-use Rattle.world_model.specs.Machine.{State, Hand, attached_from, Named, Need, Due, due_in, parts_of, response_to, responded, measured_by, changed_by, shown_by, with_shown}
-use Rattle.world_model.specs.Machine.{reply_among, sizes_reply, next_wish, set_of, effect_of, threads_need, threads_told, with_threads, refusal}
-use Rattle.world_model.specs.Machine.{name_reply, unnamed, unnamed_first, named, names_need, has_or_lacks}
+use Rattle.world_model.specs.Machine.{State, Hand, attached_from, Named, Need, Due, due_in, parts_of, response_to}
+use Rattle.world_model.specs.Machine.{responded, measured_by, changed_by, shown_by, with_shown, reply_among}
+use Rattle.world_model.specs.Machine.{sizes_reply, next_wish, set_of, effect_of, threads_need, threads_told}
+use Rattle.world_model.specs.Machine.{with_threads, refusal, name_reply, unnamed, unnamed_first, named, names_need}
+use Rattle.world_model.specs.Machine.{has_or_lacks}
 use Rattle.jdwp_values.specs.declared.id.ThreadId.{ThreadId}
 use Rattle.world_model.specs.declared.ending.Ending.TheVariants.{Done}
 use Rattle.world_model.specs.declared.machine.Answered.{Answered}
@@ -40,11 +42,13 @@ hand_is kept hand e = rw e refl
 pub none_waits : (kept : Kept) → kept.hand ≡ None → kept.waiting ≡ [] → Steps kept steps.Waits kept
 none_waits kept h e = waits_is kept (λ pending. rw (h, e) refl)
 
-pub parts_same : (s t : State) (item : Item) → s.phase ≡ t.phase → s.terminated ≡ t.terminated → parts_of s item ≡ parts_of t item
+pub parts_same : (s t : State) (item : Item) → s.phase ≡ t.phase → s.terminated ≡ t.terminated
+    → parts_of s item ≡ parts_of t item
 parts_same s t (items.Request request) p e = rw p refl
 parts_same s t items.TargetEnd p e = rw e refl
 
-pub begun : (kept : Kept) (item : Item) (rest : List Item) (mid new : Kept) (todo : List Part) → kept.hand ≡ None → kept.waiting ≡ item ∷ rest
+pub begun : (kept : Kept) (item : Item) (rest : List Item) (mid new : Kept) (todo : List Part) → kept.hand ≡ None
+    → kept.waiting ≡ item ∷ rest
     → mid ≡ record kept { waiting = rest } → todo ≡ parts_of (state_of mid []) item
     → new ≡ holding mid (record { item = item; parts = todo; answers = [] }) → Steps kept steps.Goes new
 begun kept item rest mid new todo h w m t n = rw (n, t, m)
@@ -52,9 +56,11 @@ begun kept item rest mid new todo h w m t n = rw (n, t, m)
       item = item;
       parts = parts_of (state_of (record kept { waiting = rest }) []) item;
       answers = [];
-    })) (λ pending. rw (h, w, parts_same (state_of kept pending) (state_of (record kept { waiting = rest }) []) item refl refl) refl))
+    })) (λ pending. rw
+    (h, w, parts_same (state_of kept pending) (state_of (record kept { waiting = rest }) []) item refl refl) refl))
 
-pub ends : (kept : Kept) (hand : Hand) (new : Kept) → hand.parts ≡ [] → new ≡ record kept { hand = None } → Steps (holding kept hand) steps.Goes new
+pub ends : (kept : Kept) (hand : Hand) (new : Kept) → hand.parts ≡ [] → new ≡ record kept { hand = None }
+    → Steps (holding kept hand) steps.Goes new
 ends kept hand new h e = rw e (goes_is (holding kept hand) (record kept { hand = None }) (λ pending. rw h refl))
 
 -- Choices -------------------------------------------------------------------------------------------------------------
@@ -74,11 +80,13 @@ asks_is old Fresh question others p h = asks_on_is old question others (rw (← 
 asks_is old Attached question others p h = asks_on_is old question others (rw (← p) refl) h
 asks_is old Gone question others p h = gone_is old (rw (← p) refl) (λ pending. rw (h pending) refl)
 
-pub sizes_known : (reply : Option Replied) (next : State) → true ≡ is_some reply → measured_by reply next ≡ Due.goes next
+pub sizes_known : (reply : Option Replied) (next : State) → true ≡ is_some reply
+    → measured_by reply next ≡ Due.goes next
 sizes_known None next e = cc
 sizes_known (Some replied) next e = refl
 
-pub sizes_unknown : (reply : Option Replied) (next : State) → false ≡ is_some reply → measured_by reply next ≡ Due.asks (questions.IdSizes ∷ [])
+pub sizes_unknown : (reply : Option Replied) (next : State) → false ≡ is_some reply
+    → measured_by reply next ≡ Due.asks (questions.IdSizes ∷ [])
 sizes_unknown None next e = refl
 sizes_unknown (Some replied) next e = cc
 
@@ -86,10 +94,12 @@ pub unwished : (wish : Option Wish) (s next : State) → None ≡ wish → chang
 unwished None s next e = refl
 unwished (Some wish) s next e = cc
 
-pub wished : (wish : Option Wish) (first : Wish) (s next : State) → Some first ≡ wish → changed_by wish s next ≡ Due.sends (set_of first) s
+pub wished : (wish : Option Wish) (first : Wish) (s next : State) → Some first ≡ wish
+    → changed_by wish s next ≡ Due.sends (set_of first) s
 wished wish first s next e = rw (← e) refl
 
-pub shown_lacks : (need : Need (List Named)) (item : Item) (next : State) (questions : List Question) → need ≡ Need.lacks questions
+pub shown_lacks : (need : Need (List Named)) (item : Item) (next : State) (questions : List Question)
+    → need ≡ Need.lacks questions
     → shown_by need item next ≡ Due.asks questions
 shown_lacks need item next questions e = rw e refl
 
@@ -98,16 +108,20 @@ pub shown_fails : (need : Need (List Named)) (item : Item) (next : State) (code 
 shown_fails need item next code e = rw e refl
 
 pub shown_has : (need : Need (List Named)) (item : Item) (next : State) (named : List Named) → need ≡ Need.has named
-    → shown_by need item next ≡ responded item (Success (threads_told (with_threads next.threads named) named)) (with_shown next named)
+    → shown_by need item next ≡ responded item (Success (threads_told (with_threads next.threads named) named))
+    (with_shown next named)
 shown_has need item next named e = rw e refl
 
-pub lacks_of : (questions : List Question) (named : List Named) (first : Question) (others : List Question) → questions ≡ first ∷ others
+pub lacks_of : (questions : List Question) (named : List Named) (first : Question) (others : List Question)
+    → questions ≡ first ∷ others
     → has_or_lacks questions named ≡ Need.lacks (first ∷ others)
 lacks_of questions named first others e = rw e refl
 
 -- the first thread without a name is asked for
-pub first_lacking : (answers : List Answered) (threads left : List ThreadId) (thread : ThreadId) (others : List ThreadId)
-    → left ≡ thread ∷ others → None ≡ reply_among (name_reply thread) answers → unnamed answers left ≡ unnamed answers threads
+pub first_lacking : (answers : List Answered) (threads left : List ThreadId) (thread : ThreadId)
+    (others : List ThreadId)
+    → left ≡ thread ∷ others → None ≡ reply_among (name_reply thread) answers
+    → unnamed answers left ≡ unnamed answers threads
     → (x : List Question) × (names_need answers threads ≡ Need.lacks (questions.ThreadName thread ∷ x))
 first_lacking answers threads left thread others l n u =
     let first : unnamed answers left ≡ questions.ThreadName thread ∷ unnamed answers others =
@@ -121,7 +135,8 @@ first_lacking answers threads left thread others l n u =
 pub none_back : (kept mid : Kept) → None ≡ kept.hand → mid ≡ record kept { hand = None } → mid ≡ kept
 none_back kept mid h e = rw e (hand_is kept None h)
 
-pub hold_back : (kept mid : Kept) (hand : Hand) → Some hand ≡ kept.hand → mid ≡ record kept { hand = None } → holding mid hand ≡ kept
+pub hold_back : (kept mid : Kept) (hand : Hand) → Some hand ≡ kept.hand → mid ≡ record kept { hand = None }
+    → holding mid hand ≡ kept
 hold_back kept mid hand h e = rw e (hand_is kept (Some hand) h)
 
 -- Parts ---------------------------------------------------------------------------------------------------------------
@@ -131,40 +146,52 @@ module _ (kept : Kept) (hand : Hand) (new : Kept) where
       → Steps (holding kept (before parts.Greets hand)) steps.Waits new
   greets_gone g e = rw e (gone_is (holding kept (before parts.Greets hand)) (sym g) (λ pending. refl))
 
-  pub greets_sent : false ≡ is_gone kept.phase → new ≡ holding kept hand → Steps (holding kept (before parts.Greets hand)) steps.Greets new
-  greets_sent g e = rw e (greets_is (holding kept (before parts.Greets hand)) (holding kept hand) (sym g) (λ pending. refl))
+  pub greets_sent : false ≡ is_gone kept.phase → new ≡ holding kept hand
+      → Steps (holding kept (before parts.Greets hand)) steps.Greets new
+  greets_sent g e =
+      rw e (greets_is (holding kept (before parts.Greets hand)) (holding kept hand) (sym g) (λ pending. refl))
 
-  pub awaits_done : true ≡ kept.greeted → new ≡ holding kept hand → Steps (holding kept (before parts.Awaits hand)) steps.Goes new
-  awaits_done g e = rw e (goes_is (holding kept (before parts.Awaits hand)) (holding kept hand) (λ pending. rw (← g) refl))
+  pub awaits_done : true ≡ kept.greeted → new ≡ holding kept hand
+      → Steps (holding kept (before parts.Awaits hand)) steps.Goes new
+  awaits_done g e =
+      rw e (goes_is (holding kept (before parts.Awaits hand)) (holding kept hand) (λ pending. rw (← g) refl))
 
   pub awaits_waits : false ≡ kept.greeted → new ≡ holding kept (before parts.Awaits hand)
       → Steps (holding kept (before parts.Awaits hand)) steps.Waits new
   awaits_waits g e = rw e (waits_is (holding kept (before parts.Awaits hand)) (λ pending. rw (← g) refl))
 
-  pub attached : new ≡ record (holding kept hand) { phase = attached_from kept.phase } → Steps (holding kept (before parts.Attaches hand)) steps.Goes new
-  attached e = rw e (goes_is (holding kept (before parts.Attaches hand)) (record (holding kept hand) { phase = attached_from kept.phase }) (λ pending. refl))
+  pub attached : new ≡ record (holding kept hand) { phase = attached_from kept.phase }
+      → Steps (holding kept (before parts.Attaches hand)) steps.Goes new
+  attached e =
+      rw e (goes_is (holding kept (before parts.Attaches hand))
+      (record (holding kept hand) { phase = attached_from kept.phase }) (λ pending. refl))
 
   pub served : (manner : Manner) → new ≡ record (holding kept hand) { manner = manner }
       → Steps (holding kept (before (parts.Serves manner) hand)) steps.Goes new
-  served manner e = rw e (goes_is (holding kept (before (parts.Serves manner) hand)) (record (holding kept hand) { manner = manner })
+  served manner e =
+      rw e (goes_is (holding kept (before (parts.Serves manner) hand)) (record (holding kept hand) { manner = manner })
       (λ pending. refl))
 
   pub finished : new ≡ holding kept (before parts.Finishes hand)
       → Steps (holding kept (before parts.Finishes hand)) (steps.Over Done) new
   finished e = rw e (over_is (holding kept (before parts.Finishes hand)) Done (λ pending. refl))
 
-  pub leaves_gone : (leaving : Leaving) → true ≡ is_gone kept.phase → new ≡ holding kept (before (parts.Leaves leaving) hand)
+  pub leaves_gone : (leaving : Leaving) → true ≡ is_gone kept.phase
+      → new ≡ holding kept (before (parts.Leaves leaving) hand)
       → Steps (holding kept (before (parts.Leaves leaving) hand)) steps.Waits new
   leaves_gone leaving g e = rw e (gone_is (holding kept (before (parts.Leaves leaving) hand)) (sym g) (λ pending. refl))
 
   pub leaves_sent : (leaving : Leaving) → false ≡ is_gone kept.phase → new ≡ holding kept hand
       → Steps (holding kept (before (parts.Leaves leaving) hand)) (steps.Sends (effect_of leaving)) new
   leaves_sent leaving g e = rw e
-      (sends_is (holding kept (before (parts.Leaves leaving) hand)) (holding kept hand) (effect_of leaving) (sym g) (λ pending. refl))
+      (sends_is (holding kept (before (parts.Leaves leaving) hand)) (holding kept hand) (effect_of leaving) (sym g)
+      (λ pending. refl))
 
   pub initialized : new ≡ holding kept hand
       → Steps (holding kept (before (parts.Announces Initialized) hand)) (steps.Tells (an_event Initialized)) new
-  initialized e = rw e (tells_is (holding kept (before (parts.Announces Initialized) hand)) (holding kept hand) (an_event Initialized)
+  initialized e =
+      rw e (tells_is (holding kept (before (parts.Announces Initialized) hand)) (holding kept hand)
+      (an_event Initialized)
       (λ pending. refl))
 
   pub terminated : new ≡ record (holding kept hand) { terminated = true }
@@ -175,18 +202,24 @@ module _ (kept : Kept) (hand : Hand) (new : Kept) where
   pub responds_is : (outcome : Outcome) (step : Step) → step ≡ responding hand.item outcome → new ≡ holding kept hand
       → Steps (holding kept (before (parts.Responds outcome) hand)) step new
   responds_is outcome step d e = rw (d, e)
-      (responded_is (holding kept (before (parts.Responds outcome) hand)) (holding kept hand) hand.item outcome (λ pending. refl))
+      (responded_is (holding kept (before (parts.Responds outcome) hand)) (holding kept hand) hand.item outcome
+      (λ pending. refl))
 
-  pub measured : (answers : List Answered) → answers ≡ hand.answers → true ≡ is_some (reply_among sizes_reply answers) → new ≡ holding kept hand
+  pub measured : (answers : List Answered) → answers ≡ hand.answers → true ≡ is_some (reply_among sizes_reply answers)
+      → new ≡ holding kept hand
       → Steps (holding kept (before parts.Measures hand)) steps.Goes new
   measured answers a g e = rw e (goes_is (holding kept (before parts.Measures hand)) (holding kept hand)
-      (λ pending. sizes_known (reply_among sizes_reply hand.answers) (state_of (holding kept hand) pending) (rw (← a) g)))
+      (λ pending. sizes_known (reply_among sizes_reply hand.answers) (state_of (holding kept hand) pending)
+      (rw (← a) g)))
 
-  pub measures_asks : (answers : List Answered) (step : Step) → answers ≡ hand.answers → false ≡ is_some (reply_among sizes_reply answers)
+  pub measures_asks : (answers : List Answered) (step : Step) → answers ≡ hand.answers
+      → false ≡ is_some (reply_among sizes_reply answers)
       → step ≡ asking new.phase questions.IdSizes → new ≡ holding kept (before parts.Measures hand)
       → Steps (holding kept (before parts.Measures hand)) step new
-  measures_asks answers step a g d e = rw (d, e) (asks_is (holding kept (before parts.Measures hand)) kept.phase questions.IdSizes [] refl
-      (λ pending. sizes_unknown (reply_among sizes_reply hand.answers) (state_of (holding kept hand) pending) (rw (← a) g)))
+  measures_asks answers step a g d e =
+      rw (d, e) (asks_is (holding kept (before parts.Measures hand)) kept.phase questions.IdSizes [] refl
+      (λ pending. sizes_unknown (reply_among sizes_reply hand.answers) (state_of (holding kept hand) pending)
+      (rw (← a) g)))
 
   pub changed : None ≡ next_wish (state_of kept []) → new ≡ holding kept hand
       → Steps (holding kept (before parts.Changes hand)) steps.Goes new
@@ -195,39 +228,51 @@ module _ (kept : Kept) (hand : Hand) (new : Kept) where
       (state_of (holding kept hand) pending) w))
 
   pub changes_gone : (wish : Wish) → Some wish ≡ next_wish (state_of kept []) → true ≡ is_gone new.phase
-      → new ≡ holding kept (before parts.Changes hand) → Steps (holding kept (before parts.Changes hand)) steps.Waits new
+      → new ≡ holding kept (before parts.Changes hand)
+      → Steps (holding kept (before parts.Changes hand)) steps.Waits new
   changes_gone wish w g e =
       let gone : is_gone kept.phase ≡ true = sym (rw e at g) in
       rw e (gone_is (holding kept (before parts.Changes hand)) gone
-      (λ pending. rw (wished (next_wish (state_of kept [])) wish (state_of (holding kept (before parts.Changes hand)) pending)
+      (λ pending. rw
+      (wished (next_wish (state_of kept [])) wish (state_of (holding kept (before parts.Changes hand)) pending)
       (state_of (holding kept hand) pending) w) refl))
 
   pub changes_sent : (wish : Wish) → Some wish ≡ next_wish (state_of kept []) → false ≡ is_gone new.phase
-      → new ≡ holding kept (before parts.Changes hand) → Steps (holding kept (before parts.Changes hand)) (steps.Sends (set_of wish)) new
+      → new ≡ holding kept (before parts.Changes hand)
+      → Steps (holding kept (before parts.Changes hand)) (steps.Sends (set_of wish)) new
   changes_sent wish w g e =
       let on : is_gone kept.phase ≡ false = sym (rw e at g) in
-      rw e (sends_is (holding kept (before parts.Changes hand)) (holding kept (before parts.Changes hand)) (set_of wish) on
-      (λ pending. wished (next_wish (state_of kept [])) wish (state_of (holding kept (before parts.Changes hand)) pending)
+      rw e (sends_is (holding kept (before parts.Changes hand)) (holding kept (before parts.Changes hand))
+      (set_of wish) on
+      (λ pending. wished (next_wish (state_of kept [])) wish
+      (state_of (holding kept (before parts.Changes hand)) pending)
       (state_of (holding kept hand) pending) w))
 
   pub shows_asks : (answers : List Answered) (question : Question) (step : Step) → answers ≡ hand.answers
       → IsNeed (threads_need answers) (needs.Lacks question) → step ≡ asking new.phase question
       → new ≡ holding kept (before parts.Shows hand) → Steps (holding kept (before parts.Shows hand)) step new
-  shows_asks answers question step a n d e = rw (d, e) (asks_is (holding kept (before parts.Shows hand)) kept.phase question n.0 refl
-      (λ pending. shown_lacks (threads_need hand.answers) hand.item (state_of (holding kept hand) pending) (question ∷ n.0) (rw (← a) n.1)))
+  shows_asks answers question step a n d e =
+      rw (d, e) (asks_is (holding kept (before parts.Shows hand)) kept.phase question n.0 refl
+      (λ pending. shown_lacks (threads_need hand.answers) hand.item (state_of (holding kept hand) pending)
+      (question ∷ n.0) (rw (← a) n.1)))
 
   pub shows_fails : (answers : List Answered) (code : ℕ) (step : Step) → answers ≡ hand.answers
       → IsNeed (threads_need answers) (needs.Fails code) → step ≡ responding hand.item (failed (refusal code))
       → new ≡ holding kept hand → Steps (holding kept (before parts.Shows hand)) step new
   shows_fails answers code step a n d e = rw (d, e)
       (responded_is (holding kept (before parts.Shows hand)) (holding kept hand) hand.item (failed (refusal code))
-      (λ pending. shown_fails (threads_need hand.answers) hand.item (state_of (holding kept hand) pending) code (rw (← a) n)))
+      (λ pending. shown_fails (threads_need hand.answers) hand.item (state_of (holding kept hand) pending) code
+      (rw (← a) n)))
 
-  pub shows_has : (answers : List Answered) (named : List Named) (step : Step) (mid : Kept) (shape : Shape) → answers ≡ hand.answers
-      → IsNeed (threads_need answers) (needs.Has named) → mid ≡ record kept { threads = with_threads kept.threads named }
+  pub shows_has : (answers : List Answered) (named : List Named) (step : Step) (mid : Kept) (shape : Shape)
+      → answers ≡ hand.answers
+      → IsNeed (threads_need answers) (needs.Has named)
+      → mid ≡ record kept { threads = with_threads kept.threads named }
       → shape ≡ threads_told mid.threads named → step ≡ responding hand.item (Success shape)
       → new ≡ holding mid hand → Steps (holding kept (before parts.Shows hand)) step new
   shows_has answers named step mid shape a n m t d e = rw (d, e, t, m)
-      (responded_is (holding kept (before parts.Shows hand)) (holding (record kept { threads = with_threads kept.threads named }) hand)
+      (responded_is (holding kept (before parts.Shows hand))
+      (holding (record kept { threads = with_threads kept.threads named }) hand)
       hand.item (Success (threads_told (with_threads kept.threads named) named))
-      (λ pending. shown_has (threads_need hand.answers) hand.item (state_of (holding kept hand) pending) named (rw (← a) n)))
+      (λ pending. shown_has (threads_need hand.answers) hand.item (state_of (holding kept hand) pending) named
+      (rw (← a) n)))

@@ -1,6 +1,5 @@
 -- The target's end, which is taken up once.
-use Rattle.std.proofs.Common.{◌≡◌, ◌∙◌, refl, sym, Bool, true, false, List, Result, Ok, Err, OnOk}
-use Rattle.jdwp_commands.specs.declared.asked.Asked.{Asked}
+use Rattle.std.proofs.Common.{◌≡◌, ◌∙◌, refl, sym, true, false, Result, Ok, Err, OnOk}
 use Rattle.bridge_core.specs.Machines.{Kept, state_of, Becomes}
 use Rattle.bridge_core.specs.Parts.{is_gone}
 use Rattle.world_model.specs.Machine.{State, target_ended, ended_now, ended_from}
@@ -17,7 +16,8 @@ stays_from Fresh s g = cc
 stays_from Attached s g = cc
 stays_from Gone s g = refl
 
-pub ends_once : {A E : Type 0} (old new : Kept) (result : Result A E) → false ≡ is_gone old.phase → OnOk result (Becomes old ended_now new)
+pub ends_once : {A E : Type 0} (old new : Kept) (result : Result A E) → false ≡ is_gone old.phase
+    → OnOk result (Becomes old ended_now new)
     → OnOk result (Becomes old target_ended new)
 ends_once old new (Ok done) g b = λ pending. b pending ∙ sym (ends_from old.phase (state_of old pending) g)
 ends_once old new (Err refused) g b = tt

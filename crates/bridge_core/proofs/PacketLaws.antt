@@ -1,30 +1,32 @@
 -- What the target's packets lead to.
-use Rattle.std.proofs.Common.{◌≡◌, ℕ, ◌+◌, ◌*◌, ◌<◌, ◌≤◌, Bool, true, false, cond, List, [], ◌∷◌, ◌++◌, length, get_or, drop, inr, map, Option, None, Some, refl, sym, ap, subst, ◌∙◌, arith}
-use Rattle.std.specs.Prelude.{◌==◌, ◌⊎◌, nat_lt, Result, Ok, Err, IfOk, IfErr, OnOk, position}
+use Rattle.std.proofs.Common.{◌≡◌, ℕ, ◌<◌, Bool, true, false, cond, List, [], ◌∷◌, ◌++◌, length, get_or, drop, inr, map}
+use Rattle.std.proofs.Common.{Option, Some, refl, sym, ap, subst, ◌∙◌, arith}
+use Rattle.std.specs.Prelude.{◌==◌, Result, Ok, Err, IfOk, IfErr, OnOk}
 use Rattle.jdwp_commands.specs.Answers.{answer_at}
 use Rattle.jdwp_commands.specs.Commands.{number_of}
-use Rattle.jdwp_commands.specs.declared.answer.Answer.{Answer}
 use Rattle.jdwp_commands.specs.declared.asked.Asked.{Asked}
 use Rattle.jdwp_commands.specs.declared.asked.Replied.{Replied}
-use Rattle.jdwp_commands.specs.declared.asked.Replied.TheVariants.{Answer as an_answer, Error as an_error}
+use Rattle.jdwp_commands.specs.declared.asked.Replied.TheVariants.{Error as an_error}
 use Rattle.jdwp_commands.specs.Bodies.{IsRead}
 use Rattle.jdwp_commands.specs.declared.fault.BodyFault.{BodyFault}
 use Rattle.jdwp_commands.specs.declared.fault.BodyFault.TheVariants as body_faults
 use Rattle.jdwp_events.specs.Composites.{composite_at}
 use Rattle.jdwp_packets.specs.Packets.{Packet, command_packet, reply_packet}
-use Rattle.jdwp_values.specs.Sizes.{is_no_size}
 use Rattle.jdwp_values.specs.declared.sizes.IdSizes.{IdSizes}
 use Rattle.pending_table.specs.Windows.{Window, pending_under, without, settled}
 use Rattle.bridge_core.specs.Hearing.{MayBe, RefusesBody, IsMeasured, RefusesSizes, RefusesRaw}
 use Rattle.bridge_core.specs.Raws.{raw_seen}
 use Rattle.bridge_core.specs.declared.raw.RawComposite.{RawComposite}
 use Rattle.bridge_core.specs.Machines.{Kept, state_of, Becomes}
-use Rattle.bridge_core.specs.Steps.{Sight, sight, in_state, IsLike, IsAnswered, Answers, RefusesPacket, Overflows, GoesOn, Moves, TakesPacket, RefusesEnd, without_target}
+use Rattle.bridge_core.specs.Steps.{Sight, sight, IsLike, Answers, RefusesPacket, Overflows, GoesOn, Moves, TakesPacket}
+use Rattle.bridge_core.specs.Steps.{RefusesEnd, without_target}
 use Rattle.world_model.specs.Machine.{State, answered}
-use Rattle.world_model.specs.Session.{Raw, Serve, IsReply, Measures, is_tolerated, is_composite, numbers_in, numbers_of, composite_ending, target_fault, body_ending, header}
+use Rattle.world_model.specs.Session.{Raw, Serve, IsReply, Measures, is_tolerated, is_composite, numbers_in, numbers_of}
+use Rattle.world_model.specs.Session.{composite_ending, body_ending}
 use Rattle.world_model.specs.declared.ending.Ending.{Ending}
-use Rattle.world_model.specs.declared.ending.Ending.TheVariants.{Done, Left, BadClient, BadTarget, ClientLink, TargetLink, TargetRefused, Idle, Spent, Flood, NoMemory}
-use Rattle.world_model.specs.declared.ending.TargetFault.TheVariants.{BadSizes}
+use Rattle.world_model.specs.declared.ending.Ending.TheVariants.{Done, Left, BadClient, BadTarget, ClientLink}
+use Rattle.world_model.specs.declared.ending.Ending.TheVariants.{TargetLink, TargetRefused, Idle, Spent, Flood}
+use Rattle.world_model.specs.declared.ending.Ending.TheVariants.{NoMemory}
 
 abbrev Commands : Type 0
 Commands = List (ℕ × Asked)
@@ -48,7 +50,9 @@ among id (s ∷ sent) asked e = by (s.0 == id) refl (among id sent asked) e
       before = s.1 ∷ is.before;
       after = is.after;
       all = ap (λ (l : List Asked). s.1 ∷ l) is.all;
-      others = ap (λ (b : Bool). asked_in (cond b sent (s ∷ without id sent))) differs ∙ ap (λ (l : List Asked). s.1 ∷ l) is.others;
+      others =
+          ap (λ (b : Bool). asked_in (cond b sent (s ∷ without id sent))) differs ∙ ap (λ (l : List Asked). s.1 ∷ l)
+          is.others;
     }
 
     by : (b : Bool) → (s.0 == id) ≡ b → (pending_under id sent ≡ Some asked → IsAmong id sent asked)
@@ -76,12 +80,15 @@ may_be P wanted Flood is free holds = subst P (sym is) holds
 may_be P wanted NoMemory is free holds = free
 
 -- settling changes only which commands are pending
-pub settled_like : (kept : Kept) (told : ℕ) (commands after : Window) (sizes : Option IdSizes) (raw : List Raw) (limit id : ℕ)
+pub settled_like : (kept : Kept) (told : ℕ) (commands after : Window) (sizes : Option IdSizes) (raw : List Raw)
+    (limit id : ℕ)
     → after ≡ settled id commands
     → IsLike (sight kept told commands sizes raw limit) (sight kept told after sizes raw limit)
-settled_like kept told commands after sizes raw limit id is = record { state = refl; told = refl; next = ap (λ (w : Window). w.next) is }
+settled_like kept told commands after sizes raw limit id is =
+    record { state = refl; told = refl; next = ap (λ (w : Window). w.next) is }
 
-pub refuses_body : (old new : Sight) (at id error : ℕ) (body : List ℕ) (asked : Asked) (sizes : IdSizes) (ending : Ending)
+pub refuses_body : (old new : Sight) (at id error : ℕ) (body : List ℕ) (asked : Asked) (sizes : IdSizes)
+    (ending : Ending)
     → pending_under id old.commands.sent ≡ Some asked → Serve old.sizes sizes → IsLike old new
     → RefusesBody sizes asked at error body ending → RefusesPacket old at (reply_packet id error body) new ending
 refuses_body old new at id error body asked sizes NoMemory is serve like RefusesBody.no_memory = RefusesPacket.no_memory
@@ -91,32 +98,44 @@ refuses_body old new at id error body asked sizes ending is serve like (RefusesB
     RefusesPacket.bad_answer (record { sizes = sizes; is_pending = is; serve = serve; reads = reads }) like
 
 -- sizes are given by an answer alone
-sizes_refuse : (old new : Sight) (at id error : ℕ) (body : List ℕ) (asked : Asked) (sizes : IdSizes) (replied : Replied) (ending : Ending)
-    → pending_under id old.commands.sent ≡ Some asked → Serve old.sizes sizes → IsLike old new → IsReply sizes asked error body replied
+sizes_refuse : (old new : Sight) (at id error : ℕ) (body : List ℕ) (asked : Asked) (sizes : IdSizes) (replied : Replied)
+    (ending : Ending)
+    → pending_under id old.commands.sent ≡ Some asked → Serve old.sizes sizes → IsLike old new
+    → IsReply sizes asked error body replied
     → RefusesSizes old.raw replied at ending → RefusesPacket old at (reply_packet id error body) new ending
-sizes_refuse old new at id error body asked sizes replied NoMemory is serve like reply RefusesSizes.no_memory = RefusesPacket.no_memory
-sizes_refuse old new at id error body asked sizes replied ending is serve like (IsReply.answers reads) (RefusesSizes.bad_sizes numbers place) =
+sizes_refuse old new at id error body asked sizes replied NoMemory is serve like reply RefusesSizes.no_memory =
+    RefusesPacket.no_memory
+sizes_refuse old new at id error body asked sizes replied ending is serve like (IsReply.answers reads)
+    (RefusesSizes.bad_sizes numbers place) =
     RefusesPacket.bad_sizes (record { sizes = sizes; is_pending = is; serve = serve; reads = reads }) numbers place like
-sizes_refuse old new at id error body asked sizes replied ending is serve like (IsReply.answers reads) (RefusesSizes.bad_raw found numbers first) =
-    RefusesPacket.bad_raw found (record { sizes = sizes; is_pending = is; serve = serve; reads = reads }) numbers first like
-sizes_refuse old new at id error body asked sizes replied ending is serve like (IsReply.refuses some tolerated) (RefusesSizes.bad_sizes numbers place) =
+sizes_refuse old new at id error body asked sizes replied ending is serve like (IsReply.answers reads)
+    (RefusesSizes.bad_raw found numbers first) =
+    RefusesPacket.bad_raw found (record { sizes = sizes; is_pending = is; serve = serve; reads = reads }) numbers
+    first like
+sizes_refuse old new at id error body asked sizes replied ending is serve like (IsReply.refuses some tolerated)
+    (RefusesSizes.bad_sizes numbers place) =
     absurd cc
-sizes_refuse old new at id error body asked sizes replied ending is serve like (IsReply.refuses some tolerated) (RefusesSizes.bad_raw found numbers first) =
+sizes_refuse old new at id error body asked sizes replied ending is serve like (IsReply.refuses some tolerated)
+    (RefusesSizes.bad_raw found numbers first) =
     absurd cc
 
-pub refuses_sizes : (old new : Sight) (at id error : ℕ) (body : List ℕ) (asked : Asked) (sizes : IdSizes) (replied : Replied) (ending : Ending)
-    → pending_under id old.commands.sent ≡ Some asked → Serve old.sizes sizes → IsLike old new → IsReply sizes asked error body replied
+pub refuses_sizes : (old new : Sight) (at id error : ℕ) (body : List ℕ) (asked : Asked) (sizes : IdSizes)
+    (replied : Replied) (ending : Ending)
+    → pending_under id old.commands.sent ≡ Some asked → Serve old.sizes sizes → IsLike old new
+    → IsReply sizes asked error body replied
     → RefusesSizes old.raw replied at ending → RefusesPacket old at (reply_packet id error body) new ending
 refuses_sizes = sizes_refuse
 
 -- a command is answered
-pub answers : (kept after : Kept) (told : ℕ) (commands left : Window) (sizes later : Option IdSizes) (served : IdSizes) (raw : List Raw) (limit : ℕ)
+pub answers : (kept after : Kept) (told : ℕ) (commands left : Window) (sizes later : Option IdSizes) (served : IdSizes)
+    (raw : List Raw) (limit : ℕ)
     (id error : ℕ) (body : List ℕ) (asked : Asked) (replied : Replied)
     → pending_under id commands.sent ≡ Some asked → left ≡ settled id commands → Serve sizes served
     → IsReply served asked error body replied → IsMeasured sizes raw replied later
     → Becomes kept (λ (s : State). answered s asked replied) after
     → Answers (sight kept told commands sizes raw limit) id error body (sight after told left later raw limit)
-answers kept after told commands left sizes later served raw limit id error body asked replied pends settles serve reply measured becomes =
+answers kept after told commands left sizes later served raw limit id error body asked replied pends settles serve reply
+    measured becomes =
     let is = among id commands.sent asked pends in
     record {
       asked = asked;
@@ -139,24 +158,31 @@ answers kept after told commands left sizes later served raw limit id error body
         raw = raw;
         limit = limit;
       })
-          (becomes (asked_in (without id commands.sent)) ∙ ap (λ (p : List Asked). answered (state_of kept p) asked replied) is.others));
+          (becomes (asked_in (without id commands.sent)) ∙ ap
+          (λ (p : List Asked). answered (state_of kept p) asked replied) is.others));
     }
 
--- Replies --------------------------------------------------------------------------------------------------------------
+-- Replies
+-- --------------------------------------------------------------------------------------------------------------
 
-pub refused_says : (sizes : IdSizes) (asked : Asked) (error : ℕ) (body : List ℕ) (result : Result Replied Ending) → 0 < error
+pub refused_says : (sizes : IdSizes) (asked : Asked) (error : ℕ) (body : List ℕ) (result : Result Replied Ending)
+    → 0 < error
     → IfOk result (λ replied. (is_tolerated asked error ≡ true) × (replied ≡ an_error error))
     → IfOk result (λ replied. IsReply sizes asked error body replied)
 refused_says sizes asked error body (Ok replied) some is = rw is.1 (IsReply.refuses some is.0)
 refused_says sizes asked error body (Err ending) some is = tt
 
-pub refused_ends : (sizes : IdSizes) (asked : Asked) (at error : ℕ) (body : List ℕ) (result : Result Replied Ending) → 0 < error
-    → IfErr result (λ ending. (is_tolerated asked error ≡ false) × (ending ≡ TargetRefused (number_of asked).0 (number_of asked).1 error))
+pub refused_ends : (sizes : IdSizes) (asked : Asked) (at error : ℕ) (body : List ℕ) (result : Result Replied Ending)
+    → 0 < error
+    → IfErr result
+    (λ ending. (is_tolerated asked error ≡ false) ×
+    (ending ≡ TargetRefused (number_of asked).0 (number_of asked).1 error))
     → IfErr result (RefusesBody sizes asked at error body)
 refused_ends sizes asked at error body (Ok replied) some is = tt
 refused_ends sizes asked at error body (Err ending) some is = rw is.1 (RefusesBody.refused some is.0)
 
-pub body_ends : (sizes : IdSizes) (asked : Asked) (at : ℕ) (body : List ℕ) (fault : BodyFault) → IsRead (answer_at sizes asked body) (Err fault)
+pub body_ends : (sizes : IdSizes) (asked : Asked) (at : ℕ) (body : List ℕ) (fault : BodyFault)
+    → IsRead (answer_at sizes asked body) (Err fault)
     → RefusesBody sizes asked at 0 body (body_ending fault at)
 body_ends sizes asked at body body_faults.NoMemory is = RefusesBody.no_memory
 body_ends sizes asked at body body_faults.UnknownCommand is = RefusesBody.bad_answer is
@@ -193,31 +219,38 @@ pub first_seen : (raw : List RawComposite) (first : RawComposite) → 0 < length
 first_seen [] first some is = absurd (omega arith)
 first_seen (r ∷ raw) first some is = rw is refl
 
--- A call that changes nothing ------------------------------------------------------------------------------------------
+-- A call that changes nothing
+-- ------------------------------------------------------------------------------------------
 
 pub like_self : (core : Sight) → IsLike core core
 like_self core = record { state = refl; told = refl; next = refl }
 
-pub unsettled_like : (kept : Kept) (told : ℕ) (commands after : Window) (sizes : Option IdSizes) (raw : List Raw) (limit : ℕ)
+pub unsettled_like : (kept : Kept) (told : ℕ) (commands after : Window) (sizes : Option IdSizes) (raw : List Raw)
+    (limit : ℕ)
     → after ≡ commands → IsLike (sight kept told commands sizes raw limit) (sight kept told after sizes raw limit)
-unsettled_like kept told commands after sizes raw limit is = record { state = refl; told = refl; next = ap (λ (w : Window). w.next) is }
+unsettled_like kept told commands after sizes raw limit is =
+    record { state = refl; told = refl; next = ap (λ (w : Window). w.next) is }
 
 -- once the sizes of ids are known a composite ends the session
 pub composite_ends : (old new : Sight) (at id set number : ℕ) (body : List ℕ) (sizes : IdSizes) (ending : Ending)
-    → is_composite set number ≡ true → old.sizes ≡ Some sizes → IsLike old new → MayBe ending (composite_ending (composite_at sizes body) at)
+    → is_composite set number ≡ true → old.sizes ≡ Some sizes → IsLike old new
+    → MayBe ending (composite_ending (composite_at sizes body) at)
     → RefusesPacket old at (command_packet id set number body) new ending
 composite_ends old new at id set number body sizes ending is_one knows like may =
     may_be (RefusesPacket old at (command_packet id set number body) new) _ ending may RefusesPacket.no_memory
     (RefusesPacket.bad_composite is_one knows like)
 
--- Room -----------------------------------------------------------------------------------------------------------------
+-- Room
+-- -----------------------------------------------------------------------------------------------------------------
 
-pub taken_on : (old heard new : Sight) (at : ℕ) (packet : Packet) (result : Result (Unit {0}) Ending) → Moves old at packet heard
+pub taken_on : (old heard new : Sight) (at : ℕ) (packet : Packet) (result : Result (Unit {0}) Ending)
+    → Moves old at packet heard
     → OnOk result (GoesOn heard new) → OnOk result (TakesPacket old at packet new)
 taken_on old heard new at packet (Ok done) moves goes = record { heard = heard; moves = moves; goes_on = goes }
 taken_on old heard new at packet (Err ending) moves goes = tt
 
-pub refused_on : (old heard new : Sight) (at : ℕ) (packet : Packet) (result : Result (Unit {0}) Ending) → Moves old at packet heard
+pub refused_on : (old heard new : Sight) (at : ℕ) (packet : Packet) (result : Result (Unit {0}) Ending)
+    → Moves old at packet heard
     → IfErr result (λ ending. (ending ≡ Flood) × Overflows heard new) → IfErr result (RefusesPacket old at packet new)
 refused_on old heard new at packet (Ok done) moves over = tt
 refused_on old heard new at packet (Err ending) moves over = rw over.0 (RefusesPacket.floods moves over.1)
@@ -225,4 +258,5 @@ refused_on old heard new at packet (Err ending) moves over = rw over.0 (RefusesP
 pub shut_ends : (old heard new : Sight) (result : Result (Unit {0}) Ending) → heard ≡ without_target old
     → IfErr result (λ ending. (ending ≡ Flood) × Overflows heard new) → IfErr result (RefusesEnd old new)
 shut_ends old heard new (Ok done) is over = tt
-shut_ends old heard new (Err ending) is over = rw over.0 (RefusesEnd.floods (subst (λ (h : Sight). Overflows h new) is over.1))
+shut_ends old heard new (Err ending) is over =
+    rw over.0 (RefusesEnd.floods (subst (λ (h : Sight). Overflows h new) is over.1))

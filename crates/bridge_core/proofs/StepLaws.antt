@@ -1,5 +1,6 @@
 -- How the machine goes on to what is seen next, and what then goes out.
-use Rattle.std.proofs.Common.{◌≡◌, ℕ, ◌+◌, ◌<◌, ◌≤◌, Bool, true, false, List, [], ◌∷◌, ◌++◌, Option, None, Some, map, refl, sym, ap, subst, ◌∙◌, arith}
+use Rattle.std.proofs.Common.{◌≡◌, ℕ, ◌+◌, ◌^◌, ◌<◌, ◌≤◌, Bool, true, false, List, [], ◌∷◌, ◌++◌, Option, map, refl}
+use Rattle.std.proofs.Common.{sym, ap, subst, ◌∙◌, arith}
 use Rattle.std.specs.Prelude.{◌↔◌, IsTrue, not, nat_lt, Result, Ok, Err, IfOk}
 use Rattle.dap_messages.specs.Reading.{reading_of}
 use Rattle.dap_messages.specs.declared.requests.Incoming.TheVariants.{Request as a_request}
@@ -18,25 +19,30 @@ use Rattle.pending_table.specs.Windows.{Window, id_of, with_sent, is_full}
 use Rattle.wire_core.specs.declared.memory.NoMemory.{NoMemory}
 use Rattle.wire_core.specs.declared.outside.Side.{Side}
 use Rattle.wire_core.specs.declared.outside.Side.TheVariants.{Client, Target}
-use Rattle.bridge_core.specs.Machines.{Kept, state_of, IsFree, IsStep, Steps, Becomes, word_of, SaysNext}
-use Rattle.bridge_core.specs.Steps.{Sight, sight, Goes, work, in_state, Sends, IsIdle, IsOver, Finds, SaysWord, Takes, Refuses, waiting_in}
+use Rattle.bridge_core.specs.Fitting.{MaySend}
+use Rattle.bridge_core.specs.Machines.{Kept, state_of, IsFree, IsStep, Becomes, word_of, SaysNext}
+use Rattle.bridge_core.specs.Steps.{Sight, sight, Goes, work, in_state, Sends, IsIdle, Finds, SaysWord, Takes, Refuses}
+use Rattle.bridge_core.specs.Steps.{waiting_in}
 use Rattle.bridge_core.specs.Telling.{is_empty, is_held, is_going, ComesTo, IsTold, IsSent, IsSaid}
 use Rattle.bridge_core.specs.declared.machine.LastWord.{LastWord}
 use Rattle.bridge_core.specs.declared.machine.LastWord.TheVariants as words
 use Rattle.bridge_core.specs.declared.session.Out.{Out}
 use Rattle.bridge_core.specs.declared.machine.Step.{Step}
 use Rattle.bridge_core.specs.declared.machine.Step.TheVariants as steps
-use Rattle.bridge_core.proofs.WorkLaws.{none_beside, lightens_by, lighter_work, sends_work, effect_work, question_work, none_after, asks_alone_by}
-use Rattle.world_model.specs.Machine.{State, Hand, Due, due, due_in, due_for, Message, Allows, sent, greets_in_hand, none_pending, queued}
+use Rattle.bridge_core.proofs.WorkLaws.{none_beside, lightens_by, lighter_work, sends_work, effect_work, question_work}
+use Rattle.world_model.specs.Machine.{State, Hand, Due, due, due_in, due_for, Message, Allows, sent, greets_in_hand}
+use Rattle.world_model.specs.Machine.{none_pending, queued}
 use Rattle.world_model.specs.Session.{Raw, Serve, Speaks, last_words}
 use Rattle.world_model.specs.declared.ending.Ending.{Ending}
 use Rattle.world_model.specs.declared.ending.Ending.TheVariants.{Flood}
 use Rattle.world_model.specs.declared.machine.Phase.{Phase}
 use Rattle.world_model.specs.declared.machine.Phase.TheVariants.{Fresh, Attached, Gone}
 
--- Held or free ---------------------------------------------------------------------------------------------------------
+-- Held or free
+-- ---------------------------------------------------------------------------------------------------------
 
-held_for : (phase : Phase) (pending : List Asked) (step : Due) → is_held phase pending ≡ true → due_for phase pending step ≡ Due.waits
+held_for : (phase : Phase) (pending : List Asked) (step : Due) → is_held phase pending ≡ true
+    → due_for phase pending step ≡ Due.waits
 held_for Fresh [] step e = absurd cc
 held_for Fresh (asked ∷ pending) step e = none_beside asked pending step
 held_for Attached [] step e = absurd cc
@@ -55,7 +61,8 @@ free_where Attached [] e = refl
 free_where Attached (asked ∷ pending) e = absurd cc
 free_where Gone pending e = tt
 
--- Views ----------------------------------------------------------------------------------------------------------------
+-- Views
+-- ----------------------------------------------------------------------------------------------------------------
 
 -- what changes the machine changes the core
 pub changed : (old new : Kept) (told : ℕ) (commands : Window) (sizes : Option IdSizes) (raw : List Raw) (limit : ℕ)
@@ -66,7 +73,8 @@ changed old new told commands sizes raw limit change becomes =
     ap (λ (s : State). record { state = s; told = told; commands = commands; sizes = sizes; raw = raw; limit = limit })
     (becomes (map (λ (c : ℕ × Asked). c.1) commands.sent))
 
--- Going on -------------------------------------------------------------------------------------------------------------
+-- Going on
+-- -------------------------------------------------------------------------------------------------------------
 
 pub one_more : {s middle next : State} → Goes s middle → due middle ≡ Due.goes next → Goes s next
 one_more Goes.stays e = Goes.goes e Goes.stays
@@ -88,28 +96,37 @@ pub starts : (core : Sight) → Came core steps.Goes core
 starts core = Came.goes_on refl Goes.stays refl
 
 -- the same state where the machine stands after some steps
-joined : (old middle new : Sight) → middle ≡ in_state old middle.state → new ≡ in_state middle new.state → new ≡ in_state old new.state
+joined : (old middle new : Sight) → middle ≡ in_state old middle.state → new ≡ in_state middle new.state
+    → new ≡ in_state old new.state
 joined old middle new first second = second ∙ ap (λ (c : Sight). in_state c new.state) first
 
 step_on : (old middle new : Sight) → Goes old.state middle.state → middle ≡ in_state old middle.state → (step : Step)
     → IsStep middle.state step new.state → new ≡ in_state middle new.state → Came old step new
 step_on old middle new path same steps.Waits is like =
-    Came.arrives refl (record { before = middle.state; comes = path; is_step = is; same = joined old middle new same like })
-step_on old middle new path same steps.Goes is like = Came.goes_on refl (one_more path is) (joined old middle new same like)
+    Came.arrives refl
+    (record { before = middle.state; comes = path; is_step = is; same = joined old middle new same like })
+step_on old middle new path same steps.Goes is like =
+    Came.goes_on refl (one_more path is) (joined old middle new same like)
 step_on old middle new path same (steps.Tells told) is like =
-    Came.arrives refl (record { before = middle.state; comes = path; is_step = is; same = joined old middle new same like })
+    Came.arrives refl
+    (record { before = middle.state; comes = path; is_step = is; same = joined old middle new same like })
 step_on old middle new path same steps.Greets is like =
-    Came.arrives refl (record { before = middle.state; comes = path; is_step = is; same = joined old middle new same like })
+    Came.arrives refl
+    (record { before = middle.state; comes = path; is_step = is; same = joined old middle new same like })
 step_on old middle new path same (steps.Sends effect) is like =
-    Came.arrives refl (record { before = middle.state; comes = path; is_step = is; same = joined old middle new same like })
+    Came.arrives refl
+    (record { before = middle.state; comes = path; is_step = is; same = joined old middle new same like })
 step_on old middle new path same (steps.Asks question) is like =
-    Came.arrives refl (record { before = middle.state; comes = path; is_step = is; same = joined old middle new same like })
+    Came.arrives refl
+    (record { before = middle.state; comes = path; is_step = is; same = joined old middle new same like })
 step_on old middle new path same (steps.Over ending) is like =
-    Came.arrives refl (record { before = middle.state; comes = path; is_step = is; same = joined old middle new same like })
+    Came.arrives refl
+    (record { before = middle.state; comes = path; is_step = is; same = joined old middle new same like })
 
 pub came_on : (old middle new : Sight) (last step : Step) → Came old last middle → is_going last ≡ true
     → IsStep middle.state step new.state → new ≡ in_state middle new.state → Came old step new
-came_on old middle new last step (Came.goes_on e path same) going is like = step_on old middle new path same step is like
+came_on old middle new last step (Came.goes_on e path same) going is like =
+    step_on old middle new path same step is like
 came_on old middle new last step (Came.arrives seen came) going is like = absurd cc
 
 pub came_to : (old new : Sight) (step : Step) → Came old step new → is_going step ≡ false → ComesTo old step new
@@ -129,7 +146,8 @@ going (steps.Over ending) = 0
 step_less : (s next : State) (step : Step) → IsStep s step next → work next + going step < work s + 1
 step_less s next steps.Waits is = let same = ap work is.1 in omega arith
 step_less s next steps.Goes is = let less = lighter_work s next (lightens_by s (Due.goes next) is) in omega arith
-step_less s next (steps.Tells told) is = let less = lighter_work s next (lightens_by s (Due.tells told next) is) in omega arith
+step_less s next (steps.Tells told) is =
+    let less = lighter_work s next (lightens_by s (Due.tells told next) is) in omega arith
 step_less s next steps.Greets is = let less = lighter_work s next (lightens_by s (Due.greets next) is) in omega arith
 step_less s next (steps.Sends effect) is = let less = sends_work s next effect is in omega arith
 step_less s next (steps.Asks question) is = let same = ap work is.1 in omega arith
@@ -148,7 +166,8 @@ pub less_left : (s next : State) (last step : Step) → is_going last ≡ true �
     → work next + going step < work s + going last
 less_left s next last step e is = let one = going_one last e in let less = step_less s next step is in omega arith
 
--- What goes out --------------------------------------------------------------------------------------------------------
+-- What goes out
+-- --------------------------------------------------------------------------------------------------------
 
 pub idle : (old new : Sight) → ComesTo old steps.Waits new → IsIdle old new
 idle old new came = record {
@@ -164,22 +183,29 @@ over old new ending came = Finds.over (record {
   same = came.same;
 })
 
-told_out : (old : Sight) (before next : State) (told : Told) → Goes old.state before → due before ≡ Due.tells told next
+told_out : (old : Sight) (before next : State) (told : Told) → old.told + 1 < 2 ^ 63 → Goes old.state before
+    → due before ≡ Due.tells told next
     → Sends old Client (frame_bytes (told_text (old.told + 1) told)) (record old { state = next; told = old.told + 1 })
-told_out old before next told comes is = record {
+told_out old before next told small comes is = record {
   before = before;
   message = Message.tells told;
   comes = comes;
   allows = Allows.tells is;
   speaks = λ uncuts. Speaks.tells;
   same_limit = refl;
-  less = (let less = lighter_work before next (lightens_by before (Due.tells told next) is) in let all = goes_work comes in omega arith);
+  less =
+      (let less = lighter_work before next (lightens_by before (Due.tells told next) is) in let all = goes_work comes in
+      omega arith);
+  small = λ to. small;
 }
 
-pub tells : (old middle new : Sight) (told : Told) (side : Side) (bytes : List ℕ) → ComesTo old (steps.Tells told) middle
+pub tells : (old middle new : Sight) (told : Told) (side : Side) (bytes : List ℕ)
+    → ComesTo old (steps.Tells told) middle
     → IsTold middle told side bytes new → Sends old side bytes new
 tells old middle new told side bytes came is =
-    rw (is.side_is, is.bytes_are, is.counted, came.same) (told_out old came.before middle.state told came.comes came.is_step)
+    let small : old.told + 1 < 2 ^ 63 = subst (λ (c : Sight). c.told + 1 < 2 ^ 63) came.same is.small in
+    rw (is.side_is, is.bytes_are, is.counted, came.same)
+    (told_out old came.before middle.state told small came.comes came.is_step)
 
 greeted_out : (old : Sight) (before next : State) → Goes old.state before → due before ≡ Due.greets next
     → Sends old Target handshake (in_state old next)
@@ -190,15 +216,21 @@ greeted_out old before next comes is = record {
   allows = Allows.greets is;
   speaks = λ uncuts. Speaks.greets;
   same_limit = refl;
-  less = (let less = lighter_work before next (lightens_by before (Due.greets next) is) in let all = goes_work comes in omega arith);
+  less =
+      (let less = lighter_work before next (lightens_by before (Due.greets next) is) in let all = goes_work comes in
+      omega arith);
+  small = λ to. absurd cc;
 }
 
-pub greets : (old new : Sight) (side : Side) (bytes : List ℕ) → ComesTo old steps.Greets new → side ≡ Target → bytes ≡ handshake
+pub greets : (old new : Sight) (side : Side) (bytes : List ℕ) → ComesTo old steps.Greets new → side ≡ Target
+    → bytes ≡ handshake
     → Sends old side bytes new
-greets old new side bytes came to is = rw (to, is, came.same) (greeted_out old came.before new.state came.comes came.is_step)
+greets old new side bytes came to is =
+    rw (to, is, came.same) (greeted_out old came.before new.state came.comes came.is_step)
 
 -- a command goes out in a state that allows it
-sent_out : (old : Sight) (before next : State) (asked : Asked) (side : Side) (bytes : List ℕ) (new : Sight) → Goes old.state before
+sent_out : (old : Sight) (before next : State) (asked : Asked) (side : Side) (bytes : List ℕ) (new : Sight)
+    → Goes old.state before
     → Allows before (Message.sends asked) (sent next asked) → work (sent next asked) < work before
     → IsSent (in_state old next) asked side bytes new → Sends old side bytes new
 sent_out old before next asked side bytes new comes allows less is = rw (is.side_is, is.bytes_are, is.pends) (record {
@@ -209,29 +241,35 @@ sent_out old before next asked side bytes new comes allows less is = rw (is.side
   speaks = λ uncuts. Speaks.sends is.serve;
   same_limit = refl;
   less = (let all = goes_work comes in omega arith);
+  small = λ to. absurd cc;
 })
 
-pub sends : (old middle new : Sight) (effect : Effect) (side : Side) (bytes : List ℕ) → ComesTo old (steps.Sends effect) middle
+pub sends : (old middle new : Sight) (effect : Effect) (side : Side) (bytes : List ℕ)
+    → ComesTo old (steps.Sends effect) middle
     → IsSent middle (an_effect effect) side bytes new → Sends old side bytes new
 sends old middle new effect side bytes came is =
     sent_out old came.before middle.state (an_effect effect) side bytes new came.comes (Allows.sends came.is_step)
     (effect_work came.before middle.state effect (an_effect effect) came.is_step)
     (subst (λ (c : Sight). IsSent c (an_effect effect) side bytes new) came.same is)
 
-asked_out : (old : Sight) (before : State) (question : Question) (others : List Question) (side : Side) (bytes : List ℕ) (new : Sight)
+asked_out : (old : Sight) (before : State) (question : Question) (others : List Question) (side : Side) (bytes : List ℕ)
+    (new : Sight)
     → Goes old.state before → due before ≡ Due.asks (question ∷ others)
     → IsSent (in_state old before) (a_question question) side bytes new → Sends old side bytes new
 asked_out old before question others side bytes new comes is so =
     sent_out old before before (a_question question) side bytes new comes (Allows.asks [] others is)
     (question_work before (question ∷ others) (a_question question) is) so
 
-pub asks : (old middle new : Sight) (question : Question) (side : Side) (bytes : List ℕ) → ComesTo old (steps.Asks question) middle
+pub asks : (old middle new : Sight) (question : Question) (side : Side) (bytes : List ℕ)
+    → ComesTo old (steps.Asks question) middle
     → IsSent middle (a_question question) side bytes new → Sends old side bytes new
 asks old middle new question side bytes came is =
     asked_out old came.before question came.is_step.0.0 side bytes new came.comes came.is_step.0.1
-    (subst (λ (c : Sight). IsSent c (a_question question) side bytes new) (came.same ∙ ap (in_state old) came.is_step.1) is)
+    (subst (λ (c : Sight). IsSent c (a_question question) side bytes new)
+    (came.same ∙ ap (in_state old) came.is_step.1) is)
 
--- Commands that are pending --------------------------------------------------------------------------------------------
+-- Commands that are pending
+-- --------------------------------------------------------------------------------------------
 
 abbrev Commands : Type 0
 Commands = List (ℕ × Asked)
@@ -253,12 +291,14 @@ pub attached_held : (phase : Phase) (sent : Commands) (result : Bool) → phase 
     → not result ≡ is_held phase (asked_in sent)
 attached_held phase sent result is e = rw is (ap not (is_empty_where sent result e))
 
-pub awaits_where_empty : (sent : Commands) (hand : Option Hand) (result : Bool) → IsTrue result ↔ (sent ≡ []) → result ≡ true
+pub awaits_where_empty : (sent : Commands) (hand : Option Hand) (result : Bool) → IsTrue result ↔ (sent ≡ [])
+    → result ≡ true
     → not (greets_in_hand hand) ≡ none_pending (asked_in sent) hand
 awaits_where_empty [] hand result e is = refl
 awaits_where_empty (s ∷ sent) hand result e is = absurd (let none = e.0 is in cc)
 
-pub awaits_where_not : (sent : Commands) (hand : Option Hand) (result : Bool) → IsTrue result ↔ (sent ≡ []) → result ≡ false
+pub awaits_where_not : (sent : Commands) (hand : Option Hand) (result : Bool) → IsTrue result ↔ (sent ≡ [])
+    → result ≡ false
     → false ≡ none_pending (asked_in sent) hand
 awaits_where_not [] hand result e is = absurd (let all = e.1 refl in cc)
 awaits_where_not (s ∷ sent) hand result e is = refl
@@ -268,15 +308,19 @@ asked_more [] more = refl
 asked_more (s ∷ sent) more = ap (λ (l : List Asked). s.1 ∷ l) (asked_more sent more)
 
 -- a command that is sent pends
-pub sent_so : (kept : Kept) (told : ℕ) (commands : Window) (sizes : Option IdSizes) (raw : List Raw) (limit : ℕ) (asked : Asked)
+pub sent_so : (kept : Kept) (told : ℕ) (commands : Window) (sizes : Option IdSizes) (raw : List Raw) (limit : ℕ)
+    (asked : Asked)
     (served : IdSizes) (id : ℕ) (bytes : List ℕ) → Serve sizes served → id ≡ id_of commands.next
     → bytes ≡ packet_bytes (command_packet id (number_of asked).0 (number_of asked).1 (spell_command served asked))
-    → IsSent (sight kept told commands sizes raw limit) asked Target bytes (sight kept told (with_sent asked commands) sizes raw limit)
+    → IsSent (sight kept told commands sizes raw limit) asked Target bytes
+    (sight kept told (with_sent asked commands) sizes raw limit)
 sent_so kept told commands sizes raw limit asked served id bytes serve next is = record {
   sizes = served;
   serve = serve;
   side_is = refl;
-  bytes_are = is ∙ ap (λ (n : ℕ). packet_bytes (command_packet n (number_of asked).0 (number_of asked).1 (spell_command served asked))) next;
+  bytes_are =
+      is ∙ ap (λ (n : ℕ). packet_bytes
+      (command_packet n (number_of asked).0 (number_of asked).1 (spell_command served asked))) next;
   pends = ap (λ (p : List Asked). record {
     state = state_of kept p;
     told = told;
@@ -288,7 +332,8 @@ sent_so kept told commands sizes raw limit asked served id bytes serve next is =
       (asked_more commands.sent (id_of commands.next, asked));
 }
 
--- Last words -----------------------------------------------------------------------------------------------------------
+-- Last words
+-- -----------------------------------------------------------------------------------------------------------
 
 pub told_last : (old new : Sight) (told : Told) (side : Side) (bytes : List ℕ) → IsTold old told side bytes new
     → IsSaid old (words.Tells told) side bytes new
@@ -297,15 +342,18 @@ told_last old new told side bytes is = rw is.counted (record {
   bytes_are = λ uncuts. is.bytes_are;
   place_is = λ uncuts. refl;
   same = refl;
+  small = λ to. is.small;
 })
 
 pub told_out_last : (old new : Sight) (told : Told) (result : Result Out NoMemory)
-    → IfOk result (λ out. IsTold old told out.side out.bytes new) → IfOk result (λ out. IsSaid old (words.Tells told) out.side out.bytes new)
+    → IfOk result (λ out. IsTold old told out.side out.bytes new)
+    → IfOk result (λ out. IsSaid old (words.Tells told) out.side out.bytes new)
 told_out_last old new told (Ok out) is = told_last old new told out.side out.bytes is
 told_out_last old new told (Err refused) is = tt
 
 -- the next of the last words goes out
-pub says_word : (ending : Ending) (old said : Kept) (told : ℕ) (commands : Window) (sizes : Option IdSizes) (raw : List Raw) (limit : ℕ)
+pub says_word : (ending : Ending) (old said : Kept) (told : ℕ) (commands : Window) (sizes : Option IdSizes)
+    (raw : List Raw) (limit : ℕ)
     (word : LastWord) (side : Side) (bytes : List ℕ) (new : Sight) → SaysNext ending old word said
     → IsSaid (sight said told commands sizes raw limit) word side bytes new
     → SaysWord ending (sight old told commands sizes raw limit) side bytes new
@@ -315,9 +363,11 @@ says_word ending old said told commands sizes raw limit word side bytes new next
   side_is = is.side_is;
   bytes_are = is.bytes_are;
   place_is = is.place_is;
+  small = is.small;
 }
 
--- Requests -------------------------------------------------------------------------------------------------------------
+-- Requests
+-- -------------------------------------------------------------------------------------------------------------
 
 above : (a b : ℕ) → nat_lt a b ≡ true → a < b
 above a b e = grind arith
@@ -326,20 +376,24 @@ not_above : (a b : ℕ) → nat_lt a b ≡ false → b ≤ a
 not_above a b e = grind arith
 
 -- a request waits for its turn, and there is room for it
-pub heard : (old new : Kept) (told : ℕ) (commands : Window) (sizes : Option IdSizes) (raw : List Raw) (limit : ℕ) (body : List ℕ) (request : Request)
+pub heard : (old new : Kept) (told : ℕ) (commands : Window) (sizes : Option IdSizes) (raw : List Raw) (limit : ℕ)
+    (body : List ℕ) (request : Request)
     → reading_of body ≡ Ok (a_request request) → Becomes old (λ (s : State). queued s request) new
     → nat_lt limit (waiting_in (sight new told commands sizes raw limit)) ≡ false
     → Takes (sight old told commands sizes raw limit) body (sight new told commands sizes raw limit)
 heard old new told commands sizes raw limit body request reads becomes room =
-    Takes.hears reads (changed old new told commands sizes raw limit (λ (s : State). queued s request) becomes) (not_above _ _ room)
+    Takes.hears reads (changed old new told commands sizes raw limit (λ (s : State). queued s request) becomes)
+    (not_above _ _ room)
 
 -- there is no room for it
-pub flooded : (old new : Kept) (told : ℕ) (commands : Window) (sizes : Option IdSizes) (raw : List Raw) (limit : ℕ) (body : List ℕ) (at : ℕ)
+pub flooded : (old new : Kept) (told : ℕ) (commands : Window) (sizes : Option IdSizes) (raw : List Raw) (limit : ℕ)
+    (body : List ℕ) (at : ℕ)
     (request : Request) → reading_of body ≡ Ok (a_request request) → Becomes old (λ (s : State). queued s request) new
     → nat_lt limit (waiting_in (sight new told commands sizes raw limit)) ≡ true
     → Refuses (sight old told commands sizes raw limit) body at (sight new told commands sizes raw limit) Flood
 flooded old new told commands sizes raw limit body at request reads becomes none =
-    Refuses.floods reads (changed old new told commands sizes raw limit (λ (s : State). queued s request) becomes) (above _ _ none)
+    Refuses.floods reads (changed old new told commands sizes raw limit (λ (s : State). queued s request) becomes)
+    (above _ _ none)
 
 -- The window ----------------------------------------------------------------------------------------------------------
 
@@ -351,9 +405,10 @@ free_window (s ∷ sent) next e = absurd cc
 pub not_full : (commands : Window) → asked_in commands.sent ≡ [] → is_full commands ≡ false
 not_full commands e = free_window commands.sent commands.next e
 
-pub sends_alone_in : (old new : Sight) (effect : Effect) → ComesTo old (steps.Sends effect) new → new.state.pending ≡ []
-sends_alone_in old new effect came = none_after came.before new.state effect came.is_step
+pub may_send : (old new : Sight) (effect : Effect) → ComesTo old (steps.Sends effect) new
+    → MaySend new.state (an_effect effect)
+may_send old new effect came = MaySend.effect came.before came.is_step
 
-pub asks_alone_in : (old new : Sight) (question : Question) → ComesTo old (steps.Asks question) new → new.state.pending ≡ []
-asks_alone_in old new question came =
-    ap (λ (s : State). s.pending) came.is_step.1 ∙ asks_alone_by came.before (question ∷ came.is_step.0.0) came.is_step.0.1
+pub may_ask : (old new : Sight) (question : Question) → ComesTo old (steps.Asks question) new
+    → MaySend new.state (a_question question)
+may_ask old new question came = MaySend.question came.is_step.0.0 (ap due came.is_step.1 ∙ came.is_step.0.1)

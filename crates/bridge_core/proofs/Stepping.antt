@@ -1,5 +1,5 @@
 -- From what a part leads to, to a step of the machine, whatever is pending that doesn't keep it from going on.
-use Rattle.std.proofs.Common.{◌≡◌, ◌∷◌, refl, Bool, true, false, List, []}
+use Rattle.std.proofs.Common.{◌≡◌, ◌∷◌, refl, true, false, List, []}
 use Rattle.dap_messages.specs.declared.told.Told.{Told}
 use Rattle.jdwp_commands.specs.declared.asked.Asked.{Asked}
 use Rattle.jdwp_commands.specs.declared.effect.Effect.{Effect}
@@ -13,7 +13,8 @@ use Rattle.world_model.specs.declared.machine.Phase.{Phase}
 use Rattle.world_model.specs.declared.machine.Phase.TheVariants.{Fresh, Attached, Gone}
 
 -- a step that doesn't go to the target
-pub inward : (phase : Phase) (pending : List Asked) (step : Due) → IsFree phase pending → is_outward step ≡ false → due_for phase pending step ≡ step
+pub inward : (phase : Phase) (pending : List Asked) (step : Due) → IsFree phase pending → is_outward step ≡ false
+    → due_for phase pending step ≡ step
 inward Fresh [] Due.waits free e = refl
 inward Fresh [] (Due.goes next) free e = refl
 inward Fresh [] (Due.tells told next) free e = refl
@@ -47,7 +48,8 @@ greets_on Attached [] next free e = refl
 greets_on Attached (asked ∷ pending) next free e = cc
 greets_on Gone pending next free e = cc
 
-pub sends_on : (phase : Phase) (pending : List Asked) (effect : Effect) (next : State) → IsFree phase pending → is_gone phase ≡ false
+pub sends_on : (phase : Phase) (pending : List Asked) (effect : Effect) (next : State) → IsFree phase pending
+    → is_gone phase ≡ false
     → due_for phase pending (Due.sends effect next) ≡ Due.sends effect next
 sends_on Fresh [] effect next free e = refl
 sends_on Fresh (asked ∷ pending) effect next free e = cc
@@ -55,7 +57,8 @@ sends_on Attached [] effect next free e = refl
 sends_on Attached (asked ∷ pending) effect next free e = cc
 sends_on Gone pending effect next free e = cc
 
-pub asks_on : (phase : Phase) (pending : List Asked) (question : Question) (others : List Question) → IsFree phase pending
+pub asks_on : (phase : Phase) (pending : List Asked) (question : Question) (others : List Question)
+    → IsFree phase pending
     → is_gone phase ≡ false → due_for phase pending (Due.asks (question ∷ others)) ≡ Due.asks (question ∷ [])
 asks_on Fresh [] question others free e = refl
 asks_on Fresh (asked ∷ pending) question others free e = cc
@@ -78,11 +81,13 @@ outward_gone Gone pending (Due.asks questions) g e = refl
 
 -- Steps of the machine ---------------------------------------------------------------------------------------------
 
-pub waits_is : (old : Kept) → ((pending : List Asked) → due_in (state_of old pending) old.hand ≡ Due.waits) → Steps old steps.Waits old
+pub waits_is : (old : Kept) → ((pending : List Asked) → due_in (state_of old pending) old.hand ≡ Due.waits)
+    → Steps old steps.Waits old
 unfolding due
 waits_is old h pending free = (rw (h pending) (inward old.phase pending Due.waits free refl), refl)
 
-pub goes_is : (old new : Kept) → ((pending : List Asked) → due_in (state_of old pending) old.hand ≡ Due.goes (state_of new pending))
+pub goes_is : (old new : Kept)
+    → ((pending : List Asked) → due_in (state_of old pending) old.hand ≡ Due.goes (state_of new pending))
     → Steps old steps.Goes new
 unfolding due
 goes_is old new h pending free = rw (h pending) (inward old.phase pending (Due.goes (state_of new pending)) free refl)
@@ -91,15 +96,18 @@ pub tells_is : (old new : Kept) (told : Told)
     → ((pending : List Asked) → due_in (state_of old pending) old.hand ≡ Due.tells told (state_of new pending))
     → Steps old (steps.Tells told) new
 unfolding due
-tells_is old new told h pending free = rw (h pending) (inward old.phase pending (Due.tells told (state_of new pending)) free refl)
+tells_is old new told h pending free =
+    rw (h pending) (inward old.phase pending (Due.tells told (state_of new pending)) free refl)
 
-pub over_is : (old : Kept) (ending : Ending) → ((pending : List Asked) → due_in (state_of old pending) old.hand ≡ Due.over ending)
+pub over_is : (old : Kept) (ending : Ending)
+    → ((pending : List Asked) → due_in (state_of old pending) old.hand ≡ Due.over ending)
     → Steps old (steps.Over ending) old
 unfolding due
 over_is old ending h pending free = (rw (h pending) (inward old.phase pending (Due.over ending) free refl), refl)
 
 pub greets_is : (old new : Kept) → is_gone old.phase ≡ false
-    → ((pending : List Asked) → due_in (state_of old pending) old.hand ≡ Due.greets (state_of new pending)) → Steps old steps.Greets new
+    → ((pending : List Asked) → due_in (state_of old pending) old.hand ≡ Due.greets (state_of new pending))
+    → Steps old steps.Greets new
 unfolding due
 greets_is old new g h pending free = rw (h pending) (greets_on old.phase pending (state_of new pending) free g)
 
@@ -107,12 +115,14 @@ pub sends_is : (old new : Kept) (effect : Effect) → is_gone old.phase ≡ fals
     → ((pending : List Asked) → due_in (state_of old pending) old.hand ≡ Due.sends effect (state_of new pending))
     → Steps old (steps.Sends effect) new
 unfolding due
-sends_is old new effect g h pending free = rw (h pending) (sends_on old.phase pending effect (state_of new pending) free g)
+sends_is old new effect g h pending free =
+    rw (h pending) (sends_on old.phase pending effect (state_of new pending) free g)
 
 pub gone_is : (old : Kept) → is_gone old.phase ≡ true
     → ((pending : List Asked) → is_outward (due_in (state_of old pending) old.hand) ≡ true) → Steps old steps.Waits old
 unfolding due
-gone_is old g h pending free = (outward_gone old.phase pending (due_in (state_of old pending) old.hand) g (h pending), refl)
+gone_is old g h pending free =
+    (outward_gone old.phase pending (due_in (state_of old pending) old.hand) g (h pending), refl)
 
 pub asks_on_is : (old : Kept) (question : Question) (others : List Question) → is_gone old.phase ≡ false
     → ((pending : List Asked) → due_in (state_of old pending) old.hand ≡ Due.asks (question ∷ others))

@@ -1,22 +1,28 @@
 -- The machine has less to do after each step, and it sends and asks only where no command is without a reply.
-use Rattle.std.proofs.Common.{◌≡◌, ℕ, ◌+◌, ◌-◌, ◌*◌, ◌<◌, ◌≤◌, Bool, true, false, List, [], ◌∷◌, ◌++◌, length, take, Option, None, Some, refl, sym, ap, subst, ◌∙◌, arith}
+use Rattle.std.proofs.Common.{◌≡◌, ℕ, ◌+◌, ◌-◌, ◌*◌, ◌<◌, ◌≤◌, Bool, true, false, List, [], ◌∷◌, ◌++◌, length, take}
+use Rattle.std.proofs.Common.{Option, None, Some, refl, sym, ap, subst, ◌∙◌, arith}
 use Rattle.dap_messages.specs.declared.requests.Command.{Command}
-use Rattle.dap_messages.specs.declared.requests.Command.TheVariants.{Initialize, Attach, Threads, Disconnect, Unsupported, BadArguments}
+use Rattle.dap_messages.specs.declared.requests.Command.TheVariants.{Initialize, Attach, Threads, Disconnect}
+use Rattle.dap_messages.specs.declared.requests.Command.TheVariants.{Unsupported, BadArguments}
 use Rattle.dap_messages.specs.declared.told.Event.{Event}
 use Rattle.dap_messages.specs.declared.told.Event.TheVariants.{Initialized, Terminated}
 use Rattle.dap_messages.specs.declared.told.Failure.{Failure}
 use Rattle.dap_messages.specs.declared.told.Outcome.{Outcome}
-use Rattle.dap_messages.specs.declared.told.Told.{Told}
 use Rattle.jdwp_commands.specs.declared.asked.Asked.{Asked}
 use Rattle.jdwp_commands.specs.declared.asked.Replied.{Replied}
 use Rattle.jdwp_commands.specs.declared.effect.Effect.{Effect}
 use Rattle.jdwp_commands.specs.declared.question.Question.{Question}
-use Rattle.world_model.specs.Machine.{State, Hand, Due, due, due_in, due_next, due_part, due_for, beside, without_target, asks_some, window, parts_of, parts_by, row_of, leaves_from, leaving_by, end_parts, failure_of, in_hand, responded, greeted_by, measured_by, changed_by, shown_by, next_wish, after_event, reply_among, sizes_reply, threads_need, Need, Named, sent}
+use Rattle.world_model.specs.Machine.{State, Hand, Due, due, due_in, due_next, due_part, due_for, beside}
+use Rattle.world_model.specs.Machine.{without_target, asks_some, window, parts_of, parts_by, row_of, leaves_from}
+use Rattle.world_model.specs.Machine.{leaving_by, end_parts, failure_of, responded, greeted_by, measured_by, changed_by}
+use Rattle.world_model.specs.Machine.{shown_by, next_wish, after_event, reply_among, sizes_reply, threads_need, Need}
+use Rattle.world_model.specs.Machine.{Named, sent}
 use Rattle.world_model.specs.declared.machine.Item.{Item}
 use Rattle.world_model.specs.declared.machine.Item.TheVariants as items
 use Rattle.world_model.specs.declared.machine.Leaving.{Leaving}
 use Rattle.world_model.specs.declared.machine.Part.{Part}
-use Rattle.world_model.specs.declared.machine.Part.TheVariants.{Greets, Awaits, Measures, Changes, Attaches, Shows, Leaves, Responds, Announces, Serves, Finishes}
+use Rattle.world_model.specs.declared.machine.Part.TheVariants.{Greets, Awaits, Measures, Changes, Attaches, Shows}
+use Rattle.world_model.specs.declared.machine.Part.TheVariants.{Leaves, Responds, Announces, Serves, Finishes}
 use Rattle.world_model.specs.declared.machine.Phase.{Phase}
 use Rattle.world_model.specs.declared.machine.Phase.TheVariants.{Fresh, Attached, Gone}
 use Rattle.world_model.specs.declared.machine.Wish.{Wish}
@@ -43,7 +49,8 @@ Lightens s (Due.sends effect next) = IsNoHeavier s next
 Lightens s (Due.asks questions) = Unit {0}
 Lightens s (Due.over ending) = Unit {0}
 
--- Items ----------------------------------------------------------------------------------------------------------------
+-- Items
+-- ----------------------------------------------------------------------------------------------------------------
 
 short_by : (failure : Option Failure) (row : List Part) → length row ≤ 8 → length (parts_by failure row) ≤ 8
 short_by None row short = short
@@ -73,16 +80,19 @@ short_item s (items.Request request) =
     short_by (failure_of s.phase request.command) (row_of s.phase request.command) (short_row s.phase request.command)
 short_item s items.TargetEnd = short_end s.terminated
 
-next_lightens : (s : State) (waiting : List Item) → s.waiting ≡ waiting → s.hand ≡ None → Lightens s (due_next s waiting)
+next_lightens : (s : State) (waiting : List Item) → s.waiting ≡ waiting → s.hand ≡ None
+    → Lightens s (due_next s waiting)
 next_lightens s [] e free = tt
 next_lightens s (item ∷ rest) e free = record {
   less = (let short = short_item s item in let long = ap length e in let none = ap hand_work free in omega arith);
   same = refl;
 }
 
--- Parts ----------------------------------------------------------------------------------------------------------------
+-- Parts
+-- ----------------------------------------------------------------------------------------------------------------
 
-by_responded : (s next : State) (item : Item) (outcome : Outcome) → IsLighter s next → Lightens s (responded item outcome next)
+by_responded : (s next : State) (item : Item) (outcome : Outcome) → IsLighter s next
+    → Lightens s (responded item outcome next)
 by_responded s next (items.Request request) outcome lighter = lighter
 by_responded s next items.TargetEnd outcome lighter = lighter
 
@@ -98,8 +108,10 @@ by_changed : (s next : State) (wish : Option Wish) → IsLighter s next → Ligh
 by_changed s next None lighter = lighter
 by_changed s next (Some wish) lighter = record { less = omega arith; same = refl }
 
-by_shown : (s next : State) (need : Need (List Named)) (item : Item) → IsLighter s next → Lightens s (shown_by need item next)
-by_shown s next (Need.has named) item lighter = by_responded s _ item _ (record { less = lighter.less; same = lighter.same })
+by_shown : (s next : State) (need : Need (List Named)) (item : Item) → IsLighter s next
+    → Lightens s (shown_by need item next)
+by_shown s next (Need.has named) item lighter =
+    by_responded s _ item _ (record { less = lighter.less; same = lighter.same })
 by_shown s next (Need.fails code) item lighter = by_responded s next item _ lighter
 by_shown s next (Need.lacks questions) item lighter = tt
 
@@ -115,13 +127,15 @@ one_done s hand part parts e is =
     let long = ap length is in
     omega arith
 
-part_lightens : (s : State) (hand : Hand) (parts : List Part) → s.hand ≡ Some hand → hand.parts ≡ parts → Lightens s (due_part s hand parts)
+part_lightens : (s : State) (hand : Hand) (parts : List Part) → s.hand ≡ Some hand → hand.parts ≡ parts
+    → Lightens s (due_part s hand parts)
 part_lightens s hand [] e is = record { less = (let held = ap hand_work e in omega arith); same = refl }
 part_lightens s hand (Greets ∷ parts) e is = record { less = one_done s hand Greets parts e is; same = refl }
 part_lightens s hand (Awaits ∷ parts) e is =
     by_greeted s _ s.greeted (record { less = one_done s hand Awaits parts e is; same = refl })
 part_lightens s hand (Measures ∷ parts) e is =
-    by_measured s _ (reply_among sizes_reply hand.answers) (record { less = one_done s hand Measures parts e is; same = refl })
+    by_measured s _ (reply_among sizes_reply hand.answers)
+    (record { less = one_done s hand Measures parts e is; same = refl })
 part_lightens s hand (Changes ∷ parts) e is =
     by_changed s _ (next_wish s) (record { less = one_done s hand Changes parts e is; same = refl })
 part_lightens s hand (Attaches ∷ parts) e is = record { less = one_done s hand Attaches parts e is; same = refl }
@@ -133,14 +147,16 @@ part_lightens s hand (Responds outcome ∷ parts) e is =
     by_responded s _ hand.item outcome (record { less = one_done s hand (Responds outcome) parts e is; same = refl })
 part_lightens s hand (Announces event ∷ parts) e is =
     by_event s _ event (record { less = one_done s hand (Announces event) parts e is; same = refl })
-part_lightens s hand (Serves manner ∷ parts) e is = record { less = one_done s hand (Serves manner) parts e is; same = refl }
+part_lightens s hand (Serves manner ∷ parts) e is =
+    record { less = one_done s hand (Serves manner) parts e is; same = refl }
 part_lightens s hand (Finishes ∷ parts) e is = tt
 
 in_lightens : (s : State) (hand : Option Hand) → s.hand ≡ hand → Lightens s (due_in s hand)
 in_lightens s None e = next_lightens s s.waiting refl e
 in_lightens s (Some hand) e = part_lightens s hand hand.parts e refl
 
--- Beside commands ------------------------------------------------------------------------------------------------------
+-- Beside commands
+-- ------------------------------------------------------------------------------------------------------
 
 -- one command keeps all others back
 pub none_beside : (asked : Asked) (pending : List Asked) (step : Due) → beside (asked ∷ pending) step ≡ Due.waits
@@ -150,7 +166,8 @@ none_beside asked pending (Due.tells told next) = refl
 none_beside asked pending (Due.greets next) = refl
 none_beside asked pending (Due.sends effect next) = refl
 none_beside asked pending (Due.asks questions) =
-    ap (λ (n : ℕ). asks_some (take n questions)) (let none : window - length (asked ∷ pending) ≡ 0 = omega arith in none)
+    ap (λ (n : ℕ). asks_some (take n questions))
+    (let none : window - length (asked ∷ pending) ≡ 0 = omega arith in none)
 none_beside asked pending (Due.over ending) = refl
 
 asks_lighten : (s : State) (questions : List Question) → Lightens s (asks_some questions)
@@ -176,7 +193,8 @@ without_lightens s (Due.sends effect next) lighter = tt
 without_lightens s (Due.asks questions) lighter = tt
 without_lightens s (Due.over ending) lighter = tt
 
-for_lightens : (s : State) (phase : Phase) (pending : List Asked) (step : Due) → Lightens s step → Lightens s (due_for phase pending step)
+for_lightens : (s : State) (phase : Phase) (pending : List Asked) (step : Due) → Lightens s step
+    → Lightens s (due_for phase pending step)
 for_lightens s Fresh pending step lighter = beside_lightens s pending step lighter
 for_lightens s Attached pending step lighter = beside_lightens s pending step lighter
 for_lightens s Gone pending step lighter = without_lightens s step lighter
@@ -239,7 +257,8 @@ none_after s next effect e =
     let light : IsNoHeavier s next = lightens_by s (Due.sends effect next) e in
     light.same ∙ sends_alone s next effect e
 
--- Work -----------------------------------------------------------------------------------------------------------------
+-- Work
+-- -----------------------------------------------------------------------------------------------------------------
 
 pub lighter_work : (s next : State) → IsLighter s next → work next < work s
 lighter_work s next lighter = let same = ap free_work lighter.same in let less = lighter.less in omega arith
@@ -257,12 +276,14 @@ sent_work s asked none =
     let now : free_work (s.pending ++ asked ∷ []) ≡ 0 = ap (λ (p : List Asked). free_work (p ++ asked ∷ [])) none in
     omega arith
 
-pub effect_work : (s next : State) (effect : Effect) (asked : Asked) → due s ≡ Due.sends effect next → work (sent next asked) < work s
+pub effect_work : (s next : State) (effect : Effect) (asked : Asked) → due s ≡ Due.sends effect next
+    → work (sent next asked) < work s
 effect_work s next effect asked e =
     let light : IsNoHeavier s next = lightens_by s (Due.sends effect next) e in
     let less = sent_work next asked (light.same ∙ sends_alone s next effect e) in
     let before = no_more s next light in
     omega arith
 
-pub question_work : (s : State) (questions : List Question) (asked : Asked) → due s ≡ Due.asks questions → work (sent s asked) < work s
+pub question_work : (s : State) (questions : List Question) (asked : Asked) → due s ≡ Due.asks questions
+    → work (sent s asked) < work s
 question_work s questions asked e = sent_work s asked (asks_alone_by s questions e)

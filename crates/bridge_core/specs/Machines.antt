@@ -1,9 +1,6 @@
 -- How the code keeps the machine's state, and what its calls do to it.
-use Rattle.std.specs.Prelude.{ℕ, ◌≡◌, ◌∷◌, Bool, false, List, [], Option, None, Some}
-use Rattle.dap_messages.specs.declared.requests.Request.{Request}
-use Rattle.dap_messages.specs.declared.told.Told.{Told}
+use Rattle.std.specs.Prelude.{◌≡◌, ◌∷◌, Bool, false, List, [], Option, None}
 use Rattle.jdwp_commands.specs.declared.asked.Asked.{Asked}
-use Rattle.jdwp_commands.specs.declared.effect.Effect.{Effect}
 use Rattle.jdwp_commands.specs.declared.question.Question.{Question}
 use Rattle.jdwp_values.specs.declared.id.ThreadId.{ThreadId}
 use Rattle.bridge_core.specs.declared.machine.Step.{Step}
@@ -76,12 +73,14 @@ IsStep old steps.Goes new = due old ≡ Due.goes new
 IsStep old (steps.Tells told) new = due old ≡ Due.tells told new
 IsStep old steps.Greets new = due old ≡ Due.greets new
 IsStep old (steps.Sends effect) new = due old ≡ Due.sends effect new
-IsStep old (steps.Asks question) new = ((others : List Question) × (due old ≡ Due.asks (question ∷ others))) × (new ≡ old)
+IsStep old (steps.Asks question) new =
+    ((others : List Question) × (due old ≡ Due.asks (question ∷ others))) × (new ≡ old)
 IsStep old (steps.Over ending) new = (due old ≡ Due.over ending) × (new ≡ old)
 
 -- a step of the machine, whatever is pending that doesn't keep it from going on
 abbrev pub Steps : Kept → Step → Kept → Type 0
-Steps old step new = (pending : List Asked) → IsFree old.phase pending → IsStep (state_of old pending) step (state_of new pending)
+Steps old step new =
+    (pending : List Asked) → IsFree old.phase pending → IsStep (state_of old pending) step (state_of new pending)
 
 -- the machine goes from one state to another, whatever is pending
 abbrev pub Becomes : Kept → (State → State) → Kept → Type 0

@@ -12,7 +12,9 @@ use Rattle.bridge_core.specs.declared.threads.Need.TheVariants as needs
 use Rattle.world_model.specs.Machine.{Hand, Named, Need, Due, response_to}
 use Rattle.world_model.specs.Session.{Word, client_words, target_words, waiting_requests, fails_gone, end_word}
 use Rattle.world_model.specs.declared.ending.Ending.{Ending}
-use Rattle.world_model.specs.declared.ending.Ending.TheVariants.{Done, Left, BadClient, BadTarget, ClientLink, TargetLink, TargetRefused, Idle, Spent, Flood, NoMemory}
+use Rattle.world_model.specs.declared.ending.Ending.TheVariants.{Done, Left, BadClient, BadTarget, ClientLink}
+use Rattle.world_model.specs.declared.ending.Ending.TheVariants.{TargetLink, TargetRefused, Idle, Spent, Flood}
+use Rattle.world_model.specs.declared.ending.Ending.TheVariants.{NoMemory}
 use Rattle.world_model.specs.declared.machine.Item.{Item}
 use Rattle.world_model.specs.declared.machine.Item.TheVariants as items
 use Rattle.world_model.specs.declared.machine.Part.{Part}

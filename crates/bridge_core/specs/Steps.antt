@@ -1,6 +1,6 @@
 -- What the calls of a core do: steps of the translation machine, message by message.
-use Rattle.std.specs.Prelude.{ℕ, ◌≡◌, ◌<◌, ◌≤◌, ◌+◌, ◌*◌, ◌⊎◌, ◌∷◌, ◌++◌, Bool, true, false, List, [], length, map, position}
-use Rattle.std.specs.Prelude.{Option, None, Some, Result, Ok, Err}
+use Rattle.std.specs.Prelude.{ℕ, ◌≡◌, ◌<◌, ◌≤◌, ◌+◌, ◌*◌, ◌^◌, ◌⊎◌, ◌∷◌, ◌++◌, Bool, true, false, List, [], length, map}
+use Rattle.std.specs.Prelude.{position, Option, None, Some, Result, Ok, Err}
 use Rattle.dap_messages.specs.Reading.{reading_of}
 use Rattle.dap_messages.specs.declared.requests.Incoming.TheVariants.{Request as a_request, Ignored as ignored}
 use Rattle.dap_messages.specs.declared.requests.ReadFault.TheVariants.{NotJson as no_json, NotAMessage as no_message}
@@ -23,16 +23,16 @@ use Rattle.pending_table.specs.Windows.{Window, pending_under, settled}
 use Rattle.pending_table.specs.Windows.{fresh as unsent}
 use Rattle.wire_core.specs.Streams.{Uncut}
 use Rattle.wire_core.specs.declared.outside.Side.{Side}
-use Rattle.bridge_core.specs.Machines.{Kept, kept_fresh, state_of}
+use Rattle.wire_core.specs.declared.outside.Side.TheVariants.{Client}
+use Rattle.bridge_core.specs.Machines.{Kept, state_of}
 use Rattle.world_model.specs.Machine.{State, Hand, fresh, due, Due, Message, Allows, queued, answered, target_ended}
-use Rattle.world_model.specs.Session.{Raw, Place, Word, Speaks, Serve, IsReply, Measures, numbers_in, numbers_of, is_tolerated}
-use Rattle.world_model.specs.Session.{is_composite, composite_ending, body_ending, target_fault, header}
+use Rattle.world_model.specs.Session.{Raw, Place, Word, Speaks, Serve, IsReply, Measures, numbers_in, numbers_of}
+use Rattle.world_model.specs.Session.{is_tolerated, is_composite, composite_ending, body_ending, target_fault, header}
 use Rattle.world_model.specs.Session.{last_words, word_side, word_bytes, word_said}
 use Rattle.world_model.specs.declared.ending.ClientFault.TheVariants.{NotJson, NotAMessage}
 use Rattle.world_model.specs.declared.ending.Ending.{Ending}
 use Rattle.world_model.specs.declared.ending.Ending.TheVariants.{BadClient, BadTarget, TargetRefused, Flood, NoMemory}
 use Rattle.world_model.specs.declared.ending.TargetFault.TheVariants.{BadSizes, BadCommand, UnknownReply}
-use Rattle.world_model.specs.declared.machine.Item.{Item}
 use Rattle.world_model.specs.declared.machine.Phase.{Phase}
 use Rattle.world_model.specs.declared.machine.Phase.TheVariants.{Fresh, Attached, Gone}
 
@@ -49,10 +49,14 @@ pub record Sight : Type 0 where
 abbrev pub fresh_core : ℕ → Sight
 fresh_core limit = record { state = fresh; told = 0; commands = unsent; sizes = None; raw = []; limit = limit }
 
+-- the commands without a reply, without their ids
+abbrev pub asked_of : List (ℕ × Asked) → List Asked
+asked_of sent = map (λ (s : ℕ × Asked). s.1) sent
+
 -- a core's fields, as contracts see them
 abbrev pub sight : Kept → ℕ → Window → Option IdSizes → List Raw → ℕ → Sight
 sight kept told commands sizes raw limit = record {
-  state = state_of kept (map (λ (s : ℕ × Asked). s.1) commands.sent);
+  state = state_of kept (asked_of commands.sent);
   told = told;
   commands = commands;
   sizes = sizes;
@@ -60,8 +64,8 @@ sight kept told commands sizes raw limit = record {
   limit = limit;
 }
 
--- what a core doesn't hold of a session's place: the bytes that are not cut yet, and whether the end of the target's stream
--- has still to be taken up
+-- what a core doesn't hold of a session's place: the bytes that are not cut yet, and whether the end of the target's
+-- stream has still to be taken up
 pub record Uncuts : Type 0 where
   pub client : Uncut
   pub target : Received
@@ -122,6 +126,8 @@ pub record Sends (old : Sight) (side : Side) (bytes : List ℕ) (new : Sight) : 
   pub speaks : (uncuts : Uncuts) → Speaks (place_of old uncuts) message side bytes (place_of new uncuts)
   pub same_limit : new.limit ≡ old.limit
   pub less : work new.state < work old.state
+  -- a message that is told has a number below 2^63
+  pub small : side ≡ Client → new.told < 2 ^ 63
 
 -- nothing has to be sent until something comes
 pub record IsIdle (old new : Sight) : Type 0 where
@@ -202,7 +208,8 @@ packet_of (Reply at id error body) = reply_packet id error body.now
 pub data Moves (old : Sight) (at : ℕ) : Packet → Sight → Type 0 where
   raw : {id set number : ℕ} {body : List ℕ} {new : Sight} → KeepsRaw old at set number body new
       → Moves old at (command_packet id set number body) new
-  reply : {id error : ℕ} {body : List ℕ} {new : Sight} → Answers old id error body new → Moves old at (reply_packet id error body) new
+  reply : {id error : ℕ} {body : List ℕ} {new : Sight} → Answers old id error body new
+      → Moves old at (reply_packet id error body) new
 
 -- there is room for what came, and of a target that is gone composites are passed over
 pub record GoesOn (heard new : Sight) : Type 0 where
@@ -226,16 +233,18 @@ pub record IsLike (old new : Sight) : Type 0 where
   pub next : new.commands.next ≡ old.commands.next
 
 -- a reply without an error answers this command, with this answer
-pub record IsAnswered (old : Sight) (id : ℕ) (body : List ℕ) (asked : Asked) (read : Result Answer BodyFault) : Type 0 where
-  pub sizes : IdSizes
-  pub is_pending : pending_under id old.commands.sent ≡ Some asked
-  pub serve : Serve old.sizes sizes
-  pub reads : answer_at sizes asked body ≡ read
+pub record IsAnswered (old : Sight) (id : ℕ) (body : List ℕ) (asked : Asked) (read : Result Answer BodyFault) : Type 0
+  where
+    pub sizes : IdSizes
+    pub is_pending : pending_under id old.commands.sent ≡ Some asked
+    pub serve : Serve old.sizes sizes
+    pub reads : answer_at sizes asked body ≡ read
 
 -- a packet that ends the session
 pub data RefusesPacket (old : Sight) (at : ℕ) : Packet → Sight → Ending → Type 0 where
   no_memory : {packet : Packet} {new : Sight} → RefusesPacket old at packet new NoMemory
-  floods : {packet : Packet} {heard new : Sight} → Moves old at packet heard → Overflows heard new → RefusesPacket old at packet new Flood
+  floods : {packet : Packet} {heard new : Sight} → Moves old at packet heard → Overflows heard new
+      → RefusesPacket old at packet new Flood
   bad_command : {id set number : ℕ} {body : List ℕ} {new : Sight} → is_composite set number ≡ false → IsLike old new
       → RefusesPacket old at (command_packet id set number body) new (target_fault BadCommand at)
   bad_composite : {id set number : ℕ} {body : List ℕ} {sizes : IdSizes} {new : Sight} → is_composite set number ≡ true
@@ -243,17 +252,25 @@ pub data RefusesPacket (old : Sight) (at : ℕ) : Packet → Sight → Ending �
       → RefusesPacket old at (command_packet id set number body) new (composite_ending (composite_at sizes body) at)
   unknown : {id error : ℕ} {body : List ℕ} {new : Sight} → pending_under id old.commands.sent ≡ None → IsLike old new
       → RefusesPacket old at (reply_packet id error body) new (BadTarget UnknownReply at id)
-  refused : {id error : ℕ} {body : List ℕ} {asked : Asked} {new : Sight} → pending_under id old.commands.sent ≡ Some asked → 0 < error
+  refused : {id error : ℕ} {body : List ℕ} {asked : Asked} {new : Sight}
+      → pending_under id old.commands.sent ≡ Some asked → 0 < error
       → is_tolerated asked error ≡ false → IsLike old new
-      → RefusesPacket old at (reply_packet id error body) new (TargetRefused (number_of asked).0 (number_of asked).1 error)
-  bad_answer : {id : ℕ} {body : List ℕ} {asked : Asked} {fault : BodyFault} {new : Sight} → IsAnswered old id body asked (Err fault)
+      → RefusesPacket old at (reply_packet id error body) new
+      (TargetRefused (number_of asked).0 (number_of asked).1 error)
+  bad_answer : {id : ℕ} {body : List ℕ} {asked : Asked} {fault : BodyFault} {new : Sight}
+      → IsAnswered old id body asked (Err fault)
       → IsLike old new → RefusesPacket old at (reply_packet id 0 body) new (body_ending fault at)
   bad_sizes : {id place : ℕ} {body numbers : List ℕ} {asked : Asked} {answer : Answer} {new : Sight}
-      → IsAnswered old id body asked (Ok answer) → numbers_in (an_answer answer) ≡ Some numbers → position is_no_size numbers ≡ Some place
-      → IsLike old new → RefusesPacket old at (reply_packet id 0 body) new (target_fault BadSizes (at + header + 4 * place))
-  bad_raw : {id : ℕ} {body : List ℕ} {asked : Asked} {answer : Answer} (found : IdSizes) {first : Raw} {others : List Raw} {new : Sight}
-      → IsAnswered old id body asked (Ok answer) → numbers_in (an_answer answer) ≡ Some (numbers_of found) → old.raw ≡ first ∷ others
-      → IsLike old new → RefusesPacket old at (reply_packet id 0 body) new (composite_ending (composite_at found first.body) first.at)
+      → IsAnswered old id body asked (Ok answer) → numbers_in (an_answer answer) ≡ Some numbers
+      → position is_no_size numbers ≡ Some place
+      → IsLike old new
+      → RefusesPacket old at (reply_packet id 0 body) new (target_fault BadSizes (at + header + 4 * place))
+  bad_raw : {id : ℕ} {body : List ℕ} {asked : Asked} {answer : Answer} (found : IdSizes) {first : Raw}
+      {others : List Raw} {new : Sight}
+      → IsAnswered old id body asked (Ok answer) → numbers_in (an_answer answer) ≡ Some (numbers_of found)
+      → old.raw ≡ first ∷ others
+      → IsLike old new
+      → RefusesPacket old at (reply_packet id 0 body) new (composite_ending (composite_at found first.body) first.at)
 
 -- The target's end was taken up.
 abbrev pub without_target : Sight → Sight
@@ -273,3 +290,4 @@ pub record SaysWord (ending : Ending) (old : Sight) (side : Side) (bytes : List 
   pub side_is : side ≡ word_side word
   pub bytes_are : (uncuts : Uncuts) → bytes ≡ word_bytes (place_of old uncuts) word
   pub place_is : (uncuts : Uncuts) → place_of new uncuts ≡ word_said (place_of old uncuts) word
+  pub small : side ≡ Client → new.told < 2 ^ 63

@@ -1,5 +1,5 @@
 -- What goes out, and what is seen next.
-use Rattle.std.specs.Prelude.{ℕ, ◌≡◌, ◌+◌, ◌∷◌, Bool, true, false, not, List, []}
+use Rattle.std.specs.Prelude.{ℕ, ◌≡◌, ◌<◌, ◌+◌, ◌^◌, ◌∷◌, Bool, true, false, not, List, []}
 use Rattle.dap_frames.specs.Frames.{frame_bytes}
 use Rattle.dap_messages.specs.Telling.{told_text}
 use Rattle.dap_messages.specs.declared.told.Told.{Told}
@@ -52,13 +52,15 @@ pub record IsTold (old : Sight) (told : Told) (side : Side) (bytes : List ℕ) (
   pub side_is : side ≡ Client
   pub bytes_are : bytes ≡ frame_bytes (told_text (old.told + 1) told)
   pub counted : new ≡ record old { told = old.told + 1 }
+  pub small : old.told + 1 < 2 ^ 63
 
 -- a command was sent
 pub record IsSent (old : Sight) (asked : Asked) (side : Side) (bytes : List ℕ) (new : Sight) : Type 0 where
   pub sizes : IdSizes
   pub serve : Serve old.sizes sizes
   pub side_is : side ≡ Target
-  pub bytes_are : bytes ≡ packet_bytes (command_packet (id_of old.commands.next) (number_of asked).0 (number_of asked).1 (spell_command sizes asked))
+  pub bytes_are : bytes ≡ packet_bytes
+      (command_packet (id_of old.commands.next) (number_of asked).0 (number_of asked).1 (spell_command sizes asked))
   pub pends : new ≡ record old { state = sent old.state asked; commands = with_sent asked old.commands }
 
 -- one of the last words was said
@@ -67,3 +69,4 @@ pub record IsSaid (old : Sight) (word : LastWord) (side : Side) (bytes : List �
   pub bytes_are : (uncuts : Uncuts) → bytes ≡ word_bytes (place_of old uncuts) (word_of word)
   pub place_is : (uncuts : Uncuts) → place_of new uncuts ≡ word_said (place_of old uncuts) (word_of word)
   pub same : new.state ≡ old.state
+  pub small : side ≡ Client → new.told < 2 ^ 63

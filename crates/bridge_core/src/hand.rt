@@ -2,6 +2,7 @@ ghost use Rattle.std.specs.Prelude.{◌≡◌, ◌∷◌, [], List as Parts, if�
 ghost use Rattle.dap_messages.specs.declared.requests.Request.{Request as ARequest};
 ghost use Rattle.world_model.specs.Session.{owed_by};
 ghost use Rattle.world_model.specs.declared.machine.Part.{Part as APart};
+ghost use Rattle.bridge_core.specs.Fitting.{AreFewer};
 ghost use Rattle.bridge_core.specs.Parts.{before};
 ghost use Rattle.world_model.specs.Machine.{awaits_greeting, given_up, with_answer};
 
@@ -64,7 +65,8 @@ impl Hand {
 
     /// Takes the part that is next; nothing is left to do where there is none.
     pub(crate) fn next_part(&mut self) -> Option<Part>
-        ensures { MatchOption result ((self.old.parts ≡ []) × (self.new ≡ self.old)) (λ part. self.old ≡ before part self.new) }
+        ensures { MatchOption result ((self.old.parts ≡ []) × (self.new ≡ self.old))
+            (λ part. self.old ≡ before part self.new) }
     {
         self.parts.pop_front()
     }
@@ -109,7 +111,8 @@ impl Hand {
     pub(crate) fn drop_to_response(&mut self) -> bool
         ensures owed { (request : ARequest)
             → owed_by request self.old.parts ≡ (if result then request ∷ owed_by request self.new.parts else []) }
-        ensures item { self.new.item ≡ self.old.item }
+        ensures same { self.new ≡ record self.old { parts = self.new.parts } }
+        ensures fewer { AreFewer self.old.parts self.new.parts }
     {
         drop_to_response(&mut self.parts)
     }
@@ -117,14 +120,16 @@ impl Hand {
 
 fn is_response(part: &Part) -> bool
     ensures { (request : ARequest) (rest : Parts APart)
-        → owed_by request (part.now ∷ rest) ≡ (if result then request ∷ owed_by request rest else owed_by request rest) }
+        → owed_by request (part.now ∷ rest)
+        ≡ (if result then request ∷ owed_by request rest else owed_by request rest) }
 {
     matches!(part, Part::Responds(_) | Part::Shows)
 }
 
 fn drop_to_response(parts: &mut VecDeque<Part>) -> bool
-    ensures { (request : ARequest)
+    ensures owed { (request : ARequest)
         → owed_by request parts.old.items ≡ (if result then request ∷ owed_by request parts.new.items else []) }
+    ensures fewer { AreFewer parts.old.items parts.new.items }
 {
     while let Some(part) = parts.pop_front() {
         if is_response(&part) {

@@ -1,11 +1,12 @@
 ghost use Rattle.std.specs.Prelude.{◌≡◌, ◌^◌, ◌<◌, true, false, [], Some, length, IfOk, IfErr};
+ghost use Rattle.bridge_core.specs.Fitting.{Suits};
 ghost use Rattle.bridge_core.specs.Hearing.{MayBe, RefusesBody, IsMeasured, RefusesSizes, RefusesRaw};
 ghost use Rattle.bridge_core.specs.Raws.{raw_seen};
 ghost use Rattle.jdwp_commands.specs.Commands.{number_of};
 ghost use Rattle.jdwp_commands.specs.declared.asked.Replied.TheVariants.{Error as an_error};
 ghost use Rattle.jdwp_events.specs.Composites.{composite_at};
-ghost use Rattle.world_model.specs.Session.{IsReply, numbers_in, is_composite, is_essential, is_essential_effect, is_tolerated};
-ghost use Rattle.world_model.specs.Session.{target_fault, body_ending, composite_ending};
+ghost use Rattle.world_model.specs.Session.{IsReply, numbers_in, is_composite, is_essential, is_essential_effect};
+ghost use Rattle.world_model.specs.Session.{is_tolerated, target_fault, body_ending, composite_ending};
 ghost use Rattle.world_model.specs.declared.ending.Ending.TheVariants.{TargetRefused};
 
 use crate::raw::RawComposite;
@@ -81,6 +82,7 @@ pub(crate) fn replied(
     requires small { at < 2 ^ 62 }
     requires short { length body.now < 2 ^ 32 }
     ensures ok { IfOk result (λ replied. IsReply sizes asked.now error body.now replied) }
+    ensures suits { IfOk result (λ replied. Suits sizes asked.now replied) }
     ensures err { IfErr result (RefusesBody sizes asked.now at error body.now) }
 {
     if error > 0 {

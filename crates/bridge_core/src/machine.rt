@@ -1,8 +1,11 @@
-ghost use Rattle.std.specs.Prelude.{◌≡◌, ◌∷◌, [], true, None, IfOk, IfSome, IfNone, OnOk, MatchOption, length, option_map};
+ghost use Rattle.std.specs.Prelude.{◌≡◌, ◌∷◌, [], true, None, IfOk, IfSome, IfNone, OnOk, MatchOption, MatchResult};
+ghost use Rattle.std.specs.Prelude.{length, option_map};
+ghost use Rattle.bridge_core.specs.Fitting.{AsksNoMore, StaysSound};
+ghost use Rattle.jdwp_commands.specs.declared.asked.Asked.TheVariants.{Question as a_question};
 ghost use Rattle.bridge_core.specs.Machines.{kept_fresh, state_of, Steps, Becomes, SaysNext, SaysNone};
 ghost use Rattle.bridge_core.specs.Parts.{holding, is_gone};
-ghost use Rattle.world_model.specs.Machine.{State, queued, target_ended, ended_now, answered, noted, with_answer, wish_settled};
-ghost use Rattle.world_model.specs.Machine.{greets_in_hand, next_wish, parts_of, with_threads};
+ghost use Rattle.world_model.specs.Machine.{State, queued, target_ended, ended_now, answered, noted, with_answer};
+ghost use Rattle.world_model.specs.Machine.{wish_settled, greets_in_hand, next_wish, parts_of, with_threads};
 
 use crate::hand::Hand;
 use crate::row::{end_parts, is_disconnect, is_end, is_open, request_parts, standing_of, wish_of};
@@ -136,7 +139,8 @@ impl Machine {
 
     /// A request waits for its turn.
     pub(crate) fn queue(&mut self, request: Request) -> Result<(), NoMemory>
-        ensures { OnOk result (Becomes self.old (λ (s : State). queued s request) self.new) }
+        ensures queued { OnOk result (Becomes self.old (λ (s : State). queued s request) self.new) }
+        ensures hand { self.new.hand ≡ self.old.hand }
     {
         self.closing = is_disconnect(&request.command);
         self.waiting.push_back(Item::Request(request))?;
@@ -145,7 +149,8 @@ impl Machine {
 
     /// The target ends.
     pub(crate) fn end_target(&mut self, alloc: Global) -> Result<(), NoMemory>
-        ensures { OnOk result (Becomes self.old target_ended self.new) }
+        ensures ended { OnOk result (Becomes self.old target_ended self.new) }
+        ensures less { AsksNoMore self.old.hand self.new.hand }
     {
         if self.is_gone() {
             return Ok(());
@@ -154,7 +159,8 @@ impl Machine {
     }
 
     fn end_now(&mut self, alloc: Global) -> Result<(), NoMemory>
-        ensures { OnOk result (Becomes self.old ended_now self.new) }
+        ensures ended { OnOk result (Becomes self.old ended_now self.new) }
+        ensures less { AsksNoMore self.old.hand self.new.hand }
     {
         if let Some(hand) = self.hand.take() {
             self.hand = Some(hand.give_up(alloc)?);
@@ -171,7 +177,8 @@ impl Machine {
         asked: Asked,
         replied: Replied,
     ) -> Result<(), NoMemory>
-        ensures { OnOk result (Becomes self.old (λ (s : State). answered s asked replied) self.new) }
+        ensures answered { OnOk result (Becomes self.old (λ (s : State). answered s asked replied) self.new) }
+        ensures sound { StaysSound self.old.hand asked replied self.new.hand }
     {
         if is_end(&asked, &replied) {
             self.note(asked, replied)?;
@@ -181,7 +188,8 @@ impl Machine {
     }
 
     fn note(&mut self, asked: Asked, replied: Replied) -> Result<(), NoMemory>
-        ensures { OnOk result (Becomes self.old (λ (s : State). noted s asked replied) self.new) }
+        ensures noted { OnOk result (Becomes self.old (λ (s : State). noted s asked replied) self.new) }
+        ensures sound { StaysSound self.old.hand asked replied self.new.hand }
     {
         match asked {
             Asked::Question(question) => self.note_answer(question, replied),
@@ -193,7 +201,9 @@ impl Machine {
     }
 
     fn note_answer(&mut self, question: Question, replied: Replied) -> Result<(), NoMemory>
-        ensures { OnOk result (self.new ≡ record self.old { hand = option_map (with_answer question replied) self.old.hand }) }
+        ensures noted { OnOk result
+            (self.new ≡ record self.old { hand = option_map (with_answer question replied) self.old.hand }) }
+        ensures sound { StaysSound self.old.hand (a_question question) replied self.new.hand }
     {
         match self.hand.take() {
             None => Ok(()),
@@ -206,7 +216,8 @@ impl Machine {
     }
 
     fn settle(&mut self, wish: Option<Wish>, replied: &Replied)
-        ensures { Becomes self.old (λ (s : State). wish_settled s wish replied.now) self.new }
+        ensures settled { Becomes self.old (λ (s : State). wish_settled s wish replied.now) self.new }
+        ensures hand { self.new.hand ≡ self.old.hand }
     {
         match wish {
             Some(Wish::ThreadStart) => self.start = standing_of(replied),
@@ -218,7 +229,7 @@ impl Machine {
     /// What is due, where no command keeps the machine from going on; after it the machine stands in the state that
     /// follows.
     pub(crate) fn step(&mut self, alloc: Global) -> Result<Step, NoMemory>
-        ensures { IfOk result (λ step. Steps self.old step self.new) }
+        ensures { MatchResult result (λ step. Steps self.old step self.new) (λ _. self.new.hand ≡ None) }
     {
         match self.take_hand() {
             None => parts::begin(alloc, self),
@@ -234,6 +245,7 @@ impl Machine {
     ) -> Result<Option<LastWord>, NoMemory>
         ensures some { IfOk result (λ word. IfSome word (λ w. SaysNext ending.now self.old w self.new)) }
         ensures none { IfOk result (λ word. IfNone word (SaysNone ending.now self.old)) }
+        ensures less { AsksNoMore self.old.hand self.new.hand }
     {
         words::next_word(alloc, self, ending)
     }
@@ -328,7 +340,8 @@ impl Machine {
 
     /// These threads are told, behind those that were.
     pub(crate) fn add_threads(&mut self, named: &[Named]) -> Result<(), NoMemory>
-        ensures { OnOk result (self.new ≡ record self.old { threads = with_threads self.old.threads named.now }) }
+        ensures told { OnOk result (self.new ≡ record self.old { threads = with_threads self.old.threads named.now }) }
+        ensures hand { self.new.hand ≡ self.old.hand }
     {
         with_threads(&mut self.threads, named)
     }

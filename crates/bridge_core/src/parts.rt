@@ -1,5 +1,5 @@
 //! The parts of an item, one function for each: what the machine does, and where it stands then.
-ghost use Rattle.std.specs.Prelude.{◌≡◌, None, IfOk, OnOk};
+ghost use Rattle.std.specs.Prelude.{◌≡◌, None, IfOk, OnOk, MatchResult};
 ghost use Rattle.bridge_core.specs.Machines.{Steps};
 ghost use Rattle.bridge_core.specs.Parts.{holding, before, asking, responding};
 ghost use Rattle.world_model.specs.Machine.{attached_from, refusal, with_threads, threads_told};
@@ -18,7 +18,8 @@ use world_model::{Ending, Item, Leaving, Manner, Part, Phase};
 /// The first waiting item is begun.
 pub(crate) fn begin(alloc: Global, machine: &mut Machine) -> Result<Step, NoMemory>
     requires { machine.old.hand ≡ None }
-    ensures { IfOk result (λ step. Steps machine.old step machine.new) }
+    ensures { MatchResult result (λ step. Steps machine.old step machine.new)
+        (λ _. machine.new.hand ≡ machine.old.hand) }
 {
     match machine.next_item() {
         None => Ok(Step::Waits),
@@ -32,7 +33,8 @@ pub(crate) fn begin(alloc: Global, machine: &mut Machine) -> Result<Step, NoMemo
 
 /// The item in hand goes on.
 pub(crate) fn go_on(alloc: Global, machine: &mut Machine, mut hand: Hand) -> Result<Step, NoMemory>
-    ensures { IfOk result (λ step. Steps (holding machine.old hand) step machine.new) }
+    ensures { MatchResult result (λ step. Steps (holding machine.old hand) step machine.new)
+        (λ _. machine.new.hand ≡ machine.old.hand) }
 {
     match hand.next_part() {
         None => {
@@ -44,7 +46,8 @@ pub(crate) fn go_on(alloc: Global, machine: &mut Machine, mut hand: Hand) -> Res
 }
 
 fn do_part(alloc: Global, machine: &mut Machine, hand: Hand, part: Part) -> Result<Step, NoMemory>
-    ensures { IfOk result (λ step. Steps (holding machine.old (before part hand)) step machine.new) }
+    ensures { MatchResult result (λ step. Steps (holding machine.old (before part hand)) step machine.new)
+        (λ _. machine.new.hand ≡ machine.old.hand) }
 {
     match part {
         Part::Greets => greets(machine, hand),
@@ -63,7 +66,8 @@ fn do_part(alloc: Global, machine: &mut Machine, hand: Hand, part: Part) -> Resu
 
 // The part stays in front of those that are left.
 fn keep(machine: &mut Machine, mut hand: Hand, part: Part) -> Result<(), NoMemory>
-    ensures { OnOk result (machine.new ≡ holding machine.old (before part hand)) }
+    ensures { MatchResult result (λ _. machine.new ≡ holding machine.old (before part hand))
+        (λ _. machine.new.hand ≡ machine.old.hand) }
 {
     hand.put_back(part)?;
     machine.hold(hand);
@@ -71,7 +75,8 @@ fn keep(machine: &mut Machine, mut hand: Hand, part: Part) -> Result<(), NoMemor
 }
 
 fn greets(machine: &mut Machine, hand: Hand) -> Result<Step, NoMemory>
-    ensures { IfOk result (λ step. Steps (holding machine.old (before parts.Greets hand)) step machine.new) }
+    ensures { MatchResult result (λ step. Steps (holding machine.old (before parts.Greets hand)) step machine.new)
+        (λ _. machine.new.hand ≡ machine.old.hand) }
 {
     if machine.is_gone() {
         keep(machine, hand, Part::Greets)?;
@@ -82,7 +87,8 @@ fn greets(machine: &mut Machine, hand: Hand) -> Result<Step, NoMemory>
 }
 
 fn awaits(machine: &mut Machine, hand: Hand) -> Result<Step, NoMemory>
-    ensures { IfOk result (λ step. Steps (holding machine.old (before parts.Awaits hand)) step machine.new) }
+    ensures { MatchResult result (λ step. Steps (holding machine.old (before parts.Awaits hand)) step machine.new)
+        (λ _. machine.new.hand ≡ machine.old.hand) }
 {
     if machine.is_greeted() {
         machine.hold(hand);
@@ -103,7 +109,8 @@ fn asked(machine: &Machine, question: Question) -> Step
 }
 
 fn measures(machine: &mut Machine, hand: Hand) -> Result<Step, NoMemory>
-    ensures { IfOk result (λ step. Steps (holding machine.old (before parts.Measures hand)) step machine.new) }
+    ensures { MatchResult result (λ step. Steps (holding machine.old (before parts.Measures hand)) step machine.new)
+        (λ _. machine.new.hand ≡ machine.old.hand) }
 {
     if has_sizes(hand.answers()) {
         machine.hold(hand);
@@ -114,7 +121,8 @@ fn measures(machine: &mut Machine, hand: Hand) -> Result<Step, NoMemory>
 }
 
 fn changes(alloc: Global, machine: &mut Machine, hand: Hand) -> Result<Step, NoMemory>
-    ensures { IfOk result (λ step. Steps (holding machine.old (before parts.Changes hand)) step machine.new) }
+    ensures { MatchResult result (λ step. Steps (holding machine.old (before parts.Changes hand)) step machine.new)
+        (λ _. machine.new.hand ≡ machine.old.hand) }
 {
     match machine.next_wish() {
         None => {
@@ -153,15 +161,18 @@ fn attached_from(phase: Phase) -> Phase
 
 // These threads are told, behind those that were.
 fn told_threads(alloc: Global, machine: &mut Machine, named: &[Named]) -> Result<Shape, NoMemory>
-    ensures threads { OnOk result (machine.new ≡ record machine.old { threads = with_threads machine.old.threads named.now }) }
+    ensures threads { OnOk result
+        (machine.new ≡ record machine.old { threads = with_threads machine.old.threads named.now }) }
     ensures shape { IfOk result (λ shape. shape ≡ threads_told machine.new.threads named.now) }
+    ensures hand { machine.new.hand ≡ machine.old.hand }
 {
     machine.add_threads(named)?;
     threads_told(alloc, machine.threads(), named)
 }
 
 fn shows(alloc: Global, machine: &mut Machine, hand: Hand) -> Result<Step, NoMemory>
-    ensures { IfOk result (λ step. Steps (holding machine.old (before parts.Shows hand)) step machine.new) }
+    ensures { MatchResult result (λ step. Steps (holding machine.old (before parts.Shows hand)) step machine.new)
+        (λ _. machine.new.hand ≡ machine.old.hand) }
 {
     match threads_need(alloc, hand.answers())? {
         Need::Lacks(question) => {
@@ -183,7 +194,9 @@ fn shows(alloc: Global, machine: &mut Machine, hand: Hand) -> Result<Step, NoMem
 }
 
 fn leaves(machine: &mut Machine, hand: Hand, leaving: Leaving) -> Result<Step, NoMemory>
-    ensures { IfOk result (λ step. Steps (holding machine.old (before (parts.Leaves leaving) hand)) step machine.new) }
+    ensures { MatchResult result
+        (λ step. Steps (holding machine.old (before (parts.Leaves leaving) hand)) step machine.new)
+        (λ _. machine.new.hand ≡ machine.old.hand) }
 {
     if machine.is_gone() {
         keep(machine, hand, Part::Leaves(leaving))?;
@@ -209,7 +222,9 @@ fn responds(
     hand: Hand,
     outcome: Outcome,
 ) -> Result<Step, NoMemory>
-    ensures { IfOk result (λ step. Steps (holding machine.old (before (parts.Responds outcome) hand)) step machine.new) }
+    ensures { MatchResult result
+        (λ step. Steps (holding machine.old (before (parts.Responds outcome) hand)) step machine.new)
+        (λ _. machine.new.hand ≡ machine.old.hand) }
 {
     let step = responding(alloc, hand.item(), outcome)?;
     machine.hold(hand);
@@ -238,7 +253,8 @@ fn serves(machine: &mut Machine, hand: Hand, manner: Manner) -> Step
 }
 
 fn finishes(machine: &mut Machine, hand: Hand) -> Result<Step, NoMemory>
-    ensures { IfOk result (λ step. Steps (holding machine.old (before parts.Finishes hand)) step machine.new) }
+    ensures { MatchResult result (λ step. Steps (holding machine.old (before parts.Finishes hand)) step machine.new)
+        (λ _. machine.new.hand ≡ machine.old.hand) }
 {
     keep(machine, hand, Part::Finishes)?;
     Ok(Step::Over(Ending::Done))

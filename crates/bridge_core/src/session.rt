@@ -1,8 +1,10 @@
-ghost use Rattle.std.specs.Prelude.{◌≡◌, ◌^◌, ◌<◌, ◌≤◌, ◌+◌, nat_lt, true, false, [], length, OnOk, IfErr, IfOk, IfSome, IfNone};
+ghost use Rattle.std.specs.Prelude.{◌≡◌, ◌^◌, ◌<◌, ◌≤◌, ◌+◌, nat_lt, true, false, [], length, OnOk, IfErr, IfOk};
+ghost use Rattle.std.specs.Prelude.{IfSome, IfNone};
+ghost use Rattle.bridge_core.specs.Fitting.{MaySend};
 ghost use Rattle.bridge_core.specs.Machines.{IsStep};
-ghost use Rattle.bridge_core.specs.Steps.{fresh_core, Takes, Refuses, TakesPacket, RefusesPacket, GoesOn, RefusesEnd, without_target};
-ghost use Rattle.bridge_core.specs.Steps.{Finds, IsIdle, Sends, SaysWord, in_state, offset_of, packet_of, body_of};
-ghost use Rattle.bridge_core.specs.Steps.{KeepsRaw, Answers, Overflows, waiting_in};
+ghost use Rattle.bridge_core.specs.Steps.{fresh_core, Takes, Refuses, TakesPacket, RefusesPacket, GoesOn, RefusesEnd};
+ghost use Rattle.bridge_core.specs.Steps.{without_target, Finds, IsIdle, Sends, SaysWord, in_state, offset_of};
+ghost use Rattle.bridge_core.specs.Steps.{packet_of, body_of, KeepsRaw, Answers, Overflows, waiting_in};
 ghost use Rattle.bridge_core.specs.Telling.{is_held, is_going, ComesTo, IsTold, IsSent, IsSaid};
 ghost use Rattle.jdwp_packets.specs.Packets.{command_packet, reply_packet, handshake, packet_bytes};
 ghost use Rattle.wire_core.specs.declared.outside.Side.TheVariants.{Target as of_target};
@@ -51,12 +53,16 @@ pub struct Core {
 }
 
 impl Model for Core {
-    ghost use Rattle.bridge_core.specs.Steps.{Sight, sight};
+    ghost use Rattle.std.specs.Prelude.{◌^◌};
+    ghost use Rattle.bridge_core.specs.Fitting.{IsSound, object_size};
+    ghost use Rattle.bridge_core.specs.Steps.{Sight, sight, asked_of};
     ghost use Rattle.bridge_core.specs.Raws.{raw_seen};
 
     ghost Value = { Sight };
 
     ghost view = { λ c. sight c.machine c.told c.commands c.sizes (raw_seen c.raw) c.limit };
+
+    ghost invariant = { λ c. IsSound (256 ^ object_size c.sizes) c.machine.hand (asked_of c.commands.sent) };
 }
 
 impl Core {
@@ -171,8 +177,8 @@ impl Core {
         }
     }
 
-    /// The next message that has to go out, or nothing where nothing has to until something comes. The session ends where
-    /// it is over, or where the number of a message would reach 2^63, for which it has no memory.
+    /// The next message that has to go out, or nothing where nothing has to until something comes. The session ends
+    /// where it is over, or where the number of a message would reach 2^63, for which it has no memory.
     pub fn out(&mut self, alloc: Global) -> Result<Option<Out>, Ending>
         ensures rest { IfOk result (λ out. IfNone out (IsIdle self.old self.new)) }
         ensures sends { IfOk result (λ out. IfSome out (λ o. Sends self.old o.side o.bytes self.new)) }
@@ -180,7 +186,7 @@ impl Core {
     {
         match go(self, alloc)? {
             Step::Waits => Ok(None),
-            Step::Goes => Err(Ending::NoMemory),
+            Step::Goes => unreachable!(),
             Step::Tells(told) => Ok(Some(self.tell(alloc, &told)?)),
             Step::Greets => Ok(Some(greeting(alloc)?)),
             Step::Sends(effect) => Ok(Some(self.send(alloc, Asked::Effect(effect))?)),
@@ -348,9 +354,9 @@ impl Core {
         }
     }
 
-    // Sends the target the next command, where none is without a reply.
+    // Sends the target the command that is due.
     fn send(&mut self, alloc: Global, asked: Asked) -> Result<Out, NoMemory>
-        requires { self.old.state.pending ≡ [] }
+        requires { MaySend self.old.state asked }
         ensures { IfOk result (λ out. IsSent self.old asked out.side out.bytes self.new) }
     {
         let sizes = serving(self.sizes);

@@ -7,7 +7,8 @@ use world_model::{ClientFault, Ending, Limits, TargetFault};
 const ATTACH: [u8; 82] =
     *b"{\"seq\":1,\"type\":\"request\",\"command\":\"attach\",\"arguments\":{\"sourceRoots\":[\"/src\"]}}";
 
-// A reply in a packet at the offset 100: sizes of ids, of which that of classes is given, or the id of an event request.
+// A reply in a packet at the offset 100: sizes of ids, of which that of classes is given, or the id of an event
+// request.
 fn answer(core: &mut Core, rt: &HostRuntime, id: u32, error: u16, class: u8) -> Option<Ending> {
     let body = [
         0, 0, 0, 8, 0, 0, 0, 8, 0, 0, 0, 8, 0, 0, 0, class, 0, 0, 0, 8,

@@ -29,8 +29,8 @@ impl Model for Named {
     ghost view = { λ n. record { thread = n.thread; name = n.name } };
 }
 
-/// What a row needs: it has it; it fails, since the target refused a question with this error; or it lacks the answer to
-/// this question.
+/// What a row needs: it has it; it fails, since the target refused a question with this error; or it lacks the answer
+/// to this question.
 #[derive(Debug, Drop)]
 pub(crate) enum Need {
     Has(List<Named>),

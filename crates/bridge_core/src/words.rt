@@ -1,6 +1,7 @@
 //! What is said after an ending, word by word.
-ghost use Rattle.std.specs.Prelude.{◌≡◌, ◌∷◌, ◌++◌, [], true, None, map, IfOk, OnOk, IfSome, IfNone};
+ghost use Rattle.std.specs.Prelude.{◌≡◌, ◌∷◌, ◌++◌, [], true, None, Some, map, IfOk, OnOk, IfSome, IfNone};
 ghost use Rattle.std.specs.Option.{option_to_list};
+ghost use Rattle.bridge_core.specs.Fitting.{AsksNoMore};
 ghost use Rattle.bridge_core.specs.Machines.{SaysNext, SaysNone};
 ghost use Rattle.bridge_core.specs.Parts.{tells_client, frees_target, rest_left, client_left, target_left, told_words};
 ghost use Rattle.bridge_core.specs.Parts.{last_word, holding};
@@ -45,7 +46,8 @@ fn frees_target(ending: &Ending) -> bool
 
 // Takes the first request that waits; the target's end owes nothing.
 fn next_request(machine: &mut Machine) -> Option<Request>
-    ensures words { waiting_requests machine.old.waiting ≡ option_to_list result ++ waiting_requests machine.new.waiting }
+    ensures words { waiting_requests machine.old.waiting
+        ≡ option_to_list result ++ waiting_requests machine.new.waiting }
     ensures same { machine.new ≡ record machine.old { waiting = machine.new.waiting } }
     ensures none { IfNone result (machine.new.waiting ≡ []) }
 {
@@ -81,7 +83,7 @@ fn end_word(machine: &mut Machine) -> Option<Told>
 fn waiting_word(alloc: Global, machine: &mut Machine) -> Result<Option<Told>, NoMemory>
     ensures words { IfOk result (λ word. rest_left machine.old ≡ told_words word ++ rest_left machine.new) }
     ensures none { IfOk result (λ word. IfNone word (rest_left machine.new ≡ [])) }
-    ensures hand { OnOk result (machine.new.hand ≡ machine.old.hand) }
+    ensures hand { machine.new.hand ≡ machine.old.hand }
     ensures phase { OnOk result (machine.new.phase ≡ machine.old.phase) }
 {
     match next_request(machine) {
@@ -95,6 +97,7 @@ fn owed_word(alloc: Global, hand: &mut Hand) -> Result<Option<Told>, NoMemory>
     ensures some { IfOk result (λ word. IfSome word
         (λ told. map fails_gone (owed_in hand.old.item hand.old.parts) ≡ Word.tells told ∷ map fails_gone (owed_in hand.new.item hand.new.parts))) }
     ensures none { IfOk result (λ word. IfNone word (owed_in hand.old.item hand.old.parts ≡ [])) }
+    ensures less { AsksNoMore (Some hand.old) (Some hand.new) }
 {
     if !hand.drop_to_response() {
         return Ok(None);
@@ -108,7 +111,9 @@ fn owed_word(alloc: Global, hand: &mut Hand) -> Result<Option<Told>, NoMemory>
 // The next word for the client, where this is in hand.
 fn hand_word(alloc: Global, machine: &mut Machine, mut hand: Hand) -> Result<Option<Told>, NoMemory>
     requires { machine.old.hand ≡ None }
-    ensures words { IfOk result (λ word. client_left (holding machine.old hand) ≡ told_words word ++ client_left machine.new) }
+    ensures words { IfOk result
+        (λ word. client_left (holding machine.old hand) ≡ told_words word ++ client_left machine.new) }
+    ensures less { AsksNoMore (Some hand) machine.new.hand }
     ensures none { IfOk result (λ word. IfNone word (client_left machine.new ≡ [])) }
     ensures phase { OnOk result (machine.new.phase ≡ machine.old.phase) }
 {
@@ -124,6 +129,7 @@ fn hand_word(alloc: Global, machine: &mut Machine, mut hand: Hand) -> Result<Opt
 // The next word for the client.
 fn client_word(alloc: Global, machine: &mut Machine) -> Result<Option<Told>, NoMemory>
     ensures words { IfOk result (λ word. client_left machine.old ≡ told_words word ++ client_left machine.new) }
+    ensures less { AsksNoMore machine.old.hand machine.new.hand }
     ensures none { IfOk result (λ word. IfNone word (client_left machine.new ≡ [])) }
     ensures phase { OnOk result (machine.new.phase ≡ machine.old.phase) }
 {
@@ -154,6 +160,7 @@ pub(crate) fn next_word(
 ) -> Result<Option<LastWord>, NoMemory>
     ensures some { IfOk result (λ word. IfSome word (λ w. SaysNext ending.now machine.old w machine.new)) }
     ensures none { IfOk result (λ word. IfNone word (SaysNone ending.now machine.old)) }
+    ensures less { AsksNoMore machine.old.hand machine.new.hand }
 {
     if !tells_client(ending) {
         return Ok(free_target(machine, frees_target(ending)));

@@ -7,7 +7,8 @@ loop-alloc-init c = starts _
 
 pub loop-alloc-preserved : goal.loop-alloc-preserved
 loop-alloc-preserved c =
-    came_on _ _ _ _ _ c.loop-alloc.invariant (sym c.is_going.ensures ∙ c.loop-alloc-test.true) c.in_ok-step.ensures.step c.next_step.ensures.same
+    came_on _ _ _ _ _ c.loop-alloc.invariant (sym c.is_going.ensures ∙ c.loop-alloc-test.true) c.in_ok-step.ensures.step
+    c.next_step.ensures.same
 
 pub loop-alloc-smaller : goal.loop-alloc-smaller
 loop-alloc-smaller c = less_left _ _ _ _ (sym c.is_going.ensures ∙ c.loop-alloc-test.true) c.in_ok-step.ensures.step

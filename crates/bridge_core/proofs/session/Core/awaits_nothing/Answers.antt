@@ -1,4 +1,3 @@
-use Rattle.std.proofs.Common.{sym, ◌∙◌}
 use Rattle.bridge_core.proofs.StepLaws.{awaits_where_empty, awaits_where_not}
 use Rattle.bridge_core.proofs.session.Core.awaits_nothing.Goals as goal
 

@@ -14,15 +14,19 @@ pub returns-then-overflows-clause-err : goal.returns-then-overflows-clause-err
 returns-then-overflows-clause-err c =
     let self = c.self.inside in
     let reads = rw c.in-Ok-Request.field-0-is at c.in-Ok-Request.ensures in
-    rw (← c.self.view_is) (flooded self.machine c.queue.new.self self.told self.commands self.sizes (raw_seen self.raw) self.limit
-    c.args.body.now c.args.at c.in-Ok-Request.request reads c.in_ok-queue-in-Ok-Request.ensures (sym c.overflows.ensures ∙ c.if-overflows.true))
+    rw (← c.self.view_is)
+    (flooded self.machine c.queue.new.self self.told self.commands self.sizes (raw_seen self.raw) self.limit
+    c.args.body.now c.args.at c.in-Ok-Request.request reads c.in_ok-queue-in-Ok-Request.ensures.queued
+    (sym c.overflows.ensures ∙ c.if-overflows.true))
 
 pub returns-else-overflows-clause-ok : goal.returns-else-overflows-clause-ok
 returns-else-overflows-clause-ok c =
     let self = c.self.inside in
     let reads = rw c.in-Ok-Request.field-0-is at c.in-Ok-Request.ensures in
-    rw (← c.self.view_is) (heard self.machine c.queue.new.self self.told self.commands self.sizes (raw_seen self.raw) self.limit
-    c.args.body.now c.in-Ok-Request.request reads c.in_ok-queue-in-Ok-Request.ensures (sym c.overflows.ensures ∙ c.if-overflows.false))
+    rw (← c.self.view_is)
+    (heard self.machine c.queue.new.self self.told self.commands self.sizes (raw_seen self.raw) self.limit
+    c.args.body.now c.in-Ok-Request.request reads c.in_ok-queue-in-Ok-Request.ensures.queued
+    (sym c.overflows.ensures ∙ c.if-overflows.false))
 
 pub returns-in-Err-NoMemory-clause-err : goal.returns-in-Err-NoMemory-clause-err
 returns-in-Err-NoMemory-clause-err c = Refuses.no_memory

@@ -6,5 +6,7 @@ pub returns-in_ok-say-in-Some-clause-says : goal.returns-in_ok-say-in-Some-claus
 returns-in_ok-say-in-Some-clause-says c =
     let self = c.self.inside in
     let next = rw c.in-Some.is at c.in_ok-next_word.ensures.some in
-    rw (← c.self.view_is) (says_word c.args.ending.now self.machine c.next_word.new.self self.told self.commands self.sizes (raw_seen self.raw)
+    rw (← c.self.view_is)
+    (says_word c.args.ending.now self.machine c.next_word.new.self self.told self.commands self.sizes
+    (raw_seen self.raw)
     self.limit c.in-Some.word _ _ _ next c.in_ok-say-in-Some.ensures)

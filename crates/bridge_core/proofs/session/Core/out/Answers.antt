@@ -1,6 +1,6 @@
 use Rattle.std.proofs.lemmas.Result.{err_from_is_err_and}
 use Rattle.bridge_core.specs.Steps.{Finds}
-use Rattle.bridge_core.proofs.StepLaws.{over, tells, greets, sends, asks, sends_alone_in, asks_alone_in}
+use Rattle.bridge_core.proofs.StepLaws.{over, tells, greets, sends, asks, may_send, may_ask}
 use Rattle.bridge_core.proofs.session.Core.out.Goals as goal
 
 pub returns-in_err-go-clause-over : goal.returns-in_err-go-clause-over
@@ -52,7 +52,7 @@ pub returns-in-Over-clause-over : goal.returns-in-Over-clause-over
 returns-in-Over-clause-over c = over _ _ c.in-Over.ending (rw c.in-Over.is at c.in_ok-go.ensures.comes)
 
 pub send-requires : goal.send-requires
-send-requires c = sends_alone_in _ _ c.in-Sends.effect (rw c.in-Sends.is at c.in_ok-go.ensures.comes)
+send-requires c = may_send _ _ c.in-Sends.effect (rw c.in-Sends.is at c.in_ok-go.ensures.comes)
 
 pub send-requires-in-Asks : goal.send-requires-in-Asks
-send-requires-in-Asks c = asks_alone_in _ _ c.in-Asks.question (rw c.in-Asks.is at c.in_ok-go.ensures.comes)
+send-requires-in-Asks c = may_ask _ _ c.in-Asks.question (rw c.in-Asks.is at c.in_ok-go.ensures.comes)

@@ -12,8 +12,10 @@ returns-in_ok-keep-in-Command-clause-err c =
 
 pub returns-in_ok-take_reply-in-Reply-clause-ok : goal.returns-in_ok-take_reply-in-Reply-clause-ok
 returns-in_ok-take_reply-in-Reply-clause-ok c =
-    rw c.in-Reply.is (taken_on _ _ _ _ _ _ (Moves.reply c.in_ok-take_reply-in-Reply.ensures.ok) c.go_on-in-Reply.ensures.ok)
+    rw c.in-Reply.is
+    (taken_on _ _ _ _ _ _ (Moves.reply c.in_ok-take_reply-in-Reply.ensures.ok) c.go_on-in-Reply.ensures.ok)
 
 pub returns-in_ok-take_reply-in-Reply-clause-err : goal.returns-in_ok-take_reply-in-Reply-clause-err
 returns-in_ok-take_reply-in-Reply-clause-err c =
-    rw c.in-Reply.is (refused_on _ _ _ _ _ _ (Moves.reply c.in_ok-take_reply-in-Reply.ensures.ok) c.go_on-in-Reply.ensures.err)
+    rw c.in-Reply.is
+    (refused_on _ _ _ _ _ _ (Moves.reply c.in_ok-take_reply-in-Reply.ensures.ok) c.go_on-in-Reply.ensures.err)

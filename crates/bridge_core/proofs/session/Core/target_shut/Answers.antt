@@ -15,5 +15,6 @@ pub returns-clause-err : goal.returns-clause-err
 returns-clause-err c =
     let self = c.self.inside in
     rw (← c.self.view_is) (shut_ends _ _ _ c.go_on.result
-    (changed self.machine c.end_target.new.self self.told self.commands self.sizes (raw_seen self.raw) self.limit target_ended c.in_ok-end_target.ensures)
+    (changed self.machine c.end_target.new.self self.told self.commands self.sizes (raw_seen self.raw) self.limit
+    target_ended c.in_ok-end_target.ensures.ended)
     c.go_on.ensures.err)
