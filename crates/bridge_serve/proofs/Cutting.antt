@@ -1,5 +1,6 @@
 -- How the bodies that the client's cutter hands out lead a session on.
-use Rattle.std.proofs.Common.{◌≡◌, ℕ, ◌+◌, ◌<◌, ◌≤◌, ◌⊎◌, refl, sym, ap, subst, ◌∙◌, arith, Bool, true, false, List, length, None, Some, Ok, Err}
+use Rattle.std.proofs.Common.{◌≡◌, ℕ, ◌+◌, ◌<◌, ◌≤◌, ◌⊎◌, refl, sym, ap, subst, ◌∙◌, arith, Bool, true, false, List}
+use Rattle.std.proofs.Common.{length, None, Some, Ok, Err}
 use Rattle.std.proofs.lemmas.List.{length-drop}
 use Rattle.bridge_core.specs.Steps.{Sight, place_of, in_state, waiting_in, Takes, Refuses}
 use Rattle.dap_frames.proofs.FrameLaws.{front-steady}
@@ -35,7 +36,8 @@ pub record IsWhole (old : Uncut) (body : Body) : Type 0 where
   pub bytes : body.bytes.now ≡ frame.body
 
 answer_whole : (front : Front Frame FrameFault) (at : ℕ) (body : Body) → IsAnswer front at (Ok (Some body))
-    → (frame : Frame) × (size : ℕ) × (front ≡ whole frame size) × (body.at ≡ at + frame.header) × (body.bytes.now ≡ frame.body)
+    → (frame : Frame) × (size : ℕ) × (front ≡ whole frame size) × (body.at ≡ at + frame.header)
+    × (body.bytes.now ≡ frame.body)
 answer_whole waits at body answer = cc
 answer_whole (whole frame size) at body answer = (frame, size, refl, answer.0, answer.1)
 answer_whole (faulty fault distance) at body answer = cc
@@ -66,7 +68,8 @@ pub taken_fault : (old : Uncut) (trouble : FrameTrouble) → IsTaken old (Err tr
     → (distance : ℕ) × (frame_front old.pending ≡ faulty trouble.fault distance) × (trouble.at ≡ old.at + distance)
 taken_fault old trouble taken = answer_fault (frame_front old.pending) old.at trouble taken
 
-pub rest_is : (old rest : Uncut) (body : Body) (found : IsWhole old body) → rest ≡ left (frame_front old.pending) old → rest ≡ past old found.size
+pub rest_is : (old rest : Uncut) (body : Body) (found : IsWhole old body) → rest ≡ left (frame_front old.pending) old
+    → rest ≡ past old found.size
 rest_is old rest body found is = is ∙ ap (λ (front : Front Frame FrameFault). left front old) found.front
 
 -- a body that was taken leaves fewer bytes
@@ -85,31 +88,44 @@ abbrev pub frame_cut : Heard → ℕ → Heard
 frame_cut heard n = record heard { uncuts = record heard.uncuts { client = past heard.uncuts.client n } }
 
 -- the session of this core reads on
-reads : (limits : Limits) (o : Outside) (core : Sight) (heard : Heard) → IsReady o core heard → core.limit ≡ limits.waiting
+reads : (limits : Limits) (o : Outside) (core : Sight) (heard : Heard) → IsReady o core heard
+    → core.limit ≡ limits.waiting
     → core.state.closing ≡ false → Reads limits (standing core heard)
 reads limits o core heard ready limit is_open =
     record { nothing_due = ready.nothing_due; is_open = is_open; on = on_in limits o core heard ready limit }
 
-request_comes : (o : Outside) (core : Sight) (heard : Heard) (frame : Frame) (n : ℕ) (request : Request) → IsReady o core heard
-    → core.state.closing ≡ false → frame_front heard.uncuts.client.pending ≡ whole frame n → reading_of frame.body ≡ Ok (a_request request)
+request_comes : (o : Outside) (core : Sight) (heard : Heard) (frame : Frame) (n : ℕ) (request : Request)
+    → IsReady o core heard
+    → core.state.closing ≡ false → frame_front heard.uncuts.client.pending ≡ whole frame n
+    → reading_of frame.body ≡ Ok (a_request request)
     → (limits : Limits) (turns : ℕ) → core.limit ≡ limits.waiting → (log : List Entry) (messages : List Message)
     → Session limits log messages turns (standing core heard)
-    → (later : List Message) × Session limits log later turns (standing (in_state core (queued core.state request)) (frame_cut heard n))
-request_comes o core heard frame n request ready is_open front reading limits turns limit log messages s =
-    (_, Session.hears s (on_in limits o core heard ready limit) (Allows.hears ready.nothing_due is_open) (Says.hears front reading))
+    → (later : List Message)
+    × Session limits log later turns (standing (in_state core (queued core.state request)) (frame_cut heard n))
+request_comes o core heard frame n request ready is_open front reading limits turns limit log messages s = (
+  _,
+  Session.hears s (on_in limits o core heard ready limit) (Allows.hears ready.nothing_due is_open)
+      (Says.hears front reading),
+)
 
-same_ends : (heard : Heard) (body : Body) (found : IsWhole heard.uncuts.client body) → SameEnds heard (frame_cut heard found.size)
-same_ends heard body found = record { client = (fewer_left heard.uncuts.client body found).1; target = refl; quiets = refl }
+same_ends : (heard : Heard) (body : Body) (found : IsWhole heard.uncuts.client body)
+    → SameEnds heard (frame_cut heard found.size)
+same_ends heard body found =
+    record { client = (fewer_left heard.uncuts.client body found).1; target = refl; quiets = refl }
 
-takes : (o : Outside) (core core' : Sight) (heard : Heard) (body : Body) → IsReading o core heard → core.state.closing ≡ false
-    → (found : IsWhole heard.uncuts.client body) → Takes core found.frame.body core' → TakesUp o core core' heard (frame_cut heard found.size)
+takes : (o : Outside) (core core' : Sight) (heard : Heard) (body : Body) → IsReading o core heard
+    → core.state.closing ≡ false
+    → (found : IsWhole heard.uncuts.client body) → Takes core found.frame.body core'
+    → TakesUp o core core' heard (frame_cut heard found.size)
 takes o core core' heard body reading is_open found (Takes.hears {heard = request} read is room) =
     let ready = reading.ready in
     let now = core_ready o core heard ready reading.taken_up.not_ended in
-    let room' : waiting_in (in_state core (queued core.state request)) ≤ core.limit = subst (λ (c : Sight). waiting_in c ≤ c.limit) is room in
+    let room' : waiting_in (in_state core (queued core.state request)) ≤ core.limit =
+    subst (λ (c : Sight). waiting_in c ≤ c.limit) is room in
     subst (λ (c : Sight). TakesUp o core c heard (frame_cut heard found.size)) (sym is) (record {
       leads = λ limits turns limit. leads_in_place limits o turns _ _ (λ log messages s.
-          request_comes o core heard found.frame found.size request ready is_open found.front read limits turns limit log messages s);
+          request_comes o core heard found.frame found.size request ready is_open found.front read limits turns limit
+          log messages s);
       ready = record { client = now.client; target = now.target; room = room' };
       shaken = ready.shaken;
       none_raw = ready.none_raw;
@@ -129,13 +145,17 @@ takes o core core' heard body reading is_open found (Takes.passes read is) =
       ends = same_ends heard body found;
     })
 
-pub takes_body : (o : Outside) (core core' : Sight) (heard : Heard) (body : Body) → IsReading o core heard → core.state.closing ≡ false
-    → (found : IsWhole heard.uncuts.client body) → Takes core body.bytes.now core' → TakesUp o core core' heard (frame_cut heard found.size)
+pub takes_body : (o : Outside) (core core' : Sight) (heard : Heard) (body : Body) → IsReading o core heard
+    → core.state.closing ≡ false
+    → (found : IsWhole heard.uncuts.client body) → Takes core body.bytes.now core'
+    → TakesUp o core core' heard (frame_cut heard found.size)
 takes_body o core core' heard body reading is_open found taken =
-    takes o core core' heard body reading is_open found (subst (λ (bytes : List ℕ). Takes core bytes core') found.bytes taken)
+    takes o core core' heard body reading is_open found
+    (subst (λ (bytes : List ℕ). Takes core bytes core') found.bytes taken)
 
 -- A body ends the session.
-refused_by : (o : Outside) (core core' : Sight) (heard : Heard) (frame : Frame) (n : ℕ) (ending : Ending) → IsReading o core heard
+refused_by : (o : Outside) (core core' : Sight) (heard : Heard) (frame : Frame) (n : ℕ) (ending : Ending)
+    → IsReading o core heard
     → core.state.closing ≡ false → frame_front heard.uncuts.client.pending ≡ whole frame n
     → Refuses core frame.body (heard.uncuts.client.at + frame.header) core' ending → Stops o o core core' heard ending
 refused_by o core core' heard frame n ending reading is_open front Refuses.no_memory = forgets o core core' heard
@@ -147,9 +167,11 @@ refused_by o core core' heard frame n ending reading is_open front (Refuses.not_
     now.client now.target refl refl refl tt)
 refused_by o core core' heard frame n ending reading is_open front (Refuses.not_a_message read is) =
     let now = core_ready o core heard reading.ready reading.taken_up.not_ended in
-    subst (λ (c : Sight). Stops o o core c heard (BadClient NotAMessage (heard.uncuts.client.at + frame.header))) (sym is)
+    subst (λ (c : Sight). Stops o o core c heard (BadClient NotAMessage (heard.uncuts.client.at + frame.header)))
+    (sym is)
     (stops_there o core core core heard heard _ (λ limits turns limit log messages s. (messages, s))
-    (λ limits turns limit. session.Stops.not_a_message (reads limits o core heard reading.ready limit is_open) front read)
+    (λ limits turns limit. session.Stops.not_a_message (reads limits o core heard reading.ready limit is_open) front
+    read)
     now.client now.target refl refl refl tt)
 refused_by o core core' heard frame n ending reading is_open front (Refuses.floods {heard = request} read is more) =
     let now = core_ready o core heard reading.ready reading.taken_up.not_ended in
@@ -157,8 +179,10 @@ refused_by o core core' heard frame n ending reading is_open front (Refuses.floo
     (request_comes o core heard frame n request reading.ready is_open front read) refl now.client now.target is
     (subst (λ (c : Sight). c.limit < waiting_in c) is more)
 
-pub refuses_body : (o : Outside) (core core' : Sight) (heard : Heard) (body : Body) (ending : Ending) → IsReading o core heard
-    → core.state.closing ≡ false → (found : IsWhole heard.uncuts.client body) → Refuses core body.bytes.now body.at core' ending
+pub refuses_body : (o : Outside) (core core' : Sight) (heard : Heard) (body : Body) (ending : Ending)
+    → IsReading o core heard
+    → core.state.closing ≡ false → (found : IsWhole heard.uncuts.client body)
+    → Refuses core body.bytes.now body.at core' ending
     → Stops o o core core' heard ending
 refuses_body o core core' heard body ending reading is_open found refuses =
     refused_by o core core' heard found.frame found.size ending reading is_open found.front
@@ -166,8 +190,10 @@ refuses_body o core core' heard body ending reading is_open found refuses =
     (subst (λ (bytes : List ℕ). Refuses core bytes body.at core' ending) found.bytes refuses))
 
 -- a byte that no frame has there
-pub misframed : (o : Outside) (core : Sight) (heard : Heard) (trouble : FrameTrouble) → IsReading o core heard → core.state.closing ≡ false
-    → IsTaken heard.uncuts.client (Err trouble) → Stops o o core core heard (BadClient (frame_fault trouble.fault) trouble.at)
+pub misframed : (o : Outside) (core : Sight) (heard : Heard) (trouble : FrameTrouble) → IsReading o core heard
+    → core.state.closing ≡ false
+    → IsTaken heard.uncuts.client (Err trouble)
+    → Stops o o core core heard (BadClient (frame_fault trouble.fault) trouble.at)
 misframed o core heard trouble reading is_open taken =
     let found = taken_fault heard.uncuts.client trouble taken in
     let now = core_ready o core heard reading.ready reading.taken_up.not_ended in
@@ -177,8 +203,10 @@ misframed o core heard trouble reading is_open taken =
     now.client now.target refl refl refl tt)
 
 -- the session waits
-pub waits_on : (limits : Limits) (o : Outside) (core : Sight) (heard : Heard) → IsReady o core heard → IsTakenUp core heard
-    → target_front (place_of core heard.uncuts) ≡ waits → (core.state.closing ≡ true) ⊎ (frame_front heard.uncuts.client.pending ≡ waits)
+pub waits_on : (limits : Limits) (o : Outside) (core : Sight) (heard : Heard) → IsReady o core heard
+    → IsTakenUp core heard
+    → target_front (place_of core heard.uncuts) ≡ waits
+    → (core.state.closing ≡ true) ⊎ (frame_front heard.uncuts.client.pending ≡ waits)
     → core.limit ≡ limits.waiting → Waits limits (standing core heard)
 waits_on limits o core heard ready taken_up no_packet nothing_whole limit = record {
   nothing_due = ready.nothing_due;
@@ -190,29 +218,45 @@ waits_on limits o core heard ready taken_up no_packet nothing_whole limit = reco
   on = on_in limits o core heard ready limit;
 }
 
-pub same_greeting : (core middle : Sight) (body : List ℕ) → Takes core body middle → middle.state.greeted ≡ core.state.greeted
+pub same_greeting : (core middle : Sight) (body : List ℕ) → Takes core body middle
+    → middle.state.greeted ≡ core.state.greeted
 same_greeting core middle body (Takes.hears read is room) = ap (λ (c : Sight). c.state.greeted) is
 same_greeting core middle body (Takes.passes read is) = ap (λ (c : Sight). c.state.greeted) is
 
 module _ (heard : Heard) (client : Uncut) (target : Received) (ended : Bool) (quiets : ℕ)
-    (view : (let it : Heard = record { uncuts = record { client = client; target = target; ended = ended }; quiets = quiets } in it ≡ heard)) where
-  pub kept_body : (client' : Uncut) (body : Body) (found : IsWhole heard.uncuts.client body) → client' ≡ left (frame_front client.pending) client
-      → (let it : Heard = record { uncuts = record { client = client'; target = target; ended = ended }; quiets = quiets } in it ≡ frame_cut heard found.size)
+    (view : (let it : Heard = record
+    { uncuts = record { client = client; target = target; ended = ended }; quiets = quiets } in it ≡ heard)) where
+  pub kept_body : (client' : Uncut) (body : Body) (found : IsWhole heard.uncuts.client body)
+      → client' ≡ left (frame_front client.pending) client
+      → (let it : Heard = record
+      { uncuts = record { client = client'; target = target; ended = ended }; quiets = quiets } in it ≡ frame_cut heard
+      found.size)
   kept_body client' body found is =
       let here = ap (λ (h : Heard). h.uncuts.client) view in
-      let rest = rest_is heard.uncuts.client client' body found (is ∙ ap (λ (u : Uncut). left (frame_front u.pending) u) here) in
-      ap (λ (u : Uncut). record { uncuts = record { client = u; target = target; ended = ended }; quiets = quiets }) rest
+      let rest =
+      rest_is heard.uncuts.client client' body found
+      (is ∙ ap (λ (u : Uncut). left (frame_front u.pending) u) here) in
+      ap (λ (u : Uncut). record
+      { uncuts = record { client = u; target = target; ended = ended }; quiets = quiets }) rest
       ∙ ap (λ (h : Heard). record {
-        uncuts = record { client = past heard.uncuts.client found.size; target = h.uncuts.target; ended = h.uncuts.ended };
+        uncuts =
+            record { client = past heard.uncuts.client found.size; target = h.uncuts.target; ended = h.uncuts.ended };
         quiets = h.quiets;
       }) view
 
-  pub kept_none : (client' : Uncut) → frame_front heard.uncuts.client.pending ≡ waits → client' ≡ left (frame_front client.pending) client
-      → (let it : Heard = record { uncuts = record { client = client'; target = target; ended = ended }; quiets = quiets } in it ≡ heard)
+  pub kept_none : (client' : Uncut) → frame_front heard.uncuts.client.pending ≡ waits
+      → client' ≡ left (frame_front client.pending) client
+      → (let it : Heard = record
+      { uncuts = record { client = client'; target = target; ended = ended }; quiets = quiets } in it ≡ heard)
   kept_none client' none is =
       let here = ap (λ (h : Heard). h.uncuts.client) view in
       let rest : client' ≡ heard.uncuts.client =
       is ∙ ap (λ (u : Uncut). left (frame_front u.pending) u) here
       ∙ ap (λ (front : Front Frame FrameFault). left front heard.uncuts.client) none in
-      ap (λ (u : Uncut). record { uncuts = record { client = u; target = target; ended = ended }; quiets = quiets }) rest
-      ∙ ap (λ (h : Heard). record { uncuts = record { client = heard.uncuts.client; target = h.uncuts.target; ended = h.uncuts.ended }; quiets = h.quiets }) view
+      ap (λ (u : Uncut). record
+      { uncuts = record { client = u; target = target; ended = ended }; quiets = quiets }) rest
+      ∙ ap (λ (h : Heard). record {
+        uncuts = record { client = heard.uncuts.client; target = h.uncuts.target; ended = h.uncuts.ended };
+        quiets =
+            h.quiets;
+      }) view

@@ -1,5 +1,6 @@
 -- How logs grow, and how the words on counts go on from call to call.
-use Rattle.std.proofs.Common.{◌≡◌, ℕ, ◌≤◌, refl, sym, ap, ◌∙◌, arith, List, [], ◌++◌, append_assoc, append-nil, Option, None, Some, inl, inr}
+use Rattle.std.proofs.Common.{◌≡◌, ℕ, ◌≤◌, refl, sym, ap, ◌∙◌, arith, List, [], ◌++◌, append_assoc, append-nil, Option}
+use Rattle.std.proofs.Common.{None, Some, inl, inr}
 use Rattle.std.proofs.lemmas.Bool.{cases_lt}
 use Rattle.std.specs.Option.{option_map}
 use Rattle.wire_core.specs.Outside.{Outside, Adds, Rose}
@@ -13,7 +14,8 @@ adds_none None = refl
 adds_none (Some log) = ap Some (sym (append-nil log))
 
 grows : (log : Option (List Entry)) (xs ys : List Entry)
-    → option_map (λ before. before ++ ys) (option_map (λ before. before ++ xs) log) ≡ option_map (λ before. before ++ (xs ++ ys)) log
+    → option_map (λ before. before ++ ys) (option_map (λ before. before ++ xs) log) ≡ option_map
+    (λ before. before ++ (xs ++ ys)) log
 grows None xs ys = refl
 grows (Some log) xs ys = ap Some (append_assoc log xs ys)
 
@@ -24,7 +26,15 @@ adds_more a b c xs ys h k = k ∙ ap (option_map (λ before. before ++ ys)) h �
 -- nothing happened
 pub keeps_same : (o : Outside) → Keeps o o
 keeps_same o = record {
-  counts = record { client_faults = omega arith; target_faults = omega arith; client_empties = omega arith; target_empties = omega arith; open_faults = omega arith };
+  counts =
+      record {
+        client_faults = omega arith;
+        target_faults = omega arith;
+        client_empties = omega arith;
+        target_empties =
+            omega arith;
+        open_faults = omega arith;
+      };
   asked = refl;
 }
 

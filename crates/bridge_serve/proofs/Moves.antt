@@ -1,5 +1,6 @@
 -- How each message that goes out leads a session from one place to another.
-use Rattle.std.proofs.Common.{◌≡◌, ℕ, ◌<◌, ◌≤◌, refl, sym, ap, subst, ◌∙◌, arith, List, [], ◌∷◌, ◌++◌, append-nil, length, take, inl}
+use Rattle.std.proofs.Common.{◌≡◌, ℕ, ◌<◌, ◌≤◌, refl, sym, ap, subst, ◌∙◌, arith, List, [], ◌∷◌, ◌++◌, append-nil}
+use Rattle.std.proofs.Common.{length, take, inl}
 use Rattle.bridge_core.specs.Steps.{Sight, place_of, in_state, waiting_in, Goes, Sends, IsIdle, IsOver, Finds}
 use Rattle.wire_core.specs.Outside.{Outside, Adds, IsOpen, FailsToSend, broken_send}
 use Rattle.wire_core.specs.Outside.{Sends as sends}
@@ -9,13 +10,16 @@ use Rattle.wire_core.specs.declared.outside.Side.{Side}
 use Rattle.wire_core.specs.declared.outside.Side.TheVariants.{Client, Target}
 use Rattle.world_model.specs.Machine.{State, Message, Due}
 use Rattle.world_model.specs.Session as session
-use Rattle.world_model.specs.Session.{At, Place, Word, Session, IsOn, ended, link_ending, last_words, client_words, target_words}
+use Rattle.world_model.specs.Session.{At, Place, Word, Session, IsOn, ended, link_ending, last_words, client_words}
+use Rattle.world_model.specs.Session.{target_words}
 use Rattle.world_model.specs.declared.ending.Ending.{Ending}
 use Rattle.world_model.specs.declared.ending.Ending.TheVariants.{Done, ClientLink, TargetLink, NoMemory}
 use Rattle.world_model.specs.declared.ending.Limits.{Limits}
 use Rattle.world_model.specs.declared.machine.Phase.TheVariants.{Gone}
-use Rattle.bridge_serve.specs.Following.{standing, Heard, nothing_heard, Leads, Stopped, IsLeft, IsCounted, Blames, Framed, CoreIsReady, CoreGoesOn, CoreStops}
-use Rattle.bridge_serve.proofs.LastWords.{each_client, each_target, attached_is_here, left_at, left_for_memory, speaks_bytes}
+use Rattle.bridge_serve.specs.Following.{standing, Heard, nothing_heard, Leads, Stopped, IsLeft, IsCounted, Blames}
+use Rattle.bridge_serve.specs.Following.{Framed, CoreIsReady, CoreGoesOn, CoreStops}
+use Rattle.bridge_serve.proofs.LastWords.{each_client, each_target, attached_is_here, left_at, left_for_memory}
+use Rattle.bridge_serve.proofs.LastWords.{speaks_bytes}
 use Rattle.bridge_serve.proofs.Logs.{adds_none, adds_more, keeps_same, keeps_on, blames_on}
 use Rattle.bridge_serve.proofs.StepFrames.{Stays, outgoing, goes_stays, stays_on, stays_same, by}
 
@@ -23,7 +27,8 @@ module _ (limits : Limits) where
   -- a session that goes on with these entries
   unfoldable pub Continues : ℕ → At → List Entry → ℕ → At → Type 0
   Continues before from entries after to = (log : List Entry) (messages : List Message)
-      → Session limits log messages before from → (later : List Message) × Session limits (log ++ entries) later after to
+      → Session limits log messages before from
+      → (later : List Message) × Session limits (log ++ entries) later after to
 
   -- whoever logs the entries leads the session on
   pub leads_by : (old new : Outside) (entries : List Entry) (before after : ℕ) (from to : At) → Adds old new entries
@@ -39,29 +44,34 @@ module _ (limits : Limits) where
       }
 
   -- a step that logs nothing
-  pub unlogged : (before after : ℕ) (from to : At) → ((log : List Entry) (messages : List Message) → Session limits log messages before from
+  pub unlogged : (before after : ℕ) (from to : At)
+      → ((log : List Entry) (messages : List Message) → Session limits log messages before from
       → (later : List Message) × Session limits log later after to) → Continues before from [] after to
   unfolding Continues
   unlogged before after from to step log messages s = rw append-nil (step log messages s)
 
   -- and changes nothing outside
-  pub leads_in_place : (o : Outside) (turns : ℕ) (from to : At) → ((log : List Entry) (messages : List Message) → Session limits log messages turns from
+  pub leads_in_place : (o : Outside) (turns : ℕ) (from to : At)
+      → ((log : List Entry) (messages : List Message) → Session limits log messages turns from
       → (later : List Message) × Session limits log later turns to) → Leads limits o turns from o turns to
   leads_in_place o turns from to step =
       leads_by o o [] turns turns from to (adds_none o.log) (unlogged turns turns from to step)
 
   -- one thing after the other, up to an ending
-  pub stopped_on : (a b c : Outside) (before middle after : ℕ) (from to : At) (core : Sight) (ending : Ending) → Leads limits a before from b middle to
+  pub stopped_on : (a b c : Outside) (before middle after : ℕ) (from to : At) (core : Sight) (ending : Ending)
+      → Leads limits a before from b middle to
       → Stopped limits b middle to c after core ending → Stopped limits a before from c after core ending
   stopped_on a b c before middle after from to core ending h k =
       record { to = k.to; leads = λ begin follows. k.leads begin (h begin follows); is_left = k.is_left }
 
   -- where a core has room for what waits, the session is on
-  pub is_on : (core : Sight) (heard : Heard) → core.limit ≡ limits.waiting → waiting_in core ≤ core.limit → IsOn limits (standing core heard)
+  pub is_on : (core : Sight) (heard : Heard) → core.limit ≡ limits.waiting → waiting_in core ≤ core.limit
+      → IsOn limits (standing core heard)
   is_on core heard limit room = record { goes_on = refl; no_flood = omega (arith, limit, room) }
 
   -- the machine goes on by itself
-  pub goes_all : {s next : State} (core : Sight) (heard : Heard) (log : List Entry) (messages : List Message) (turns : ℕ) → Goes s next
+  pub goes_all : {s next : State} (core : Sight) (heard : Heard) (log : List Entry) (messages : List Message)
+      (turns : ℕ) → Goes s next
       → core.limit ≡ limits.waiting → waiting_in (in_state core s) ≤ core.limit
       → Session limits log messages turns (standing (in_state core s) heard)
       → Session limits log messages turns (standing (in_state core next) heard)
@@ -72,7 +82,8 @@ module _ (limits : Limits) where
       (Session.goes h (is_on (in_state core s) heard limit room) is)
 
 -- what the machine by itself leaves
-framed_by : {core core' : Sight} → Stays core.state core'.state → core'.raw ≡ core.raw → core'.limit ≡ core.limit → Framed core core'
+framed_by : {core core' : Sight} → Stays core.state core'.state → core'.raw ≡ core.raw → core'.limit ≡ core.limit
+    → Framed core core'
 framed_by stays raw limit = record {
   greeted = stays.greeted;
   closing = stays.closing;
@@ -92,7 +103,8 @@ framed_on h k = record {
   limit = k.limit ∙ h.limit;
 }
 
-less_room : (core core' : Sight) → Stays core.state core'.state → core'.raw ≡ core.raw → core'.limit ≡ core.limit → waiting_in core ≤ core.limit
+less_room : (core core' : Sight) → Stays core.state core'.state → core'.raw ≡ core.raw → core'.limit ≡ core.limit
+    → waiting_in core ≤ core.limit
     → waiting_in core' ≤ core'.limit
 less_room core core' stays raw limit room =
     let fewer = stays.no_more in
@@ -100,8 +112,10 @@ less_room core core' stays raw limit room =
     omega (arith, fewer, same, limit, room)
 
 -- a core in another state
-ready_on : (old new : Outside) (core core' : Sight) → CoreIsReady old core → Stays core.state core'.state → core'.raw ≡ core.raw
-    → core'.limit ≡ core.limit → new.client.is_open ≡ old.client.is_open → new.target.is_open ≡ old.target.is_open → CoreIsReady new core'
+ready_on : (old new : Outside) (core core' : Sight) → CoreIsReady old core → Stays core.state core'.state
+    → core'.raw ≡ core.raw
+    → core'.limit ≡ core.limit → new.client.is_open ≡ old.client.is_open → new.target.is_open ≡ old.target.is_open
+    → CoreIsReady new core'
 ready_on old new core core' ready stays raw limit client target = record {
   client = client ∙ ready.client;
   target = λ here. target ∙ ready.target (λ gone. here (stays.stays_gone gone));
@@ -128,8 +142,10 @@ rests o core core' ready idle =
 
 -- A message that is due goes out -------------------------------------------------------------------------------------
 
-speaks_raw : {place place' : Place} {message : Message} {side : Side} {bytes : List ℕ} → session.Speaks place message side bytes place'
-    → (place'.raw ≡ place.raw) × (side ≡ Client → place'.commands.next ≡ place.commands.next) × (side ≡ Target → place'.told ≡ place.told)
+speaks_raw : {place place' : Place} {message : Message} {side : Side} {bytes : List ℕ}
+    → session.Speaks place message side bytes place'
+    → (place'.raw ≡ place.raw) × (side ≡ Client → place'.commands.next ≡ place.commands.next)
+    × (side ≡ Target → place'.told ≡ place.told)
 speaks_raw session.Speaks.tells = (refl, λ _. refl, λ side. cc)
 speaks_raw session.Speaks.greets = (refl, λ side. cc, λ _. refl)
 speaks_raw (session.Speaks.sends serve) = (refl, λ side. cc, λ _. refl)
@@ -156,7 +172,8 @@ sent_so core core' side bytes sends =
       told = kept.2;
     }
 
-pub open_for : (o : Outside) (core core' : Sight) (side : Side) (bytes : List ℕ) → CoreIsReady o core → Sends core side bytes core' → IsOpen side o
+pub open_for : (o : Outside) (core core' : Sight) (side : Side) (bytes : List ℕ) → CoreIsReady o core
+    → Sends core side bytes core' → IsOpen side o
 open_for o core core' Client bytes ready sends = ready.client
 open_for o core core' Target bytes ready sends = ready.target ((sent_so core core' Target bytes sends).to_target refl)
 
@@ -166,17 +183,20 @@ bytes_for core core' side bytes sends =
 
 module _ (limits : Limits) where
   -- the machine comes to it
-  due_now : (core core' : Sight) (side : Side) (bytes : List ℕ) (heard : Heard) (log : List Entry) (messages : List Message) (turns : ℕ)
+  due_now : (core core' : Sight) (side : Side) (bytes : List ℕ) (heard : Heard) (log : List Entry)
+      (messages : List Message) (turns : ℕ)
       → waiting_in core ≤ core.limit → core.limit ≡ limits.waiting → (sends : Sends core side bytes core')
       → Session limits log messages turns (standing core heard)
-      → Session limits log messages turns (standing (in_state core sends.before) heard) × IsOn limits (standing (in_state core sends.before) heard)
+      → Session limits log messages turns (standing (in_state core sends.before) heard)
+      × IsOn limits (standing (in_state core sends.before) heard)
   due_now core core' side bytes heard log messages turns room limit sends s =
       let less = (goes_stays sends.comes).no_more in (
         goes_all limits core heard log messages turns sends.comes limit room s,
         is_on limits (in_state core sends.before) heard limit (omega (arith, room, less)),
       )
 
-  sends_one : (core core' : Sight) (side : Side) (bytes : List ℕ) (heard : Heard) (turns : ℕ) → waiting_in core ≤ core.limit
+  sends_one : (core core' : Sight) (side : Side) (bytes : List ℕ) (heard : Heard) (turns : ℕ)
+      → waiting_in core ≤ core.limit
       → core.limit ≡ limits.waiting → Sends core side bytes core'
       → Continues limits turns (standing core heard) (Out side bytes ∷ []) turns (standing core' heard)
   unfolding Continues
@@ -185,7 +205,8 @@ module _ (limits : Limits) where
       (_, Session.speaks now.0 now.1 sends.allows (sends.speaks heard.uncuts))
 
   -- its send fails, and the link with it
-  breaks_one : (core core' : Sight) (side : Side) (bytes : List ℕ) (kept : ℕ) (heard : Heard) (turns : ℕ) → waiting_in core ≤ core.limit
+  breaks_one : (core core' : Sight) (side : Side) (bytes : List ℕ) (kept : ℕ) (heard : Heard) (turns : ℕ)
+      → waiting_in core ≤ core.limit
       → core.limit ≡ limits.waiting → (sends : Sends core side bytes core') → kept < length bytes
       → Continues limits turns (standing core heard) (broken_send side (take kept bytes)) turns
       (record (ended (standing (in_state core sends.before) heard) (link_ending side)) { broken = 1 })
@@ -200,9 +221,12 @@ sends_on old new core core' side bytes ready due_message sent =
     let left = sent_so core core' side bytes due_message in
     record {
       leads = λ limits heard turns limit.
-          leads_by limits old new _ turns turns _ _ sent.log (sends_one limits core core' side bytes heard turns ready.room limit due_message);
+          leads_by limits old new _ turns turns _ _ sent.log
+          (sends_one limits core core' side bytes heard turns ready.room limit due_message);
       keeps = record { counts = sent.counts; asked = sent.asked };
-      ready = ready_on old new core core' ready left.stays left.raw due_message.same_limit sent.stays.client sent.stays.target;
+      ready =
+          ready_on old new core core' ready left.stays left.raw due_message.same_limit sent.stays.client
+          sent.stays.target;
       framed = framed_by left.stays left.raw due_message.same_limit;
     }
 
@@ -216,17 +240,22 @@ words_broken core core' Target bytes sends =
     let out = outgoing (sends.speaks nothing_heard.uncuts) sends.allows in
     sym (out.words refl)
 
-left_broken : (old new : Outside) (core core' : Sight) (side : Side) (bytes : List ℕ) (heard : Heard) → CoreIsReady old core
+left_broken : (old new : Outside) (core core' : Sight) (side : Side) (bytes : List ℕ) (heard : Heard)
+    → CoreIsReady old core
     → (sends : Sends core side bytes core') → FailsToSend old new side bytes
-    → IsLeft new core' (record (ended (standing (in_state core sends.before) heard) (link_ending side)) { broken = 1 }) (link_ending side)
+    → IsLeft new core' (record (ended (standing (in_state core sends.before) heard) (link_ending side)) { broken = 1 })
+    (link_ending side)
 left_broken old new core core' Client bytes heard ready sends failed =
     let left = sent_so core core' Client bytes sends in
     record {
       is_ended = inl refl;
       words = words_broken core core' Client bytes sends;
-      counted = each_target (IsCounted (place_of core heard.uncuts) core') core'.state.phase (λ attached. sym (left.next refl));
+      counted =
+          each_target (IsCounted (place_of core heard.uncuts) core') core'.state.phase
+          (λ attached. sym (left.next refl));
       speakable = each_target _ core'.state.phase
-          (λ attached. failed.closes.other ∙ ready.target (λ gone. attached_is_here attached (left.stays.stays_gone gone)));
+          (λ attached. failed.closes.other ∙ ready.target
+          (λ gone. attached_is_here attached (left.stays.stays_gone gone)));
     }
 left_broken old new core core' Target bytes heard ready sends failed =
     let left = sent_so core core' Target bytes sends in
@@ -237,7 +266,8 @@ left_broken old new core core' Target bytes heard ready sends failed =
       speakable = each_client _ (λ told. failed.closes.other ∙ ready.client) core'.state;
     }
 
-blames_broken : (old new : Outside) (side : Side) (bytes : List ℕ) → FailsToSend old new side bytes → Blames old new (link_ending side)
+blames_broken : (old new : Outside) (side : Side) (bytes : List ℕ) → FailsToSend old new side bytes
+    → Blames old new (link_ending side)
 blames_broken old new Client bytes failed = record { client = λ is_link. failed.rose; target = λ is_link. cc }
 blames_broken old new Target bytes failed = record { client = λ is_link. cc; target = λ is_link. failed.rose }
 
@@ -257,19 +287,26 @@ breaks old new core core' side bytes ready sends failed = record {
 -- The machine finds an end -------------------------------------------------------------------------------------------
 
 no_blame : (o : Outside) (ending : Ending) → (ending ≡ ClientLink → ⊥) → (ending ≡ TargetLink → ⊥) → Blames o o ending
-no_blame o ending client target = record { client = λ is_link. absurd (client is_link); target = λ is_link. absurd (target is_link) }
+no_blame o ending client target =
+    record { client = λ is_link. absurd (client is_link); target = λ is_link. absurd (target is_link) }
 
 -- memory ran out, and nothing was sent
 pub stops_for_memory : (o : Outside) (core core' : Sight) → CoreStops o o core core' NoMemory
 stops_for_memory o core core' = record {
   stopped = λ limits heard turns limit.
-      record { to = standing core heard; leads = λ begin follows. follows; is_left = left_for_memory o core' (standing core heard) refl };
+      record {
+        to = standing core heard;
+        leads = λ begin follows. follows;
+        is_left = left_for_memory o core'
+            (standing core heard) refl;
+      };
   keeps = keeps_same o;
   blames = no_blame o NoMemory (λ is_link. cc) (λ is_link. cc);
 }
 
 -- the machine found the session over
-over_stops : (o : Outside) (core core' : Sight) (ending : Ending) → CoreIsReady o core → IsOver core ending core' → CoreStops o o core core' ending
+over_stops : (o : Outside) (core core' : Sight) (ending : Ending) → CoreIsReady o core → IsOver core ending core'
+    → CoreStops o o core core' ending
 over_stops o core core' ending ready over =
     let done = by core'.state (Due.over ending) over.is_due in
     let stays = goes_stays over.comes in
@@ -288,10 +325,13 @@ over_stops o core core' ending ready over =
             (left_at o now (ended (standing now heard) ending) ending ready'.client ready'.target refl refl refl refl);
       };
       keeps = keeps_same o;
-      blames = no_blame o ending (λ is_link. let e : Done ≡ ClientLink = sym done ∙ is_link in cc) (λ is_link. let e : Done ≡ TargetLink = sym done ∙ is_link in cc);
+      blames =
+          no_blame o ending (λ is_link. let e : Done ≡ ClientLink = sym done ∙ is_link in cc)
+          (λ is_link. let e : Done ≡ TargetLink = sym done ∙ is_link in cc);
     }
 
-pub finds_stops : (o : Outside) (core core' : Sight) (ending : Ending) → CoreIsReady o core → Finds core core' ending → CoreStops o o core core' ending
+pub finds_stops : (o : Outside) (core core' : Sight) (ending : Ending) → CoreIsReady o core → Finds core core' ending
+    → CoreStops o o core core' ending
 finds_stops o core core' ending ready Finds.no_memory = stops_for_memory o core core'
 finds_stops o core core' ending ready (Finds.over over) = over_stops o core core' ending ready over
 
@@ -306,9 +346,12 @@ core_on a b c x y z h k = record {
   framed = framed_on h.framed k.framed;
 }
 
-pub core_stops_on : (a b c : Outside) (x y z : Sight) (ending : Ending) → CoreGoesOn a b x y → CoreStops b c y z ending → CoreStops a c x z ending
+pub core_stops_on : (a b c : Outside) (x y z : Sight) (ending : Ending) → CoreGoesOn a b x y → CoreStops b c y z ending
+    → CoreStops a c x z ending
 core_stops_on a b c x y z ending h k = record {
-  stopped = λ limits heard turns limit. stopped_on limits a b c turns turns turns _ _ z ending (h.leads limits heard turns limit)
+  stopped =
+      λ limits heard turns limit. stopped_on limits a b c turns turns turns _ _ z ending
+      (h.leads limits heard turns limit)
       (k.stopped limits heard turns (h.framed.limit ∙ limit));
   keeps = keeps_on h.keeps k.keeps;
   blames = blames_on c ending h.keeps k.blames;

@@ -1,6 +1,6 @@
 -- What a step of the machine leaves as it was, and which last words follow it.
-use Rattle.std.proofs.Common.{◌≡◌, ℕ, ◌≤◌, refl, sym, ap, subst, ◌∙◌, arith, Bool, true, false, List, [], ◌∷◌, ◌++◌, length, map}
-use Rattle.std.proofs.Common.{Option, None, Some}
+use Rattle.std.proofs.Common.{◌≡◌, ℕ, ◌≤◌, refl, sym, ap, subst, ◌∙◌, arith, Bool, true, false, List, [], ◌∷◌, ◌++◌}
+use Rattle.std.proofs.Common.{length, map, Option, None, Some}
 use Rattle.bridge_core.specs.Steps.{Goes}
 use Rattle.dap_messages.specs.declared.requests.Request.{Request}
 use Rattle.dap_messages.specs.declared.told.Event.{Event}
@@ -12,10 +12,12 @@ use Rattle.jdwp_commands.specs.declared.asked.Replied.{Replied}
 use Rattle.wire_core.specs.declared.outside.Side.{Side}
 use Rattle.wire_core.specs.declared.outside.Side.TheVariants.{Client, Target}
 use Rattle.world_model.proofs.StepLaws.{by_due}
-use Rattle.world_model.specs.Machine.{State, Hand, Need, Named, Message, Allows, Due, due, due_in, due_part, due_next, due_for, without_target}
-use Rattle.world_model.specs.Machine.{in_hand, sent, responded, greeted_by, measured_by, changed_by, shown_by, after_event, attached_from}
-use Rattle.world_model.specs.Machine.{reply_among, sizes_reply, next_wish, threads_need}
-use Rattle.world_model.specs.Session.{Place, Speaks, client_words, owed_in, owed_in_hand, waiting_requests, fails_gone, end_word}
+use Rattle.world_model.specs.Machine.{State, Hand, Need, Named, Message, Allows, Due, due, due_in, due_part, due_next}
+use Rattle.world_model.specs.Machine.{due_for, without_target, in_hand, sent, responded, greeted_by, measured_by}
+use Rattle.world_model.specs.Machine.{changed_by, shown_by, after_event, attached_from, reply_among, sizes_reply}
+use Rattle.world_model.specs.Machine.{next_wish, threads_need}
+use Rattle.world_model.specs.Session.{Place, Speaks, client_words, owed_in, owed_in_hand, waiting_requests, fails_gone}
+use Rattle.world_model.specs.Session.{end_word}
 use Rattle.world_model.specs.declared.ending.Ending.TheVariants.{Done}
 use Rattle.world_model.specs.declared.machine.Item.{Item}
 use Rattle.world_model.specs.declared.machine.Item.TheVariants as items
@@ -114,16 +116,19 @@ owed_past_greets : (item : Item) (parts : List Part) → owed_in item (Greets �
 owed_past_greets (items.Request request) parts = refl
 owed_past_greets items.TargetEnd parts = refl
 
-owed_past_leaves : (item : Item) (leaving : Leaving) (parts : List Part) → owed_in item (Leaves leaving ∷ parts) ≡ owed_in item parts
+owed_past_leaves : (item : Item) (leaving : Leaving) (parts : List Part)
+    → owed_in item (Leaves leaving ∷ parts) ≡ owed_in item parts
 owed_past_leaves (items.Request request) leaving parts = refl
 owed_past_leaves items.TargetEnd leaving parts = refl
 
 same_words : (s : State) (hand : Hand) (parts : List Part) → owed_in_hand s.hand ≡ owed_in hand.item parts
     → client_words (in_hand s hand parts) ≡ client_words s
 same_words s hand parts owed =
-    ap (λ (requests : List Request). map fails_gone (requests ++ waiting_requests s.waiting) ++ end_word s.terminated) (sym owed)
+    ap (λ (requests : List Request). map fails_gone (requests ++ waiting_requests s.waiting) ++ end_word s.terminated)
+    (sym owed)
 
-by_part : (s : State) (hand : Hand) (parts : List Part) → owed_in_hand s.hand ≡ owed_in hand.item parts → By s (due_part s hand parts)
+by_part : (s : State) (hand : Hand) (parts : List Part) → owed_in_hand s.hand ≡ owed_in hand.item parts
+    → By s (due_part s hand parts)
 by_part s hand [] owed = in_phase refl refl refl (omega arith)
 by_part s hand (Greets ∷ parts) owed =
     (in_phase refl refl refl (omega arith), same_words s hand parts (owed ∙ owed_past_greets hand.item parts))
@@ -211,7 +216,13 @@ outgoing {before} Speaks.tells (Allows.tells {next} {told} is) =
     record { stays = left.0; phase = λ _. left.1; words = λ side. cc; to_target = λ side. cc }
 outgoing {before} Speaks.greets (Allows.greets {next} is) =
     let left : By before (Due.greets next) = by before (Due.greets next) is in
-    record { stays = left.0; phase = λ side. cc; words = λ _. left.1; to_target = λ _. has_target before (Due.greets next) is tt }
+    record {
+      stays = left.0;
+      phase = λ side. cc;
+      words = λ _. left.1;
+      to_target = λ _. has_target before
+          (Due.greets next) is tt;
+    }
 outgoing {before} (Speaks.sends serve) (Allows.sends {next} {effect} is) =
     let left : By before (Due.sends effect next) = by before (Due.sends effect next) is in
     record {

@@ -1,8 +1,10 @@
 -- How what came of the target is taken up: its end, its handshake, and its packets.
-use Rattle.std.proofs.Common.{◌≡◌, ℕ, ◌+◌, ◌<◌, ◌≤◌, ◌==◌, ◌^◌, refl, sym, ap, subst, ◌∙◌, arith, Bool, true, false, if◌then◌else◌, List, [], ◌∷◌, ◌++◌, length, take, drop, Option, None, Some, Result, Ok, Err, OnOk, IfErr}
+use Rattle.std.proofs.Common.{◌≡◌, ℕ, ◌+◌, ◌<◌, ◌≤◌, ◌==◌, ◌^◌, refl, sym, ap, subst, ◌∙◌, arith, Bool, true, false}
+use Rattle.std.proofs.Common.{if◌then◌else◌, List, [], ◌∷◌, ◌++◌, length, take, drop, Option, None, Some, Result, Ok}
+use Rattle.std.proofs.Common.{Err, OnOk, IfErr}
 use Rattle.std.proofs.lemmas.List.{length-drop, length-take-le}
-use Rattle.bridge_core.specs.Steps.{Sight, in_state, waiting_in, raw_in, offset_of, packet_of, body_of, IsLike, Moves, RefusesPacket, RefusesEnd, TakesPacket}
-use Rattle.bridge_core.specs.Steps.{GoesOn as fits, without_target}
+use Rattle.bridge_core.specs.Steps.{Sight, in_state, waiting_in, raw_in, offset_of, packet_of, body_of, IsLike, Moves}
+use Rattle.bridge_core.specs.Steps.{RefusesPacket, RefusesEnd, TakesPacket, GoesOn as fits, without_target}
 use Rattle.jdwp_commands.specs.declared.asked.Asked.{Asked}
 use Rattle.jdwp_commands.specs.declared.asked.Asked.TheVariants.{Question as a_question, Effect as an_effect}
 use Rattle.jdwp_commands.specs.declared.asked.Replied.{Replied}
@@ -14,7 +16,8 @@ use Rattle.jdwp_events.specs.declared.composite.CompositeFault.{CompositeFault}
 use Rattle.jdwp_events.specs.declared.composite.CompositeFault.TheVariants as composite_faults
 use Rattle.jdwp_packets.proofs.PacketLaws.{packet-steady, whole-is}
 use Rattle.jdwp_packets.specs.Packets as packets
-use Rattle.jdwp_packets.specs.Packets.{Packet, command_packet, reply_packet, packet_front, greeting_front, flags_of, size_of}
+use Rattle.jdwp_packets.specs.Packets.{Packet, command_packet, reply_packet, packet_front, greeting_front, flags_of}
+use Rattle.jdwp_packets.specs.Packets.{size_of}
 use Rattle.jdwp_packets.specs.Receiving.{Received, received_front, before_greeting, left_behind}
 use Rattle.jdwp_packets.specs.Taking.{IsAnswer, IsTaken, Shows}
 use Rattle.jdwp_packets.specs.declared.cutter.Packet.{Packet as Shown}
@@ -25,9 +28,11 @@ use Rattle.wire_core.specs.Outside.{Outside, IsOpen}
 use Rattle.wire_core.specs.Streams.{Front, waits, whole, faulty, Uncut, past, left}
 use Rattle.wire_core.specs.declared.outside.Entry.{Entry}
 use Rattle.wire_core.specs.declared.outside.Side.TheVariants.{Client, Target}
-use Rattle.world_model.specs.Machine.{State, Message, Allows, due, Due, target_ended, ended_from, answered, noted, wish_of, wish_settled, is_end}
+use Rattle.world_model.specs.Machine.{State, Message, Allows, due, Due, target_ended, ended_from, answered, noted}
+use Rattle.world_model.specs.Machine.{wish_of, wish_settled, is_end}
 use Rattle.world_model.specs.Session as session
-use Rattle.world_model.specs.Session.{At, Place, Raw, Session, Says, IsOn, ReadsTarget, ended, last_words, target_front, composite_ending, body_ending, target_fault}
+use Rattle.world_model.specs.Session.{At, Place, Raw, Session, Says, IsOn, ReadsTarget, ended, last_words, target_front}
+use Rattle.world_model.specs.Session.{composite_ending, body_ending, target_fault}
 use Rattle.world_model.specs.declared.ending.Ending.{Ending}
 use Rattle.world_model.specs.declared.ending.Ending.TheVariants.{BadTarget, ClientLink, TargetLink, Flood, NoMemory}
 use Rattle.world_model.specs.declared.ending.Limits.{Limits}
@@ -36,7 +41,8 @@ use Rattle.world_model.specs.declared.machine.Phase.{Phase}
 use Rattle.world_model.specs.declared.machine.Phase.TheVariants.{Fresh, Attached, Gone}
 use Rattle.world_model.specs.declared.machine.Wish.{Wish}
 use Rattle.world_model.specs.declared.machine.Wish.TheVariants.{ThreadStart, ThreadDeath}
-use Rattle.bridge_serve.specs.Following.{standing, Heard, Leads, Blames, IsReady, IsTakenUp, CoreIsReady, CoreGoesOn, CoreStops, GoesOn, Stops, client_end, target_end}
+use Rattle.bridge_serve.specs.Following.{standing, Heard, Leads, Blames, IsReady, IsTakenUp, CoreIsReady, CoreGoesOn}
+use Rattle.bridge_serve.specs.Following.{CoreStops, GoesOn, Stops, client_end, target_end}
 use Rattle.bridge_serve.proofs.LastWords.{words_of_pending, left_at, left_for_memory}
 use Rattle.bridge_serve.proofs.Logs.{keeps_same, keeps_on, blames_on}
 use Rattle.bridge_serve.proofs.Moves.{leads_in_place, stopped_on, is_on}
@@ -59,7 +65,8 @@ pub record TakesUp (o : Outside) (core core' : Sight) (heard heard' : Heard) : T
   pub same_limit : core'.limit ≡ core.limit
   pub ends : SameEnds heard heard'
 
-pub tells_on : (old new : Outside) (core middle core' : Sight) (heard heard' : Heard) → TakesUp old core middle heard heard'
+pub tells_on : (old new : Outside) (core middle core' : Sight) (heard heard' : Heard)
+    → TakesUp old core middle heard heard'
     → CoreGoesOn old new middle core' → due core'.state ≡ Due.waits → GoesOn old new core core' heard heard'
 tells_on old new core middle core' heard heard' takes on nothing_due = record {
   leads = λ limits turns limit begin follows.
@@ -78,24 +85,29 @@ tells_on old new core middle core' heard heard' takes on nothing_due = record {
   same_quiets = takes.ends.quiets;
 }
 
-pub tells_last : (old new : Outside) (core middle core' : Sight) (heard heard' : Heard) (ending : Ending) → TakesUp old core middle heard heard'
+pub tells_last : (old new : Outside) (core middle core' : Sight) (heard heard' : Heard) (ending : Ending)
+    → TakesUp old core middle heard heard'
     → CoreStops old new middle core' ending → Stops old new core core' heard ending
 tells_last old new core middle core' heard heard' ending takes stops = record {
-  stopped = λ limits turns limit. stopped_on limits old old new turns turns turns _ _ core' ending (takes.leads limits turns limit)
+  stopped =
+      λ limits turns limit. stopped_on limits old old new turns turns turns _ _ core' ending
+      (takes.leads limits turns limit)
       (stops.stopped limits heard' turns (takes.same_limit ∙ limit));
   keeps = stops.keeps;
   blames = stops.blames;
 }
 
 -- both sides are open, but for a target that is gone
-pub core_ready : (o : Outside) (core : Sight) (heard : Heard) → IsReady o core heard → heard.uncuts.ended ≡ false → CoreIsReady o core
+pub core_ready : (o : Outside) (core : Sight) (heard : Heard) → IsReady o core heard → heard.uncuts.ended ≡ false
+    → CoreIsReady o core
 core_ready o core heard ready not_ended = record {
   client = ready.opens.client;
   target = λ here. ready.opens.target here not_ended;
   room = ready.room;
 }
 
-pub on_in : (limits : Limits) (o : Outside) (core : Sight) (heard : Heard) → IsReady o core heard → core.limit ≡ limits.waiting
+pub on_in : (limits : Limits) (o : Outside) (core : Sight) (heard : Heard) → IsReady o core heard
+    → core.limit ≡ limits.waiting
     → IsOn limits (standing core heard)
 on_in limits o core heard ready limit = is_on limits core heard limit ready.room
 
@@ -112,9 +124,12 @@ stays o core heard ready = record {
 }
 
 -- one after the other
-pub on_and_on : (a b c : Outside) (x y z : Sight) (u v w : Heard) → GoesOn a b x y u v → GoesOn b c y z v w → GoesOn a c x z u w
+pub on_and_on : (a b c : Outside) (x y z : Sight) (u v w : Heard) → GoesOn a b x y u v → GoesOn b c y z v w
+    → GoesOn a c x z u w
 on_and_on a b c x y z u v w h k = record {
-  leads = λ limits turns limit begin follows. k.leads limits turns (h.same_limit ∙ limit) begin (h.leads limits turns limit begin follows);
+  leads =
+      λ limits turns limit begin follows. k.leads limits turns (h.same_limit ∙ limit) begin
+      (h.leads limits turns limit begin follows);
   keeps = keeps_on h.keeps k.keeps;
   ready = k.ready;
   same_limit = k.same_limit ∙ h.same_limit;
@@ -123,7 +138,8 @@ on_and_on a b c x y z u v w h k = record {
   same_quiets = k.same_quiets ∙ h.same_quiets;
 }
 
-pub on_and_stops : (a b c : Outside) (x y z : Sight) (u v : Heard) (ending : Ending) → GoesOn a b x y u v → Stops b c y z v ending
+pub on_and_stops : (a b c : Outside) (x y z : Sight) (u v : Heard) (ending : Ending) → GoesOn a b x y u v
+    → Stops b c y z v ending
     → Stops a c x z u ending
 on_and_stops a b c x y z u v ending h k = record {
   stopped = λ limits turns limit. stopped_on limits a b c turns turns turns _ _ z ending (h.leads limits turns limit)
@@ -150,7 +166,12 @@ no_link o ending none = record {
 pub forgets : (o : Outside) (core core' : Sight) (heard : Heard) → Stops o o core core' heard NoMemory
 forgets o core core' heard = record {
   stopped = λ limits turns limit.
-      record { to = standing core heard; leads = λ begin follows. follows; is_left = left_for_memory o core' (standing core heard) refl };
+      record {
+        to = standing core heard;
+        leads = λ begin follows. follows;
+        is_left = left_for_memory o core'
+            (standing core heard) refl;
+      };
   keeps = keeps_same o;
   blames = no_link o NoMemory tt;
 }
@@ -158,10 +179,14 @@ forgets o core core' heard = record {
 -- a cause stands where something was taken up
 pub stops_there : (o : Outside) (core there core' : Sight) (heard heard' : Heard) (ending : Ending)
     → ((limits : Limits) (turns : ℕ) → core.limit ≡ limits.waiting → (log : List Entry) (messages : List Message)
-    → Session limits log messages turns (standing core heard) → (later : List Message) × Session limits log later turns (standing there heard'))
-    → ((limits : Limits) (turns : ℕ) → core.limit ≡ limits.waiting → session.Stops limits turns (standing there heard') ending)
-    → IsOpen Client o → ((core'.state.phase ≡ Gone → ⊥) → IsOpen Target o) → last_words ending there.state ≡ last_words ending core'.state
-    → there.told ≡ core'.told → there.commands.next ≡ core'.commands.next → IsNoLink ending → Stops o o core core' heard ending
+    → Session limits log messages turns (standing core heard)
+    → (later : List Message) × Session limits log later turns (standing there heard'))
+    → ((limits : Limits) (turns : ℕ) → core.limit ≡ limits.waiting
+    → session.Stops limits turns (standing there heard') ending)
+    → IsOpen Client o → ((core'.state.phase ≡ Gone → ⊥) → IsOpen Target o)
+    → last_words ending there.state ≡ last_words ending core'.state
+    → there.told ≡ core'.told → there.commands.next ≡ core'.commands.next → IsNoLink ending
+    → Stops o o core core' heard ending
 stops_there o core there core' heard heard' ending comes cause client target words told next none = record {
   stopped = λ limits turns limit. record {
     to = ended (standing there heard') ending;
@@ -175,11 +200,14 @@ stops_there o core there core' heard heard' ending comes cause client target wor
 }
 
 -- a cause stands here, and the core is as it was but for what is pending
-pub stops_here : (o : Outside) (core core' : Sight) (heard : Heard) (ending : Ending) → CoreIsReady o core → IsLike core core'
-    → ((limits : Limits) (turns : ℕ) → core.limit ≡ limits.waiting → session.Stops limits turns (standing core heard) ending)
+pub stops_here : (o : Outside) (core core' : Sight) (heard : Heard) (ending : Ending) → CoreIsReady o core
+    → IsLike core core'
+    → ((limits : Limits) (turns : ℕ) → core.limit ≡ limits.waiting
+    → session.Stops limits turns (standing core heard) ending)
     → IsNoLink ending → Stops o o core core' heard ending
 stops_here o core core' heard ending ready like cause none =
-    stops_there o core core core' heard heard ending (λ limits turns limit log messages s. (messages, s)) cause ready.client
+    stops_there o core core core' heard heard ending (λ limits turns limit log messages s. (messages, s)) cause
+    ready.client
     (λ here. ready.target (λ gone. here (ap (λ (s : State). s.phase) like.state ∙ gone)))
     (sym (ap (λ (s : State). last_words ending s) like.state ∙ words_of_pending ending core.state core'.state.pending))
     (sym like.told) (sym like.next) none
@@ -187,18 +215,23 @@ stops_here o core core' heard ending ready like cause none =
 -- too many items wait
 pub floods : (o : Outside) (core there core' : Sight) (heard heard' : Heard)
     → ((limits : Limits) (turns : ℕ) → core.limit ≡ limits.waiting → (log : List Entry) (messages : List Message)
-    → Session limits log messages turns (standing core heard) → (later : List Message) × Session limits log later turns (standing there heard'))
-    → there.limit ≡ core.limit → IsOpen Client o → ((there.state.phase ≡ Gone → ⊥) → IsOpen Target o) → core' ≡ there → there.limit < waiting_in there
+    → Session limits log messages turns (standing core heard)
+    → (later : List Message) × Session limits log later turns (standing there heard'))
+    → there.limit ≡ core.limit → IsOpen Client o → ((there.state.phase ≡ Gone → ⊥) → IsOpen Target o) → core' ≡ there
+    → there.limit < waiting_in there
     → Stops o o core core' heard Flood
 floods o core there core' heard heard' comes same_limit client target is more =
     subst (λ (c : Sight). Stops o o core c heard Flood) (sym is)
     (stops_there o core there there heard heard' Flood comes
-    (λ limits turns limit. session.Stops.flood (omega (arith, same_limit, limit, more))) client target refl refl refl tt)
+    (λ limits turns limit. session.Stops.flood (omega (arith, same_limit, limit, more))) client target refl refl
+    refl tt)
 
 -- Composites of a target that is gone --------------------------------------------------------------------------------
 
-drop_in : (limits : Limits) (core : Sight) (heard : Heard) (log : List Entry) (messages : List Message) (turns : ℕ) (phase : Phase)
-    → core.state.phase ≡ phase → IsOn limits (standing core heard) → Session limits log messages turns (standing core heard)
+drop_in : (limits : Limits) (core : Sight) (heard : Heard) (log : List Entry) (messages : List Message) (turns : ℕ)
+    (phase : Phase)
+    → core.state.phase ≡ phase → IsOn limits (standing core heard)
+    → Session limits log messages turns (standing core heard)
     → Session limits log messages turns (standing (record core { raw = raw_in phase core.raw }) heard)
 drop_in limits core heard log messages turns Fresh is on s = s
 drop_in limits core heard log messages turns Attached is on s = s
@@ -217,7 +250,8 @@ none_of_gone Gone raw gone = refl
 -- What was taken up fits, and of a target that is gone composites are passed over.
 pub takes_up : (o : Outside) (core there middle : Sight) (heard heard' : Heard)
     → ((limits : Limits) (turns : ℕ) → core.limit ≡ limits.waiting → (log : List Entry) (messages : List Message)
-    → Session limits log messages turns (standing core heard) → (later : List Message) × Session limits log later turns (standing there heard'))
+    → Session limits log messages turns (standing core heard)
+    → (later : List Message) × Session limits log later turns (standing there heard'))
     → there.limit ≡ core.limit → IsOpen Client o → ((there.state.phase ≡ Gone → ⊥) → IsOpen Target o)
     → (there.state.greeted ≡ true → heard'.uncuts.target.greeted ≡ true) → SameEnds heard heard' → fits there middle
     → TakesUp o core middle heard heard'
@@ -267,28 +301,36 @@ end_comes o core heard ready is_ended limits turns limit log messages s =
 pub takes_end : (o : Outside) (core middle : Sight) (heard : Heard) → IsReady o core heard → heard.uncuts.ended ≡ true
     → fits (without_target core) middle → TakesUp o core middle heard (end_taken heard)
 takes_end o core middle heard ready is_ended fitting =
-    takes_up o core (without_target core) middle heard (end_taken heard) (end_comes o core heard ready is_ended) refl ready.opens.client
+    takes_up o core (without_target core) middle heard (end_taken heard) (end_comes o core heard ready is_ended) refl
+    ready.opens.client
     (λ here. absurd (here (gone_at_end core.state)))
     (λ greeted. ready.shaken (sym (greeted_from core.state.phase core.state) ∙ greeted))
     (record { client = refl; target = refl; quiets = refl }) fitting
 
-pub refuses_end : (o : Outside) (core core' : Sight) (heard : Heard) (ending : Ending) → IsReady o core heard → heard.uncuts.ended ≡ true
+pub refuses_end : (o : Outside) (core core' : Sight) (heard : Heard) (ending : Ending) → IsReady o core heard
+    → heard.uncuts.ended ≡ true
     → RefusesEnd core core' ending → Stops o o core core' heard ending
 refuses_end o core core' heard ending ready is_ended RefusesEnd.no_memory = forgets o core core' heard
 refuses_end o core core' heard ending ready is_ended (RefusesEnd.floods over) =
-    floods o core (without_target core) core' heard (end_taken heard) (end_comes o core heard ready is_ended) refl ready.opens.client
+    floods o core (without_target core) core' heard (end_taken heard) (end_comes o core heard ready is_ended) refl
+    ready.opens.client
     (λ here. absurd (here (gone_at_end core.state))) over.is over.no_room
 
 -- Its handshake ------------------------------------------------------------------------------------------------------
 
-pub takes_greeting : (o : Outside) (core core' : Sight) (heard : Heard) → IsReady o core heard → heard.uncuts.ended ≡ false
-    → core.state.greeted ≡ false → heard.uncuts.target.greeted ≡ true → core' ≡ in_state core (record core.state { greeted = true })
+pub takes_greeting : (o : Outside) (core core' : Sight) (heard : Heard) → IsReady o core heard
+    → heard.uncuts.ended ≡ false
+    → core.state.greeted ≡ false → heard.uncuts.target.greeted ≡ true
+    → core' ≡ in_state core (record core.state { greeted = true })
     → TakesUp o core core' heard heard
 takes_greeting o core core' heard ready not_ended first came is =
     let now = core_ready o core heard ready not_ended in
     subst (λ (c : Sight). TakesUp o core c heard heard) (sym is) (record {
-      leads = λ limits turns limit. leads_in_place limits o turns _ _ (λ log messages s.
-          (_, Session.hears s (on_in limits o core heard ready limit) (Allows.greeted ready.nothing_due first) (Says.greeted came)));
+      leads = λ limits turns limit. leads_in_place limits o turns _ _ (λ log messages s. (
+        _,
+        Session.hears s (on_in limits o core heard ready limit) (Allows.greeted ready.nothing_due first)
+            (Says.greeted came),
+      ));
       ready = record { client = now.client; target = now.target; room = now.room };
       shaken = λ _. came;
       none_raw = ready.none_raw;
@@ -313,7 +355,8 @@ noting s (a_question question) replied = record { greeted = refl; stays_gone = �
 noting s (an_effect effect) replied = settling s (wish_of effect) replied
 
 ending_if : (is : Bool) (s next : State) → Answering s next → Answering s (if is then target_ended next else next)
-ending_if true s next h = record { greeted = greeted_from next.phase next ∙ h.greeted; stays_gone = λ gone. gone_at_end next }
+ending_if true s next h =
+    record { greeted = greeted_from next.phase next ∙ h.greeted; stays_gone = λ gone. gone_at_end next }
 ending_if false s next h = h
 
 answering : (s : State) (asked : Asked) (replied : Replied) → Answering s (answered s asked replied)
@@ -327,23 +370,29 @@ record Moving (core there : Sight) : Type 0 where
 
 moving : (core there : Sight) (at : ℕ) (packet : Packet) → Moves core at packet there → Moving core there
 moving core there at packet (Moves.raw keeps) =
-    subst (λ (c : Sight). Moving core c) (sym keeps.kept) (record { greeted = refl; stays_gone = λ gone. gone; limit = refl })
+    subst (λ (c : Sight). Moving core c) (sym keeps.kept)
+    (record { greeted = refl; stays_gone = λ gone. gone; limit = refl })
 moving core there at packet (Moves.reply answers) =
     let s = record core.state { pending = answers.before ++ answers.after } in
     let left = answering s answers.asked answers.replied in
-    subst (λ (c : Sight). Moving core c) (sym answers.becomes) (record { greeted = left.greeted; stays_gone = left.stays_gone; limit = refl })
+    subst (λ (c : Sight). Moving core c) (sym answers.becomes)
+    (record { greeted = left.greeted; stays_gone = left.stays_gone; limit = refl })
 
 -- the packet is cut
 abbrev pub packet_cut : Heard → ℕ → Heard
 packet_cut heard n =
-    record heard { uncuts = record heard.uncuts { target = record heard.uncuts.target { stream = past heard.uncuts.target.stream n } } }
+    record heard {
+      uncuts = record heard.uncuts
+          { target = record heard.uncuts.target { stream = past heard.uncuts.target.stream n } };
+    }
 
 -- The target's packets are read on.
 pub record IsReading (o : Outside) (core : Sight) (heard : Heard) : Type 0 where
   pub ready : IsReady o core heard
   pub taken_up : IsTakenUp core heard
 
-reads_target : (limits : Limits) (o : Outside) (core : Sight) (heard : Heard) → IsReading o core heard → core.limit ≡ limits.waiting
+reads_target : (limits : Limits) (o : Outside) (core : Sight) (heard : Heard) → IsReading o core heard
+    → core.limit ≡ limits.waiting
     → ReadsTarget limits (standing core heard)
 reads_target limits o core heard reading limit = record {
   nothing_due = reading.ready.nothing_due;
@@ -364,7 +413,8 @@ packet_comes o core there heard packet n reading front (Moves.raw keeps) limits 
 )
 packet_comes o core there heard packet n reading front (Moves.reply answers) limits turns limit log messages s = (
   messages ++ Message.answers answers.asked answers.replied ∷ [],
-  subst (λ (c : Sight). Session limits log (messages ++ Message.answers answers.asked answers.replied ∷ []) turns (standing c (packet_cut heard n)))
+  subst (λ (c : Sight). Session limits log (messages ++ Message.answers answers.asked answers.replied ∷ []) turns
+      (standing c (packet_cut heard n)))
       (sym answers.becomes)
       (Session.hears s (on_in limits o core heard reading.ready limit)
       (Allows.answers answers.before answers.after reading.ready.nothing_due answers.pending)
@@ -372,7 +422,8 @@ packet_comes o core there heard packet n reading front (Moves.reply answers) lim
 )
 
 -- a packet that was taken leaves fewer bytes
-received_whole : (greeted : Bool) (bytes : List ℕ) (packet : Packet) (n : ℕ) → received_front greeted bytes ≡ whole packet n
+received_whole : (greeted : Bool) (bytes : List ℕ) (packet : Packet) (n : ℕ)
+    → received_front greeted bytes ≡ whole packet n
     → packet_front bytes ≡ whole packet n
 received_whole true bytes packet n h = h
 received_whole false bytes packet n h = absurd (by (greeting_front bytes) h)
@@ -388,7 +439,8 @@ pub record IsWhole (old : Received) (shown : Shown) : Type 0 where
   pub front : received_front old.greeted old.stream.pending ≡ whole (packet_of shown) size
   pub at : offset_of shown ≡ old.stream.at
 
-shows_is : (shown : Shown) (at : ℕ) (packet : Packet) → Shows shown at packet → (offset_of shown ≡ at) × (packet ≡ packet_of shown)
+shows_is : (shown : Shown) (at : ℕ) (packet : Packet) → Shows shown at packet
+    → (offset_of shown ≡ at) × (packet ≡ packet_of shown)
 shows_is (Command at id set number body) offset packet h = h
 shows_is (Reply at id error body) offset packet h = h
 
@@ -424,13 +476,15 @@ answer_fault (faulty fault distance) at trouble answer =
     (distance, ap stands (sym e), ap (λ (t : PacketTrouble). t.at) e)
 
 pub taken_fault : (old : Received) (trouble : PacketTrouble) → IsTaken old (Err trouble)
-    → (distance : ℕ) × (received_front old.greeted old.stream.pending ≡ faulty trouble.fault distance) × (trouble.at ≡ old.stream.at + distance)
+    → (distance : ℕ) × (received_front old.greeted old.stream.pending ≡ faulty trouble.fault distance)
+    × (trouble.at ≡ old.stream.at + distance)
 taken_fault old trouble taken = answer_fault (received_front old.greeted old.stream.pending) old.stream.at trouble taken
 
 pub rest_is : (old rest : Received) (shown : Shown) (found : IsWhole old shown) → rest ≡ left_behind old
     → rest ≡ record old { stream = past old.stream found.size }
 rest_is old rest shown found is =
-    is ∙ ap (λ (front : Front Packet PacketFault). record { greeted = old.greeted; stream = left front old.stream }) found.front
+    is ∙ ap (λ (front : Front Packet PacketFault). record { greeted = old.greeted; stream = left front old.stream })
+    found.front
 
 -- the bytes of a packet's body
 abbrev body_in : Packet → List ℕ
@@ -441,17 +495,21 @@ body_is : (shown : Shown) → body_of shown ≡ body_in (packet_of shown)
 body_is (Command at id set number body) = refl
 body_is (Reply at id error body) = refl
 
-body_if : (test : Bool) (a b : Packet) (body : List ℕ) → body_in a ≡ body → body_in b ≡ body → body_in (if test then a else b) ≡ body
+body_if : (test : Bool) (a b : Packet) (body : List ℕ) → body_in a ≡ body → body_in b ≡ body
+    → body_in (if test then a else b) ≡ body
 body_if true a b body h k = h
 body_if false a b body h k = k
 
 pub short_body : (old : Received) (shown : Shown) → IsWhole old shown → length (body_of shown) ≤ 67108853
 short_body old shown found =
     let bytes = old.stream.pending in
-    let is = whole-is bytes (packet_of shown) found.size (received_whole old.greeted bytes (packet_of shown) found.size found.front) in
+    let is =
+    whole-is bytes (packet_of shown) found.size
+    (received_whole old.greeted bytes (packet_of shown) found.size found.front) in
     let sized = is.sized in
     let text = take (size_of bytes) bytes in
-    let body : body_in (packets.packet_of text) ≡ drop 11 text = body_if (flags_of text == 0) _ _ (drop 11 text) refl refl in
+    let body : body_in (packets.packet_of text) ≡ drop 11 text =
+    body_if (flags_of text == 0) _ _ (drop 11 text) refl refl in
     let count = ap length (body_is shown ∙ sym (ap body_in is.is) ∙ body) in
     let cut = length-drop 11 text in
     let all = length-take-le (size_of bytes) bytes is.here in
@@ -460,7 +518,8 @@ short_body old shown found =
 
 pub fewer_left : (old : Received) (shown : Shown) (found : IsWhole old shown)
     → (length (past old.stream found.size).pending < length old.stream.pending)
-    × ((past old.stream found.size).at + length (past old.stream found.size).pending ≡ old.stream.at + length old.stream.pending)
+    × ((past old.stream found.size).at + length (past old.stream found.size).pending ≡ old.stream.at + length
+    old.stream.pending)
 fewer_left old shown found =
     let front = received_whole old.greeted old.stream.pending (packet_of shown) found.size found.front in
     let taken = packet-steady.takes old.stream.pending (packet_of shown) found.size front in
@@ -478,7 +537,8 @@ takes_packet o core middle heard shown reading found takes =
     let left = moving core takes.heard heard.uncuts.target.stream.at (packet_of shown) moves in
     takes_up o core takes.heard middle heard (packet_cut heard found.size)
     (packet_comes o core takes.heard heard (packet_of shown) found.size reading found.front moves) left.limit now.client
-    (λ here. now.target (λ gone. here (left.stays_gone gone))) (λ greeted. reading.ready.shaken (sym left.greeted ∙ greeted))
+    (λ here. now.target (λ gone. here (left.stays_gone gone)))
+    (λ greeted. reading.ready.shaken (sym left.greeted ∙ greeted))
     (record { client = refl; target = (fewer_left heard.uncuts.target shown found).1; quiets = refl }) takes.goes_on
 
 -- A packet ends the session.
@@ -500,43 +560,53 @@ no_link_of_composite (Err (composite_faults.BadCount place)) at = tt
 no_link_of_composite (Err (composite_faults.BadTag place)) at = tt
 no_link_of_composite (Err (composite_faults.Trailing place)) at = tt
 
-refused_by : (o : Outside) (core core' : Sight) (heard : Heard) (packet : Packet) (n : ℕ) (ending : Ending) → IsReading o core heard
+refused_by : (o : Outside) (core core' : Sight) (heard : Heard) (packet : Packet) (n : ℕ) (ending : Ending)
+    → IsReading o core heard
     → received_front heard.uncuts.target.greeted heard.uncuts.target.stream.pending ≡ whole packet n
     → RefusesPacket core heard.uncuts.target.stream.at packet core' ending → Stops o o core core' heard ending
 refused_by o core core' heard packet n ending reading front RefusesPacket.no_memory = forgets o core core' heard
 refused_by o core core' heard packet n ending reading front (RefusesPacket.floods {heard = there} moves over) =
     let now = core_ready o core heard reading.ready reading.taken_up.not_ended in
     let left = moving core there heard.uncuts.target.stream.at packet moves in
-    floods o core there core' heard (packet_cut heard n) (packet_comes o core there heard packet n reading front moves) left.limit now.client
+    floods o core there core' heard (packet_cut heard n) (packet_comes o core there heard packet n reading front moves)
+    left.limit now.client
     (λ here. now.target (λ gone. here (left.stays_gone gone))) over.is over.no_room
 refused_by o core core' heard packet n ending reading front (RefusesPacket.bad_command other like) =
     stops_here o core core' heard _ (core_ready o core heard reading.ready reading.taken_up.not_ended) like
     (λ limits turns limit. session.Stops.bad_command (reads_target limits o core heard reading limit) front other) tt
-refused_by o core core' heard packet n ending reading front (RefusesPacket.bad_composite {body = body} {sizes = sizes} is_one known like) =
+refused_by o core core' heard packet n ending reading front
+    (RefusesPacket.bad_composite {body = body} {sizes = sizes} is_one known like) =
     stops_here o core core' heard _ (core_ready o core heard reading.ready reading.taken_up.not_ended) like
-    (λ limits turns limit. session.Stops.bad_composite (reads_target limits o core heard reading limit) front is_one known)
+    (λ limits turns limit. session.Stops.bad_composite (reads_target limits o core heard reading limit) front is_one
+    known)
     (no_link_of_composite (composite_at sizes body) heard.uncuts.target.stream.at)
 refused_by o core core' heard packet n ending reading front (RefusesPacket.unknown none like) =
     stops_here o core core' heard _ (core_ready o core heard reading.ready reading.taken_up.not_ended) like
     (λ limits turns limit. session.Stops.unknown (reads_target limits o core heard reading limit) front none) tt
 refused_by o core core' heard packet n ending reading front (RefusesPacket.refused is_pending is_error is_bad like) =
     stops_here o core core' heard _ (core_ready o core heard reading.ready reading.taken_up.not_ended) like
-    (λ limits turns limit. session.Stops.refused (reads_target limits o core heard reading limit) front is_pending is_error is_bad) tt
+    (λ limits turns limit. session.Stops.refused (reads_target limits o core heard reading limit) front is_pending
+    is_error is_bad) tt
 refused_by o core core' heard packet n ending reading front (RefusesPacket.bad_answer {fault = fault} is like) =
     stops_here o core core' heard _ (core_ready o core heard reading.ready reading.taken_up.not_ended) like
-    (λ limits turns limit. session.Stops.bad_answer (reads_target limits o core heard reading limit) front is.is_pending is.serve is.reads)
+    (λ limits turns limit. session.Stops.bad_answer (reads_target limits o core heard reading limit) front is.is_pending
+    is.serve is.reads)
     (no_link_of_body fault heard.uncuts.target.stream.at)
 refused_by o core core' heard packet n ending reading front (RefusesPacket.bad_sizes is numbers place like) =
     stops_here o core core' heard _ (core_ready o core heard reading.ready reading.taken_up.not_ended) like
     (λ limits turns limit.
-    session.Stops.bad_sizes (reads_target limits o core heard reading limit) front is.is_pending is.serve is.reads numbers place) tt
-refused_by o core core' heard packet n ending reading front (RefusesPacket.bad_raw found {first = first} is numbers raw like) =
+    session.Stops.bad_sizes (reads_target limits o core heard reading limit) front is.is_pending is.serve is.reads
+    numbers place) tt
+refused_by o core core' heard packet n ending reading front
+    (RefusesPacket.bad_raw found {first = first} is numbers raw like) =
     stops_here o core core' heard _ (core_ready o core heard reading.ready reading.taken_up.not_ended) like
     (λ limits turns limit.
-    session.Stops.bad_raw found (reads_target limits o core heard reading limit) front is.is_pending is.serve is.reads numbers raw)
+    session.Stops.bad_raw found (reads_target limits o core heard reading limit) front is.is_pending is.serve is.reads
+    numbers raw)
     (no_link_of_composite (composite_at found first.body) first.at)
 
-pub refuses_packet : (o : Outside) (core core' : Sight) (heard : Heard) (shown : Shown) (ending : Ending) → IsReading o core heard
+pub refuses_packet : (o : Outside) (core core' : Sight) (heard : Heard) (shown : Shown) (ending : Ending)
+    → IsReading o core heard
     → (found : IsWhole heard.uncuts.target shown) → RefusesPacket core (offset_of shown) (packet_of shown) core' ending
     → Stops o o core core' heard ending
 refuses_packet o core core' heard shown ending reading found refuses =
@@ -545,7 +615,8 @@ refuses_packet o core core' heard shown ending reading found refuses =
 
 -- a byte that no packet has there
 pub mispacked : (o : Outside) (core : Sight) (heard : Heard) (trouble : PacketTrouble) → IsReading o core heard
-    → IsTaken heard.uncuts.target (Err trouble) → Stops o o core core heard (BadTarget (packet_fault trouble.fault) trouble.at 0)
+    → IsTaken heard.uncuts.target (Err trouble)
+    → Stops o o core core heard (BadTarget (packet_fault trouble.fault) trouble.at 0)
 mispacked o core heard trouble reading taken =
     let found = taken_fault heard.uncuts.target trouble taken in
     let now = core_ready o core heard reading.ready reading.taken_up.not_ended in
@@ -556,69 +627,99 @@ mispacked o core heard trouble reading taken =
 
 -- What was taken up stays so.
 pub taken_up_on : (old new : Outside) (core middle core' : Sight) (heard heard' : Heard) → IsTakenUp core heard
-    → middle.state.greeted ≡ core.state.greeted → CoreGoesOn old new middle core' → heard'.uncuts.target.greeted ≡ heard.uncuts.target.greeted
+    → middle.state.greeted ≡ core.state.greeted → CoreGoesOn old new middle core'
+    → heard'.uncuts.target.greeted ≡ heard.uncuts.target.greeted
     → heard'.uncuts.ended ≡ heard.uncuts.ended → IsTakenUp core' heard'
 taken_up_on old new core middle core' heard heard' taken same on greeted ended = record {
   greeted = on.framed.greeted ∙ same ∙ taken.greeted ∙ sym greeted;
   not_ended = ended ∙ taken.not_ended;
 }
 
-pub same_greeting : (core middle : Sight) (at : ℕ) (packet : Packet) → TakesPacket core at packet middle → middle.state.greeted ≡ core.state.greeted
+pub same_greeting : (core middle : Sight) (at : ℕ) (packet : Packet) → TakesPacket core at packet middle
+    → middle.state.greeted ≡ core.state.greeted
 same_greeting core middle at packet takes =
     ap (λ (c : Sight). c.state.greeted) takes.goes_on.is ∙ (moving core takes.heard at packet takes.moves).greeted
 
-pub small_place : (heard : Heard) (shown : Shown) → IsWhole heard.uncuts.target shown → target_end heard < 2 ^ 62 → offset_of shown < 2 ^ 62
+pub small_place : (heard : Heard) (shown : Shown) → IsWhole heard.uncuts.target shown → target_end heard < 2 ^ 62
+    → offset_of shown < 2 ^ 62
 small_place heard shown found small = let at = found.at in omega (arith, at, small)
 
 -- Results ------------------------------------------------------------------------------------------------------------
 
-pub on_both : {T E : Type 0} (result : Result T E) (P Q R : Type 0) → OnOk result P → OnOk result Q → (P → Q → R) → OnOk result R
+pub on_both : {T E : Type 0} (result : Result T E) (P Q R : Type 0) → OnOk result P → OnOk result Q → (P → Q → R)
+    → OnOk result R
 on_both (Ok value) P Q R h k leads = leads h k
 on_both (Err error) P Q R h k leads = tt
 
-pub if_error : {T E : Type 0} (result : Result T E) (P Q : E → Type 0) → IfErr result P → ((error : E) → P error → Q error) → IfErr result Q
+pub if_error : {T E : Type 0} (result : Result T E) (P Q : E → Type 0) → IfErr result P
+    → ((error : E) → P error → Q error) → IfErr result Q
 if_error (Ok value) P Q h leads = tt
 if_error (Err error) P Q h leads = leads error h
 
 -- What is kept of it --------------------------------------------------------------------------------------------------
 
 module _ (heard : Heard) (client : Uncut) (target : Received) (ended : Bool) (quiets : ℕ)
-    (view : (let it : Heard = record { uncuts = record { client = client; target = target; ended = ended }; quiets = quiets } in it ≡ heard)) where
-  pub kept_taken : (let it : Heard = record { uncuts = record { client = client; target = target; ended = false }; quiets = quiets } in it ≡ end_taken heard)
+    (view : (let it : Heard = record
+    { uncuts = record { client = client; target = target; ended = ended }; quiets = quiets } in it ≡ heard)) where
+  pub kept_taken :
+      (let it : Heard = record { uncuts = record { client = client; target = target; ended = false }; quiets = quiets }
+      in it ≡ end_taken heard)
   kept_taken = ap (λ (h : Heard). end_taken h) view
 
-  pub kept_packet : (target' : Received) (shown : Shown) (found : IsWhole heard.uncuts.target shown) → target' ≡ left_behind target
-      → (let it : Heard = record { uncuts = record { client = client; target = target'; ended = ended }; quiets = quiets } in it ≡ packet_cut heard found.size)
+  pub kept_packet : (target' : Received) (shown : Shown) (found : IsWhole heard.uncuts.target shown)
+      → target' ≡ left_behind target
+      → (let it : Heard = record
+      { uncuts = record { client = client; target = target'; ended = ended }; quiets = quiets } in it ≡ packet_cut heard
+      found.size)
   kept_packet target' shown found is =
       let here = ap (λ (h : Heard). h.uncuts.target) view in
       let rest = rest_is heard.uncuts.target target' shown found (is ∙ ap left_behind here) in
-      ap (λ (r : Received). record { uncuts = record { client = client; target = r; ended = ended }; quiets = quiets }) rest
+      ap (λ (r : Received). record
+      { uncuts = record { client = client; target = r; ended = ended }; quiets = quiets }) rest
       ∙ ap (λ (h : Heard). record {
-        uncuts = record { client = h.uncuts.client; target = record heard.uncuts.target { stream = past heard.uncuts.target.stream found.size }; ended = h.uncuts.ended };
+        uncuts =
+            record {
+              client = h.uncuts.client;
+              target = record heard.uncuts.target
+                  { stream = past heard.uncuts.target.stream found.size };
+              ended = h.uncuts.ended;
+            };
         quiets = h.quiets;
       }) view
 
-  pub kept_none : (target' : Received) → received_front heard.uncuts.target.greeted heard.uncuts.target.stream.pending ≡ waits → target' ≡ left_behind target
-      → (let it : Heard = record { uncuts = record { client = client; target = target'; ended = ended }; quiets = quiets } in it ≡ heard)
+  pub kept_none : (target' : Received)
+      → received_front heard.uncuts.target.greeted heard.uncuts.target.stream.pending ≡ waits
+      → target' ≡ left_behind target
+      → (let it : Heard = record
+      { uncuts = record { client = client; target = target'; ended = ended }; quiets = quiets } in it ≡ heard)
   kept_none target' none is =
       let here = ap (λ (h : Heard). h.uncuts.target) view in
       let rest : target' ≡ heard.uncuts.target =
       is ∙ ap left_behind here
-      ∙ ap (λ (front : Front Packet PacketFault). record { greeted = heard.uncuts.target.greeted; stream = left front heard.uncuts.target.stream }) none in
-      ap (λ (r : Received). record { uncuts = record { client = client; target = r; ended = ended }; quiets = quiets }) rest
-      ∙ ap (λ (h : Heard). record { uncuts = record { client = h.uncuts.client; target = heard.uncuts.target; ended = h.uncuts.ended }; quiets = h.quiets }) view
+      ∙ ap (λ (front : Front Packet PacketFault). record
+      { greeted = heard.uncuts.target.greeted; stream = left front heard.uncuts.target.stream }) none in
+      ap (λ (r : Received). record
+      { uncuts = record { client = client; target = r; ended = ended }; quiets = quiets }) rest
+      ∙ ap (λ (h : Heard). record {
+        uncuts = record { client = h.uncuts.client; target = heard.uncuts.target; ended = h.uncuts.ended };
+        quiets =
+            h.quiets;
+      }) view
 
 -- the same, said of what is kept
-pub goes_as : {old new : Outside} {core core' : Sight} {heard heard' kept : Heard} → heard' ≡ kept → GoesOn old new core core' heard kept
+pub goes_as : {old new : Outside} {core core' : Sight} {heard heard' kept : Heard} → heard' ≡ kept
+    → GoesOn old new core core' heard kept
     → GoesOn old new core core' heard heard'
 goes_as {old} {new} {core} {core'} {heard} is h = subst (λ (k : Heard). GoesOn old new core core' heard k) (sym is) h
 
 pub taken_as : {core : Sight} {heard' kept : Heard} → heard' ≡ kept → IsTakenUp core kept → IsTakenUp core heard'
 taken_as {core} is h = subst (λ (k : Heard). IsTakenUp core k) (sym is) h
 
-pub none_as : {heard' kept : Heard} → heard' ≡ kept → received_front kept.uncuts.target.greeted kept.uncuts.target.stream.pending ≡ waits
+pub none_as : {heard' kept : Heard} → heard' ≡ kept
+    → received_front kept.uncuts.target.greeted kept.uncuts.target.stream.pending ≡ waits
     → received_front heard'.uncuts.target.greeted heard'.uncuts.target.stream.pending ≡ waits
-none_as is h = subst (λ (k : Heard). received_front k.uncuts.target.greeted k.uncuts.target.stream.pending ≡ waits) (sym is) h
+none_as is h =
+    subst (λ (k : Heard). received_front k.uncuts.target.greeted k.uncuts.target.stream.pending ≡ waits) (sym is) h
 
 pub fewer_packets : {heard' kept : Heard} (n : ℕ) → heard' ≡ kept → length kept.uncuts.target.stream.pending < n
     → length heard'.uncuts.target.stream.pending < n

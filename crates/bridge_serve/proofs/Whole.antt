@@ -10,7 +10,8 @@ use Rattle.world_model.specs.Session.{At, start, Session, Waits, Ends, IsSession
 use Rattle.world_model.specs.declared.ending.Ending.{Ending}
 use Rattle.world_model.specs.declared.ending.Ending.TheVariants.{Idle, Spent, NoMemory}
 use Rattle.world_model.specs.declared.ending.Limits.{Limits}
-use Rattle.bridge_serve.specs.Following.{standing, Heard, nothing_heard, Follows, Leads, Keeps, Blames, IsReady, MayHear, GoesOn, Stops, Hears, HearsEnd, Ran, Says, Served}
+use Rattle.bridge_serve.specs.Following.{standing, Heard, nothing_heard, Follows, Leads, Keeps, Blames, IsReady}
+use Rattle.bridge_serve.specs.Following.{MayHear, GoesOn, Stops, Hears, HearsEnd, Ran, Says, Served}
 use Rattle.bridge_serve.proofs.LastWords.{left_at, left_for_memory}
 use Rattle.bridge_serve.proofs.Logs.{adds_none, keeps_same, keeps_on, blames_on, rose_then}
 use Rattle.bridge_serve.proofs.Moves.{leads_in_place}
@@ -21,7 +22,8 @@ pub begins : (limits : Limits) (o : Outside) → Follows limits o o 0 start
 begins limits o = record { added = []; messages = []; log = adds_none o.log; session = Session.begins }
 
 -- is ready, and waits
-pub first_ready : (o : Outside) (limit : ℕ) → IsOpen Client o → IsOpen Target o → IsReady o (fresh_core limit) nothing_heard
+pub first_ready : (o : Outside) (limit : ℕ) → IsOpen Client o → IsOpen Target o
+    → IsReady o (fresh_core limit) nothing_heard
 unfolding due
 first_ready o limit client target = record {
   opens = record { client = client; target = λ here not_ended. target };
@@ -51,7 +53,8 @@ pub record IsOnTurn (limits : Limits) (begin now : Outside) (turns : ℕ) (core 
   pub same_limit : core.limit ≡ limits.waiting
   pub keeps : Keeps begin now
 
-pub first_turn : (limits : Limits) (o : Outside) → IsOpen Client o → IsOpen Target o → IsOnTurn limits o o 0 (fresh_core limits.waiting) nothing_heard
+pub first_turn : (limits : Limits) (o : Outside) → IsOpen Client o → IsOpen Target o
+    → IsOnTurn limits o o 0 (fresh_core limits.waiting) nothing_heard
 first_turn limits o client target = record {
   leads = λ begin follows. follows;
   ready = first_ready o limits.waiting client target;
@@ -60,23 +63,32 @@ first_turn limits o client target = record {
   keeps = keeps_same o;
 }
 
-module _ (limits : Limits) (begin old : Outside) (turns : ℕ) (core : Sight) (heard : Heard) (now : IsOnTurn limits begin old turns core heard) where
+module _ (limits : Limits) (begin old : Outside) (turns : ℕ) (core : Sight) (heard : Heard)
+    (now : IsOnTurn limits begin old turns core heard) where
   -- what came ended it
-  pub hears_last : (new : Outside) (ending : Ending) → turns < limits.turns → HearsEnd limits old new core heard ending → Keeps old new
+  pub hears_last : (new : Outside) (ending : Ending) → turns < limits.turns → HearsEnd limits old new core heard ending
+      → Keeps old new
       → Ran limits begin new core ending
   hears_last new ending more hears keeps =
       let stopped = hears.stopped turns more in
       record {
         turns = turns + 1;
         within = omega (arith, more);
-        stopped = record { to = stopped.to; leads = λ first follows. stopped.leads first (now.leads first follows); is_left = stopped.is_left };
+        stopped =
+            record {
+              to = stopped.to;
+              leads = λ first follows. stopped.leads first (now.leads first follows);
+              is_left =
+                  stopped.is_left;
+            };
         keeps = keeps_on now.keeps keeps;
         blames = blames_on new ending now.keeps hears.blames;
       }
 
   -- it ended while what came was handled
   pub handles_last : (middle new : Outside) (core' : Sight) (heard' : Heard) (ending : Ending) → turns < limits.turns
-      → Hears limits old middle core heard heard' → Keeps old middle → Stops middle new core core' heard' ending → Ran limits begin new core' ending
+      → Hears limits old middle core heard heard' → Keeps old middle → Stops middle new core core' heard' ending
+      → Ran limits begin new core' ending
   handles_last middle new core' heard' ending more hears keeps stops =
       let stopped = stops.stopped limits (turns + 1) now.same_limit in
       let kept = keeps_on now.keeps keeps in
@@ -93,11 +105,14 @@ module _ (limits : Limits) (begin old : Outside) (turns : ℕ) (core : Sight) (h
       }
 
   -- a whole turn
-  pub turns_on : (middle new : Outside) (core' : Sight) (heard' heard'' : Heard) → turns < limits.turns → Hears limits old middle core heard heard'
+  pub turns_on : (middle new : Outside) (core' : Sight) (heard' heard'' : Heard) → turns < limits.turns
+      → Hears limits old middle core heard heard'
       → Keeps old middle → GoesOn middle new core core' heard' heard'' → Waits limits (standing core' heard'')
       → IsOnTurn limits begin new (turns + 1) core' heard''
   turns_on middle new core' heard' heard'' more hears keeps on waits = record {
-    leads = λ first follows. on.leads limits (turns + 1) now.same_limit first (hears.leads turns more first (now.leads first follows));
+    leads =
+        λ first follows. on.leads limits (turns + 1) now.same_limit first
+        (hears.leads turns more first (now.leads first follows));
     ready = on.ready;
     waits = waits;
     same_limit = on.same_limit ∙ now.same_limit;
@@ -105,7 +120,8 @@ module _ (limits : Limits) (begin old : Outside) (turns : ℕ) (core : Sight) (h
   }
 
   -- it ends where it waits
-  ends_here : (ending : Ending) → turns ≤ limits.turns → session.Stops limits turns (standing core heard) ending → Blames old old ending
+  ends_here : (ending : Ending) → turns ≤ limits.turns → session.Stops limits turns (standing core heard) ending
+      → Blames old old ending
       → Ran limits begin old core ending
   ends_here ending within cause blames =
       let is_ready = core_ready old core heard now.ready now.waits.not_ended in
@@ -114,18 +130,24 @@ module _ (limits : Limits) (begin old : Outside) (turns : ℕ) (core : Sight) (h
         within = within;
         stopped = record {
           to = ended (standing core heard) ending;
-          leads = λ first follows. leads_in_place limits old turns (standing core heard) (ended (standing core heard) ending)
+          leads =
+              λ first follows. leads_in_place limits old turns (standing core heard)
+              (ended (standing core heard) ending)
               (λ log messages s. (messages, Session.stops s refl cause)) first (now.leads first follows);
-          is_left = left_at old core (ended (standing core heard) ending) ending is_ready.client is_ready.target refl refl refl refl;
+          is_left =
+              left_at old core (ended (standing core heard) ending) ending is_ready.client is_ready.target refl refl
+              refl refl;
         };
         keeps = now.keeps;
         blames = blames_on old ending now.keeps blames;
       }
 
   -- too many waits in a row were in vain
-  pub is_idle : turns < limits.turns → heard.quiets ≤ limits.quiet → limits.quiet ≤ heard.quiets → Ran limits begin old core Idle
+  pub is_idle : turns < limits.turns → heard.quiets ≤ limits.quiet → limits.quiet ≤ heard.quiets
+      → Ran limits begin old core Idle
   is_idle more most least =
-      ends_here Idle (omega (arith, more)) (session.Stops.idle now.waits more (omega (arith, most, least))) (no_link old Idle tt)
+      ends_here Idle (omega (arith, more)) (session.Stops.idle now.waits more (omega (arith, most, least)))
+      (no_link old Idle tt)
 
   -- all turns are taken
   pub is_spent : turns ≡ limits.turns → Ran limits begin old core Spent
@@ -146,7 +168,8 @@ ends_by : (at : At) (ending : Ending) → (at.ending ≡ Some ending) ⊎ (endin
 ends_by at ending (inl cause) none = Ends.caused cause none
 ends_by at ending (inr memory) none = subst (Ends at) (sym memory) Ends.no_memory
 
-session_so : (limits : Limits) (begin now : Outside) (turns : ℕ) (at : At) (ending : Ending) → Follows limits begin now turns at
+session_so : (limits : Limits) (begin now : Outside) (turns : ℕ) (at : At) (ending : Ending)
+    → Follows limits begin now turns at
     → turns ≤ limits.turns → Ends at ending → IsSession begin now limits ending
 session_so limits begin now turns at ending follows within ends = record {
   added = follows.added;
@@ -160,23 +183,31 @@ session_so limits begin now turns at ending follows within ends = record {
 }
 
 -- the last words are said, and it is over
-pub served : (limits : Limits) (old middle new : Outside) (core : Sight) (ending result : Ending) → Ran limits old middle core ending
+pub served : (limits : Limits) (old middle new : Outside) (core : Sight) (ending result : Ending)
+    → Ran limits old middle core ending
     → Says middle new core ending result → Served old new limits result
 served limits old middle new core ending result ran (Says.all silent) =
     let said = silent.leads limits ran.turns ran.stopped.to ran.stopped.is_left in
     record {
-      session = session_so limits old new ran.turns said.0 ending (said.1 old (ran.stopped.leads old (begins limits old))) ran.within
+      session = session_so limits old new ran.turns said.0 ending
+          (said.1 old (ran.stopped.leads old (begins limits old))) ran.within
           (ends_by said.0 ending said.2 said.3);
       keeps = keeps_on ran.keeps silent.keeps;
       blames = record {
-        client = λ is_link. rose_then ran.keeps.counts.client_faults (ran.blames.client is_link) silent.keeps.counts.client_faults;
-        target = λ is_link. rose_then ran.keeps.counts.target_faults (ran.blames.target is_link) silent.keeps.counts.target_faults;
+        client =
+            λ is_link. rose_then ran.keeps.counts.client_faults (ran.blames.client is_link)
+            silent.keeps.counts.client_faults;
+        target =
+            λ is_link. rose_then ran.keeps.counts.target_faults (ran.blames.target is_link)
+            silent.keeps.counts.target_faults;
       };
     }
 served limits old middle new core ending result ran (Says.no_memory forgets) =
     let said = forgets.leads limits ran.turns ran.stopped.to ran.stopped.is_left in
     record {
-      session = session_so limits old new ran.turns said.0 NoMemory (said.1 old (ran.stopped.leads old (begins limits old))) ran.within Ends.no_memory;
+      session =
+          session_so limits old new ran.turns said.0 NoMemory (said.1 old (ran.stopped.leads old (begins limits old)))
+          ran.within Ends.no_memory;
       keeps = keeps_on ran.keeps forgets.keeps;
       blames = record { client = λ is_link. cc; target = λ is_link. cc };
     }
@@ -190,7 +221,8 @@ served_nothing limits o = record {
 }
 
 -- what was heard so far may be followed by more
-pub may_hear : (limits : Limits) (begin old : Outside) (turns : ℕ) (core : Sight) (heard : Heard) → IsOnTurn limits begin old turns core heard
+pub may_hear : (limits : Limits) (begin old : Outside) (turns : ℕ) (core : Sight) (heard : Heard)
+    → IsOnTurn limits begin old turns core heard
     → heard.quiets < limits.quiet → MayHear limits old core heard
 may_hear limits begin old turns core heard now less = record { ready = now.ready; waits = now.waits; patient = less }
 

@@ -55,8 +55,8 @@ pub record CoreIsReady (o : Outside) (core : Sight) : Type 0 where
   pub target : (core.state.phase ≡ Gone → ⊥) → IsOpen Target o
   pub room : waiting_in core ≤ core.limit
 
--- What holds between two moves: sides are open, there is room, nothing is due, a handshake that was taken up has come, and
--- of a target that is gone no composite is left.
+-- What holds between two moves: sides are open, there is room, nothing is due, a handshake that was taken up has come,
+-- and of a target that is gone no composite is left.
 pub record IsReady (o : Outside) (core : Sight) (heard : Heard) : Type 0 where
   pub opens : Opens o core heard
   pub room : waiting_in core ≤ core.limit
@@ -107,7 +107,8 @@ module _ (limits : Limits) where
   Leads old before from new after to = (begin : Outside) → Follows begin old before from → Follows begin new after to
 
   -- a session that stood here has ended so, after so many happenings
-  pub record Stopped (old : Outside) (before : ℕ) (from : At) (new : Outside) (after : ℕ) (core : Sight) (ending : Ending) : Type 0 where
+  pub record Stopped (old : Outside) (before : ℕ) (from : At) (new : Outside) (after : ℕ) (core : Sight)
+      (ending : Ending) : Type 0 where
     pub to : At
     pub leads : Leads old before from new after to
     pub is_left : IsLeft new core to ending
@@ -142,13 +143,16 @@ pub record Stops (old new : Outside) (core core' : Sight) (heard : Heard) (endin
 
 -- something came where the session waited
 pub record Hears (limits : Limits) (old new : Outside) (core : Sight) (heard heard' : Heard) : Type 0 where
-  pub leads : (turns : ℕ) → turns < limits.turns → Leads limits old turns (standing core heard) new (turns + 1) (standing core heard')
+  pub leads : (turns : ℕ) → turns < limits.turns
+      → Leads limits old turns (standing core heard) new (turns + 1) (standing core heard')
   pub ready : IsReady new core heard'
 
 -- what came ended the session
-pub record HearsEnd (limits : Limits) (old new : Outside) (core : Sight) (heard : Heard) (ending : Ending) : Type 0 where
-  pub stopped : (turns : ℕ) → turns < limits.turns → Stopped limits old turns (standing core heard) new (turns + 1) core ending
-  pub blames : Blames old new ending
+pub record HearsEnd (limits : Limits) (old new : Outside) (core : Sight) (heard : Heard) (ending : Ending) : Type 0
+  where
+    pub stopped : (turns : ℕ) → turns < limits.turns
+        → Stopped limits old turns (standing core heard) new (turns + 1) core ending
+    pub blames : Blames old new ending
 
 -- the session waits here, and may wait on
 pub record MayHear (limits : Limits) (o : Outside) (core : Sight) (heard : Heard) : Type 0 where
@@ -190,12 +194,14 @@ pub record Speaks (old new : Outside) (core core' : Sight) (ending : Ending) : T
 -- all were said, up to the first that can't be
 pub record FallsSilent (old new : Outside) (core : Sight) (ending : Ending) : Type 0 where
   pub leads : (limits : Limits) (turns : ℕ) (at : At) → IsLeft old core at ending
-      → (to : At) × Leads limits old turns at new turns to × ((to.ending ≡ Some ending) ⊎ (ending ≡ NoMemory)) × (to.left ≡ [])
+      → (to : At) × Leads limits old turns at new turns to × ((to.ending ≡ Some ending) ⊎ (ending ≡ NoMemory))
+      × (to.left ≡ [])
   pub keeps : Keeps old new
 
 -- memory ran out on the way
 pub record Forgets (old new : Outside) (core : Sight) (ending : Ending) : Type 0 where
-  pub leads : (limits : Limits) (turns : ℕ) (at : At) → IsLeft old core at ending → (to : At) × Leads limits old turns at new turns to
+  pub leads : (limits : Limits) (turns : ℕ) (at : At) → IsLeft old core at ending
+      → (to : At) × Leads limits old turns at new turns to
   pub keeps : Keeps old new
 
 -- the ending stays, but for want of memory

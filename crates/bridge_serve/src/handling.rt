@@ -22,8 +22,10 @@ pub(crate) fn handle<W: Wires>(
 ) -> Result<(), Ending>
     requires ready { IsReady (W.outside wires.old) core.old inputs.old }
     requires small { target_end inputs.old < 2 ^ 62 }
-    ensures ok { OnOk result (GoesOn (W.outside wires.old) (W.outside wires.new) core.old core.new inputs.old inputs.new) }
-    ensures waits { OnOk result ((limits : Limits) → core.old.limit ≡ limits.waiting → Waits limits (standing core.new inputs.new)) }
+    ensures ok { OnOk result
+        (GoesOn (W.outside wires.old) (W.outside wires.new) core.old core.new inputs.old inputs.new) }
+    ensures waits { OnOk result
+        ((limits : Limits) → core.old.limit ≡ limits.waiting → Waits limits (standing core.new inputs.new)) }
     ensures err { IfErr result (Stops (W.outside wires.old) (W.outside wires.new) core.old core.new inputs.old) }
 {
     take_end(alloc, wires, inputs, core)?;
@@ -40,7 +42,8 @@ fn take_end<W: Wires>(
     core: &mut Core,
 ) -> Result<(), Ending>
     requires { IsReady (W.outside wires.old) core.old inputs.old }
-    ensures ok { OnOk result (GoesOn (W.outside wires.old) (W.outside wires.new) core.old core.new inputs.old inputs.new) }
+    ensures ok { OnOk result
+        (GoesOn (W.outside wires.old) (W.outside wires.new) core.old core.new inputs.old inputs.new) }
     ensures not_ended { OnOk result (inputs.new.uncuts.ended ≡ false) }
     ensures err { IfErr result (Stops (W.outside wires.old) (W.outside wires.new) core.old core.new inputs.old) }
 {
@@ -63,7 +66,8 @@ fn take_greeting<W: Wires>(
 ) -> Result<(), Ending>
     requires ready { IsReady (W.outside wires.old) core.old inputs.now }
     requires not_ended { inputs.now.uncuts.ended ≡ false }
-    ensures ok { OnOk result (GoesOn (W.outside wires.old) (W.outside wires.new) core.old core.new inputs.now inputs.now) }
+    ensures ok { OnOk result
+        (GoesOn (W.outside wires.old) (W.outside wires.new) core.old core.new inputs.now inputs.now) }
     ensures taken_up { OnOk result (IsTakenUp core.new inputs.now) }
     ensures err { IfErr result (Stops (W.outside wires.old) (W.outside wires.new) core.old core.new inputs.now) }
 {
@@ -84,7 +88,8 @@ fn take_packets<W: Wires>(
     requires ready { IsReady (W.outside wires.old) core.old inputs.old }
     requires taken_up { IsTakenUp core.old inputs.old }
     requires small { target_end inputs.old < 2 ^ 62 }
-    ensures ok { OnOk result (GoesOn (W.outside wires.old) (W.outside wires.new) core.old core.new inputs.old inputs.new) }
+    ensures ok { OnOk result
+        (GoesOn (W.outside wires.old) (W.outside wires.new) core.old core.new inputs.old inputs.new) }
     ensures taken_up { OnOk result (IsTakenUp core.new inputs.new) }
     ensures no_packet { OnOk result (target_front (place_of core.new inputs.new.uncuts) ≡ waits) }
     ensures err { IfErr result (Stops (W.outside wires.old) (W.outside wires.new) core.old core.new inputs.old) }
@@ -103,7 +108,8 @@ fn take_packet<W: Wires>(
     requires ready { IsReady (W.outside wires.old) core.old inputs.old }
     requires taken_up { IsTakenUp core.old inputs.old }
     requires small { target_end inputs.old < 2 ^ 62 }
-    ensures ok { OnOk result (GoesOn (W.outside wires.old) (W.outside wires.new) core.old core.new inputs.old inputs.new) }
+    ensures ok { OnOk result
+        (GoesOn (W.outside wires.old) (W.outside wires.new) core.old core.new inputs.old inputs.new) }
     ensures taken_up { OnOk result (IsTakenUp core.new inputs.new) }
     ensures more { result ≡ Ok true
         → length inputs.new.uncuts.target.stream.pending < length inputs.old.uncuts.target.stream.pending }
@@ -137,8 +143,10 @@ fn take_bodies<W: Wires>(
     requires ready { IsReady (W.outside wires.old) core.old inputs.old }
     requires taken_up { IsTakenUp core.old inputs.old }
     requires no_packet { target_front (place_of core.old inputs.old.uncuts) ≡ waits }
-    ensures ok { OnOk result (GoesOn (W.outside wires.old) (W.outside wires.new) core.old core.new inputs.old inputs.new) }
-    ensures waits { OnOk result ((limits : Limits) → core.old.limit ≡ limits.waiting → Waits limits (standing core.new inputs.new)) }
+    ensures ok { OnOk result
+        (GoesOn (W.outside wires.old) (W.outside wires.new) core.old core.new inputs.old inputs.new) }
+    ensures waits { OnOk result
+        ((limits : Limits) → core.old.limit ≡ limits.waiting → Waits limits (standing core.new inputs.new)) }
     ensures err { IfErr result (Stops (W.outside wires.old) (W.outside wires.new) core.old core.new inputs.old) }
 {
     while take_body(alloc, wires, inputs, core)? {}
@@ -154,9 +162,12 @@ fn take_body<W: Wires>(
 ) -> Result<bool, Ending>
     requires ready { IsReady (W.outside wires.old) core.old inputs.old }
     requires taken_up { IsTakenUp core.old inputs.old }
-    ensures ok { OnOk result (GoesOn (W.outside wires.old) (W.outside wires.new) core.old core.new inputs.old inputs.new) }
-    ensures more { result ≡ Ok true → length inputs.new.uncuts.client.pending < length inputs.old.uncuts.client.pending }
-    ensures waits { result ≡ Ok false → (core.new.state.closing ≡ true) ⊎ (frame_front inputs.new.uncuts.client.pending ≡ waits) }
+    ensures ok { OnOk result
+        (GoesOn (W.outside wires.old) (W.outside wires.new) core.old core.new inputs.old inputs.new) }
+    ensures more { result ≡ Ok true
+        → length inputs.new.uncuts.client.pending < length inputs.old.uncuts.client.pending }
+    ensures waits { result ≡ Ok false
+        → (core.new.state.closing ≡ true) ⊎ (frame_front inputs.new.uncuts.client.pending ≡ waits) }
     ensures taken_up { OnOk result (IsTakenUp core.new inputs.new) }
     ensures target { OnOk result (inputs.new.uncuts.target ≡ inputs.old.uncuts.target) }
     ensures err { IfErr result (Stops (W.outside wires.old) (W.outside wires.new) core.old core.new inputs.old) }

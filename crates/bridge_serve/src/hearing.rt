@@ -27,7 +27,8 @@ pub(crate) fn hear<W: Wires>(
     ensures target_grows { OnOk result (target_end inputs.new ≤ target_end inputs.old + 65536) }
     ensures quiets { inputs.new.quiets ≤ inputs.old.quiets + 1 }
     ensures keeps { Keeps (W.outside wires.old) (W.outside wires.new) }
-    ensures err { IfErr result (λ ending. (limits : Limits) (core : Sight) → MayHear limits (W.outside wires.old) core inputs.old
+    ensures err { IfErr result
+        (λ ending. (limits : Limits) (core : Sight) → MayHear limits (W.outside wires.old) core inputs.old
         → HearsEnd limits (W.outside wires.old) (W.outside wires.new) core inputs.old ending) }
 {
     let quiets = inputs.quiets;

@@ -6,8 +6,8 @@ use jdwp_packets::PacketCutter;
 use std::alloc::Global;
 use std::marker::Model;
 
-/// What came in and isn't handled yet: the client's bytes, the target's, whether the end of the target's stream has still
-/// to be taken up; and how many waits in a row were in vain.
+/// What came in and isn't handled yet: the client's bytes, the target's, whether the end of the target's stream has
+/// still to be taken up; and how many waits in a row were in vain.
 #[derive(Debug, Drop)]
 pub(crate) struct Inputs {
     pub(crate) cutter: Cutter,

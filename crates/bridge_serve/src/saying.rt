@@ -41,7 +41,8 @@ fn say_next<W: Wires>(
 ) -> Result<bool, NoMemory>
     requires { Speakable (W.outside wires.old) (last_words ending.now core.old.state) }
     ensures more { result ≡ Ok true → Speaks (W.outside wires.old) (W.outside wires.new) core.old core.new ending.now }
-    ensures fewer { result ≡ Ok true → length (last_words ending.now core.new.state) < length (last_words ending.now core.old.state) }
+    ensures fewer { result ≡ Ok true
+        → length (last_words ending.now core.new.state) < length (last_words ending.now core.old.state) }
     ensures silent { result ≡ Ok false → FallsSilent (W.outside wires.old) (W.outside wires.new) core.old ending.now }
     ensures err { OnErr result (Forgets (W.outside wires.old) (W.outside wires.new) core.old ending.now) }
 {

@@ -6,7 +6,8 @@ use Rattle.bridge_serve.proofs.Taking.{stays, on_and_on, on_and_stops}
 use Rattle.bridge_serve.proofs.handling.take_bodies.Goals as goal
 
 pub loop-init : goal.loop-init
-loop-init g c = record { goes_on = stays _ _ _ c.requires.ready; taken_up = c.requires.taken_up; no_packet = c.requires.no_packet }
+loop-init g c =
+    record { goes_on = stays _ _ _ c.requires.ready; taken_up = c.requires.taken_up; no_packet = c.requires.no_packet }
 
 pub take_body-requires-clause-ready : goal.take_body-requires-clause-ready
 take_body-requires-clause-ready g c = c.loop.invariant.goes_on.ready
@@ -15,7 +16,9 @@ pub loop-preserved : goal.loop-preserved
 loop-preserved g c = record {
   goes_on = on_and_on _ _ _ _ _ _ _ _ _ c.loop.invariant.goes_on c.in_ok-take_body.ensures.ok;
   taken_up = c.in_ok-take_body.ensures.taken_up;
-  no_packet = ap (λ (r : Received). received_front r.greeted r.stream.pending) c.in_ok-take_body.ensures.target ∙ c.loop.invariant.no_packet;
+  no_packet =
+      ap (λ (r : Received). received_front r.greeted r.stream.pending) c.in_ok-take_body.ensures.target ∙
+      c.loop.invariant.no_packet;
 }
 
 pub returns-in_err-take_body-clause-err : goal.returns-in_err-take_body-clause-err
@@ -32,5 +35,6 @@ returns-clause-waits g c limits limit =
     let now = on_and_on _ _ _ _ _ _ _ _ _ c.loop.invariant.goes_on c.in_ok-take_body.ensures.ok in
     let last = c.if-branch.false in
     waits_on limits _ _ _ now.ready c.in_ok-take_body.ensures.taken_up
-    (ap (λ (r : Received). received_front r.greeted r.stream.pending) c.in_ok-take_body.ensures.target ∙ c.loop.invariant.no_packet)
+    (ap (λ (r : Received). received_front r.greeted r.stream.pending) c.in_ok-take_body.ensures.target ∙
+    c.loop.invariant.no_packet)
     (c.in_ok-take_body.ensures.waits cc) (now.same_limit ∙ limit)

@@ -25,7 +25,8 @@ pub returns-in_err-take_packet-clause-err : goal.returns-in_err-take_packet-clau
 returns-in_err-take_packet-clause-err g c =
     let gives = err_from_is_err_and c.from_residual.result c.from_residual.ensures.1 in
     rw (gives.1, gives.2)
-    (on_and_stops _ _ _ _ _ _ _ _ c.in_err-take_packet.field-0.0 c.loop.invariant.goes_on c.in_err-take_packet.ensures.err)
+    (on_and_stops _ _ _ _ _ _ _ _ c.in_err-take_packet.field-0.0 c.loop.invariant.goes_on
+    c.in_err-take_packet.ensures.err)
 
 pub returns-clause-ok : goal.returns-clause-ok
 returns-clause-ok g c = on_and_on _ _ _ _ _ _ _ _ _ c.loop.invariant.goes_on c.in_ok-take_packet.ensures.ok

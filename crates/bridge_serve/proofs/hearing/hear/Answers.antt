@@ -1,5 +1,7 @@
 use Rattle.std.proofs.Common.{◌∙◌, refl, sym}
-use Rattle.bridge_serve.proofs.Coming.{piece_comes, packets_come, end_comes, quiet_comes, piece_forgets, packets_forget, client_leaves, client_is_lost, target_is_lost, packets_grow, kept_piece, kept_packets, kept_end, kept_quiet, hears_as}
+use Rattle.bridge_serve.proofs.Coming.{piece_comes, packets_come, end_comes, quiet_comes, piece_forgets, packets_forget}
+use Rattle.bridge_serve.proofs.Coming.{client_leaves, client_is_lost, target_is_lost, packets_grow, kept_piece}
+use Rattle.bridge_serve.proofs.Coming.{kept_packets, kept_end, kept_quiet, hears_as}
 use Rattle.bridge_serve.proofs.hearing.hear.Goals.{in-Ok, in-Err, in-Ok-feed, in-Err-feed}
 use Rattle.bridge_serve.proofs.hearing.hear.Goals as goal
 
@@ -39,7 +41,11 @@ returns-after-feed-2-clause-target_grows g c =
     let arm = c.in-Bytes-Target-default in
     let hears = rw arm.field-0-is at arm.ensures in
     elim c.match-feed-2.branch [
-      | in-Ok-feed w ↦ rw w.result-is (rw (w.in-Ok-feed.ensures.ok, sym c.inputs.view_is) (packets_grow c.inputs.inside.packets c.next.new.buffer arm.count hears.happens.1 (c.next.auto.buffer ∙ c.requires.room)))
+      | in-Ok-feed w ↦
+          rw w.result-is
+          (rw (w.in-Ok-feed.ensures.ok, sym c.inputs.view_is)
+          (packets_grow c.inputs.inside.packets c.next.new.buffer arm.count hears.happens.1
+          (c.next.auto.buffer ∙ c.requires.room)))
       | in-Err-feed w ↦ rw w.result-is tt
     ]
 
@@ -49,7 +55,8 @@ returns-after-feed-2-clause-err g c =
     let hears = rw arm.field-0-is at arm.ensures in
     elim c.match-feed-2.branch [
       | in-Ok-feed w ↦ rw w.result-is tt
-      | in-Err-feed w ↦ rw w.result-is (λ limits core may. packets_forget limits _ _ _ _ core c.args.inputs.now may hears)
+      | in-Err-feed w ↦
+          rw w.result-is (λ limits core may. packets_forget limits _ _ _ _ core c.args.inputs.now may hears)
     ]
 
 pub returns-in-Shut-Client-clause-err : goal.returns-in-Shut-Client-clause-err

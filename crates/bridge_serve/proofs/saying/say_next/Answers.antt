@@ -1,4 +1,5 @@
-use Rattle.bridge_serve.proofs.Words.{word_open, word_bytes_some, fewer_words, says_one, falls_silent, none_left, forgets}
+use Rattle.bridge_serve.proofs.Words.{word_open, word_bytes_some, fewer_words, says_one, falls_silent, none_left}
+use Rattle.bridge_serve.proofs.Words.{forgets}
 use Rattle.bridge_serve.proofs.saying.say_next.Goals as goal
 
 pub send-requires-clause-is_open : goal.send-requires-clause-is_open
@@ -9,7 +10,8 @@ send-requires-clause-is_open g c =
 pub send-requires-clause-some_bytes : goal.send-requires-clause-some_bytes
 send-requires-clause-some_bytes g c =
     let out = c.in-Ok-Some.out in
-    rw c.as_slice.ensures (word_bytes_some _ _ _ out.side out.bytes (rw c.in-Ok-Some.field-0-is at c.in-Ok-Some.ensures.says))
+    rw c.as_slice.ensures
+    (word_bytes_some _ _ _ out.side out.bytes (rw c.in-Ok-Some.field-0-is at c.in-Ok-Some.ensures.says))
 
 pub returns-in-Ok-clause-more : goal.returns-in-Ok-clause-more
 returns-in-Ok-clause-more g c is_more =

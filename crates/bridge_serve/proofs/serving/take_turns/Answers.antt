@@ -1,6 +1,7 @@
 use Rattle.std.proofs.Common.{arith}
 use Rattle.std.proofs.lemmas.Result.{err_from_is_err_and}
-use Rattle.bridge_serve.proofs.Whole.{first_turn, hears_last, handles_last, turns_on, is_idle, is_spent, runs_short, may_hear, quiets_less, quiets_least}
+use Rattle.bridge_serve.proofs.Whole.{first_turn, hears_last, handles_last, turns_on, is_idle, is_spent, runs_short}
+use Rattle.bridge_serve.proofs.Whole.{may_hear, quiets_less, quiets_least}
 use Rattle.bridge_serve.proofs.serving.take_turns.Goals as goal
 
 pub returns-in_err-buffer-clause-err : goal.returns-in_err-buffer-clause-err
@@ -45,7 +46,8 @@ hear-requires-clause-few g c =
 pub handle-requires-clause-ready : goal.handle-requires-clause-ready
 handle-requires-clause-ready g c =
     let now = c.loop-turn.invariant in
-    (c.in_ok-hear.ensures.ok _ _ (may_hear _ _ _ _ _ _ now.now (quiets_less _ c.inputs-in-loop-turn.view_is c.if-inputs-limits.false))).ready
+    (c.in_ok-hear.ensures.ok _ _
+    (may_hear _ _ _ _ _ _ now.now (quiets_less _ c.inputs-in-loop-turn.view_is c.if-inputs-limits.false))).ready
 
 pub handle-requires-clause-small : goal.handle-requires-clause-small
 handle-requires-clause-small g c =
@@ -62,7 +64,8 @@ returns-in_err-hear-clause-err g c =
     let now = c.loop-turn.invariant in
     let may = may_hear _ _ _ _ _ _ now.now (quiets_less _ c.inputs-in-loop-turn.view_is c.if-inputs-limits.false) in
     rw (gives.1, gives.2)
-    (hears_last _ _ _ _ _ _ now.now _ c.in_err-hear.field-0.0 c.loop-turn-test.true (c.in_err-hear.ensures.err _ _ may) c.in_err-hear.ensures.keeps)
+    (hears_last _ _ _ _ _ _ now.now _ c.in_err-hear.field-0.0 c.loop-turn-test.true (c.in_err-hear.ensures.err _ _ may)
+    c.in_err-hear.ensures.keeps)
 
 pub returns-in_err-handle-clause-err : goal.returns-in_err-handle-clause-err
 returns-in_err-handle-clause-err g c =
@@ -71,7 +74,8 @@ returns-in_err-handle-clause-err g c =
     let now = c.loop-turn.invariant in
     let may = may_hear _ _ _ _ _ _ now.now (quiets_less _ c.inputs-in-loop-turn.view_is c.if-inputs-limits.false) in
     rw (gives.1, gives.2)
-    (handles_last _ _ _ _ _ _ now.now _ _ _ _ c.in_err-handle.field-0.0 c.loop-turn-test.true (c.in_ok-hear.ensures.ok _ _ may)
+    (handles_last _ _ _ _ _ _ now.now _ _ _ _ c.in_err-handle.field-0.0 c.loop-turn-test.true
+    (c.in_ok-hear.ensures.ok _ _ may)
     c.in_ok-hear.ensures.keeps c.in_err-handle.ensures.err)
 
 pub loop-turn-preserved : goal.loop-turn-preserved
@@ -91,7 +95,9 @@ loop-turn-preserved g c =
     let client_grows = heard.client_grows in
     let target_grows = heard.target_grows in
     record {
-      now = turns_on _ _ _ _ _ _ now.now _ _ _ _ _ c.loop-turn-test.true (heard.ok _ _ may) heard.keeps handled.ok (handled.waits _ now.now.same_limit);
+      now =
+          turns_on _ _ _ _ _ _ now.now _ _ _ _ _ c.loop-turn-test.true (heard.ok _ _ may) heard.keeps handled.ok
+          (handled.waits _ now.now.same_limit);
       patient = omega (arith, same_quiets, quiets, less);
       few = omega (arith, same_quiets, quiets, few);
       client_small = omega (arith, same_client, client, client_grows);
@@ -109,4 +115,5 @@ returns-clause-ok g c =
 pub returns-then-inputs-limits-clause-err : goal.returns-then-inputs-limits-clause-err
 returns-then-inputs-limits-clause-err g c =
     let now = c.loop-turn.invariant in
-    is_idle _ _ _ _ _ _ now.now c.loop-turn-test.true now.patient (quiets_least _ c.inputs-in-loop-turn.view_is c.if-inputs-limits.true)
+    is_idle _ _ _ _ _ _ now.now c.loop-turn-test.true now.patient
+    (quiets_least _ c.inputs-in-loop-turn.view_is c.if-inputs-limits.true)
