@@ -72,7 +72,8 @@ impl Cuts for PacketCutter {
 
 fn feed_frames(cutter: &mut Cutter, piece: &[u8]) -> Result<(), NoMemory>
     requires { cutter.old.at + length cutter.old.pending + length piece.now < 2 ^ 63 }
-    ensures { OnOk result (cutter.new.at + length cutter.new.pending ≡ cutter.old.at + length cutter.old.pending + length piece.now) }
+    ensures { OnOk result
+        (cutter.new.at + length cutter.new.pending ≡ cutter.old.at + length cutter.old.pending + length piece.now) }
 {
     match cutter.feed(piece) {
         Ok(()) => Ok(()),
@@ -94,7 +95,9 @@ fn count_frames(cutter: &mut Cutter, tally: &mut Tally)
 
 fn feed_packets(cutter: &mut PacketCutter, piece: &[u8]) -> Result<(), NoMemory>
     requires { cutter.old.stream.at + length cutter.old.stream.pending + length piece.now < 2 ^ 63 }
-    ensures { OnOk result (cutter.new.stream.at + length cutter.new.stream.pending ≡ cutter.old.stream.at + length cutter.old.stream.pending + length piece.now) }
+    ensures { OnOk result
+        (cutter.new.stream.at + length cutter.new.stream.pending
+        ≡ cutter.old.stream.at + length cutter.old.stream.pending + length piece.now) }
 {
     match cutter.feed(piece) {
         Ok(()) => Ok(()),
@@ -103,7 +106,8 @@ fn feed_packets(cutter: &mut PacketCutter, piece: &[u8]) -> Result<(), NoMemory>
 }
 
 fn count_packets(cutter: &mut PacketCutter, tally: &mut Tally)
-    ensures { cutter.new.stream.at + length cutter.new.stream.pending ≡ cutter.old.stream.at + length cutter.old.stream.pending }
+    ensures { cutter.new.stream.at + length cutter.new.stream.pending
+        ≡ cutter.old.stream.at + length cutter.old.stream.pending }
 {
     for _ in 0..u64::MAX {
         match cutter.take() {

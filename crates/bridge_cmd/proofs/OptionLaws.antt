@@ -1,10 +1,12 @@
 -- A parse of a command with two required options that succeeds has a value of each.
-use Rattle.std.proofs.Common.{◌≡◌, ◌∙◌, ℕ, zero, suc, false, true, List, [], ◌∷◌, codes, refl, sym, arith, is_some, inl, inr, true≢false}
+use Rattle.std.proofs.Common.{◌≡◌, ◌∙◌, ℕ, zero, suc, false, true, List, [], ◌∷◌, codes, refl, sym, arith, is_some, inl}
+use Rattle.std.proofs.Common.{inr, true≢false}
 use Rattle.std.specs.List.{All}
 use Rattle.std.specs.Str.{bytes_eq}
 use Rattle.std.proofs.lemmas.Slice.Eq.{bytes_eq-Decides}
 use Rattle.clap.specs.Facts.{args_of, groups_of}
-use Rattle.clap.specs.Built.{AddsArg, AddsInTurn, FitsChain, HasDistinctIds, IsAuto, IsParsedFrom, IsPlainArg, TakesValue}
+use Rattle.clap.specs.Built.{AddsArg, AddsInTurn, FitsChain, HasDistinctIds, IsAuto, IsParsedFrom, IsPlainArg}
+use Rattle.clap.specs.Built.{TakesValue}
 use Rattle.clap.specs.Matches.{first_value, found_of}
 use Rattle.clap.specs.declared.builder.arg.Arg.{Arg}
 use Rattle.clap.specs.declared.builder.command.Command.{Command}
@@ -17,7 +19,8 @@ unlike : (a b : List ℕ) → bytes_eq a b ≡ false → a ≡ b → ⊥
 unlike a b differ same = true≢false (sym ((bytes_eq-Decides a b).1 same) ∙ differ)
 
 -- an option of this name isn't one that `clap` adds
-is_own : (a : Arg) (name : List ℕ) → a.id.now ≡ name → bytes_eq name (codes "help") ≡ false → bytes_eq name (codes "version") ≡ false
+is_own : (a : Arg) (name : List ℕ) → a.id.now ≡ name → bytes_eq name (codes "help") ≡ false
+    → bytes_eq name (codes "version") ≡ false
     → IsAuto a → ⊥
 is_own a name named help version auto = elim auto [
   | inl h ↦ unlike name _ help (sym named ∙ h)
@@ -25,7 +28,8 @@ is_own a name named help version auto = elim auto [
 ]
 
 -- an option of this name that excludes nothing is one that a command may have beside others
-pub fits_beside : (a : Arg) (name : List ℕ) → a.id.now ≡ name → bytes_eq name [] ≡ false → bytes_eq name (codes "help") ≡ false
+pub fits_beside : (a : Arg) (name : List ℕ) → a.id.now ≡ name → bytes_eq name [] ≡ false
+    → bytes_eq name (codes "help") ≡ false
     → bytes_eq name (codes "version") ≡ false → IsPlainArg a → a.global ≡ false → FitsChain a
 fits_beside a name named some help version plain global =
     (plain, global, (λ empty. unlike name [] some (sym named ∙ empty)), is_own a name named help version)
@@ -35,7 +39,8 @@ pair P x y p q zero d lt = p
 pair P x y p q (suc zero) d lt = q
 pair P x y p q (suc (suc k)) d lt = absurd (omega arith)
 
-distinct : (x y : Arg) → bytes_eq x.id.now y.id.now ≡ false → bytes_eq y.id.now x.id.now ≡ false → HasDistinctIds (x ∷ y ∷ [])
+distinct : (x y : Arg) → bytes_eq x.id.now y.id.now ≡ false → bytes_eq y.id.now x.id.now ≡ false
+    → HasDistinctIds (x ∷ y ∷ [])
 distinct x y xy yx zero zero d e j k h = refl
 distinct x y xy yx zero (suc zero) d e j k h = absurd (true≢false (sym h ∙ xy))
 distinct x y xy yx zero (suc (suc n)) d e j k h = absurd (omega arith)
@@ -63,6 +68,8 @@ two_values start middle command x y m h =
     let chain : AddsInTurn AddsArg start (x ∷ y ∷ []) command = (middle, h.first, (command, h.second, refl)) in
     let fits = pair FitsChain x y h.fits.0 h.fits.1 in
     let ids = distinct x y h.differ.0 h.differ.1 in (
-      required_in_chain start command (x ∷ y ∷ []) 0 x m chain h.args h.groups h.globals h.negates fits ids (omega arith) h.takes.0 h.parsed,
-      required_in_chain start command (x ∷ y ∷ []) 1 x m chain h.args h.groups h.globals h.negates fits ids (omega arith) h.takes.1 h.parsed,
+      required_in_chain start command (x ∷ y ∷ []) 0 x m chain h.args h.groups h.globals h.negates fits ids
+          (omega arith) h.takes.0 h.parsed,
+      required_in_chain start command (x ∷ y ∷ []) 1 x m chain h.args h.groups h.globals h.negates fits ids
+          (omega arith) h.takes.1 h.parsed,
     )

@@ -25,8 +25,8 @@ pub record Serves (addresses : Addresses) (old new : Outside) (ending : Ending) 
   pub keeps : Keeps opened new
   pub blames : Blames opened new ending
 
--- What the words make of the wires, and the outcome: where they are refused nothing is done; else a session is served, or
--- the links are not opened. Want of memory may come before anything is done.
+-- What the words make of the wires, and the outcome: where they are refused nothing is done; else a session is served,
+-- or the links are not opened. Want of memory may come before anything is done.
 pub data Does : List (List ℕ) → Outside → Outside → Outcome → Type 0 where
   misused : {words : List (List ℕ)} {o : Outside} → AreRefused words → Does words o o Misused
   forgets : {words : List (List ℕ)} {o : Outside} → Does words o o (Ended NoMemory)

@@ -13,10 +13,12 @@ use Rattle.world_model.specs.declared.ending.ClientFault.{ClientFault}
 use Rattle.world_model.specs.declared.ending.ClientFault.TheVariants.{Frame, NotJson, NotAMessage}
 use Rattle.world_model.specs.declared.ending.Ending.{Ending}
 use Rattle.world_model.specs.declared.ending.Ending.TheVariants.{Done, Left, BadClient, BadTarget, ClientLink}
-use Rattle.world_model.specs.declared.ending.Ending.TheVariants.{TargetLink, TargetRefused, Idle, Spent, Flood, NoMemory}
+use Rattle.world_model.specs.declared.ending.Ending.TheVariants.{TargetLink, TargetRefused, Idle, Spent, Flood}
+use Rattle.world_model.specs.declared.ending.Ending.TheVariants.{NoMemory}
 use Rattle.world_model.specs.declared.ending.TargetFault.{TargetFault}
-use Rattle.world_model.specs.declared.ending.TargetFault.TheVariants.{Packet, Short, BadTag, BadCount, BadKind, BadPolicy}
-use Rattle.world_model.specs.declared.ending.TargetFault.TheVariants.{Trailing, BadSizes, PolicyThread, BadCommand, UnknownReply}
+use Rattle.world_model.specs.declared.ending.TargetFault.TheVariants.{Packet, Short, BadTag, BadCount, BadKind}
+use Rattle.world_model.specs.declared.ending.TargetFault.TheVariants.{BadPolicy, Trailing, BadSizes, PolicyThread}
+use Rattle.world_model.specs.declared.ending.TargetFault.TheVariants.{BadCommand, UnknownReply}
 
 abbrev pub frame_fault_name : FrameFault → List ℕ
 frame_fault_name NoLength = codes "NoLength"
@@ -34,7 +36,8 @@ client_fault_name NotAMessage = codes "NotAMessage"
 
 -- the line of a fault of the client's bytes, with its offset in the client's stream
 abbrev pub client_fault_line : ClientFault → ℕ → List ℕ
-client_fault_line fault at = codes "ended 3 client " ++ client_fault_name fault ++ codes " at " ++ decimal at ++ codes "\n"
+client_fault_line fault at =
+    codes "ended 3 client " ++ client_fault_name fault ++ codes " at " ++ decimal at ++ codes "\n"
 
 abbrev pub packet_fault_name : PacketFault → List ℕ
 packet_fault_name BadHandshake = codes "BadHandshake"
@@ -76,7 +79,8 @@ command_then set command rest = decimal set ++ (codes "." ++ (decimal command ++
 
 -- the line of a command that the target refused with an error
 abbrev pub refused_line : ℕ → ℕ → ℕ → List ℕ
-refused_line set command code = codes "ended 11 refused " ++ command_then set command (codes " error " ++ (decimal code ++ codes "\n"))
+refused_line set command code =
+    codes "ended 11 refused " ++ command_then set command (codes " error " ++ (decimal code ++ codes "\n"))
 
 -- the line of a session's ending
 unfoldable pub line_of_ending : Ending → List ℕ

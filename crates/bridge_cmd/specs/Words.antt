@@ -1,4 +1,5 @@
--- The words of the program: a command's name, and behind it the options of that command, as the crate `clap` reads them.
+-- The words of the program: a command's name, and behind it the options of that command, as the crate `clap` reads
+-- them.
 use Rattle.std.specs.Prelude.{ℕ, ◌≡◌, ◌⊎◌, true, List, [], ◌∷◌, codes, Option, Some, Result, Ok, Err}
 use Rattle.clap.specs.Words.{App, Kinds, Rule, fault_of, first_of, matches_of, new_app, new_rule, with_rule}
 use Rattle.clap.specs.Simple.{on_top}

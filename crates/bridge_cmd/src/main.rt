@@ -1,5 +1,5 @@
-//! The program `bridge`: a debug adapter between an editor that speaks the Debug Adapter Protocol and a Java machine that
-//! speaks the Java Debug Wire Protocol.
+//! The program `bridge`: a debug adapter between an editor that speaks the Debug Adapter Protocol and a Java machine
+//! that speaks the Java Debug Wire Protocol.
 #![tactic(auto)]
 
 mod command;

@@ -1,7 +1,7 @@
 ghost use Rattle.std.specs.Prelude.{◌≡◌, ℕ, List, IfOk, string_bytes};
 ghost use Rattle.bridge_cmd.specs.Lines.{Prints, line_of, line_of_ending, status_of, status_of_ending};
-ghost use Rattle.bridge_cmd.specs.Lines.{client_fault_line, client_fault_name, frame_fault_name};
-ghost use Rattle.bridge_cmd.specs.Lines.{target_fault_line, target_fault_name, packet_fault_name, is_unknown_reply, refused_line};
+ghost use Rattle.bridge_cmd.specs.Lines.{client_fault_line, client_fault_name, frame_fault_name, target_fault_line};
+ghost use Rattle.bridge_cmd.specs.Lines.{target_fault_name, packet_fault_name, is_unknown_reply, refused_line};
 
 use dap_frames::FrameFault;
 use jdwp_packets::PacketFault;

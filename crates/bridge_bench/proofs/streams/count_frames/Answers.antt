@@ -7,4 +7,5 @@ use Rattle.bridge_bench.proofs.streams.count_frames.Goals as goal
 
 pub loop-preserved : goal.loop-preserved
 loop-preserved c =
-    ap (λ (u : Uncut). u.at + length u.pending) c.take.follows.holds-at-none ∙ left_size frame_front front-steady c.loop.cutter ∙ c.loop.invariant
+    ap (λ (u : Uncut). u.at + length u.pending) c.take.follows.holds-at-none ∙ left_size frame_front front-steady
+    c.loop.cutter ∙ c.loop.invariant

@@ -5,4 +5,5 @@ use Rattle.bridge_bench.proofs.streams.count_packets.Goals as goal
 
 pub loop-preserved : goal.loop-preserved
 loop-preserved c =
-    ap (λ (r : Received). r.stream.at + length r.stream.pending) c.take.follows.holds-at-none ∙ left_behind_size c.loop.cutter ∙ c.loop.invariant
+    ap (λ (r : Received). r.stream.at + length r.stream.pending) c.take.follows.holds-at-none ∙ left_behind_size
+    c.loop.cutter ∙ c.loop.invariant

@@ -3,4 +3,5 @@ use Rattle.bridge_bench.proofs.streams.count_packets.Given as goal
 
 -- as many bytes were fed as before
 abbrev pub invariant-loop : goal.invariant-loop
-invariant-loop l = l.cutter.stream.at + length l.cutter.stream.pending ≡ l.fn.cutter.stream.at + length l.fn.cutter.stream.pending
+invariant-loop l =
+    l.cutter.stream.at + length l.cutter.stream.pending ≡ l.fn.cutter.stream.at + length l.fn.cutter.stream.pending

@@ -2,7 +2,8 @@ use Rattle.std.proofs.Common.{◌≡◌, ◌∙◌, ap, ap₂, refl, rules, subs
 use Rattle.std.proofs.lemmas.Result.{IfOk-weaker}
 use Rattle.std.specs.Str.{bytes_eq}
 use Rattle.clap.specs.Simple.{app_of_fields, on_top}
-use Rattle.clap.specs.Words.{App, FailsBy, app_of, fault_of, first_of, first_value, found_of, is_simple, is_simple_and_free, matches_of, rule_of, with_rule}
+use Rattle.clap.specs.Words.{App, FailsBy, app_of, fault_of, first_of, first_value, found_of, is_simple}
+use Rattle.clap.specs.Words.{is_simple_and_free, matches_of, rule_of, with_rule}
 use Rattle.clap.specs.Built.{IsParsedFrom}
 use Rattle.clap.specs.declared.parser.matches.ArgMatches.{ArgMatches}
 use Rattle.clap.proofs.OnLiterals.{clap_on_literals}
@@ -34,7 +35,8 @@ returns c =
     let start_is : app_of start ≡ bare_command (codes "serve") =
     ap app_of_fields c.disable_version_flag-serve.ensures ∙ ap (on_top (λ s. record s { disable_version_flag = true }))
     (ap app_of_fields c.disable_help_flag.ensures ∙ ap (on_top (λ s. record s { disable_help_flag = true }))
-    (ap app_of_fields c.no_binary_name.ensures ∙ ap (on_top (λ s. record s { no_binary_name = true })) c.new-3.ensures.app)) in
+    (ap app_of_fields c.no_binary_name.ensures ∙ ap (on_top (λ s. record s { no_binary_name = true }))
+    c.new-3.ensures.app)) in
     let app_is : app_of c.in_ok-command.command ≡ serve_app = c.in_ok-command.ensures.shape (search rules)
     ∙ ap₂ with_rule (c.in_ok-listening.ensures.shape (search rules) ∙ ap₂ with_rule start_is x_rule) y_rule in
     let both : (m : ArgMatches) → IsParsedFrom c.in_ok-command.command m
@@ -46,8 +48,14 @@ returns c =
       groups = search rules;
       globals = search rules;
       negates = search rules;
-      fits = (fits_beside x (codes "listen") x_id refl refl refl (search rules) (search rules), fits_beside y (codes "target") y_id refl refl refl (search rules) (search rules));
-      takes = ((search rules, search rules, search rules, search rules), (search rules, search rules, search rules, search rules));
+      fits = (
+        fits_beside x (codes "listen") x_id refl refl refl (search rules) (search rules),
+        fits_beside y (codes "target") y_id refl refl refl (search rules) (search rules),
+      );
+      takes = (
+        (search rules, search rules, search rules, search rules),
+        (search rules, search rules, search rules, search rules),
+      );
       differ = (ap₂ bytes_eq x_id y_id, ap₂ bytes_eq y_id x_id);
       parsed = p;
     }) in
@@ -55,7 +63,12 @@ returns c =
       kinds = subst (λ (a : App). FailsBy (fault_of a words) parse.result) app_is
           (parse.ensures.kinds (ap is_simple_and_free app_is ∙ simple_and_free));
       values = IfOk-weaker parse.result _ _ (λ m h option. first_value-rows (found_of m) option
-          ∙ ap (first_of option) ((h (ap is_simple app_is ∙ simple)).0 ∙ ap (λ (a : App). matches_of a words) app_is)) parse.ensures.matches;
-      listen = IfOk-weaker parse.result _ _ (λ m p. subst (λ t. is_some (first_value (found_of m) t) ≡ true) x_id (both m p).0) parse.ensures.parsed;
-      target = IfOk-weaker parse.result _ _ (λ m p. subst (λ t. is_some (first_value (found_of m) t) ≡ true) y_id (both m p).1) parse.ensures.parsed;
+          ∙ ap (first_of option) ((h (ap is_simple app_is ∙ simple)).0 ∙ ap (λ (a : App). matches_of a words) app_is))
+          parse.ensures.matches;
+      listen =
+          IfOk-weaker parse.result _ _
+          (λ m p. subst (λ t. is_some (first_value (found_of m) t) ≡ true) x_id (both m p).0) parse.ensures.parsed;
+      target =
+          IfOk-weaker parse.result _ _
+          (λ m p. subst (λ t. is_some (first_value (found_of m) t) ≡ true) y_id (both m p).1) parse.ensures.parsed;
     }
