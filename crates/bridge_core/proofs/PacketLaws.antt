@@ -162,8 +162,7 @@ answers kept after told commands left sizes later served raw limit id error body
           (λ (p : List Asked). answered (state_of kept p) asked replied) is.others));
     }
 
--- Replies
--- --------------------------------------------------------------------------------------------------------------
+-- Replies -------------------------------------------------------------------------------------------------------------
 
 pub refused_says : (sizes : IdSizes) (asked : Asked) (error : ℕ) (body : List ℕ) (result : Result Replied Ending)
     → 0 < error
@@ -219,8 +218,7 @@ pub first_seen : (raw : List RawComposite) (first : RawComposite) → 0 < length
 first_seen [] first some is = absurd (omega arith)
 first_seen (r ∷ raw) first some is = rw is refl
 
--- A call that changes nothing
--- ------------------------------------------------------------------------------------------
+-- A call that changes nothing -----------------------------------------------------------------------------------------
 
 pub like_self : (core : Sight) → IsLike core core
 like_self core = record { state = refl; told = refl; next = refl }
@@ -240,8 +238,7 @@ composite_ends old new at id set number body sizes ending is_one knows like may 
     may_be (RefusesPacket old at (command_packet id set number body) new) _ ending may RefusesPacket.no_memory
     (RefusesPacket.bad_composite is_one knows like)
 
--- Room
--- -----------------------------------------------------------------------------------------------------------------
+-- Room ----------------------------------------------------------------------------------------------------------------
 
 pub taken_on : (old heard new : Sight) (at : ℕ) (packet : Packet) (result : Result (Unit {0}) Ending)
     → Moves old at packet heard

@@ -38,8 +38,7 @@ use Rattle.world_model.specs.declared.ending.Ending.TheVariants.{Flood}
 use Rattle.world_model.specs.declared.machine.Phase.{Phase}
 use Rattle.world_model.specs.declared.machine.Phase.TheVariants.{Fresh, Attached, Gone}
 
--- Held or free
--- ---------------------------------------------------------------------------------------------------------
+-- Held or free --------------------------------------------------------------------------------------------------------
 
 held_for : (phase : Phase) (pending : List Asked) (step : Due) → is_held phase pending ≡ true
     → due_for phase pending step ≡ Due.waits
@@ -61,8 +60,7 @@ free_where Attached [] e = refl
 free_where Attached (asked ∷ pending) e = absurd cc
 free_where Gone pending e = tt
 
--- Views
--- ----------------------------------------------------------------------------------------------------------------
+-- Views ---------------------------------------------------------------------------------------------------------------
 
 -- what changes the machine changes the core
 pub changed : (old new : Kept) (told : ℕ) (commands : Window) (sizes : Option IdSizes) (raw : List Raw) (limit : ℕ)
@@ -73,8 +71,7 @@ changed old new told commands sizes raw limit change becomes =
     ap (λ (s : State). record { state = s; told = told; commands = commands; sizes = sizes; raw = raw; limit = limit })
     (becomes (map (λ (c : ℕ × Asked). c.1) commands.sent))
 
--- Going on
--- -------------------------------------------------------------------------------------------------------------
+-- Going on ------------------------------------------------------------------------------------------------------------
 
 pub one_more : {s middle next : State} → Goes s middle → due middle ≡ Due.goes next → Goes s next
 one_more Goes.stays e = Goes.goes e Goes.stays
@@ -166,8 +163,7 @@ pub less_left : (s next : State) (last step : Step) → is_going last ≡ true �
     → work next + going step < work s + going last
 less_left s next last step e is = let one = going_one last e in let less = step_less s next step is in omega arith
 
--- What goes out
--- --------------------------------------------------------------------------------------------------------
+-- What goes out -------------------------------------------------------------------------------------------------------
 
 pub idle : (old new : Sight) → ComesTo old steps.Waits new → IsIdle old new
 idle old new came = record {
@@ -268,8 +264,7 @@ asks old middle new question side bytes came is =
     (subst (λ (c : Sight). IsSent c (a_question question) side bytes new)
     (came.same ∙ ap (in_state old) came.is_step.1) is)
 
--- Commands that are pending
--- --------------------------------------------------------------------------------------------
+-- Commands that are pending -------------------------------------------------------------------------------------------
 
 abbrev Commands : Type 0
 Commands = List (ℕ × Asked)
@@ -332,8 +327,7 @@ sent_so kept told commands sizes raw limit asked served id bytes serve next is =
       (asked_more commands.sent (id_of commands.next, asked));
 }
 
--- Last words
--- -----------------------------------------------------------------------------------------------------------
+-- Last words ----------------------------------------------------------------------------------------------------------
 
 pub told_last : (old new : Sight) (told : Told) (side : Side) (bytes : List ℕ) → IsTold old told side bytes new
     → IsSaid old (words.Tells told) side bytes new
@@ -342,6 +336,7 @@ told_last old new told side bytes is = rw is.counted (record {
   bytes_are = λ uncuts. is.bytes_are;
   place_is = λ uncuts. refl;
   same = refl;
+  same_limit = refl;
   small = λ to. is.small;
 })
 
@@ -363,11 +358,11 @@ says_word ending old said told commands sizes raw limit word side bytes new next
   side_is = is.side_is;
   bytes_are = is.bytes_are;
   place_is = is.place_is;
+  same_limit = is.same_limit;
   small = is.small;
 }
 
--- Requests
--- -------------------------------------------------------------------------------------------------------------
+-- Requests ------------------------------------------------------------------------------------------------------------
 
 above : (a b : ℕ) → nat_lt a b ≡ true → a < b
 above a b e = grind arith

@@ -49,8 +49,7 @@ Lightens s (Due.sends effect next) = IsNoHeavier s next
 Lightens s (Due.asks questions) = Unit {0}
 Lightens s (Due.over ending) = Unit {0}
 
--- Items
--- ----------------------------------------------------------------------------------------------------------------
+-- Items ---------------------------------------------------------------------------------------------------------------
 
 short_by : (failure : Option Failure) (row : List Part) → length row ≤ 8 → length (parts_by failure row) ≤ 8
 short_by None row short = short
@@ -88,8 +87,7 @@ next_lightens s (item ∷ rest) e free = record {
   same = refl;
 }
 
--- Parts
--- ----------------------------------------------------------------------------------------------------------------
+-- Parts ---------------------------------------------------------------------------------------------------------------
 
 by_responded : (s next : State) (item : Item) (outcome : Outcome) → IsLighter s next
     → Lightens s (responded item outcome next)
@@ -155,8 +153,7 @@ in_lightens : (s : State) (hand : Option Hand) → s.hand ≡ hand → Lightens 
 in_lightens s None e = next_lightens s s.waiting refl e
 in_lightens s (Some hand) e = part_lightens s hand hand.parts e refl
 
--- Beside commands
--- ------------------------------------------------------------------------------------------------------
+-- Beside commands -----------------------------------------------------------------------------------------------------
 
 -- one command keeps all others back
 pub none_beside : (asked : Asked) (pending : List Asked) (step : Due) → beside (asked ∷ pending) step ≡ Due.waits
@@ -257,8 +254,7 @@ none_after s next effect e =
     let light : IsNoHeavier s next = lightens_by s (Due.sends effect next) e in
     light.same ∙ sends_alone s next effect e
 
--- Work
--- -----------------------------------------------------------------------------------------------------------------
+-- Work ----------------------------------------------------------------------------------------------------------------
 
 pub lighter_work : (s next : State) → IsLighter s next → work next < work s
 lighter_work s next lighter = let same = ap free_work lighter.same in let less = lighter.less in omega arith

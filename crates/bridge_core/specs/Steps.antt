@@ -290,4 +290,5 @@ pub record SaysWord (ending : Ending) (old : Sight) (side : Side) (bytes : List 
   pub side_is : side ≡ word_side word
   pub bytes_are : (uncuts : Uncuts) → bytes ≡ word_bytes (place_of old uncuts) word
   pub place_is : (uncuts : Uncuts) → place_of new uncuts ≡ word_said (place_of old uncuts) word
+  pub same_limit : new.limit ≡ old.limit
   pub small : side ≡ Client → new.told < 2 ^ 63

@@ -69,4 +69,5 @@ pub record IsSaid (old : Sight) (word : LastWord) (side : Side) (bytes : List �
   pub bytes_are : (uncuts : Uncuts) → bytes ≡ word_bytes (place_of old uncuts) (word_of word)
   pub place_is : (uncuts : Uncuts) → place_of new uncuts ≡ word_said (place_of old uncuts) (word_of word)
   pub same : new.state ≡ old.state
+  pub same_limit : new.limit ≡ old.limit
   pub small : side ≡ Client → new.told < 2 ^ 63
