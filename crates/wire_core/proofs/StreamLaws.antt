@@ -79,14 +79,6 @@ module _ {M F : Type 0} (front : List ℕ → Front M F) where
       pair : (a b : ℕ × M) → a.0 ≡ b.0 → a.1 ≡ b.1 → a ≡ b
       pair a b x y = ap (λ (k : ℕ). (k, a.1)) x ∙ ap (λ (k : M). (b.0, k)) y
 
-  -- However the stream comes in pieces, its messages are those of the whole stream, and so is what is left of it.
-  pub any_cutting : IsSteady front → (old : Uncut) (pieces : List (List ℕ)) (ms : List (ℕ × M)) (u : Uncut)
-      (ns : List (ℕ × M)) (v : Uncut) → Reads front old pieces ms u → HasNoWhole (front u.pending)
-      → Cuts front (fed old (joined pieces)) ns v → (ms ≡ ns) × (u ≡ v)
-  any_cutting steady old pieces ms u ns v reads rest cuts =
-      Cuts-one (fed old (joined pieces)) ms u ns v
-      (record { hands = Hands-pieces steady old pieces ms u reads; rest = rest }) cuts
-
   -- Taking moves the front: as many bytes were fed as before.
   pub left_size : IsSteady front → (u : Uncut)
       → (left (front u.pending) u).at + length (left (front u.pending) u).pending ≡ u.at + length u.pending

@@ -71,6 +71,7 @@ pub record Counts (old new : Outside) (happening : Happening) : Type 0 where
 abbrev pub told : Counter → Link
 told c = record { faults = c.faults; empties = c.empties; is_open = c.is_open }
 
+-- what links that count tell, beside a log, the faults of opening them, and the names that were asked for
 abbrev pub outside_with : Option (List Entry) → Links → ℕ → List (List ℕ) → Outside
 outside_with log links open_faults asked =
     record {
@@ -81,6 +82,7 @@ outside_with log links open_faults asked =
       asked = asked;
     }
 
+-- whether a side is open
 abbrev pub is_open_in : Links → Side → Bool
 is_open_in links Client = links.client.is_open
 is_open_in links Target = links.target.is_open

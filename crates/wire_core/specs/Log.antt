@@ -3,6 +3,7 @@ use Rattle.std.specs.Prelude.{ℕ, ◌≡◌, ◌+◌, ◌≤◌, List, vec_len,
 use Rattle.wire_core.specs.declared.outside.Entry.{Entry}
 use Rattle.wire_core.specs.declared.log.Log.{Log}
 
+-- all entries, in order
 abbrev pub entries : Log → List Entry
 entries log = log.entries.items
 

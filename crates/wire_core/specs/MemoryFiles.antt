@@ -11,6 +11,7 @@ files_after Nothing files = files
 files_after (Asked name) files = files
 files_after (Wrote name bytes) files = (name, bytes) ∷ files
 
+-- the name that the call asked for, if there was one
 abbrev pub asked_by : Call → List (List ℕ)
 asked_by Nothing = []
 asked_by (Asked name) = name ∷ []
@@ -20,6 +21,7 @@ asked_by (Wrote name bytes) = name ∷ []
 abbrev pub files_of : MemoryFiles → List File
 files_of m = files_after m.call m.files
 
+-- what the files tell of themselves, their content among it
 abbrev pub store_of : MemoryFiles → Store
 store_of m = record { files = Some (files_of m); faults = m.faults; asked = asked_by m.call; taken = 0 }
 

@@ -3,6 +3,7 @@ use Rattle.std.specs.Prelude.{ℕ, ◌≡◌, List, [], Some}
 use Rattle.wire_core.specs.declared.memory_output.MemoryOutput.{MemoryOutput}
 use Rattle.wire_core.specs.Output.{Printed}
 
+-- what the output tells of itself, its bytes among it
 abbrev pub printed_of : MemoryOutput → Printed
 printed_of m = record { bytes = Some m.bytes; faults = m.faults }
 

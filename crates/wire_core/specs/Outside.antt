@@ -23,17 +23,21 @@ pub record Outside : Type 0 where
   pub open_faults : ℕ
   pub asked : List (List ℕ)
 
+-- a side's link
 abbrev pub link_of : Side → Outside → Link
 link_of Client o = o.client
 link_of Target o = o.target
 
+-- the other side
 abbrev pub other_side : Side → Side
 other_side Client = Target
 other_side Target = Client
 
+-- the side is open
 abbrev pub IsOpen : Side → Outside → Type 0
 IsOpen side o = (link_of side o).is_open ≡ true
 
+-- one of the sides is open
 abbrev pub HasOpen : Outside → Type 0
 HasOpen o = IsOpen Client o ⊎ IsOpen Target o
 

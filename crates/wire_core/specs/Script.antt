@@ -78,6 +78,7 @@ IsBehind old (ends side) new = (new.step ≡ old.step + 1) × (new.byte ≡ 0)
 IsBehind old (fails side) new = (new.step ≡ old.step + 1) × (new.byte ≡ 0)
 IsBehind old nothing new = (new.step ≡ old.step + 1) × (new.byte ≡ 0)
 
+-- the sides are the same
 abbrev pub is_same : Side → Side → Bool
 is_same Client Client = true
 is_same Client Target = false

@@ -153,3 +153,75 @@ impl Links {
         }
     }
 }
+
+#[cfg(test)]
+mod tests {
+    use super::*;
+
+    fn link(faults: u64, empties: u64, is_open: bool) -> Link {
+        Link {
+            faults,
+            empties,
+            is_open,
+        }
+    }
+
+    fn links(client: Link, target: Link) -> Links {
+        Links { client, target }
+    }
+
+    #[test]
+    fn a_count_stands_still_at_its_last_value(rt: HostRuntime) {
+        let last = 18_446_744_073_709_551_615;
+        let table = [(0, 1), (41, 42), (last - 1, last), (last, last)];
+        for (count, want) in table {
+            assert_eq!(rt; raise(count), want);
+        }
+    }
+
+    #[test]
+    fn links_are_made_open_or_closed(rt: HostRuntime) {
+        let opened = links(link(0, 0, true), link(0, 0, true));
+        let closed = links(link(0, 0, false), link(0, 0, false));
+        assert_eq!(rt; Links::new(true), opened);
+        assert_eq!(rt; Links::new(false), closed);
+        assert_eq!(rt; closed.opened(), opened);
+        let ended = links(link(2, 3, false), link(4, 5, true));
+        assert_eq!(rt; ended.opened(), links(link(2, 3, true), link(4, 5, true)));
+    }
+
+    #[test]
+    fn open_sides_are_told(rt: HostRuntime) {
+        let table = [
+            (true, true, Side::Client, 2),
+            (true, false, Side::Client, 1),
+            (false, true, Side::Target, 1),
+            (false, false, Side::Target, 0),
+        ];
+        for (client, target, first, count) in table {
+            let links = links(link(0, 0, client), link(0, 0, target));
+            assert_eq!(rt; links.is_open(Side::Client), client);
+            assert_eq!(rt; links.is_open(Side::Target), target);
+            assert_eq!(rt; links.first(), first);
+            assert_eq!(rt; links.open_count(), count);
+        }
+    }
+
+    #[test]
+    fn a_happening_changes_the_side_that_it_names(rt: HostRuntime) {
+        let client = link(1, 2, true);
+        let target = link(3, 4, true);
+        let table = [
+            (Happening::Bytes(Side::Client, 7), client, target),
+            (Happening::Shut(Side::Client), link(1, 2, false), target),
+            (Happening::Shut(Side::Target), client, link(3, 4, false)),
+            (Happening::Failed(Side::Client), link(2, 2, false), target),
+            (Happening::Failed(Side::Target), client, link(4, 4, false)),
+            (Happening::Quiet, link(1, 3, true), link(3, 5, true)),
+        ];
+        for (happening, client_after, target_after) in table {
+            let after = links(client, target).after(happening);
+            assert_eq!(rt; after, links(client_after, target_after), "{happening:?}");
+        }
+    }
+}

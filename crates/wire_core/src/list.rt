@@ -72,7 +72,7 @@ impl<T> List<T> {
 }
 
 impl<T: Copy> List<T> {
-    /// A list of the items of a slice.
+    /// A list of the items of a slice; `NoMemory` comes where memory is refused.
     pub fn from_slice(alloc: Global, items: &[T]) -> Result<List<T>, NoMemory>
         ensures { IfOk result (λ list. list ≡ items.now) }
     {
@@ -87,6 +87,34 @@ impl<T: Copy> List<T> {
         ensures err { OnErr result (self.new ≡ self.old) }
     {
         self.items.extend_from_slice(items)?;
+        Ok(())
+    }
+}
+
+#[cfg(test)]
+mod tests {
+    use super::*;
+    use std::test::Fail;
+
+    #[test]
+    fn a_list_has_what_was_added(rt: HostRuntime) -> Result<(), Fail> {
+        let mut list = List::new(rt.alloc());
+        assert!(rt; list.is_empty());
+        assert_eq!(rt; list.len(), 0);
+        list.push(7)?;
+        list.extend_from_slice(&[8, 9])?;
+        assert_eq!(rt; list.as_slice(), [7, 8, 9].as_slice());
+        assert_eq!(rt; list.len(), 3);
+        assert!(rt; !list.is_empty());
+        Ok(())
+    }
+
+    #[test]
+    fn a_list_is_made_of_a_slice_or_a_vector(rt: HostRuntime) -> Result<(), Fail> {
+        let copied = Blob::from_slice(rt.alloc(), b"abc")?;
+        assert_eq!(rt; copied.as_slice(), b"abc".as_slice());
+        let kept = List::from_vec(vec![in rt.alloc(); 7; 2]?);
+        assert_eq!(rt; kept.as_slice(), [7, 7].as_slice());
         Ok(())
     }
 }

@@ -66,7 +66,7 @@ impl Log {
 }
 
 /// The entry of a happening, with a copy of the bytes that came.
-pub fn entry(alloc: Global, buffer: &[u8], happening: Happening) -> Result<Entry, NoMemory>
+pub(crate) fn entry(alloc: Global, buffer: &[u8], happening: Happening) -> Result<Entry, NoMemory>
     requires { IsWithin (length buffer.now) happening }
     ensures value { IfOk result (λ e. e ≡ entry_of buffer.now happening) }
     ensures needs { OnErr result (NeedsMemory (entry_of buffer.now happening)) }

@@ -78,7 +78,8 @@ impl MemoryWires {
     ghost use Rattle.wire_core.specs.MemoryWires.{outside_of, steps_of, failing_of, is_refused, IsNew, Refuses};
     ghost use Rattle.wire_core.specs.MemoryWires.{LogsSend, BreaksSend};
 
-    /// Wires with both sides open that give these steps, and fail these sends.
+    /// Wires with both sides open that give these steps, and fail these sends; `NoMemory` comes where memory is
+    /// refused.
     pub fn new(
         alloc: Global,
         steps: List<Step>,

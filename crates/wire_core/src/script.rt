@@ -28,21 +28,21 @@ pub struct Cut {
 
 /// A place in a list of steps: so many bytes behind the start of the step of this index.
 #[derive(Clone, Copy, Debug, PartialEq, Eq)]
-pub struct Place {
+pub(crate) struct Place {
     step: usize,
     byte: usize,
 }
 
 /// What came, and the place behind it.
 #[derive(Clone, Copy, Debug, PartialEq, Eq)]
-pub struct Given {
-    pub happening: Happening,
-    pub place: Place,
+pub(crate) struct Given {
+    pub(crate) happening: Happening,
+    pub(crate) place: Place,
 }
 
 impl Place {
     /// The place before all steps.
-    pub const START: Place = Place { step: 0, byte: 0 };
+    pub(crate) const START: Place = Place { step: 0, byte: 0 };
 
     // The place behind what came from the step at this place.
     fn behind(self, happening: Happening) -> Place
@@ -64,7 +64,7 @@ impl Place {
 }
 
 /// What comes next from a place in the steps, with bytes put at the front of the buffer.
-pub fn give(steps: &[Step], place: Place, links: Links, buffer: &mut [u8]) -> Given
+pub(crate) fn give(steps: &[Step], place: Place, links: Links, buffer: &mut [u8]) -> Given
     requires room { 0 < length buffer.old }
     requires some_open { is_open_in links (first_open links) ≡ true }
     ensures comes { entry_of buffer.new result.happening
@@ -138,7 +138,7 @@ fn copy_front(bytes: &[u8], buffer: &mut [u8]) -> usize
 }
 
 /// How many bytes of a send to a side are kept, where a cut names it.
-pub fn kept(failing: &[Cut], side: Side, call: u64) -> Option<u32>
+pub(crate) fn kept(failing: &[Cut], side: Side, call: u64) -> Option<u32>
     ensures { result ≡ kept_of side call failing.now }
 {
     failing

@@ -14,7 +14,7 @@ pub struct Text {
 /// A word of a command line, or a name that is handed to the outside.
 pub type Word = Text;
 
-/// Why bytes are not made a text.
+/// Why bytes are not made a text: memory was refused, or they are not well-formed UTF-8.
 #[derive(Clone, Copy, Debug, PartialEq, Eq)]
 pub enum TextFault {
     NoMemory,
@@ -30,7 +30,8 @@ impl Model for Text {
 }
 
 impl Text {
-    /// The text of these bytes: `NotUtf8` exactly where they are not well-formed UTF-8.
+    /// The text of these bytes: `NotUtf8` comes exactly where they are not well-formed UTF-8, `NoMemory` where they are
+    /// and memory is refused.
     pub fn from_slice(alloc: Global, bytes: &[u8]) -> Result<Text, TextFault>
         ensures value { IfOk result (λ text. text ≡ bytes.now) }
         ensures utf8 { OnOk result (IsUtf8 bytes.now) }
@@ -45,7 +46,7 @@ impl Text {
         }
     }
 
-    /// A copy of a text.
+    /// A copy of a text; `NoMemory` comes where memory is refused.
     pub fn from_str(alloc: Global, text: &str) -> Result<Text, NoMemory>
         ensures { IfOk result (λ copy. copy ≡ text.now) }
     {
@@ -73,5 +74,46 @@ impl Text {
         ensures { result.now ≡ self.now }
     {
         self.inner.as_bytes()
+    }
+}
+
+#[cfg(test)]
+mod tests {
+    use super::*;
+    use std::test::Fail;
+
+    #[test]
+    fn a_text_keeps_its_bytes(rt: HostRuntime) -> Result<(), Fail> {
+        let alloc = rt.alloc();
+        let table = [
+            ("", b"".as_slice()),
+            ("a \"b\"", b"a \"b\""),
+            ("é€😀", b"\xc3\xa9\xe2\x82\xac\xf0\x9f\x98\x80"),
+        ];
+        for (text, bytes) in table {
+            let copy = Text::from_str(alloc, text)?;
+            assert_eq!(rt; copy.as_str(), text);
+            assert_eq!(rt; copy.as_bytes(), bytes);
+            let kept = Text::from_string(String::from_str(alloc, text)?);
+            assert_eq!(rt; kept.as_str(), text);
+            let read = Text::from_slice(alloc, bytes);
+            assert_eq!(rt; read.as_ref().ok().map(Text::as_str), Some(text));
+        }
+        Ok(())
+    }
+
+    #[test]
+    fn a_text_is_made_of_utf8_alone(rt: HostRuntime) -> Result<(), Fail> {
+        // a stray byte, a character cut short, one spelled too long, a surrogate
+        for bytes in [
+            b"a\xff".as_slice(),
+            b"\xe2\x82",
+            b"\xc0\xaf",
+            b"\xed\xa0\x80",
+        ] {
+            let fault = Text::from_slice(rt.alloc(), bytes).err();
+            assert_eq!(rt; fault, Some(TextFault::NotUtf8), "{bytes:?}");
+        }
+        Ok(())
     }
 }
