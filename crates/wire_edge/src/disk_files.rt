@@ -19,7 +19,7 @@ pub struct DiskFiles<R> {
 }
 
 impl<R: rt::Files + Drop> DiskFiles<R> {
-    /// The files that a name leads to, as the system reads it.
+    /// The files that a name leads to, as the system reads it, of which none was asked for yet.
     pub fn new(rt: R) -> DiskFiles<R>
         ensures faults { result.faults ≡ 0 }
         ensures asked { (untold result.faults result.asked result.taken).asked ≡ [] }
@@ -96,14 +96,13 @@ mod tests {
         let path = "wire_edge_test.tmp";
         let name = Word::from_str(alloc, path)?;
         assert_eq!(rt; DiskFiles::new(rt.clone()?).write(name, b"abc"), Ok(()));
-        for (limit, want) in [(3, Some(3)), (2, None)] {
+        for (limit, want) in [(3, Ok(b"abc")), (2, Err(FileRefusal::TooLong))] {
             let name = Word::from_str(alloc, path)?;
-            match DiskFiles::new(rt.clone()?).read(alloc, name, limit) {
-                Ok(bytes) => assert_eq!(rt; Some(bytes.len()), want),
-                Err(refusal) => {
-                    assert_eq!(rt; refusal, FileRefusal::TooLong);
-                    assert_eq!(rt; want, None);
-                }
+            let read = DiskFiles::new(rt.clone()?).read(alloc, name, limit);
+            match (read, want) {
+                (Ok(bytes), Ok(want)) => assert_eq!(rt; bytes.as_slice(), want.as_slice()),
+                (Err(refusal), Err(want)) => assert_eq!(rt; refusal, want),
+                _ => assert!(rt; false, "up to {limit}"),
             }
         }
         fs::remove_file(&rt, path)?;

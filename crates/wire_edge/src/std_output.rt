@@ -14,7 +14,7 @@ pub struct StdOutput<R> {
 }
 
 impl<R: Print + Drop> StdOutput<R> {
-    /// The standard output of the run.
+    /// The standard output of the run, with no fault counted.
     pub fn new(rt: R) -> StdOutput<R>
         ensures { result.faults ≡ 0 }
     {

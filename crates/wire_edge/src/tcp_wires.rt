@@ -396,6 +396,7 @@ impl<R: Net + Clock + Drop> Wires for TcpWires<R> {
 mod tests {
     use super::*;
     use std::alloc::{AllocError, Global};
+    use std::net::SocketAddr;
     use std::process::Abort;
     use std::test::Fail;
 
@@ -523,6 +524,52 @@ mod tests {
             hear(&rt, &mut wires, &mut buffer),
             Happening::Shut(Side::Client)
         );
+        Ok(())
+    }
+
+    // The system's network, where an editor connects and sends a byte as soon as there is a listener.
+    #[derive(Drop)]
+    struct Awaited<'a> {
+        rt: &'a HostRuntime,
+    }
+
+    impl Net for Awaited<'_> {
+        type Stream = TcpStream;
+
+        type Listener = TcpListener;
+
+        fn bind(&self, address: SocketAddr) -> io::Result<TcpListener> {
+            let listener = TcpListener::bind(self.rt, address)?;
+            let mut editor = TcpStream::connect(self.rt, listener.local_addr()?)?;
+            editor.write_all(b"a")?;
+            Ok(listener)
+        }
+
+        fn connect(&self, address: SocketAddr) -> io::Result<TcpStream> {
+            TcpStream::connect(self.rt, address)
+        }
+    }
+
+    impl Clock for Awaited<'_> {
+        fn monotonic(&self) -> io::Result<Duration> {
+            self.rt.monotonic()
+        }
+
+        fn since_1970(&self) -> io::Result<Duration> {
+            self.rt.since_1970()
+        }
+    }
+
+    #[test]
+    fn both_sides_are_opened(rt: HostRuntime) -> Result<(), Fail> {
+        let machine = TcpListener::bind(&rt, "127.0.0.1:0")?;
+        let listen = Text::from_str(rt.alloc(), "127.0.0.1:0")?;
+        let target = Text::from_string(machine.local_addr()?.to_string(rt.alloc())?);
+        let mut wires = TcpWires::new(Awaited { rt: &rt });
+        assert_eq!(rt; wires.connect(listen, target), Ok(()));
+        for side in [Side::Client, Side::Target] {
+            assert!(rt; wires.tally.links.is_open(side), "{side:?}");
+        }
         Ok(())
     }
 
