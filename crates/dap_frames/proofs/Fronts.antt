@@ -218,10 +218,6 @@ header_kept h read pending known =
       λ f p e. ap header_of (sym whole_is) ∙ refused-more (take read pending) (drop read pending) f p (known.says ∙ e),
     )
 
-pub read_all : (h : Head) (pending : List ℕ) → header_of pending ≡ h → IsRead h (length pending) pending
-read_all h pending e =
-    record { within = omega arith; says = ap header_of (take_all (length pending) pending (omega arith)) ∙ e }
-
 -- ---- the front by each thing that the header may say
 
 module _ (bytes : List ℕ) where

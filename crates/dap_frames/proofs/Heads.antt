@@ -1,7 +1,6 @@
 -- Reading a header byte by byte, and on behind what was read.
-use Rattle.std.proofs.Common.{◌≡◌, ℕ, suc, ◌+◌, ◌<◌, ◌≤◌, List, [], ◌∷◌, ◌++◌, length, get_or, drop, refl, sym, ap, ◌∙◌}
+use Rattle.std.proofs.Common.{◌≡◌, ℕ, suc, ◌+◌, ◌<◌, ◌≤◌, List, [], ◌∷◌, ◌++◌, length, refl, sym, ap, ◌∙◌}
 use Rattle.std.proofs.Common.{arith}
-use Rattle.std.proofs.lemmas.List.{drop_more, drop_all}
 use Rattle.dap_frames.specs.declared.fault.FrameFault.{FrameFault}
 use Rattle.dap_frames.specs.declared.header.Reading.{Reading}
 use Rattle.dap_frames.specs.declared.header.Step.{Step}
@@ -19,30 +18,6 @@ pub later-zero : (h : Head) → later 0 h ≡ h
 later-zero (heads.Reads r) = refl
 later-zero (heads.Ends n h) = ap (λ (m : ℕ). heads.Ends n m) (omega arith)
 later-zero (heads.Refused f p) = ap (λ (m : ℕ). heads.Refused f m) (omega arith)
-
--- The first i bytes lead to r: what is left says what all say.
-module _ (all : Head) (r : Reading) (bytes : List ℕ) (i : ℕ) (so_far : later i (head r (drop i bytes)) ≡ all) where
-  -- the byte at i, and what is behind it
-  at : i < length bytes → later i (after_step (step r (get_or bytes i 0)) (λ t. head t (drop (i + 1) bytes))) ≡ all
-  at inside = ap (λ (bs : List ℕ). later i (head r bs)) (sym (drop_more bytes i 0 inside)) ∙ so_far
-
-  pub walk_goes : (t : Reading) → i < length bytes → step r (get_or bytes i 0) ≡ Goes t
-      → later (i + 1) (head t (drop (i + 1) bytes)) ≡ all
-  walk_goes t inside e =
-      sym (later-later i 1 (head t (drop (i + 1) bytes)))
-      ∙ ap (λ s. later i (after_step s (λ t. head t (drop (i + 1) bytes)))) (sym e) ∙ at inside
-
-  pub walk_ends : (n : ℕ) → i < length bytes → step r (get_or bytes i 0) ≡ Ends n → heads.Ends n (i + 1) ≡ all
-  walk_ends n inside e = ap (λ s. later i (after_step s (λ t. head t (drop (i + 1) bytes)))) (sym e) ∙ at inside
-
-  pub walk_refused : (f : FrameFault) → i < length bytes → step r (get_or bytes i 0) ≡ Refused f
-      → heads.Refused f i ≡ all
-  walk_refused f inside e =
-      ap (λ (k : ℕ). heads.Refused f k) (omega arith) ∙ ap
-      (λ s. later i (after_step s (λ t. head t (drop (i + 1) bytes)))) (sym e) ∙ at inside
-
-  pub walk_done : length bytes ≤ i → heads.Reads r ≡ all
-  walk_done over = ap (λ (bs : List ℕ). later i (head r bs)) (sym (drop_all i bytes over)) ∙ so_far
 
 -- What is said of bytes in two parts is what the first says, read on.
 pub head-append : (r : Reading) (xs ys : List ℕ) → head r (xs ++ ys) ≡ onward (length xs) (head r xs) ys

@@ -12,10 +12,11 @@ use Rattle.dap_frames.specs.declared.header.Head.{Head}
 use Rattle.dap_frames.specs.declared.header.Head.TheVariants.{Reads, Ends, Refused}
 use Rattle.dap_frames.specs.Reading.{head}
 
--- A name is one or more visible ASCII characters, none of them a colon.
+-- What a name is made of: visible ASCII characters, none of them a colon.
 abbrev pub IsNameByte : ℕ → Type 0
 IsNameByte b = (33 ≤ b) × (b ≤ 126) × (b ≢ 58)
 
+-- A name has one or more of them.
 abbrev pub IsName : List ℕ → Type 0
 IsName name = (0 < length name) × AllByRecursion IsNameByte name
 
@@ -99,7 +100,7 @@ front_by (Refused fault place) bytes = faulty fault place
 unfoldable pub frame_front : List ℕ → Front Frame FrameFault
 frame_front bytes = front_by (header_of bytes) bytes
 
--- the frame of a body, as the bridge writes it
+-- the frame of a body, as the bridge writes it (DAP overview, Base protocol)
 abbrev pub frame_bytes : List ℕ → List ℕ
 frame_bytes body = codes "Content-Length: " ++ decimal (length body) ++ codes "\r\n\r\n" ++ body
 

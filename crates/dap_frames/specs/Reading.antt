@@ -1,4 +1,5 @@
--- How a header is read, byte by byte, and at which byte it is refused. `IsHeader` says what is read so.
+-- How a header is read, byte by byte, and at which byte it is refused. `IsHeader` says what is read so
+-- (DAP overview, Base protocol).
 use Rattle.std.specs.Prelude.{ℕ, ◌+◌, ◌-◌, ◌*◌, Bool, false, ◌&&◌, not, ◌==◌, nat_lt, nat_le, if◌then◌else◌, List, []}
 use Rattle.std.specs.Prelude.{◌∷◌, slice_index, Option, Some, None}
 use Rattle.std.specs.Char.{to_ascii_lowercase}
@@ -29,6 +30,7 @@ next_match None b = None
 next_match (Some read) b =
     if nat_lt read 14 && (slice_index LENGTH_NAME read == to_ascii_lowercase b) then Some (read + 1) else None
 
+-- all 14 bytes of `content-length` were read, and no others
 abbrev pub is_length_name : Option ℕ → Bool
 is_length_name None = false
 is_length_name (Some read) = read == 14

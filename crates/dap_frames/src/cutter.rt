@@ -64,7 +64,7 @@ impl Cutter {
     }
 
     /// Hands out the next body. `None` comes where what is left neither holds a whole frame nor is refused at its
-    /// front. After a trouble the same trouble comes again.
+    /// front. A trouble comes with the first refused byte, and from then on the same one again.
     pub fn take(&mut self) -> Result<Option<Body<'_>>, FrameTrouble>
         ensures taken { IsTaken self.old result }
         ensures* after_borrow { sem 𝓛

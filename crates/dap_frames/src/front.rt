@@ -5,12 +5,12 @@ ghost use Rattle.dap_frames.specs.Taking.{IsRead, IsFound};
 use crate::fault::FrameFault;
 use crate::header::{Head, Reading, read_on};
 
-/// The longest header, with its empty line.
+/// The longest header, in bytes, with its empty line.
 const LONGEST_HEADER: usize = 4096;
 
 /// What stands at the front of a stream's bytes.
 #[derive(Clone, Copy)]
-pub enum Found {
+pub(crate) enum Found {
     /// Nothing that is decided yet.
     Waits,
     /// A frame: the lengths of its header and of all of it.
@@ -20,7 +20,7 @@ pub enum Found {
 }
 
 /// What stands at the front of the pending bytes, of whose header the first `read` bytes say `head`.
-pub fn look(head: &mut Head, read: &mut usize, pending: &[u8]) -> Found
+pub(crate) fn look(head: &mut Head, read: &mut usize, pending: &[u8]) -> Found
     requires read { IsRead head.old read.old pending.now }
     requires small { length pending.now < 2 ^ 63 }
     ensures read { IsRead head.new read.new pending.now }

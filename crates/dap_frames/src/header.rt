@@ -6,17 +6,17 @@ use crate::fault::FrameFault;
 use crate::usual::past_usual;
 
 /// The name of the line that says how long the body is, in lower case.
-pub const LENGTH_NAME: [u8; 14] = *b"content-length";
+pub(crate) const LENGTH_NAME: [u8; 14] = *b"content-length";
 
-/// The most digits that a length may have.
-pub const MOST_DIGITS: u8 = 10;
+/// The most digits that a length may have, leading zeros among them.
+pub(crate) const MOST_DIGITS: u8 = 10;
 
-/// The longest body that a client may send.
-pub const LONGEST_BODY: u64 = 16_777_216;
+/// The longest body that a client may send, in bytes: 16 MiB.
+pub(crate) const LONGEST_BODY: u64 = 16_777_216;
 
 /// How far a header was read. A length stands beside the lines after its own.
 #[derive(Clone, Copy, Debug)]
-pub enum Reading {
+pub(crate) enum Reading {
     /// At the start of a line.
     Line(Option<u32>),
     /// In a line's name, with how many bytes of `content-length` it has, where it has no others.
@@ -31,9 +31,9 @@ pub enum Reading {
     End(u32),
 }
 
-/// What one more byte of a header does.
+/// What one more byte of a header does: the header goes on, ends with this length of its body, or is refused.
 #[derive(Clone, Copy)]
-pub enum Step {
+pub(crate) enum Step {
     Goes(Reading),
     Ends(u32),
     Refused(FrameFault),
@@ -41,7 +41,7 @@ pub enum Step {
 
 /// What the bytes of a header say so far.
 #[derive(Clone, Copy, Debug)]
-pub enum Head {
+pub(crate) enum Head {
     /// The header isn't whole.
     Reads(Reading),
     /// The header is whole: the length of the body, and the header's own length.
@@ -227,7 +227,7 @@ fn head_behind(start: Reading, from: usize, bytes: &[u8]) -> Head
 }
 
 /// Reads on behind the first `read` bytes of a header, which say `head`.
-pub fn read_on(head: Head, read: usize, bytes: &[u8]) -> Head
+pub(crate) fn read_on(head: Head, read: usize, bytes: &[u8]) -> Head
     requires { read + length bytes.now < 2 ^ 64 }
     ensures { result ≡ onward read head bytes.now }
 {

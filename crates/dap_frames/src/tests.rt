@@ -83,6 +83,23 @@ fn the_first_refused_byte_is_told(rt: HostRuntime) -> Result<(), Fail> {
 }
 
 #[test]
+fn each_fault_has_its_words(rt: HostRuntime) -> Result<(), Fail> {
+    let table = [
+        (FrameFault::NoLength, "a header without a Content-Length"),
+        (FrameFault::TwoLengths, "a header with two lengths"),
+        (FrameFault::BadLength, "a length that is no number"),
+        (FrameFault::TooLong, "a body that is too long"),
+        (FrameFault::HeaderTooLong, "a header that is too long"),
+        (FrameFault::BadHeader, "a header that is none"),
+    ];
+    for (fault, wanted) in table {
+        let words = format!(in rt.alloc(); "{fault}")?;
+        assert_eq!(rt; words.as_str(), wanted);
+    }
+    Ok(())
+}
+
+#[test]
 fn a_header_has_at_most_4096_bytes(rt: HostRuntime) -> Result<(), Fail> {
     let value = vec![in rt.alloc(); b'a'; 4094]?;
     let mut cutter = Cutter::new(rt.alloc());

@@ -5,17 +5,17 @@ ghost use Rattle.dap_frames.specs.Reading.{head, later};
 use crate::header::Reading;
 
 /// How the headers of nearly all clients begin.
-pub const USUAL_LINE: [u8; 16] = *b"Content-Length: ";
+pub(crate) const USUAL_LINE: [u8; 16] = *b"Content-Length: ";
 
 /// How far a header was read, behind so many bytes of a piece.
 #[derive(Clone, Copy)]
-pub struct Past {
-    pub reading: Reading,
-    pub count: usize,
+pub(crate) struct Past {
+    pub(crate) reading: Reading,
+    pub(crate) count: usize,
 }
 
 /// Reads the bytes at once that go on with the usual line, where a header was read to a place in it.
-pub fn past_usual(start: Reading, bytes: &[u8]) -> Past
+pub(crate) fn past_usual(start: Reading, bytes: &[u8]) -> Past
     ensures within { result.count ≤ length bytes.now }
     ensures said { later result.count (head result.reading (drop result.count bytes.now)) ≡ head start bytes.now }
 {

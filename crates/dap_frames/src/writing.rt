@@ -5,8 +5,8 @@ use itoa::Buffer;
 use std::alloc::Global;
 use wire_core::{Blob, NoMemory};
 
-/// The frame of a body of any length: `Content-Length: `, the length in decimal, an empty line and the body
-/// (DAP overview, Base protocol).
+/// The frame of a body of any length: `Content-Length: `, the length in bytes in decimal, an empty line and the body.
+/// `NoMemory` comes where memory is refused. (DAP overview, Base protocol)
 pub fn frame(alloc: Global, body: &[u8]) -> Result<Blob, NoMemory>
     ensures { IfOk result (λ text. text ≡ frame_bytes body.now) }
 {

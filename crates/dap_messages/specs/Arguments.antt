@@ -62,6 +62,7 @@ abbrev pub unless_empty : List (List ℕ) → Option (List (List ℕ))
 unless_empty [] = None
 unless_empty (text ∷ texts) = Some (text ∷ texts)
 
+-- a value that is a list of texts and has one
 abbrev pub as_texts : Data → Option (List (List ℕ))
 as_texts value = option_and_then unless_empty (option_and_then texts_in (as_array value))
 
@@ -74,10 +75,11 @@ abbrev pub flag_at : Argument → Bool → Data → Result Bool Argument
 flag_at argument missing arguments =
     or_missing missing (λ value. unless_broken argument (as_bool value)) (given argument arguments)
 
--- the one form of paths
+-- the one form of paths (DAP specification, Initialize request, `pathFormat`)
 abbrev pub is_path_format : List ℕ → Option ⊤
 is_path_format format = if bytes_eq format (codes "path") then Some tt else None
 
+-- a value that is the text `path`
 abbrev pub as_path_format : Data → Option ⊤
 as_path_format value = option_and_then is_path_format (as_str value)
 
@@ -92,7 +94,7 @@ abbrev pub ◌>>=◌ : {A B : Type 0} → Result A Argument → (A → Result B 
 Ok value >>= next = next value
 Err broken >>= next = Err broken
 
--- InitializeRequestArguments
+-- what `initialize` says, with the defaults of what is missing (DAP specification, Initialize request)
 abbrev pub initialize_of : Data → Result InitializeArguments Argument
 initialize_of arguments = do
   adapter_id ← text_at AdapterId arguments
@@ -107,13 +109,13 @@ initialize_of arguments = do
     supports_variable_type = supports_variable_type;
   })
 
--- AttachRequestArguments, which are the adapter's own: the folders that sources stand in
+-- what `attach` says, which is the adapter's own: the folders that sources stand in (DAP specification, Attach request)
 abbrev pub attach_of : Data → Result AttachArguments Argument
 attach_of arguments = do
   source_roots ← texts_at SourceRoots arguments
   Ok (record { source_roots = source_roots })
 
--- DisconnectArguments
+-- what `disconnect` says (DAP specification, Disconnect request)
 abbrev pub disconnect_of : Data → Result DisconnectArguments Argument
 disconnect_of arguments = do
   terminate_debuggee ← flag_at TerminateDebuggee false arguments

@@ -1,4 +1,4 @@
--- What the body of a frame says. (DAP overview, Base protocol; DAP specification, Base Protocol)
+-- What the body of a frame says. (DAP overview, Base protocol; DAP specification, Base Protocol, ProtocolMessage)
 use Rattle.std.specs.Prelude.{◌≡◌, ℕ, ◌^◌, List, ◌||◌, nat_lt, if◌then◌else◌, codes, bytes_eq, Option, Some, None}
 use Rattle.std.specs.Prelude.{is_some, unwrap_or, option_and_then, Result, Ok, Err}
 use Rattle.std.specs.Str.{is_utf8}
@@ -18,7 +18,7 @@ use Rattle.dap_messages.specs.declared.requests.Incoming.TheVariants.{Request, I
 use Rattle.dap_messages.specs.declared.requests.ReadFault.{ReadFault}
 use Rattle.dap_messages.specs.declared.requests.ReadFault.TheVariants.{NoMemory, NotJson, NotAMessage}
 
--- which command a name is
+-- which command a name is (DAP specification, Requests)
 abbrev pub row_of : List ℕ → Row
 row_of name =
     if bytes_eq name (codes "initialize") then row.Initialize else
@@ -27,14 +27,15 @@ row_of name =
     (if bytes_eq name (codes "disconnect") then row.Disconnect else
     row.Unsupported)))
 
+-- arguments are an object or null
 abbrev pub object_or_null : Data → Result Data Argument
 object_or_null value = if is_some (as_object value) || is_some (as_null value) then Ok value else Err Arguments
 
--- missing arguments count as null; null has no members, like the empty object
+-- missing arguments count as null, which has no members, like {} (DAP specification, Base Protocol, Request)
 abbrev pub arguments_of : Data → Result Data Argument
 arguments_of request = object_or_null (unwrap_or (get (codes "arguments") request) null)
 
--- the arguments of an unsupported command don't matter
+-- a command with its arguments, by its row; those of an unsupported command don't matter
 abbrev pub row_command : Row → Data → Result Command Argument
 row_command row.Initialize request = do
   arguments ← arguments_of request
@@ -53,6 +54,7 @@ row_command row.Disconnect request = do
   Ok (Disconnect disconnect)
 row_command row.Unsupported request = Ok Unsupported
 
+-- a command, or the name of the argument that breaks its rule
 abbrev pub unless_bad : Result Command Argument → Command
 unless_bad (Ok command) = command
 unless_bad (Err argument) = BadArguments (argument_name argument)
@@ -61,25 +63,28 @@ unless_bad (Err argument) = BadArguments (argument_name argument)
 abbrev pub command_of : List ℕ → Data → Command
 command_of name request = unless_bad (row_command (row_of name) request)
 
+-- a number of at most 2 ^ 53 - 1
 abbrev pub in_sequence : ℕ → Option ℕ
 in_sequence seq = if nat_lt seq (2 ^ 53) then Some seq else None
 
--- a sequence number is an integer that every reader of JSON keeps exactly
+-- a sequence number is an integer that every reader of JSON keeps exactly (DAP specification, Base Protocol, `seq`)
 abbrev pub sequence : Data → Option ℕ
 sequence message =
     option_and_then in_sequence (option_and_then as_u64 (option_and_then as_number (get (codes "seq") message)))
 
+-- a request has a sequence number and a command
 abbrev pub numbered_request : Option ℕ → Option (List ℕ) → Data → Result Incoming ReadFault
 numbered_request (Some seq) (Some name) message =
     Ok (Request (record { seq = seq; name = name; command = command_of name message }))
 numbered_request (Some seq) None message = Err NotAMessage
 numbered_request None name message = Err NotAMessage
 
--- Request
+-- a request (DAP specification, Base Protocol, Request)
 abbrev pub request_of : Data → Result Incoming ReadFault
 request_of message =
     numbered_request (sequence message) (option_and_then as_str (get (codes "command") message)) message
 
+-- a message by its `type`
 abbrev pub message_of_type : Option (List ℕ) → Data → Result Incoming ReadFault
 message_of_type None message = Err NotAMessage
 message_of_type (Some kind) message =
@@ -87,10 +92,11 @@ message_of_type (Some kind) message =
     (if bytes_eq kind (codes "response") || bytes_eq kind (codes "event") then Ok Ignored else
     Err NotAMessage)
 
--- ProtocolMessage
+-- a message (DAP specification, Base Protocol, ProtocolMessage)
 abbrev pub incoming_of : Data → Result Incoming ReadFault
 incoming_of message = message_of_type (option_and_then as_str (get (codes "type") message)) message
 
+-- a body that is JSON is a message
 abbrev pub reading_of_value : Option Data → Result Incoming ReadFault
 reading_of_value None = Err NotJson
 reading_of_value (Some message) = incoming_of message

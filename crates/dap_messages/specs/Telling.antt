@@ -1,4 +1,4 @@
--- The JSON of a told message. (DAP specification, Base Protocol, Events and Responses)
+-- The JSON of a told message. (DAP specification, Base Protocol, Response, ErrorResponse and Event)
 use Rattle.std.specs.Prelude.{ℕ, ◌==◌, List, [], ◌∷◌, ◌++◌, map, true, false, if◌then◌else◌, codes, decimal, Option}
 use Rattle.std.specs.Prelude.{Some, None}
 use Rattle.serde_json.specs.Data.{Data, number, unsigned, string, boolean, array, object, Members, no_members, member}
@@ -18,7 +18,7 @@ use Rattle.dap_messages.specs.declared.told.Detail.TheVariants.{Plain, Number, N
 use Rattle.dap_messages.specs.declared.told.Event.{Event}
 use Rattle.dap_messages.specs.declared.told.Event.TheVariants.{Initialized, Terminated}
 
--- the failures of requests
+-- the failures of requests: their codes are the adapter's own (DAP specification, Types, Message, `id`)
 abbrev pub unsupported : Failure
 unsupported = record { code = 1; detail = Plain }
 
@@ -40,29 +40,32 @@ unknown_thread = record { code = 8; detail = Plain }
 abbrev pub target_error : ℕ → Failure
 target_error error = record { code = 9; detail = Number error }
 
--- an object of these members
+-- members in this order
 abbrev pub members_of : List (List ℕ × Data) → Members
 members_of [] = no_members
 members_of (m ∷ ms) = member m.0 m.1 (members_of ms)
 
+-- an object of these members
 abbrev pub object_of : List (List ℕ × Data) → Data
 object_of members = object (members_of members)
 
+-- a number that is an integer from 0
 abbrev pub count : ℕ → Data
 count n = number (unsigned n)
 
 -- ---- bodies of responses
 
--- ExceptionBreakpointsFilter
+-- a filter of exceptions (DAP specification, Types, ExceptionBreakpointsFilter)
 abbrev pub filter_data : List ℕ → List ℕ → Data
 filter_data filter label = object_of ((codes "filter", string filter) ∷ (codes "label", string label) ∷ [])
 
+-- the filters that the adapter has
 abbrev pub filters_data : Data
 filters_data = array (items_of (
     filter_data (codes "caught") (codes "Caught exceptions") ∷
     filter_data (codes "uncaught") (codes "Uncaught exceptions") ∷ []))
 
--- Capabilities
+-- what the adapter can do (DAP specification, Types, Capabilities)
 abbrev pub capabilities_data : Data
 capabilities_data = object_of (
     (codes "exceptionBreakpointFilters", filters_data) ∷
@@ -73,15 +76,15 @@ capabilities_data = object_of (
     (codes "supportsFunctionBreakpoints", boolean true) ∷
     (codes "supportsSetVariable", boolean true) ∷ [])
 
--- Thread
+-- a thread (DAP specification, Types, Thread)
 abbrev pub thread_data : Thread → Data
 thread_data thread = object_of ((codes "id", count thread.id) ∷ (codes "name", string thread.name) ∷ [])
 
--- ThreadsResponse, body
+-- the body of the response to `threads` (DAP specification, Threads request)
 abbrev pub threads_data : List Thread → Data
 threads_data threads = object_of ((codes "threads", array (items_of (map thread_data threads))) ∷ [])
 
--- the body, where there is one
+-- the body of a response, where there is one
 abbrev pub shape_data : Shape → Option Data
 shape_data Nothing = None
 shape_data Capabilities = Some capabilities_data
@@ -94,7 +97,7 @@ body_member (Some body) = (codes "body", body) ∷ []
 
 -- ---- failures
 
--- the message of a code; a code that no failure has says nothing
+-- the message of a code; a code of no failure says nothing (DAP specification, Base Protocol, Response, `message`)
 abbrev pub message_of : ℕ → List ℕ
 message_of code =
     if code == 1 then codes "unsupported" else
@@ -105,16 +108,17 @@ message_of code =
     (if code == 10 then codes "targetGone" else
     (if code == 16 then codes "alreadyAttached" else []))))))
 
+-- what follows the message, with a space before it
 abbrev pub detail_text : Detail → List ℕ
 detail_text Plain = []
 detail_text (Number n) = 32 ∷ decimal n
 detail_text (Name name) = 32 ∷ name
 
--- the message and its detail, with a space between them
+-- the message and what follows it (DAP specification, Types, Message, `format`)
 abbrev pub format_of : Failure → List ℕ
 format_of failure = message_of failure.code ++ detail_text failure.detail
 
--- Message, in the body of an ErrorResponse
+-- the body of a response that fails (DAP specification, Base Protocol, ErrorResponse; Types, Message)
 abbrev pub error_data : Failure → Data
 error_data failure = object_of ((
   codes "error",
@@ -125,7 +129,7 @@ error_data failure = object_of ((
 
 -- ---- messages
 
--- Response
+-- a response that succeeds (DAP specification, Base Protocol, Response)
 abbrev pub answer_data : ℕ → ℕ → List ℕ → Option Data → Data
 answer_data seq request_seq command body = object_of (body_member body ++
     (codes "command", string command) ∷
@@ -134,7 +138,7 @@ answer_data seq request_seq command body = object_of (body_member body ++
     (codes "success", boolean true) ∷
     (codes "type", string (codes "response")) ∷ [])
 
--- ErrorResponse
+-- a response that fails (DAP specification, Base Protocol, ErrorResponse)
 abbrev pub failure_data : ℕ → ℕ → List ℕ → Failure → Data
 failure_data seq request_seq command failure = object_of (
     (codes "body", error_data failure) ∷
@@ -145,24 +149,28 @@ failure_data seq request_seq command failure = object_of (
     (codes "success", boolean false) ∷
     (codes "type", string (codes "response")) ∷ [])
 
+-- a response that succeeds or fails
 abbrev pub outcome_data : ℕ → ℕ → List ℕ → Outcome → Data
 outcome_data seq request_seq command (Success shape) = answer_data seq request_seq command (shape_data shape)
 outcome_data seq request_seq command (Failed failure) = failure_data seq request_seq command failure
 
+-- a response, with the number and the name of its request (DAP specification, Base Protocol, `request_seq`)
 abbrev pub response_data : ℕ → Response → Data
 response_data seq response = outcome_data seq response.request_seq response.command response.outcome
 
+-- the name of an event (DAP specification, Events, Initialized and Terminated)
 abbrev pub event_name : Event → List ℕ
 event_name Initialized = codes "initialized"
 event_name Terminated = codes "terminated"
 
--- Event
+-- an event (DAP specification, Base Protocol, Event)
 abbrev pub event_data : ℕ → Event → Data
 event_data seq event = object_of (
     (codes "event", string (event_name event)) ∷
     (codes "seq", count seq) ∷
     (codes "type", string (codes "event")) ∷ [])
 
+-- a message (DAP specification, Base Protocol, ProtocolMessage)
 abbrev pub told_data : ℕ → Told → Data
 told_data seq (told.Response response) = response_data seq response
 told_data seq (told.Event event) = event_data seq event

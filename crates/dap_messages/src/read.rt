@@ -10,9 +10,10 @@ use wire_core::Text;
 
 const MAX_SEQUENCE: u64 = (1 << 53) - 1;
 
-/// Reads the body of a frame. `NotJson` comes where it is no JSON in UTF-8, `NotAMessage` where it is no object of
-/// type `request`, `response` or `event`, or a request without a text `command` or a whole `seq` from 0 to 2^53 - 1.
-/// (DAP overview, Base protocol; DAP specification, Base Protocol)
+/// Reads the body of a frame. `NoMemory` comes where memory is refused, `NotJson` where it is no JSON in UTF-8,
+/// `NotAMessage` where it is no object of type `request`, `response` or `event`, or a request without a text `command`
+/// or a whole `seq` from 0 to 2^53 - 1.
+/// (DAP overview, Base protocol; DAP specification, Base Protocol, ProtocolMessage and Request)
 pub fn read_request(alloc: Global, body: &[u8]) -> Result<Incoming, ReadFault>
     ensures { IsReading body.now result }
 {

@@ -1,13 +1,15 @@
 use wire_core::{List, NoMemory, Text};
 
 /// What a body says: a request to answer, or a message of another kind, which is passed over.
+/// (DAP specification, Base Protocol, ProtocolMessage)
 #[derive(Debug, Drop)]
 pub enum Incoming {
     Request(Request),
     Ignored,
 }
 
-/// Why a body is no message of the base protocol.
+/// Why a body was not read: memory was refused; it is no JSON in UTF-8; or the JSON is no message of the base protocol.
+/// (DAP specification, Base Protocol, ProtocolMessage)
 #[derive(Clone, Copy, Debug, Drop, PartialEq, Eq)]
 pub enum ReadFault {
     NoMemory,
@@ -26,7 +28,8 @@ impl From<NoMemory> for ReadFault {
     }
 }
 
-/// A request: its sequence number, the name of its command as it came, and the command with its arguments.
+/// A request: its sequence number, from 0 to 2^53 - 1, the name of its command as it came, and the command with its
+/// arguments. (DAP specification, Base Protocol, Request)
 #[derive(Debug, Drop)]
 pub struct Request {
     pub seq: u64,
@@ -35,6 +38,7 @@ pub struct Request {
 }
 
 /// The command of a request, with the arguments that its row of the specification names.
+/// (DAP specification, Requests)
 #[derive(Debug, Drop)]
 pub enum Command {
     Initialize(InitializeArguments),
@@ -48,6 +52,7 @@ pub enum Command {
 }
 
 /// Arguments of `initialize`, with the defaults of the specification in place of those that are missing.
+/// (DAP specification, Initialize request)
 #[derive(Debug, Drop)]
 pub struct InitializeArguments {
     pub adapter_id: Text,
@@ -57,12 +62,14 @@ pub struct InitializeArguments {
 }
 
 /// Arguments of `attach`: the folders that sources stand in, at least one, as the client wrote them.
+/// (DAP specification, Attach request)
 #[derive(Debug, Drop)]
 pub struct AttachArguments {
     pub source_roots: List<Text>,
 }
 
-/// Arguments of `disconnect`.
+/// Arguments of `disconnect`: whether the target has to end, which it doesn't where that is missing.
+/// (DAP specification, Disconnect request)
 #[derive(Clone, Copy, Debug, Drop, PartialEq, Eq)]
 pub struct DisconnectArguments {
     pub terminate_debuggee: bool,

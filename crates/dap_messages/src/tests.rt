@@ -4,7 +4,7 @@ use crate::{
 };
 use std::alloc::{AllocError, Global};
 use std::test::Fail;
-use wire_core::{List, Text, TextFault};
+use wire_core::{List, NoMemory, Text};
 
 // What a body says, in a few words.
 fn summary(alloc: Global, body: &[u8]) -> Result<String, AllocError> {
@@ -252,6 +252,11 @@ fn arguments_are_judged_in_order(rt: HostRuntime) -> Result<(), Fail> {
     Ok(())
 }
 
+#[test]
+fn memory_that_is_refused_is_no_fault_of_a_body(rt: HostRuntime) {
+    assert_eq!(rt; ReadFault::from(NoMemory), ReadFault::NoMemory);
+}
+
 fn thread(alloc: Global, id: u64, name: &str) -> Result<Thread, Fail> {
     Ok(Thread {
         id,
@@ -397,34 +402,6 @@ fn failures_are_told(rt: HostRuntime) -> Result<(), Fail> {
             \"message\":\"{message}\",\"request_seq\":4,\"seq\":2,\"success\":false,\"type\":\"response\"}}"
         )?;
         assert!(rt; text.as_slice() == wanted.as_bytes(), "{format}");
-    }
-    Ok(())
-}
-
-// The text of bytes, where they are UTF-8.
-fn text(alloc: Global, bytes: &[u8]) -> Result<Option<Text>, AllocError> {
-    match Text::from_slice(alloc, bytes) {
-        Ok(text) => Ok(Some(text)),
-        Err(TextFault::NotUtf8) => Ok(None),
-        Err(TextFault::NoMemory) => Err(AllocError),
-    }
-}
-
-#[test]
-fn texts_are_made_of_utf8(rt: HostRuntime) -> Result<(), Fail> {
-    let alloc = rt.alloc();
-    for wanted in ["", "a \"b\"", "é€😀"] {
-        let made = text(alloc, wanted.as_bytes())?;
-        assert_eq!(rt; made.as_ref().map(Text::as_str), Some(wanted));
-    }
-    // a stray byte, a character cut short, one spelled too long, a surrogate
-    for bytes in [
-        b"a\xff".as_slice(),
-        b"\xe2\x82",
-        b"\xc0\xaf",
-        b"\xed\xa0\x80",
-    ] {
-        assert!(rt; text(alloc, bytes)?.is_none(), "{bytes:?}");
     }
     Ok(())
 }

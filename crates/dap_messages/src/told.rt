@@ -1,6 +1,6 @@
 use wire_core::{List, Text};
 
-/// A message that the adapter tells its client.
+/// A message that the adapter tells its client. (DAP specification, Base Protocol, ProtocolMessage)
 #[derive(Debug, Drop)]
 pub enum Told {
     Response(Response),
@@ -8,6 +8,7 @@ pub enum Told {
 }
 
 /// The response to a request: the request's sequence number and command, and what came of it.
+/// (DAP specification, Base Protocol, Response)
 #[derive(Debug, Drop)]
 pub struct Response {
     pub request_seq: u64,
@@ -15,7 +16,7 @@ pub struct Response {
     pub outcome: Outcome,
 }
 
-/// What came of a request.
+/// What came of a request: a body, or a failure. (DAP specification, Base Protocol, Response and ErrorResponse)
 #[derive(Debug, Drop)]
 pub enum Outcome {
     Success(Shape),
@@ -27,27 +28,28 @@ pub enum Outcome {
 pub enum Shape {
     /// No body.
     Nothing,
-    /// What the adapter can do, the body of `initialize`.
+    /// What the adapter can do, the body of `initialize`. (DAP specification, Types, Capabilities)
     Capabilities,
-    /// The threads of the target, the body of `threads`.
+    /// The threads of the target, the body of `threads`. (DAP specification, Threads request)
     Threads(List<Thread>),
 }
 
-/// A thread of the target: the number that the client knows it by, and its name.
+/// A thread of the target: the number that the client knows it by, and its name. (DAP specification, Types, Thread)
 #[derive(Debug, Drop)]
 pub struct Thread {
     pub id: u64,
     pub name: Text,
 }
 
-/// Why a request failed: its code, which decides the message, and what the message is followed by.
+/// Why a request failed: its code, which decides the message, and what the message is followed by. A code that none of
+/// the functions below gives has an empty message. (DAP specification, Types, Message)
 #[derive(Debug, Drop)]
 pub struct Failure {
     pub code: u8,
     pub detail: Detail,
 }
 
-/// What follows the message of a failure.
+/// What follows the message of a failure, behind a space: nothing, a number in decimal, or a name.
 #[derive(Debug, Drop)]
 pub enum Detail {
     Plain,
@@ -55,12 +57,12 @@ pub enum Detail {
     Name(Text),
 }
 
-/// An event that the adapter tells without being asked.
+/// An event that the adapter tells without being asked. (DAP specification, Base Protocol, Event)
 #[derive(Clone, Copy, Debug, Drop, PartialEq, Eq)]
 pub enum Event {
-    /// The adapter takes breakpoints now.
+    /// The adapter takes breakpoints now. (DAP specification, Events, Initialized)
     Initialized,
-    /// Nothing more comes of the debuggee.
+    /// Nothing more comes of the debuggee. (DAP specification, Events, Terminated)
     Terminated,
 }
 
@@ -70,7 +72,7 @@ impl Failure {
     ghost use Rattle.dap_messages.specs.Telling.{already_attached, not_attached, target_gone};
     ghost use Rattle.dap_messages.specs.Telling.{unknown_thread, target_error};
 
-    /// The adapter doesn't have this command.
+    /// The adapter doesn't have this command: code 1, `unsupported`. (DAP specification, Types, Message)
     pub fn unsupported() -> Failure
         ensures { result ≡ unsupported }
     {
@@ -80,7 +82,8 @@ impl Failure {
         }
     }
 
-    /// The argument of this name breaks its rule.
+    /// The argument of this name breaks its rule: code 2, `badArguments` and the name.
+    /// (DAP specification, Types, Message)
     pub fn bad_arguments(name: Text) -> Failure
         ensures { result ≡ bad_arguments name }
     {
@@ -90,7 +93,7 @@ impl Failure {
         }
     }
 
-    /// The session is attached to its target already.
+    /// The session is attached to its target already: code 16, `alreadyAttached`. (DAP specification, Types, Message)
     pub fn already_attached() -> Failure
         ensures { result ≡ already_attached }
     {
@@ -100,7 +103,8 @@ impl Failure {
         }
     }
 
-    /// The session isn't attached to its target yet, and the command needs it to be.
+    /// The session isn't attached to its target yet, and the command needs it to be: code 3, `notAttached`.
+    /// (DAP specification, Types, Message)
     pub fn not_attached() -> Failure
         ensures { result ≡ not_attached }
     {
@@ -110,7 +114,8 @@ impl Failure {
         }
     }
 
-    /// The target has ended, or the session did before the request was done.
+    /// The target has ended, or the session did before the request was done: code 10, `targetGone`.
+    /// (DAP specification, Types, Message)
     pub fn target_gone() -> Failure
         ensures { result ≡ target_gone }
     {
@@ -120,7 +125,7 @@ impl Failure {
         }
     }
 
-    /// No thread has the number that the request names.
+    /// No thread has the number that the request names: code 8, `unknownThread`. (DAP specification, Types, Message)
     pub fn unknown_thread() -> Failure
         ensures { result ≡ unknown_thread }
     {
@@ -130,7 +135,8 @@ impl Failure {
         }
     }
 
-    /// The target answered a question of the request with this error. (JDWP specification, Error Constants)
+    /// The target answered a question of the request with this error: code 9, `targetError` and the error in decimal.
+    /// (DAP specification, Types, Message; JDWP, Error Constants)
     pub fn target_error(error: u16) -> Failure
         ensures { result ≡ target_error error }
     {

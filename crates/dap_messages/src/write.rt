@@ -10,8 +10,9 @@ use serde_json::{Value, json};
 use std::alloc::{AllocError, Global};
 use wire_core::{Blob, List, NoMemory};
 
-/// The text of a told message: compact JSON, with the members of each object in byte order of their names.
-/// (DAP specification, Base Protocol)
+/// The text of a told message, in UTF-8 and without a frame: compact JSON, with the members of each object in byte
+/// order of their names. `NoMemory` comes where memory is refused.
+/// (DAP specification, Base Protocol, Response, ErrorResponse and Event)
 pub fn text_of(alloc: Global, seq: u64, told: &Told) -> Result<Blob, NoMemory>
     ensures { IfOk result (λ text. text ≡ told_text seq told.now) }
 {
