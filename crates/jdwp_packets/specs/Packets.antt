@@ -1,4 +1,4 @@
--- The target's stream: its greeting, and its packets (JDWP, "JDWP Packets" and "Handshake").
+-- The target's stream: its greeting (JDWP, JDWP Start Up), and its packets (JDWP, JDWP Packets).
 use Rattle.std.specs.Prelude.{◌≡◌, ◌≢◌, ℕ, ◌+◌, ◌^◌, ◌<◌, ◌≤◌, ◌||◌, ◌==◌, not, List, [], ◌∷◌, ◌++◌, length, take, drop}
 use Rattle.std.specs.Prelude.{nat_lt, if◌then◌else◌, slice_index, codes}
 use Rattle.std.specs.Int.{w16, w32, to_be_bytes, from_be_bytes}
@@ -7,12 +7,13 @@ use Rattle.jdwp_packets.specs.declared.fault.PacketFault.{PacketFault}
 use Rattle.jdwp_packets.specs.declared.fault.PacketFault.TheVariants.{BadHandshake, ShortLength, TooLong, BadFlags}
 
 -- A command has an id, a command set, the number of the command in it, and data; a reply has the id of its command, an
--- error code, and data.
+-- error code, and data (JDWP, JDWP Packets, command packet and reply packet).
 pub data Packet : Type 0 where
   command_packet : (id set number : ℕ) (body : List ℕ) → Packet
   reply_packet : (id error : ℕ) (body : List ℕ) → Packet
 
 -- the bytes of a packet: length with the header, id, flags, then set and command or the error code, then the data
+-- (JDWP, JDWP Packets)
 abbrev pub packet_bytes : Packet → List ℕ
 packet_bytes (command_packet id set number body) =
     to_be_bytes w32 (11 + length body) ++ to_be_bytes w32 id ++ (0 ∷ set ∷ number ∷ []) ++ body
@@ -24,11 +25,11 @@ abbrev pub Fits : Packet → Type 0
 Fits (command_packet id set number body) = (id < 2 ^ 32) × (set < 256) × (number < 256) × (length body ≤ 67108853)
 Fits (reply_packet id error body) = (id < 2 ^ 32) × (error < 2 ^ 16) × (length body ≤ 67108853)
 
--- the length that the first four bytes say
+-- the length that the first four bytes say (JDWP, JDWP Packets, length)
 abbrev pub size_of : List ℕ → ℕ
 size_of bytes = from_be_bytes w32 (take 4 bytes)
 
--- the flags, the ninth byte
+-- the flags, the ninth byte (JDWP, JDWP Packets, flags)
 abbrev pub flags_of : List ℕ → ℕ
 flags_of bytes = slice_index bytes 8
 
@@ -67,7 +68,7 @@ AreBytes bytes = (i : ℕ) → slice_index bytes i < 256
 abbrev pub IsSized : List ℕ → Type 0
 IsSized bytes = (4 ≤ length bytes) × (11 ≤ size_of bytes) × (size_of bytes ≤ 67108864)
 
--- what the debugger and the target send first
+-- what the debugger and the target send first (JDWP, JDWP Start Up)
 abbrev pub handshake : List ℕ
 handshake = codes "JDWP-Handshake"
 
@@ -77,6 +78,7 @@ greeting_from k [] bytes = whole tt k
 greeting_from k (h ∷ hs) [] = waits
 greeting_from k (h ∷ hs) (b ∷ bs) = if b == h then greeting_from (k + 1) hs bs else faulty BadHandshake k
 
+-- the greeting at the front of some bytes, of which none was read
 abbrev pub greeting_front : List ℕ → Front (Unit {0}) PacketFault
 greeting_front bytes = greeting_from 0 handshake bytes
 

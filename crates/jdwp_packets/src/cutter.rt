@@ -12,25 +12,37 @@ use std::alloc::Global;
 use std::marker::Model;
 use wire_core::{NoMemory, StreamBuffer};
 
-/// A packet, and the offset in the stream of its first byte.
+/// A packet that a target sent (JDWP, JDWP Packets). Its body lies in the cutter, behind the 11 bytes of the header.
 #[derive(Clone, Copy, Debug, PartialEq, Eq)]
 pub enum Packet<'a> {
+    /// What the target tells unasked, as an event.
     Command {
+        /// The offset in the stream, in bytes, of the packet's first byte.
         at: u64,
+        /// The id that the target gave it.
         id: u32,
+        /// The number of the command set.
         set: u8,
+        /// The command's own number in its set.
         command: u8,
+        /// The data behind the header.
         body: &'a [u8],
     },
+    /// What the target replies to a command.
     Reply {
+        /// The offset in the stream, in bytes, of the packet's first byte.
         at: u64,
+        /// The id of the command that it replies to.
         id: u32,
+        /// 0, or the number of an error (JDWP, Error Constants).
         error: u16,
+        /// The data behind the header.
         body: &'a [u8],
     },
 }
 
-/// Cuts a target's stream, which comes in any pieces, into the greeting and packets (JDWP, Handshake and JDWP Packets).
+/// Cuts a target's stream, which comes in any pieces, into the greeting (JDWP, JDWP Start Up) and packets (JDWP, JDWP
+/// Packets).
 ///
 /// Contracts see whether the greeting came, and the bytes that were fed and not handed out, with their offset.
 #[derive(Debug, Drop)]
@@ -80,7 +92,7 @@ impl PacketCutter {
     }
 
     /// Hands out the next packet. `None` comes where neither a whole packet nor a fault stands at the front of what is
-    /// left. After a trouble the same trouble comes again.
+    /// left, a trouble where a fault does. After a trouble the same trouble comes again. It takes no memory.
     pub fn take(&mut self) -> Result<Option<Packet<'_>>, PacketTrouble>
         ensures taken { IsTaken self.old result }
         ensures* after_borrow { sem 𝓛 (Rests the_row self.entry (λ new. new ≡ left_behind self.old)) }
@@ -130,7 +142,7 @@ fn packet_at(at: u64, bytes: &[u8]) -> Packet<'_>
     ensures { Shows result at (packet_of bytes.now) }
 {
     let id = front::u32_at(bytes, 4);
-    let body = &bytes[front::HEADER..];
+    let body = &bytes[front::HEADER as usize..];
     if bytes[8] == 0 {
         Packet::Command {
             at,

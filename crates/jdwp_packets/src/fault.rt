@@ -1,6 +1,6 @@
 use thiserror::Error;
 
-/// Why the target's stream is refused (JDWP, Handshake and JDWP Packets).
+/// Why the target's stream is refused (JDWP, JDWP Start Up; JDWP, JDWP Packets).
 #[derive(Clone, Copy, Debug, PartialEq, Eq, Error)]
 pub enum PacketFault {
     /// The stream doesn't begin with the handshake.
@@ -17,7 +17,8 @@ pub enum PacketFault {
     BadFlags,
 }
 
-/// A refused packet or byte: why, and the offset in the stream of the packet, or of the handshake's first wrong byte.
+/// A refused packet or byte: why, and the offset in the stream, in bytes, of the packet, or of the handshake's first
+/// wrong byte.
 #[derive(Clone, Copy, Debug, PartialEq, Eq)]
 pub struct PacketTrouble {
     pub fault: PacketFault,

@@ -5,18 +5,18 @@ ghost use Rattle.jdwp_packets.specs.Taking.{IsFound, IsGreeting};
 
 use crate::fault::PacketFault;
 
-/// The length of a packet without data.
-pub const HEADER: usize = 11;
+/// The length of a packet without data (JDWP, JDWP Packets).
+pub(crate) const HEADER: u32 = 11;
 
 /// The longest packet that a target may send.
-pub const LONGEST_PACKET: u32 = 67_108_864;
+pub(crate) const LONGEST_PACKET: u32 = 67_108_864;
 
-/// What the target sends first.
-pub const HANDSHAKE: [u8; 14] = *b"JDWP-Handshake";
+/// What the target sends first (JDWP, JDWP Start Up).
+pub(crate) const HANDSHAKE: [u8; 14] = *b"JDWP-Handshake";
 
 /// What stands at the front of a stream's bytes.
 #[derive(Clone, Copy)]
-pub enum Found {
+pub(crate) enum Found {
     /// Nothing that is decided yet.
     Waits,
     /// A greeting or a packet of this length.
@@ -26,7 +26,7 @@ pub enum Found {
 }
 
 /// The greeting at the front of the bytes.
-pub fn greeting(bytes: &[u8]) -> Found
+pub(crate) fn greeting(bytes: &[u8]) -> Found
     ensures { IsGreeting result (greeting_front bytes.now) (length bytes.now) }
 {
     for (i, expected) in HANDSHAKE.iter().enumerate() {
@@ -41,14 +41,14 @@ pub fn greeting(bytes: &[u8]) -> Found
 }
 
 /// The packet at the front of the bytes.
-pub fn packet(bytes: &[u8]) -> Found
+pub(crate) fn packet(bytes: &[u8]) -> Found
     ensures { IsFound result (packet_front bytes.now) bytes.now }
 {
     if bytes.len() < 4 {
         return Found::Waits;
     }
     let size = u32_at(bytes, 0);
-    if size < 11 {
+    if size < HEADER {
         return Found::Refused(PacketFault::ShortLength, 0);
     }
     if size > LONGEST_PACKET {
@@ -66,7 +66,7 @@ pub fn packet(bytes: &[u8]) -> Found
     Found::Whole(size as usize)
 }
 
-// Flags are 0 for a command and 0x80 for a reply.
+// Flags are 0 for a command and 0x80 for a reply (JDWP, JDWP Packets, flags).
 fn has_kind(flags: u8) -> bool
     ensures { result ≡ (flags == 0) || (flags == 128) }
 {
@@ -74,7 +74,7 @@ fn has_kind(flags: u8) -> bool
 }
 
 /// The big-endian number of four bytes from a place on.
-pub fn u32_at(bytes: &[u8], at: usize) -> u32
+pub(crate) fn u32_at(bytes: &[u8], at: usize) -> u32
     requires { at + 4 ≤ length bytes.now }
     ensures { result ≡ from_be_bytes w32 (take 4 (drop at bytes.now)) }
 {
@@ -83,7 +83,7 @@ pub fn u32_at(bytes: &[u8], at: usize) -> u32
 }
 
 /// The big-endian number of two bytes from a place on.
-pub fn u16_at(bytes: &[u8], at: usize) -> u16
+pub(crate) fn u16_at(bytes: &[u8], at: usize) -> u16
     requires { at + 2 ≤ length bytes.now }
     ensures { result ≡ from_be_bytes w16 (take 2 (drop at bytes.now)) }
 {

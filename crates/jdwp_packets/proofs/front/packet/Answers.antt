@@ -13,6 +13,6 @@ returns c =
     let here : size_of c.args.bytes.now ≤ length c.args.bytes.now = omega arith in (
       subst (λ (n : ℕ). packet_front c.args.bytes.now ≡ whole (packet_of (take n c.args.bytes.now)) n) (sym size)
           (front-whole c.args.bytes.now sized kind here),
-      c.if-size-lt11.false,
+      c.if-size-lt-HEADER.false,
       c.if-bytes-size.false,
     )
