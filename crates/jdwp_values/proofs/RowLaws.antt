@@ -3,7 +3,6 @@ use Rattle.std.proofs.Common.{◌≡◌, ℕ, zero, suc, true, List, [], ◌∷�
 use Rattle.std.proofs.Common.{subst, ◌∙◌, append_assoc, arith}
 use Rattle.std.specs.Int.{bytes_high_first}
 use Rattle.std.specs.List.{flat_map, AllByRecursion}
-use Rattle.std.proofs.lemmas.List.{append-nil}
 use Rattle.std.proofs.lemmas.List.Concat.{flat_map-cons}
 use Rattle.jdwp_values.specs.declared.fault.ReadTrouble.{ReadTrouble}
 use Rattle.jdwp_values.specs.declared.fault.RowFault.{RowFault}
@@ -16,7 +15,6 @@ use Rattle.jdwp_values.specs.Parts.{Part, count, Of}
 use Rattle.jdwp_values.specs.Reading.{Place, behind, placed, part_at, read_part}
 use Rattle.jdwp_values.specs.Rows.{Holds, From, made, spell_row, FitsRow, InRangeRow, ◌>>=◌, in_row, row_at, RowOf}
 use Rattle.jdwp_values.specs.Rows.{read_by, spell_by, FitsBy, InRangeBy, times_at, list_at, spell_list, FitsList}
-use Rattle.jdwp_values.specs.Rows.{row_then_at, spelled_behind}
 use Rattle.jdwp_values.specs.Spelling.{spell_part, FitsPart, InRangePart, Ends}
 use Rattle.jdwp_values.proofs.PartLaws.{Takes, Takes-then, part_takes, part_again}
 
@@ -238,55 +236,3 @@ module _ {A : Type 0} (read : Place → Result (A × Place) RowFault) (spell : I
         bind_is (in_row (part_at (count limit) place)) (λ n. times_at n.0 read n.1) (length xs, next) (ap in_row one)
         ∙ times_again xs next rest fits.0.each range refl;
   }
-
-  -- a row with one more thing behind it
-  pub then_format : (row : List Part) {B : Type 0} (make : From row (A → B)) (values : B → Holds row × A)
-      → ((x : B) → made row make (values x).0 (values x).1 ≡ x)
-      → ((v : Holds row) (a : A) → values (made row make v a) ≡ (v, a))
-      → ((sizes : IdSizes) (v : Holds row) (rest : List ℕ) → EndsRow sizes row v rest)
-      → IsFormat (row_then_at row make read) (λ sizes x. spell_row sizes row (values x).0 ++ spell sizes (values x).1)
-      (λ sizes x. FitsRow sizes row (values x).0 × Fits sizes (values x).1)
-      (λ x. InRangeRow row (values x).0 × InRange (values x).1)
-  then_format row {B} make values same back ends = record {
-    takes = λ place x fits e.
-        let a = bind_ok (row_at row make place) (λ front. read front.1 >>= λ last. Ok (front.0 last.0, last.1)) x e in
-        let t = row_takes row make place a.0 fits a.1 in
-        let next = behind place t.takes.rest in
-        let b = bind_ok (read a.0.1) (λ last. Ok (a.0.0 last.0, last.1)) x a.2 in
-        let e' : read next ≡ Ok b.0 = subst (λ (z : Place). read z ≡ Ok b.0) t.takes.new_is b.1 in
-        let l = format.takes next b.0 t.takes.takes.rest_fits e' in
-        let first : TakesPlace place (spell_row place.sizes row t.values) next =
-        record { rest = t.takes.rest; new_is = refl; takes = t.takes.takes } in
-        let whole =
-        TakesPlace-then place (spell_row place.sizes row t.values) next (spell place.sizes b.0.0) b.0.1 first l.0 in
-        let here : B × Place = (a.0.0 b.0.0, b.0.1) in
-        let is : here ≡ x = ok_is {E = RowFault} here x b.2 in
-        let made_is : made row make t.values b.0.0 ≡ x.0 =
-        ap (λ (f : A → B). f b.0.0) t.is ∙ ap (λ (y : B × Place). y.0) is in
-        let last_is : b.0.1 ≡ x.1 = ap (λ (y : B × Place). y.1) is in
-        let held : (t.values, b.0.0) ≡ values x.0 = sym (back t.values b.0.0) ∙ ap values made_is in
-        let told : TakesPlace place (spell_row place.sizes row t.values ++ spell place.sizes b.0.0) x.1 =
-        subst (λ (z : Place). TakesPlace place (spell_row place.sizes row t.values ++ spell place.sizes b.0.0) z)
-        last_is whole in
-        subst (λ (v : Holds row × A). TakesPlace place (spell_row place.sizes row v.0 ++ spell place.sizes v.1) x.1
-        × (FitsRow place.sizes row v.0 × Fits place.sizes v.1)) held (told, (t.fits, l.1));
-    again = λ place x rest fits range e.
-        let v = values x in
-        let more = spell place.sizes v.1 ++ rest in
-        let next = behind place more in
-        let one = row_again row make place v.0 more fits.0 range.0 (ends place.sizes v.0 more)
-        (e ∙ append_assoc (spell_row place.sizes row v.0) (spell place.sizes v.1) rest) in
-        bind_is (row_at row make place) (λ front. read front.1 >>= λ last. Ok (front.0 last.0, last.1))
-        (made row make v.0, next) one
-        ∙ bind_is (read next) (λ last. Ok (made row make v.0 last.0, last.1)) (v.1, behind place rest)
-        (format.again next v.1 rest fits.1 range.1 refl)
-        ∙ ap (λ (y : B). Ok (y, behind place rest)) (same x);
-  }
-
--- what was written with a row behind it
-pub spelled_behind-is : (sizes : IdSizes) (bytes : List ℕ) (row : List Part) (values : Holds row)
-    → spelled_behind sizes bytes row values ≡ bytes ++ spell_row sizes row values
-spelled_behind-is sizes bytes [] values = sym (append-nil bytes)
-spelled_behind-is sizes bytes (p ∷ row) values =
-    spelled_behind-is sizes (bytes ++ spell_part sizes p values.0) row values.1 ∙ append_assoc bytes
-    (spell_part sizes p values.0) (spell_row sizes row values.1)

@@ -1,5 +1,6 @@
 -- A list of bytes.
 use Rattle.std.specs.Prelude.{ℕ, ◌<◌, List, slice_index}
 
+-- each item is below 256
 abbrev pub IsBytes : List ℕ → Type 0
 IsBytes bytes = (i : ℕ) → slice_index bytes i < 256

@@ -7,7 +7,7 @@ use Rattle.jdwp_values.specs.declared.class.Variable.{Variable}
 use Rattle.jdwp_values.specs.Parts.{int, index, number, method, field, text}
 use Rattle.jdwp_values.specs.Rows.{RowOf}
 
--- a method (JDWP, ReferenceType command set, "Methods")
+-- a method (JDWP, ReferenceType command set, Methods)
 abbrev pub method_row : RowOf Method
 method_row = record {
   parts = method ∷ text ∷ text ∷ int ∷ [];
@@ -15,7 +15,7 @@ method_row = record {
   values = λ m. (m.id, (m.name, (m.signature, (m.bits, tt))));
 }
 
--- a field (JDWP, ReferenceType command set, "Fields")
+-- a field (JDWP, ReferenceType command set, Fields)
 abbrev pub field_row : RowOf Field
 field_row = record {
   parts = field ∷ text ∷ text ∷ int ∷ [];
@@ -23,7 +23,7 @@ field_row = record {
   values = λ f. (f.id, (f.name, (f.signature, (f.bits, tt))));
 }
 
--- a line, with the index of its first code (JDWP, Method command set, "LineTable")
+-- a line, with the index of its first code (JDWP, Method command set, LineTable)
 abbrev pub line_row : RowOf Line
 line_row = record {
   parts = index ∷ int ∷ [];
@@ -31,7 +31,7 @@ line_row = record {
   values = λ l. (l.index, (l.line, tt));
 }
 
--- a variable, whose length has no sign (JDWP, Method command set, "VariableTable")
+-- a variable, whose length has no sign (JDWP, Method command set, VariableTable)
 abbrev pub variable_row : RowOf Variable
 variable_row = record {
   parts = index ∷ text ∷ text ∷ number ∷ int ∷ [];

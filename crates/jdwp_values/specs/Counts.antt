@@ -3,6 +3,7 @@ use Rattle.std.specs.Prelude.{ℕ, Bool, true, false, ◌==◌, nat_le}
 use Rattle.jdwp_values.specs.declared.limit.Limit.{Limit}
 use Rattle.jdwp_values.specs.declared.limit.Limit.TheVariants.{Any, Exactly, AtMost, Never}
 
+-- whether the place allows this count
 abbrev pub allows : Limit → ℕ → Bool
 allows Any count = true
 allows (Exactly asked) count = count == asked

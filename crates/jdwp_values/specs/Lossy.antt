@@ -1,4 +1,5 @@
--- A string's bytes as text, whatever bytes were sent (JDWP specification, "string": characters in UTF-8).
+-- A string's bytes as text, whatever bytes were sent. They should be UTF-8
+-- (JDWP, Detailed Command Information, common data types, string).
 use Rattle.std.specs.Prelude.{ℕ, zero, suc, List, [], ◌∷◌, ◌++◌, take, find, Option, None, Some}
 use Rattle.std.specs.Str.{is_utf8}
 use Rattle.std.specs.Str.Lossy.{replacement_bytes}

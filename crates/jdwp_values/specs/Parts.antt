@@ -1,4 +1,5 @@
--- The parts that bodies are made of (JDWP, "Detailed Command Information"), and the values that each has.
+-- The parts that bodies are made of, and the values that each has
+-- (JDWP, Detailed Command Information, common data types).
 use Rattle.std.specs.Prelude.{ℕ, ℤ, List}
 use Rattle.std.specs.Int.{Width, w32, w64}
 use Rattle.jdwp_values.specs.declared.id.ObjectId.{ObjectId}
@@ -28,6 +29,7 @@ pub data Simple : Type 0 where
   type_tag_byte : Simple
   nothing : Simple
 
+-- the values of each
 abbrev pub OfSimple : Simple → Type 0
 OfSimple (unsigned size) = ℕ
 OfSimple (signed w) = ℤ
@@ -71,6 +73,7 @@ pub data Part : Type 0 where
   untagged : ℕ → Part
   tail : Part
 
+-- the values of each kind of part
 abbrev pub Of : Part → Type 0
 Of (simple s) = OfSimple s
 Of (count limit) = ℕ
@@ -81,6 +84,7 @@ Of reference = Value
 Of (untagged byte) = Value
 Of tail = List ℕ
 
+-- numbers by their names in the standard (JDWP, Detailed Command Information, common data types)
 abbrev pub byte : Part
 byte = simple (unsigned 1)
 
@@ -98,6 +102,7 @@ index = simple (unsigned 8)
 abbrev pub number : Part
 number = simple (unsigned 4)
 
+-- ids, and the byte of a type tag
 abbrev pub object : Part
 object = simple object_id
 

@@ -1,4 +1,5 @@
--- Reading a part at the front of some bytes: its value and the bytes behind it, or why it can't be read.
+-- Reading a part at the front of some bytes: its value and the bytes behind it, or why it can't be read. For each kind
+-- of part `x_at` reads it; its bytes are `spell_x` in Spelling.antt.
 use Rattle.std.specs.Prelude.{◌≡◌, ℕ, ℤ, ◌-◌, ◌^◌, ◌&&◌, List, [], ◌∷◌, length, take, drop, Option, Some, None, Result}
 use Rattle.std.specs.Prelude.{Ok, Err, nat_lt, if◌then◌else◌}
 use Rattle.std.specs.Int.{Width, w8, w16, w32, w64, byte_len, cast_signed}
@@ -22,6 +23,7 @@ use Rattle.jdwp_values.specs.Parts.{frame_id, type_tag_byte, nothing, OfSimple, 
 use Rattle.jdwp_values.specs.Parts.{value, reference, untagged, tail, Of}
 use Rattle.jdwp_values.specs.Tags.{type_tag_of, tag_of, is_reference}
 
+-- what was read is handed on, and a fault stays
 infixl 10 ◌>>=◌
 abbrev pub ◌>>=◌ : {A B : Type 0} → Result A ValueFault → (A → Result B ValueFault) → Result B ValueFault
 (Ok x) >>= f = f x
@@ -36,11 +38,13 @@ Gives view (Err e) read = read ≡ Err e
 abbrev pub bytes_at : ℕ → List ℕ → Result (List ℕ × List ℕ) ValueFault
 bytes_at size bytes = if nat_lt (length bytes) size then Err Short else Ok (take size bytes, drop size bytes)
 
+-- a number without a sign, of so many bytes
 unfoldable pub unsigned_at : ℕ → List ℕ → Result (ℕ × List ℕ) ValueFault
 unsigned_at size bytes = do
   front ← bytes_at size bytes
   Ok (number_from_digits 256 front.0, front.1)
 
+-- a number with a sign, in two's complement
 unfoldable pub signed_at : Width → List ℕ → Result (ℤ × List ℕ) ValueFault
 signed_at w bytes = do
   x ← unsigned_at (byte_len w) bytes
@@ -51,11 +55,13 @@ abbrev pub tagged : {A : Type 0} → Option A → List ℕ → Result (A × List
 tagged (Some x) rest = Ok (x, rest)
 tagged None rest = Err BadTag
 
+-- a byte that is a type tag's (JDWP, Constants, TypeTag)
 unfoldable pub type_tag_at : List ℕ → Result (TypeTag × List ℕ) ValueFault
 type_tag_at bytes = do
   byte ← unsigned_at 1 bytes
   tagged (type_tag_of byte.0) byte.1
 
+-- a part of one number, where an id takes as many bytes as ids of its kind have
 unfoldable pub simple_at : IdSizes → (s : Simple) → List ℕ → Result (OfSimple s × List ℕ) ValueFault
 simple_at sizes (unsigned size) bytes = unsigned_at size bytes
 simple_at sizes (signed w) bytes = signed_at w bytes
@@ -87,11 +93,13 @@ count_at limit bytes = do
   x ← unsigned_at 4 bytes
   if nat_lt x.0 (2 ^ 31) && allows limit x.0 then Ok x else Err BadCount
 
+-- how many bytes, and those (JDWP, Detailed Command Information, common data types, string)
 unfoldable pub text_at : List ℕ → Result (List ℕ × List ℕ) ValueFault
 text_at bytes = do
   len ← count_at Any bytes
   bytes_at len.0 len.1
 
+-- a type tag, a class, a method and an index (JDWP, Detailed Command Information, common data types, location)
 unfoldable pub location_at : IdSizes → List ℕ → Result (Location × List ℕ) ValueFault
 location_at sizes bytes = do
   tag ← type_tag_at bytes
@@ -100,6 +108,7 @@ location_at sizes bytes = do
   index ← unsigned_at 8 method.1
   Ok (record { tag = tag.0; class = class.0; method = method.0; index = index.0 }, index.1)
 
+-- what was read, as a value
 abbrev pub as_value : {A : Type 0} → (A → Value) → Result (A × List ℕ) ValueFault → Result (Value × List ℕ) ValueFault
 as_value make (Ok x) = Ok (make x.0, x.1)
 as_value make (Err f) = Err f
@@ -123,12 +132,13 @@ of_tag_at sizes tags.ThreadGroup bytes = as_value values.ThreadGroup (simple_at 
 of_tag_at sizes tags.ClassLoader bytes = as_value values.ClassLoader (simple_at sizes object_id bytes)
 of_tag_at sizes tags.ClassObject bytes = as_value values.ClassObject (simple_at sizes object_id bytes)
 
--- the value behind a tag byte that has been read
+-- the value of a tag byte that has been read (JDWP, Detailed Command Information, common data types, untagged-value)
 unfoldable pub untagged_at : IdSizes → ℕ → List ℕ → Result (Value × List ℕ) ValueFault
 untagged_at sizes byte bytes = do
   tag ← tagged (tag_of byte) bytes
   of_tag_at sizes tag.0 tag.1
 
+-- a tag, and the value behind it (JDWP, Detailed Command Information, common data types, value)
 unfoldable pub value_at : IdSizes → List ℕ → Result (Value × List ℕ) ValueFault
 value_at sizes bytes = do
   byte ← unsigned_at 1 bytes
@@ -139,6 +149,7 @@ abbrev pub reference_tag : Option Tag → Option Tag
 reference_tag None = None
 reference_tag (Some tag) = if is_reference tag then Some tag else None
 
+-- a reference's tag, and its object (JDWP, Detailed Command Information, common data types, tagged-objectID)
 unfoldable pub reference_at : IdSizes → List ℕ → Result (Value × List ℕ) ValueFault
 reference_at sizes bytes = do
   byte ← unsigned_at 1 bytes
@@ -150,6 +161,7 @@ unfoldable pub tail_at : List ℕ → Result (List ℕ × List ℕ) ValueFault
 tail_at [] = Err Short
 tail_at (b ∷ bytes) = Ok (take 8 (b ∷ bytes), drop 8 (b ∷ bytes))
 
+-- a part of any kind
 abbrev pub read_part : IdSizes → (p : Part) → List ℕ → Result (Of p × List ℕ) ValueFault
 read_part sizes (simple s) bytes = simple_at sizes s bytes
 read_part sizes (count limit) bytes = count_at limit bytes
@@ -179,6 +191,7 @@ abbrev pub placed : {A : Type 0} → Place → Result (A × List ℕ) ValueFault
 placed place (Ok x) = Ok (x.0, behind place x.1)
 placed place (Err f) = Err (record { fault = f; at = offset place })
 
+-- a part where a reader stands
 unfoldable pub part_at : (p : Part) → Place → Result (Of p × Place) ReadTrouble
 part_at p place = placed place (read_part place.sizes p place.rest)
 

@@ -1,4 +1,7 @@
--- The one spelling of each part, and what has a spelling. All numbers are big-endian.
+-- The one spelling of each part, and what has a spelling. All numbers are big-endian (JDWP, JDWP Packets).
+--
+-- For each kind of part: `x_at` (Reading.antt) reads it, `spell_x` is its bytes, `FitsX` says that it has a spelling,
+-- and `InRangeX` that its numbers are of their types.
 use Rattle.std.specs.Prelude.{◌≡◌, ℕ, ◌<◌, ◌≤◌, ◌^◌, true, List, [], ◌++◌, length, Result, Ok, Err, FitsSigned}
 use Rattle.std.specs.Int.{w8, w16, w32, w64, byte_len, bytes_high_first, cast_unsigned}
 use Rattle.jdwp_values.specs.declared.location.Location.{Location}
@@ -11,6 +14,7 @@ use Rattle.jdwp_values.specs.Parts.{frame_id, type_tag_byte, nothing, OfSimple, 
 use Rattle.jdwp_values.specs.Parts.{location, value, reference, untagged, tail, Of}
 use Rattle.jdwp_values.specs.Tags.{byte_of_type_tag, byte_of_tag, is_reference}
 
+-- a part of one number, where an id takes as many bytes as ids of its kind have
 abbrev pub spell_simple : IdSizes → (s : Simple) → OfSimple s → List ℕ
 spell_simple sizes (unsigned size) x = bytes_high_first size x
 spell_simple sizes (signed w) x = bytes_high_first (byte_len w) (cast_unsigned w x)
@@ -23,7 +27,7 @@ spell_simple sizes frame_id x = bytes_high_first sizes.frame x.0
 spell_simple sizes type_tag_byte x = bytes_high_first 1 (byte_of_type_tag x)
 spell_simple sizes nothing x = []
 
--- a value without its tag
+-- a value without its tag (JDWP, Detailed Command Information, common data types, untagged-value)
 abbrev pub spell_untagged : IdSizes → Value → List ℕ
 spell_untagged sizes (values.Byte x) = spell_simple sizes (signed w8) x
 spell_untagged sizes (values.Char x) = spell_simple sizes (unsigned 2) x
@@ -42,14 +46,16 @@ spell_untagged sizes (values.ThreadGroup x) = spell_simple sizes object_id x
 spell_untagged sizes (values.ClassLoader x) = spell_simple sizes object_id x
 spell_untagged sizes (values.ClassObject x) = spell_simple sizes object_id x
 
--- a value behind its tag
+-- a value behind its tag (JDWP, Detailed Command Information, common data types, value)
 abbrev pub spell_value : IdSizes → Value → List ℕ
 spell_value sizes v = bytes_high_first 1 (byte_of_tag (tag_of_value v)) ++ spell_untagged sizes v
 
+-- a type tag, a class, a method and an index (JDWP, Detailed Command Information, common data types, location)
 abbrev pub spell_location : IdSizes → Location → List ℕ
 spell_location sizes l = spell_simple sizes type_tag_byte l.tag ++ spell_simple sizes class_id l.class
     ++ spell_simple sizes method_id l.method ++ spell_simple sizes (unsigned 8) l.index
 
+-- a part of any kind
 abbrev pub spell_part : IdSizes → (p : Part) → Of p → List ℕ
 spell_part sizes (simple s) x = spell_simple sizes s x
 spell_part sizes (count limit) x = bytes_high_first 4 x
@@ -73,6 +79,7 @@ FitsSimple sizes frame_id x = x.0 < 256 ^ sizes.frame
 FitsSimple sizes type_tag_byte x = Unit {0}
 FitsSimple sizes nothing x = Unit {0}
 
+-- an object's id fits its bytes, and every other value has a spelling
 abbrev pub FitsValue : IdSizes → Value → Type 0
 FitsValue sizes (values.Object x) = FitsSimple sizes object_id x
 FitsValue sizes (values.Array x) = FitsSimple sizes object_id x
@@ -91,6 +98,7 @@ FitsValue sizes (values.Short x) = Unit {0}
 FitsValue sizes (values.Boolean x) = Unit {0}
 FitsValue sizes values.Void = Unit {0}
 
+-- the ids of a location fit their bytes
 pub record FitsLocation (sizes : IdSizes) (l : Location) : Type 0 where
   pub class : l.class.0 < 256 ^ sizes.class
   pub method : l.method.0 < 256 ^ sizes.method
@@ -119,6 +127,7 @@ InRangeSimple frame_id x = Unit {0}
 InRangeSimple type_tag_byte x = Unit {0}
 InRangeSimple nothing x = Unit {0}
 
+-- the same of a value's number
 abbrev pub InRangeValue : Value → Type 0
 InRangeValue (values.Byte x) = FitsSigned w8 x
 InRangeValue (values.Char x) = x < 256 ^ 2
@@ -137,6 +146,7 @@ InRangeValue (values.ThreadGroup x) = Unit {0}
 InRangeValue (values.ClassLoader x) = Unit {0}
 InRangeValue (values.ClassObject x) = Unit {0}
 
+-- the same of the numbers of a part of any kind
 abbrev pub InRangePart : (p : Part) → Of p → Type 0
 InRangePart (simple s) x = InRangeSimple s x
 InRangePart (count limit) x = Unit {0}

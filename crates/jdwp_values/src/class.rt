@@ -8,7 +8,7 @@ use crate::writer::Writer;
 use std::alloc::Global;
 use wire_core::{Blob, List, NoMemory};
 
-/// A method of a class (JDWP, ReferenceType command set, "Methods").
+/// A method of a class (JDWP, ReferenceType command set, Methods).
 #[derive(Debug, Drop)]
 pub struct Method {
     pub id: MethodId,
@@ -17,7 +17,7 @@ pub struct Method {
     pub bits: i32,
 }
 
-/// A field of a class (JDWP, ReferenceType command set, "Fields").
+/// A field of a class (JDWP, ReferenceType command set, Fields).
 #[derive(Debug, Drop)]
 pub struct Field {
     pub id: FieldId,
@@ -26,7 +26,7 @@ pub struct Field {
     pub bits: i32,
 }
 
-/// A line of the source, with the index of its first code (JDWP, Method command set, "LineTable").
+/// A line of the source, with the index of its first code (JDWP, Method command set, LineTable).
 #[derive(Clone, Copy, Debug, PartialEq, Eq)]
 pub struct Line {
     pub index: u64,
@@ -34,7 +34,7 @@ pub struct Line {
 }
 
 /// The lines of a method, and the first and the last index of its code, both -1 where it is native (JDWP, Method
-/// command set, "LineTable").
+/// command set, LineTable).
 #[derive(Debug, Drop)]
 pub struct LineTable {
     pub start: i64,
@@ -43,7 +43,7 @@ pub struct LineTable {
 }
 
 /// A variable of a method: it may be read in its slot from the index on, as far as its length goes (JDWP, Method
-/// command set, "VariableTable").
+/// command set, VariableTable).
 #[derive(Debug, Drop)]
 pub struct Variable {
     pub index: u64,

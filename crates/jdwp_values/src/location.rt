@@ -1,7 +1,8 @@
 use crate::id::{ClassId, MethodId};
 use crate::tag::TypeTag;
 
-/// A place in a method's code (JDWP, "location"). A null location has the tag `Nothing` or ids of 0.
+/// A place in a method's code (JDWP, Detailed Command Information, common data types, location). A null location has
+/// the tag `Nothing` or ids of 0.
 #[derive(Clone, Copy, Debug, PartialEq, Eq)]
 pub struct Location {
     pub tag: TypeTag,

@@ -65,72 +65,81 @@ fn short(bytes: &[u8]) -> Result<(i16, &[u8]), ValueFault>
     Ok(((number as u16).cast_signed(), rest))
 }
 
+/// A signed number of four bytes.
 #[tactic(auto, unfolding(crate::specs::Reading::signed_at))]
-pub fn int(bytes: &[u8]) -> Result<(i32, &[u8]), ValueFault>
+pub(crate) fn int(bytes: &[u8]) -> Result<(i32, &[u8]), ValueFault>
     ensures { Gives (λ x. (x.0, x.1.now)) result (signed_at w32 bytes.now) }
 {
     let (number, rest) = unsigned(4, bytes)?;
     Ok(((number as u32).cast_signed(), rest))
 }
 
+/// A signed number of eight bytes.
 #[tactic(auto, unfolding(crate::specs::Reading::signed_at))]
-pub fn long(bytes: &[u8]) -> Result<(i64, &[u8]), ValueFault>
+pub(crate) fn long(bytes: &[u8]) -> Result<(i64, &[u8]), ValueFault>
     ensures { Gives (λ x. (x.0, x.1.now)) result (signed_at w64 bytes.now) }
 {
     let (number, rest) = unsigned(8, bytes)?;
     Ok((number.cast_signed(), rest))
 }
 
+/// An object's id.
 #[tactic(auto, unfolding(crate::specs::Reading::simple_at))]
-pub fn object(sizes: IdSizes, bytes: &[u8]) -> Result<(ObjectId, &[u8]), ValueFault>
+pub(crate) fn object(sizes: IdSizes, bytes: &[u8]) -> Result<(ObjectId, &[u8]), ValueFault>
     ensures { Gives (λ x. (x.0, x.1.now)) result (simple_at sizes object_id bytes.now) }
 {
     let (number, rest) = unsigned(sizes.object as usize, bytes)?;
     Ok((ObjectId(number), rest))
 }
 
+/// A thread's id, of an object's size.
 #[tactic(auto, unfolding(crate::specs::Reading::simple_at))]
-pub fn thread(sizes: IdSizes, bytes: &[u8]) -> Result<(ThreadId, &[u8]), ValueFault>
+pub(crate) fn thread(sizes: IdSizes, bytes: &[u8]) -> Result<(ThreadId, &[u8]), ValueFault>
     ensures { Gives (λ x. (x.0, x.1.now)) result (simple_at sizes thread_id bytes.now) }
 {
     let (number, rest) = unsigned(sizes.object as usize, bytes)?;
     Ok((ThreadId(number), rest))
 }
 
+/// A reference type's id.
 #[tactic(auto, unfolding(crate::specs::Reading::simple_at))]
-pub fn class(sizes: IdSizes, bytes: &[u8]) -> Result<(ClassId, &[u8]), ValueFault>
+pub(crate) fn class(sizes: IdSizes, bytes: &[u8]) -> Result<(ClassId, &[u8]), ValueFault>
     ensures { Gives (λ x. (x.0, x.1.now)) result (simple_at sizes class_id bytes.now) }
 {
     let (number, rest) = unsigned(sizes.class as usize, bytes)?;
     Ok((ClassId(number), rest))
 }
 
+/// A method's id.
 #[tactic(auto, unfolding(crate::specs::Reading::simple_at))]
-pub fn method(sizes: IdSizes, bytes: &[u8]) -> Result<(MethodId, &[u8]), ValueFault>
+pub(crate) fn method(sizes: IdSizes, bytes: &[u8]) -> Result<(MethodId, &[u8]), ValueFault>
     ensures { Gives (λ x. (x.0, x.1.now)) result (simple_at sizes method_id bytes.now) }
 {
     let (number, rest) = unsigned(sizes.method as usize, bytes)?;
     Ok((MethodId(number), rest))
 }
 
+/// A field's id.
 #[tactic(auto, unfolding(crate::specs::Reading::simple_at))]
-pub fn field(sizes: IdSizes, bytes: &[u8]) -> Result<(FieldId, &[u8]), ValueFault>
+pub(crate) fn field(sizes: IdSizes, bytes: &[u8]) -> Result<(FieldId, &[u8]), ValueFault>
     ensures { Gives (λ x. (x.0, x.1.now)) result (simple_at sizes field_id bytes.now) }
 {
     let (number, rest) = unsigned(sizes.field as usize, bytes)?;
     Ok((FieldId(number), rest))
 }
 
+/// A frame's id.
 #[tactic(auto, unfolding(crate::specs::Reading::simple_at))]
-pub fn frame(sizes: IdSizes, bytes: &[u8]) -> Result<(FrameId, &[u8]), ValueFault>
+pub(crate) fn frame(sizes: IdSizes, bytes: &[u8]) -> Result<(FrameId, &[u8]), ValueFault>
     ensures { Gives (λ x. (x.0, x.1.now)) result (simple_at sizes frame_id bytes.now) }
 {
     let (number, rest) = unsigned(sizes.frame as usize, bytes)?;
     Ok((FrameId(number), rest))
 }
 
+/// A type tag: `BadTag` above 3.
 #[tactic(auto, unfolding(crate::specs::Reading::type_tag_at))]
-pub fn type_tag(bytes: &[u8]) -> Result<(TypeTag, &[u8]), ValueFault>
+pub(crate) fn type_tag(bytes: &[u8]) -> Result<(TypeTag, &[u8]), ValueFault>
     ensures { Gives (λ x. (x.0, x.1.now)) result (type_tag_at bytes.now) }
 {
     let (number, rest) = unsigned(1, bytes)?;
@@ -140,8 +149,9 @@ pub fn type_tag(bytes: &[u8]) -> Result<(TypeTag, &[u8]), ValueFault>
     }
 }
 
+/// A count: `BadCount` where it is negative or the limit doesn't allow it.
 #[tactic(auto, unfolding(crate::specs::Reading::count_at))]
-pub fn count(limit: Limit, bytes: &[u8]) -> Result<(u32, &[u8]), ValueFault>
+pub(crate) fn count(limit: Limit, bytes: &[u8]) -> Result<(u32, &[u8]), ValueFault>
     ensures { Gives (λ x. (x.0, x.1.now)) result (count_at limit bytes.now) }
 {
     let (number, rest) = unsigned(4, bytes)?;
@@ -152,16 +162,18 @@ pub fn count(limit: Limit, bytes: &[u8]) -> Result<(u32, &[u8]), ValueFault>
     Err(ValueFault::BadCount)
 }
 
+/// A text's bytes: `BadCount` where its length is negative.
 #[tactic(auto, unfolding(crate::specs::Reading::text_at))]
-pub fn text(bytes: &[u8]) -> Result<(&[u8], &[u8]), ValueFault>
+pub(crate) fn text(bytes: &[u8]) -> Result<(&[u8], &[u8]), ValueFault>
     ensures { Gives (λ x. (x.0.now, x.1.now)) result (text_at bytes.now) }
 {
     let (len, rest) = count(Limit::Any, bytes)?;
     front(len as usize, rest)
 }
 
+/// A type tag, a class, a method and an index.
 #[tactic(auto, unfolding(crate::specs::Reading::location_at))]
-pub fn location(sizes: IdSizes, bytes: &[u8]) -> Result<(Location, &[u8]), ValueFault>
+pub(crate) fn location(sizes: IdSizes, bytes: &[u8]) -> Result<(Location, &[u8]), ValueFault>
     ensures { Gives (λ x. (x.0, x.1.now)) result (location_at sizes bytes.now) }
 {
     let (tag, rest) = type_tag(bytes)?;
@@ -252,7 +264,7 @@ fn of_tag(sizes: IdSizes, tag: Tag, bytes: &[u8]) -> Result<(Value, &[u8]), Valu
 
 /// The value behind a tag byte that has been read.
 #[tactic(auto, unfolding(crate::specs::Reading::untagged_at))]
-pub fn untagged(sizes: IdSizes, byte: u8, bytes: &[u8]) -> Result<(Value, &[u8]), ValueFault>
+pub(crate) fn untagged(sizes: IdSizes, byte: u8, bytes: &[u8]) -> Result<(Value, &[u8]), ValueFault>
     ensures { Gives (λ x. (x.0, x.1.now)) result (untagged_at sizes byte bytes.now) }
 {
     match Tag::from_byte(byte) {
@@ -261,36 +273,41 @@ pub fn untagged(sizes: IdSizes, byte: u8, bytes: &[u8]) -> Result<(Value, &[u8])
     }
 }
 
-pub fn byte(bytes: &[u8]) -> Result<(u8, &[u8]), ValueFault>
+/// An unsigned byte.
+pub(crate) fn byte(bytes: &[u8]) -> Result<(u8, &[u8]), ValueFault>
     ensures { Gives (λ x. (x.0, x.1.now)) result (unsigned_at 1 bytes.now) }
 {
     let (number, rest) = unsigned(1, bytes)?;
     Ok((number as u8, rest))
 }
 
-pub fn number(bytes: &[u8]) -> Result<(u32, &[u8]), ValueFault>
+/// An unsigned number of four bytes.
+pub(crate) fn number(bytes: &[u8]) -> Result<(u32, &[u8]), ValueFault>
     ensures { Gives (λ x. (x.0, x.1.now)) result (unsigned_at 4 bytes.now) }
 {
     let (number, rest) = unsigned(4, bytes)?;
     Ok((number as u32, rest))
 }
 
-pub fn index(bytes: &[u8]) -> Result<(u64, &[u8]), ValueFault>
+/// An unsigned number of eight bytes: a place in a method's code.
+pub(crate) fn index(bytes: &[u8]) -> Result<(u64, &[u8]), ValueFault>
     ensures { Gives (λ x. (x.0, x.1.now)) result (unsigned_at 8 bytes.now) }
 {
     unsigned(8, bytes)
 }
 
+/// A tag and its value: `BadTag` where the byte is no tag's.
 #[tactic(auto, unfolding(crate::specs::Reading::value_at))]
-pub fn value(sizes: IdSizes, bytes: &[u8]) -> Result<(Value, &[u8]), ValueFault>
+pub(crate) fn value(sizes: IdSizes, bytes: &[u8]) -> Result<(Value, &[u8]), ValueFault>
     ensures { Gives (λ x. (x.0, x.1.now)) result (value_at sizes bytes.now) }
 {
     let (tag, rest) = byte(bytes)?;
     untagged(sizes, tag, rest)
 }
 
+/// A reference's tag and its object: `BadTag` where the byte is no reference's tag.
 #[tactic(auto, unfolding(crate::specs::Reading::reference_at))]
-pub fn reference(sizes: IdSizes, bytes: &[u8]) -> Result<(Value, &[u8]), ValueFault>
+pub(crate) fn reference(sizes: IdSizes, bytes: &[u8]) -> Result<(Value, &[u8]), ValueFault>
     ensures { Gives (λ x. (x.0, x.1.now)) result (reference_at sizes bytes.now) }
 {
     let (byte, rest) = byte(bytes)?;
@@ -302,7 +319,7 @@ pub fn reference(sizes: IdSizes, bytes: &[u8]) -> Result<(Value, &[u8]), ValueFa
 
 /// The bytes that are left, at least one and at most eight of them.
 #[tactic(auto, unfolding(crate::specs::Reading::tail_at))]
-pub fn tail(bytes: &[u8]) -> Result<(&[u8], &[u8]), ValueFault>
+pub(crate) fn tail(bytes: &[u8]) -> Result<(&[u8], &[u8]), ValueFault>
     ensures { Gives (λ x. (x.0.now, x.1.now)) result (tail_at bytes.now) }
 {
     if bytes.is_empty() {

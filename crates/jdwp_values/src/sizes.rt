@@ -1,7 +1,7 @@
 ghost use Rattle.std.specs.Prelude.{◌≡◌, true, false, Some, MatchResult, [], ◌∷◌, position};
 ghost use Rattle.jdwp_values.specs.Sizes.{IsSize, is_no_size};
 
-/// How many bytes an id of each kind takes (JDWP, VirtualMachine command set, "IDSizes"): from 1 to 8.
+/// How many bytes an id of each kind takes (JDWP, VirtualMachine command set, IDSizes): from 1 to 8.
 #[derive(Clone, Copy, Debug, PartialEq, Eq)]
 pub struct IdSizes {
     pub field: u8,

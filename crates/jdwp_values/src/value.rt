@@ -4,8 +4,8 @@ ghost use Rattle.jdwp_values.specs.Parts.{tag_of_value};
 use crate::id::ObjectId;
 use crate::tag::Tag;
 
-/// A value of the target's program (JDWP, "value"): a number, the bits of a floating number, the byte of a boolean,
-/// nothing, or an object's id with what kind of object it is.
+/// A value of the target's program: a number, the bits of a floating number, the byte of a boolean, nothing, or an
+/// object's id with what kind of object it is (JDWP, Detailed Command Information, common data types, value).
 #[derive(Clone, Copy, Debug, PartialEq, Eq)]
 pub enum Value {
     Byte(i8),
