@@ -1,4 +1,7 @@
--- What the answers are made of (JDWP, "Detailed Command Information"): for each command the items of its answer's body.
+-- What the answers are made of (JDWP, Detailed Command Information): for each command the items of its answer's body.
+--
+-- `answer_at` reads an answer, `spell_answer` is its body, `FitsAnswer` says that it has a spelling, and
+-- `InRangeAnswer` that its numbers are of their types.
 use Rattle.std.specs.Prelude.{◌≡◌, ℕ, ℤ, pos, negsuc, nat_abs, int_lt, List, [], ◌∷◌, length, Result, if◌then◌else◌}
 use Rattle.jdwp_values.specs.declared.class.Line.{Line}
 use Rattle.jdwp_values.specs.declared.fault.RowFault.{RowFault}
@@ -26,6 +29,7 @@ use Rattle.jdwp_commands.specs.Items.{threads, values, methods, fields, lines, v
 use Rattle.jdwp_commands.specs.Items.{loaded_classes, frames, Item, part, many, region, items_at, Saying, says}
 use Rattle.jdwp_commands.specs.Items.{spell_sayings, FitsSayings, InRangeSayings}
 
+-- which command it answers
 abbrev pub kind_of_answer : Answer → CommandKind
 kind_of_answer (answers.ClassesBySignature _) = commands.Question question_kinds.ClassesBySignature
 kind_of_answer (answers.AllClasses _) = commands.Question question_kinds.AllClasses
@@ -58,15 +62,16 @@ kind_of_answer (answers.Set _) = commands.Effect effect_kinds.Set
 kind_of_answer answers.Clear = commands.Effect effect_kinds.Clear
 kind_of_answer answers.SetSlot = commands.Effect effect_kinds.SetSlot
 
--- at most so many frames where the length isn't -1, and none at all below that
+-- at most so many frames where the length isn't -1, and none at all below that (JDWP, ThreadReference command set,
+-- Frames)
 abbrev pub frames_limit : ℤ → Limit
 frames_limit n = if int_lt n (negsuc 0) then Never else if int_lt n (pos 0) then Any else AtMost (nat_abs n)
 
--- as many elements as asked; a negative length has no answer
+-- as many elements as asked; a negative length has no answer (JDWP, ArrayReference command set, GetValues)
 abbrev pub elements_limit : ℤ → Limit
 elements_limit n = if int_lt n (pos 0) then Never else Exactly (nat_abs n)
 
--- how many items the answer may have
+-- how many items the answer to a question may have
 abbrev pub limit_of_question : Question → Limit
 limit_of_question (questions.ClassesBySignature _) = Any
 limit_of_question questions.AllClasses = Any
@@ -90,10 +95,12 @@ limit_of_question (questions.GetElements _ _ n) = elements_limit n
 limit_of_question (questions.GetSlots _ _ ss) = Exactly (length ss)
 limit_of_question (questions.ThisObject _ _) = Any
 
+-- how many items an answer may have
 abbrev pub limit_of : Asked → Limit
 limit_of (a_question q) = limit_of_question q
 limit_of (an_effect e) = Any
 
+-- the items of the answer to each question (JDWP, Detailed Command Information)
 abbrev pub question_answer_row : QuestionKind → Limit → List Item
 question_answer_row question_kinds.ClassesBySignature limit = many Any class_statuses ∷ []
 question_answer_row question_kinds.AllClasses limit = many Any loaded_classes ∷ []
@@ -118,6 +125,7 @@ question_answer_row question_kinds.GetElements limit = region limit ∷ []
 question_answer_row question_kinds.GetSlots limit = many limit values ∷ []
 question_answer_row question_kinds.ThisObject limit = part reference ∷ []
 
+-- the items of the answer to each effect (JDWP, Detailed Command Information)
 abbrev pub effect_answer_row : EffectKind → List Item
 effect_answer_row effect_kinds.Dispose = []
 effect_answer_row effect_kinds.Suspend = []
@@ -129,9 +137,11 @@ effect_answer_row effect_kinds.Set = part number ∷ []
 effect_answer_row effect_kinds.Clear = []
 effect_answer_row effect_kinds.SetSlot = []
 
+-- a line table of its parts (JDWP, Method command set, LineTable)
 abbrev pub line_table : ℤ → ℤ → List Line → Answer
 line_table start end ls = answers.LineTable (record { start = start; end = end; lines = ls })
 
+-- the answer to a question read by its row
 abbrev pub question_answer_at : QuestionKind → Limit → Place → Result (Answer × Place) RowFault
 question_answer_at question_kinds.ClassesBySignature limit =
     items_at (question_answer_row question_kinds.ClassesBySignature limit) answers.ClassesBySignature
@@ -176,6 +186,7 @@ question_answer_at question_kinds.GetSlots limit =
 question_answer_at question_kinds.ThisObject limit =
     items_at (question_answer_row question_kinds.ThisObject limit) answers.ThisObject
 
+-- the answer to an effect read by its row
 abbrev pub effect_answer_at : EffectKind → Place → Result (Answer × Place) RowFault
 effect_answer_at effect_kinds.Dispose = items_at (effect_answer_row effect_kinds.Dispose) answers.Dispose
 effect_answer_at effect_kinds.Suspend = items_at (effect_answer_row effect_kinds.Suspend) answers.Suspend
@@ -187,6 +198,7 @@ effect_answer_at effect_kinds.Set = items_at (effect_answer_row effect_kinds.Set
 effect_answer_at effect_kinds.Clear = items_at (effect_answer_row effect_kinds.Clear) answers.Clear
 effect_answer_at effect_kinds.SetSlot = items_at (effect_answer_row effect_kinds.SetSlot) answers.SetSlot
 
+-- the answer to a command read by its row
 abbrev pub answered_at : CommandKind → Limit → Place → Result (Answer × Place) RowFault
 answered_at (commands.Question kind) limit place = question_answer_at kind limit place
 answered_at (commands.Effect kind) limit place = effect_answer_at kind place

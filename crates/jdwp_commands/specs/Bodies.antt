@@ -18,11 +18,13 @@ fault_at causes.Short at = Short at
 fault_at causes.BadTag at = BadTag at
 fault_at causes.BadCount at = BadCount at
 
+-- a row's fault, in a body
 abbrev pub body_fault : RowFault → BodyFault
 body_fault faults.NoMemory = NoMemory
 body_fault (faults.Part trouble) = fault_at trouble.fault trouble.at
 body_fault (faults.BadKind at) = BadTag at
 
+-- what was read of a body, or the fault in it
 abbrev pub in_body : {A : Type 0} → Result A RowFault → Result A BodyFault
 in_body (Ok x) = Ok x
 in_body (Err fault) = Err (body_fault fault)
@@ -35,6 +37,7 @@ ended x = if length x.1.rest == 0 then Ok x.0 else Err (Trailing (offset x.1))
 abbrev pub start : IdSizes → List ℕ → Place
 start sizes body = record { sizes = sizes; body = body; rest = body }
 
+-- what is read from a body's beginning, where nothing is left behind it
 abbrev pub whole : {A : Type 0} → (Place → Result (A × Place) RowFault) → IdSizes → List ℕ → Result A BodyFault
 whole read sizes body = in_body (read (start sizes body)) >>= λ x. ended x
 

@@ -1,4 +1,7 @@
--- What the commands are made of (JDWP, "Detailed Command Information"): for each the items of its body.
+-- What the commands are made of (JDWP, Detailed Command Information): for each the items of its body.
+--
+-- `command_at` reads a command, `spell_command` is its body, `FitsCommand` says that it has a spelling, and
+-- `InRangeCommand` that its numbers are of their types.
 use Rattle.std.specs.Prelude.{ℕ, List, [], ◌∷◌, Option, Some, None, Result, Ok, Err}
 use Rattle.jdwp_values.specs.declared.fault.RowFault.{RowFault}
 use Rattle.jdwp_values.specs.declared.limit.Limit.TheVariants.{Any, Exactly}
@@ -25,6 +28,7 @@ use Rattle.jdwp_commands.specs.Items.{field_ids, modifiers, slots, Item, part, m
 use Rattle.jdwp_commands.specs.Items.{Saying, says, spell_sayings, FitsSayings, InRangeSayings}
 use Rattle.jdwp_commands.specs.Kinds.{numbers, kind_of_numbers}
 
+-- which question it is
 abbrev pub kind_of_question : Question → QuestionKind
 kind_of_question (questions.ClassesBySignature _) = question_kinds.ClassesBySignature
 kind_of_question questions.AllClasses = question_kinds.AllClasses
@@ -48,6 +52,7 @@ kind_of_question (questions.GetElements _ _ _) = question_kinds.GetElements
 kind_of_question (questions.GetSlots _ _ _) = question_kinds.GetSlots
 kind_of_question (questions.ThisObject _ _) = question_kinds.ThisObject
 
+-- which effect it is
 abbrev pub kind_of_effect : Effect → EffectKind
 kind_of_effect effects.Dispose = effect_kinds.Dispose
 kind_of_effect effects.Suspend = effect_kinds.Suspend
@@ -59,6 +64,7 @@ kind_of_effect (effects.Set _ _ _) = effect_kinds.Set
 kind_of_effect (effects.Clear _ _) = effect_kinds.Clear
 kind_of_effect (effects.SetSlot _ _ _ _) = effect_kinds.SetSlot
 
+-- which command it is
 abbrev pub kind_of : Asked → CommandKind
 kind_of (a_question q) = commands.Question (kind_of_question q)
 kind_of (an_effect e) = commands.Effect (kind_of_effect e)
@@ -67,6 +73,7 @@ kind_of (an_effect e) = commands.Effect (kind_of_effect e)
 abbrev pub number_of : Asked → ℕ × ℕ
 number_of asked = numbers (kind_of asked)
 
+-- the items of each question's body (JDWP, Detailed Command Information)
 abbrev pub question_row : QuestionKind → List Item
 question_row question_kinds.ClassesBySignature = part text ∷ []
 question_row question_kinds.AllClasses = []
@@ -90,7 +97,8 @@ question_row question_kinds.GetElements = part object ∷ part int ∷ part int 
 question_row question_kinds.GetSlots = part thread ∷ part frame ∷ many Any slots ∷ []
 question_row question_kinds.ThisObject = part thread ∷ part frame ∷ []
 
--- The count of the values that are set is 1. Their bytes in SetField and SetElement are what is left.
+-- the items of each effect's body (JDWP, Detailed Command Information): the count of the values that are set is 1, and
+-- their bytes in SetField and SetElement are what is left
 abbrev pub effect_row : EffectKind → List Item
 effect_row effect_kinds.Dispose = []
 effect_row effect_kinds.Suspend = []
@@ -102,6 +110,7 @@ effect_row effect_kinds.Set = event_kind ∷ policy ∷ many Any modifiers ∷ [
 effect_row effect_kinds.Clear = event_kind ∷ part number ∷ []
 effect_row effect_kinds.SetSlot = part thread ∷ part frame ∷ part (count (Exactly 1)) ∷ part int ∷ part value ∷ []
 
+-- a question read by its row
 abbrev pub question_at : QuestionKind → Place → Result (Question × Place) RowFault
 question_at question_kinds.ClassesBySignature =
     items_at (question_row question_kinds.ClassesBySignature) questions.ClassesBySignature
@@ -126,6 +135,7 @@ question_at question_kinds.GetElements = items_at (question_row question_kinds.G
 question_at question_kinds.GetSlots = items_at (question_row question_kinds.GetSlots) questions.GetSlots
 question_at question_kinds.ThisObject = items_at (question_row question_kinds.ThisObject) questions.ThisObject
 
+-- an effect read by its row
 abbrev pub effect_at : EffectKind → Place → Result (Effect × Place) RowFault
 effect_at effect_kinds.Dispose = items_at (effect_row effect_kinds.Dispose) effects.Dispose
 effect_at effect_kinds.Suspend = items_at (effect_row effect_kinds.Suspend) effects.Suspend
@@ -179,6 +189,7 @@ told_effect (effects.SetSlot t f slot v) =
     says (part thread) t ∷ says (part frame) f ∷ says (part (count (Exactly 1))) 1 ∷ says (part int) slot
     ∷ says (part value) v ∷ []
 
+-- what a command says in the items of its row
 abbrev pub told : Asked → List Saying
 told (a_question q) = told_question q
 told (an_effect e) = told_effect e
@@ -194,10 +205,12 @@ FitsCommand sizes asked = FitsSayings sizes (told asked)
 abbrev pub InRangeCommand : Asked → Type 0
 InRangeCommand asked = InRangeSayings (told asked)
 
+-- a command read by its row
 abbrev pub asked_at : CommandKind → Place → Result (Asked × Place) RowFault
 asked_at (commands.Question kind) place = question_at kind place >>= λ q. Ok (a_question q.0, q.1)
 asked_at (commands.Effect kind) place = effect_at kind place >>= λ e. Ok (an_effect e.0, e.1)
 
+-- the command of this kind that a body spells, if there is such a kind
 abbrev pub of_kind_at : Option CommandKind → IdSizes → List ℕ → Result Asked BodyFault
 of_kind_at (Some kind) sizes body = whole (asked_at kind) sizes body
 of_kind_at None sizes body = Err UnknownCommand

@@ -1,6 +1,9 @@
--- What the bodies of commands and answers are made of (JDWP, "Detailed Command Information"): parts, lists and a
--- region, the bytes of an event kind and of a suspend policy. A body is its items spelled one after the other, and it
--- is read item by item from left to right.
+-- What the bodies of commands and answers are made of (JDWP, Detailed Command Information): parts, lists and a region,
+-- the bytes of an event kind and of a suspend policy. A body is its items spelled one after the other, and it is read
+-- item by item from left to right.
+--
+-- For each kind of thing: `x_at` reads it from a place, `spell_x` is its bytes, `FitsX` says that it has a spelling,
+-- and `InRangeX` that its numbers are of their types.
 use Rattle.std.specs.Prelude.{◌≡◌, ℕ, true, List, [], ◌∷◌, ◌++◌, length, Result, Ok}
 use Rattle.std.specs.List.{AllByRecursion}
 use Rattle.std.specs.Int.{bytes_high_first}
@@ -49,6 +52,7 @@ pub data Listed : Type 0 where
   frames : Listed
   slots : Listed
 
+-- the type of such a list's elements
 abbrev pub OfListed : Listed → Type 0
 OfListed threads = ThreadId
 OfListed field_ids = FieldId
@@ -119,7 +123,7 @@ InRangeListed loaded_classes = InRangeBy loaded_class_row
 InRangeListed frames = InRangeBy frame_row
 InRangeListed slots = InRangeBy slot_row
 
--- A limit says how many a list or a region may have.
+-- what a body is made of; a limit says how many elements a list or a region may have
 pub data Item : Type 0 where
   part : Part → Item
   many : Limit → Listed → Item
@@ -127,6 +131,7 @@ pub data Item : Type 0 where
   event_kind : Item
   policy : Item
 
+-- the type of an item's value
 abbrev pub OfItem : Item → Type 0
 OfItem (part p) = Of p
 OfItem (many limit l) = List (OfListed l)
@@ -178,6 +183,7 @@ abbrev pub made_of : (row : List Item) {A : Type 0} → FromItems row A → Hold
 made_of [] make held = make
 made_of (i ∷ row) make held = made_of row (make held.0) held.1
 
+-- what is made of a row's values, read one after the other
 abbrev pub items_at : (row : List Item) {A : Type 0} → FromItems row A → Place → Result (A × Place) RowFault
 items_at [] make place = Ok (make, place)
 items_at (i ∷ row) make place = item_at i place >>= λ x. items_at row (make x.0) x.1

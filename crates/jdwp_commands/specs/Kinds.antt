@@ -1,5 +1,5 @@
--- Which command it is, and its numbers: that of its command set, and its own in there (JDWP, "Detailed Command
--- Information").
+-- Which command it is, and its numbers: that of its command set, and its own in there (JDWP, Detailed Command
+-- Information).
 use Rattle.std.specs.Prelude.{ℕ, List, [], ◌∷◌, Option, find, ◌==◌, ◌&&◌}
 use Rattle.jdwp_commands.specs.declared.kind.CommandKind.{CommandKind}
 use Rattle.jdwp_commands.specs.declared.kind.CommandKind.TheVariants.{Question, Effect}
@@ -8,6 +8,7 @@ use Rattle.jdwp_commands.specs.declared.kind.EffectKind.TheVariants as effects
 use Rattle.jdwp_commands.specs.declared.kind.QuestionKind.{QuestionKind}
 use Rattle.jdwp_commands.specs.declared.kind.QuestionKind.TheVariants as questions
 
+-- set and number of each question (JDWP, Detailed Command Information)
 abbrev pub question_numbers : QuestionKind → ℕ × ℕ
 question_numbers questions.ClassesBySignature = (1, 2)
 question_numbers questions.AllClasses = (1, 3)
@@ -31,6 +32,7 @@ question_numbers questions.GetElements = (13, 2)
 question_numbers questions.GetSlots = (16, 1)
 question_numbers questions.ThisObject = (16, 3)
 
+-- set and number of each effect (JDWP, Detailed Command Information)
 abbrev pub effect_numbers : EffectKind → ℕ × ℕ
 effect_numbers effects.Dispose = (1, 6)
 effect_numbers effects.Suspend = (1, 8)
@@ -42,6 +44,7 @@ effect_numbers effects.Set = (15, 1)
 effect_numbers effects.Clear = (15, 2)
 effect_numbers effects.SetSlot = (16, 2)
 
+-- and so of each command
 abbrev pub numbers : CommandKind → ℕ × ℕ
 numbers (Question kind) = question_numbers kind
 numbers (Effect kind) = effect_numbers kind

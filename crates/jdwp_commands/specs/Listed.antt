@@ -7,7 +7,7 @@ use Rattle.jdwp_commands.specs.declared.listed.LoadedClass.{LoadedClass}
 use Rattle.jdwp_commands.specs.declared.listed.Frame.{Frame}
 use Rattle.jdwp_commands.specs.declared.listed.Slot.{Slot}
 
--- a class of a signature (JDWP, VirtualMachine command set, "ClassesBySignature")
+-- a class of a signature (JDWP, VirtualMachine command set, ClassesBySignature)
 abbrev pub class_status_row : RowOf ClassStatus
 class_status_row = record {
   parts = type_tag ∷ class ∷ int ∷ [];
@@ -15,7 +15,7 @@ class_status_row = record {
   values = λ x. (x.tag, (x.class, (x.status, tt)));
 }
 
--- a class that is loaded (JDWP, VirtualMachine command set, "AllClasses")
+-- a class that is loaded (JDWP, VirtualMachine command set, AllClasses)
 abbrev pub loaded_class_row : RowOf LoadedClass
 loaded_class_row = record {
   parts = type_tag ∷ class ∷ text ∷ int ∷ [];
@@ -23,7 +23,7 @@ loaded_class_row = record {
   values = λ x. (x.tag, (x.class, (x.signature, (x.status, tt))));
 }
 
--- a frame and where it stands (JDWP, ThreadReference command set, "Frames")
+-- a frame and where it stands (JDWP, ThreadReference command set, Frames)
 abbrev pub frame_row : RowOf Frame
 frame_row = record {
   parts = frame ∷ location ∷ [];
@@ -31,7 +31,7 @@ frame_row = record {
   values = λ x. (x.id, (x.at, tt));
 }
 
--- a slot and the byte of its tag (JDWP, StackFrame command set, "GetValues")
+-- a slot and the byte of its tag (JDWP, StackFrame command set, GetValues)
 abbrev pub slot_row : RowOf Slot
 slot_row = record {
   parts = int ∷ byte ∷ [];

@@ -1,5 +1,9 @@
--- A region of an array (JDWP, "arrayregion"): the byte of a tag, and a list of values. Where the tag is a reference's
--- each value stands behind a reference's tag of its own, else behind none.
+-- A region of an array (JDWP, Detailed Command Information, common data types, arrayregion): the byte of a tag, and a
+-- list of values. Where the tag is a reference's each value stands behind a reference's tag of its own, else behind
+-- none.
+--
+-- For a region and its elements: `x_at` reads one from a place, `spell_x` is its bytes, `FitsX` says that it has a
+-- spelling, and `InRangeX` that its numbers are of their types.
 use Rattle.std.specs.Prelude.{◌≡◌, ℕ, Bool, true, false, ◌==◌, List, [], ◌∷◌, ◌++◌, length, Option, Some, None, Result}
 use Rattle.std.specs.Prelude.{Ok, Err, find}
 use Rattle.std.specs.List.{AllByRecursion}
@@ -38,20 +42,23 @@ meant_at None place rest = Err (faults.Part (record { fault = BadTag; at = offse
 abbrev pub meaning_at : {A : Type 0} → (ℕ → Option A) → Place → Result (A × Place) RowFault
 meaning_at of_byte place = in_row (part_at byte place) >>= λ b. meant_at (of_byte b.0) place b.1
 
+-- a value, with a reference's tag of its own where the region's tag is a reference's
 abbrev pub value_behind : Bool → Tag → Place → Result (Value × Place) RowFault
 value_behind true tag place = in_row (part_at reference place)
 value_behind false tag place = in_row (part_at (untagged (byte_of_tag tag)) place)
 
--- a value of a region with this tag
+-- an element of a region with this tag
 abbrev pub element_at : Tag → Place → Result (Value × Place) RowFault
 element_at tag = value_behind (is_reference tag) tag
 
+-- the tag, and as many elements as the limit allows
 unfoldable pub region_at : Limit → Place → Result (Region × Place) RowFault
 region_at limit place =
     meaning_at region_tag_of place >>= λ tag.
     list_at limit (element_at tag.0) tag.1 >>= λ values.
     Ok (record { tag = tag.0; values = values.0 }, values.1)
 
+-- the bytes of an element of a region with this tag
 abbrev pub spell_behind : Bool → Tag → IdSizes → Value → List ℕ
 spell_behind true tag sizes v = spell_part sizes reference v
 spell_behind false tag sizes v = spell_part sizes (untagged (byte_of_tag tag)) v
@@ -59,10 +66,12 @@ spell_behind false tag sizes v = spell_part sizes (untagged (byte_of_tag tag)) v
 abbrev pub spell_element : Tag → IdSizes → Value → List ℕ
 spell_element tag = spell_behind (is_reference tag) tag
 
+-- the tag's byte, the count of the elements, and the elements
 abbrev pub spell_region : IdSizes → Region → List ℕ
 spell_region sizes region =
     bytes_high_first 1 (byte_of_tag region.tag) ++ spell_list (spell_element region.tag sizes) region.values
 
+-- an element that has a spelling in a region with this tag
 abbrev pub FitsBehind : Bool → Tag → IdSizes → Value → Type 0
 FitsBehind true tag sizes v = FitsPart sizes reference v
 FitsBehind false tag sizes v = FitsPart sizes (untagged (byte_of_tag tag)) v

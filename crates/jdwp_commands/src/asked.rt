@@ -15,7 +15,7 @@ pub enum Asked {
     Effect(Effect),
 }
 
-/// What a reply says: the answer, or the number of an error (JDWP, "Error Constants").
+/// What a reply says: the answer, or the number of an error (JDWP, Error Constants).
 #[derive(Debug, Drop)]
 pub enum Replied {
     Answer(Answer),
@@ -33,7 +33,7 @@ impl Asked {
         }
     }
 
-    /// How many items its answer may have.
+    /// How many items the list or the region in its answer may have; an effect's answer has none.
     pub fn limit(&self) -> Limit
         ensures { result ≡ limit_of self.now }
     {

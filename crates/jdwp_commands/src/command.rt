@@ -284,8 +284,9 @@ fn write_asked(asked: &Asked, writer: &mut Writer) -> Result<(), NoMemory>
     }
 }
 
-/// The number of a command's set, its own number in there, and its body. Its ids fit the sizes; its texts and lists
-/// have fewer than 2^31 bytes and items.
+/// The number of a command's set, its own number in there, and its body without a packet's header (JDWP, Detailed
+/// Command Information). Its ids fit the sizes; its texts and lists have fewer than 2^31 bytes and items. `NoMemory`
+/// comes where memory is refused.
 #[tactic(auto, unfolding(crate::specs::Commands::spell_command))]
 pub fn write(alloc: Global, sizes: IdSizes, asked: &Asked) -> Result<(u8, u8, Blob), NoMemory>
     requires { FitsCommand sizes asked.now }
@@ -469,7 +470,6 @@ fn read_body(
     Ok(asked)
 }
 
-/// Reads the command with these numbers that the whole body spells. Its texts and lists are copied.
 #[tactic(auto, unfolding(crate::specs::Commands::command_at))]
 fn read(
     alloc: Global,
@@ -488,7 +488,10 @@ fn read(
     }
 }
 
-/// Reads the command with these numbers that the whole body spells.
+/// Reads the command with these numbers that the whole body spells, the data of a command packet behind its header
+/// (JDWP, Detailed Command Information). The ids take as many bytes as the sizes say; texts and lists are copied.
+/// `UnknownCommand` comes where no command has the numbers, else the fault of the first part from the left that can't
+/// be read.
 pub fn read_command(
     alloc: Global,
     sizes: IdSizes,

@@ -6,13 +6,13 @@ use jdwp_events::{EventKind, Modifier, Policy};
 use jdwp_values::{FieldId, FrameId, ObjectId, ThreadId, Value};
 use wire_core::{Blob, List};
 
-/// A command that changes the target (JDWP, "Detailed Command Information"). Each of the three that set values sets
-/// one.
+/// A command that changes the target (JDWP, Detailed Command Information). Each of the three that set values sets one.
 #[derive(Debug, Drop)]
 pub enum Effect {
     Dispose,
     Suspend,
     Resume,
+    /// Ends the target with this exit code.
     Exit(i32),
     /// The value's bytes, one to eight, without a tag: what they mean is the field's to say.
     SetField {
@@ -26,11 +26,13 @@ pub enum Effect {
         first: i32,
         value: Blob,
     },
+    /// Asks for events of this kind that all modifiers let through.
     Set {
         kind: EventKind,
         policy: Policy,
         modifiers: List<Modifier>,
     },
+    /// Takes an event request back.
     Clear {
         kind: EventKind,
         request: u32,

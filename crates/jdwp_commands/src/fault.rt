@@ -3,9 +3,11 @@ ghost use Rattle.jdwp_commands.specs.Bodies.{body_fault, fault_at};
 
 use jdwp_values::{ReadTrouble, RowFault, ValueFault};
 
-/// Why a body is no command's or no answer's: the first fault from the left, with its place in the body.
+/// Why a body is no command's or no answer's: the first fault from the left. Its `at` is the offset, in bytes from the
+/// body's start, of the part that can't be read.
 #[derive(Clone, Copy, Debug, PartialEq, Eq)]
 pub enum BodyFault {
+    /// Memory for the texts or lists was refused.
     NoMemory,
     /// No command has this set and this number.
     UnknownCommand,

@@ -1,7 +1,7 @@
 ghost use Rattle.std.specs.Prelude.{◌≡◌};
 ghost use Rattle.jdwp_commands.specs.Kinds.{question_numbers, effect_numbers, numbers, kind_of_numbers};
 
-/// Which question it is.
+/// Which question it is (JDWP, Detailed Command Information).
 #[derive(Clone, Copy, Debug, PartialEq, Eq)]
 pub enum QuestionKind {
     ClassesBySignature,
@@ -27,7 +27,7 @@ pub enum QuestionKind {
     ThisObject,
 }
 
-/// Which effect it is.
+/// Which effect it is (JDWP, Detailed Command Information).
 #[derive(Clone, Copy, Debug, PartialEq, Eq)]
 pub enum EffectKind {
     Dispose,
@@ -41,7 +41,7 @@ pub enum EffectKind {
     SetSlot,
 }
 
-/// Which command it is (JDWP, "Detailed Command Information").
+/// Which command it is (JDWP, Detailed Command Information).
 #[derive(Clone, Copy, Debug, PartialEq, Eq)]
 pub enum CommandKind {
     Question(QuestionKind),

@@ -4,7 +4,7 @@ use jdwp_values::{ClassId, FrameId, Location, Reader, Row, RowFault, TypeTag, Wr
 use std::alloc::Global;
 use wire_core::{Blob, NoMemory};
 
-/// A class of a signature that was asked for (JDWP, VirtualMachine command set, "ClassesBySignature").
+/// A class of a signature that was asked for (JDWP, VirtualMachine command set, ClassesBySignature).
 #[derive(Clone, Copy, Debug, PartialEq, Eq)]
 pub struct ClassStatus {
     pub tag: TypeTag,
@@ -12,7 +12,7 @@ pub struct ClassStatus {
     pub status: i32,
 }
 
-/// A class that the target has loaded (JDWP, VirtualMachine command set, "AllClasses").
+/// A class that the target has loaded (JDWP, VirtualMachine command set, AllClasses).
 #[derive(Debug, Drop)]
 pub struct LoadedClass {
     pub tag: TypeTag,
@@ -21,14 +21,14 @@ pub struct LoadedClass {
     pub status: i32,
 }
 
-/// A frame of a thread, and where it stands (JDWP, ThreadReference command set, "Frames").
+/// A frame of a thread, and where it stands (JDWP, ThreadReference command set, Frames).
 #[derive(Clone, Copy, Debug, PartialEq, Eq)]
 pub struct Frame {
     pub id: FrameId,
     pub at: Location,
 }
 
-/// A slot that is asked for, with the byte of its variable's tag (JDWP, StackFrame command set, "GetValues").
+/// A slot that is asked for, with the byte of its variable's tag (JDWP, StackFrame command set, GetValues).
 #[derive(Clone, Copy, Debug, PartialEq, Eq)]
 pub struct Slot {
     pub slot: i32,

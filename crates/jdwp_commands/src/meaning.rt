@@ -11,7 +11,7 @@ use jdwp_events::{EventKind, Policy};
 use jdwp_values::{ReadTrouble, Reader, RowFault, ValueFault};
 
 /// The fault of a byte that means nothing at its place.
-pub fn bad_tag(at: u32) -> RowFault
+pub(crate) fn bad_tag(at: u32) -> RowFault
     ensures { result ≡ a_part (record { fault = a_bad_tag; at = at }) }
 {
     RowFault::Part(ReadTrouble {
@@ -21,7 +21,7 @@ pub fn bad_tag(at: u32) -> RowFault
 }
 
 /// The byte of an event kind: `BadTag` at another.
-pub fn event_kind(reader: &mut Reader<'_>) -> Result<EventKind, RowFault>
+pub(crate) fn event_kind(reader: &mut Reader<'_>) -> Result<EventKind, RowFault>
     ensures { Tells (λ x. x) (meaning_at kind_of_byte reader.old) reader.new result }
 {
     let at = reader.at();
@@ -32,7 +32,7 @@ pub fn event_kind(reader: &mut Reader<'_>) -> Result<EventKind, RowFault>
 }
 
 /// The byte of a suspend policy: `BadTag` at another.
-pub fn policy(reader: &mut Reader<'_>) -> Result<Policy, RowFault>
+pub(crate) fn policy(reader: &mut Reader<'_>) -> Result<Policy, RowFault>
     ensures { Tells (λ x. x) (meaning_at policy_of_byte reader.old) reader.new result }
 {
     let at = reader.at();

@@ -7,7 +7,7 @@ use crate::listed::Slot;
 use jdwp_values::{ClassId, FieldId, FrameId, Limit, MethodId, ObjectId, ThreadId};
 use wire_core::{Blob, List};
 
-/// A command that asks the target something and changes nothing (JDWP, "Detailed Command Information").
+/// A command that asks the target something and changes nothing (JDWP, Detailed Command Information).
 #[derive(Debug, Drop)]
 pub enum Question {
     ClassesBySignature(Blob),
@@ -88,7 +88,8 @@ impl Question {
         }
     }
 
-    /// How many items its answer may have.
+    /// How many items the list or the region in its answer may have: as many as fields, elements or slots were asked
+    /// for, at most as many as frames were, any number else, as of -1 frames. Nothing answers another negative length.
     pub fn limit(&self) -> Limit
         ensures { result ≡ limit_of_question self.now }
     {

@@ -10,8 +10,8 @@ use jdwp_values::{Limit, Reader, RowFault, Tag, Value, Writer};
 use std::alloc::Global;
 use wire_core::{List, NoMemory};
 
-/// Elements of an array, and the tag of their kind (JDWP, "arrayregion"). Where it is a reference's tag each element
-/// has its own reference's tag, else that of the region.
+/// Elements of an array, and the tag of their kind (JDWP, Detailed Command Information, common data types,
+/// arrayregion). Where it is a reference's tag each element has its own reference's tag, else that of the region.
 #[derive(Debug, Drop)]
 pub struct Region {
     pub tag: Tag,
@@ -91,7 +91,11 @@ fn read_values(
 
 /// Reads a region of as many elements as the limit allows: `BadTag` at a tag that no element has.
 #[tactic(auto, unfolding(crate::specs::Regions::region_at))]
-pub fn read_region(alloc: Global, limit: Limit, reader: &mut Reader<'_>) -> Result<Region, RowFault>
+pub(crate) fn read_region(
+    alloc: Global,
+    limit: Limit,
+    reader: &mut Reader<'_>,
+) -> Result<Region, RowFault>
     ensures { Tells (λ x. x) (region_at limit reader.old) reader.new result }
 {
     let tag = read_tag(reader)?;
@@ -123,7 +127,7 @@ fn write_elements(tag: Tag, values: &[Value], writer: &mut Writer) -> Result<(),
 
 /// Writes a region.
 #[tactic(auto, using(jdwp_values::proofs::Appends::appends))]
-pub fn write_region(region: &Region, writer: &mut Writer) -> Result<(), NoMemory>
+pub(crate) fn write_region(region: &Region, writer: &mut Writer) -> Result<(), NoMemory>
     requires { FitsList (FitsElement region.now.tag writer.old.sizes) region.now.values }
     ensures { Writes (spell_region writer.old.sizes region.now) writer.old writer.new result }
 {

@@ -155,7 +155,10 @@ fn read(alloc: Global, sizes: IdSizes, asked: &Asked, body: &[u8]) -> Result<Ans
     Ok(answer)
 }
 
-/// Reads the answer to this command that the whole body spells. Its texts and lists are copied.
+/// Reads the answer to this command that the whole body spells, the data of a reply packet without an error behind its
+/// header (JDWP, Detailed Command Information). The ids take as many bytes as the sizes say; texts and lists are
+/// copied. The fault is that of the first part from the left that can't be read: `BadCount` also where the command
+/// doesn't allow so many items, `UnknownCommand` never.
 pub fn read_answer(
     alloc: Global,
     sizes: IdSizes,
@@ -275,7 +278,8 @@ fn write_reply(answer: &Answer, writer: &mut Writer) -> Result<(), NoMemory>
     Ok(())
 }
 
-/// The body of an answer. Its ids fit the sizes; its texts and lists have fewer than 2^31 bytes and items.
+/// The body of an answer, without a packet's header (JDWP, Detailed Command Information). Its ids fit the sizes; its
+/// texts and lists have fewer than 2^31 bytes and items. `NoMemory` comes where memory is refused.
 #[tactic(auto, unfolding(crate::specs::Answers::spell_answer))]
 pub fn write_answer(alloc: Global, sizes: IdSizes, answer: &Answer) -> Result<Blob, NoMemory>
     requires { FitsAnswer sizes answer.now }

@@ -1,4 +1,7 @@
--- A composite (JDWP, Event command set, "Composite"): the byte of a suspend policy, and a list of events.
+-- A composite (JDWP, Event command set, Composite): the byte of a suspend policy, and a list of events.
+--
+-- `composite_at` reads one, `spell_composite` is its bytes, `FitsComposite` says that it has a spelling, and
+-- `InRangeComposite` that its numbers are of their types.
 use Rattle.std.specs.Prelude.{◌≡◌, ℕ, List, ◌++◌, length, Option, Some, None, Result, Ok, Err, ◌==◌, if◌then◌else◌}
 use Rattle.std.specs.List.{AllByRecursion}
 use Rattle.std.specs.Int.{bytes_high_first}
@@ -25,15 +28,18 @@ fault_at causes.Short at = Short at
 fault_at causes.BadTag at = BadTag at
 fault_at causes.BadCount at = BadCount at
 
+-- an event's fault, in a composite
 abbrev pub composite_fault : RowFault → CompositeFault
 composite_fault faults.NoMemory = NoMemory
 composite_fault (faults.Part trouble) = fault_at trouble.fault trouble.at
 composite_fault (faults.BadKind at) = BadKind at
 
+-- what was read of a composite, or the fault in it
 abbrev pub in_composite : {A : Type 0} → Result A RowFault → Result A CompositeFault
 in_composite (Ok x) = Ok x
 in_composite (Err fault) = Err (composite_fault fault)
 
+-- the policy, or the fault at its byte
 abbrev pub policy_or_fault : Option Policy → ℕ → Result Policy CompositeFault
 policy_or_fault (Some policy) at = Ok policy
 policy_or_fault None at = Err (BadPolicy at)
@@ -51,6 +57,7 @@ composite_at sizes body =
     in_composite (list_at Any event_at b.1) >>= λ events.
     ended events.1 (record { policy = policy; events = events.0 })
 
+-- the policy's byte, the count of the events, and the events
 unfoldable pub spell_composite : IdSizes → Composite → List ℕ
 spell_composite sizes composite =
     bytes_high_first 1 (byte_of_policy composite.policy) ++ spell_list (spell_event sizes) composite.events

@@ -1,5 +1,8 @@
--- The events of a composite (JDWP, Event command set, "Composite"): a byte that says which kind it is, and the parts of
+-- The events of a composite (JDWP, Event command set, Composite): a byte that says which kind it is, and the parts of
 -- the kind's row.
+--
+-- `event_at` reads one from a place, `spell_event` is its bytes, `FitsEvent` says that it has a spelling, and
+-- `InRangeEvent` that its numbers are of their types.
 use Rattle.std.specs.Prelude.{ℕ, ℤ, List, [], ◌∷◌, ◌++◌, Option, Some, None, Result, Err}
 use Rattle.std.specs.Int.{bytes_high_first}
 use Rattle.jdwp_values.specs.declared.fault.RowFault.{RowFault}
@@ -16,6 +19,7 @@ use Rattle.jdwp_events.specs.declared.kind.EventKind.{EventKind}
 use Rattle.jdwp_events.specs.declared.kind.EventKind.TheVariants as kinds
 use Rattle.jdwp_events.specs.Kinds.{byte_of_kind, kind_of_byte}
 
+-- which kind of event it is
 abbrev pub kind_of : Event → EventKind
 kind_of (events.SingleStep _ _ _) = kinds.SingleStep
 kind_of (events.Breakpoint _ _ _) = kinds.Breakpoint
@@ -26,7 +30,7 @@ kind_of (events.ClassPrepare _ _ _ _ _ _) = kinds.ClassPrepare
 kind_of (events.VMStart _ _) = kinds.VMStart
 kind_of (events.VMDeath _) = kinds.VMDeath
 
--- the parts behind a kind's byte
+-- the parts behind a kind's byte (JDWP, Event command set, Composite)
 abbrev pub event_row : EventKind → List Part
 event_row kinds.SingleStep = number ∷ thread ∷ location ∷ []
 event_row kinds.Breakpoint = number ∷ thread ∷ location ∷ []
@@ -37,6 +41,7 @@ event_row kinds.ClassPrepare = number ∷ thread ∷ type_tag ∷ class ∷ text
 event_row kinds.VMStart = number ∷ thread ∷ []
 event_row kinds.VMDeath = number ∷ []
 
+-- the event behind its kind's byte, read by the kind's row
 abbrev pub event_behind : EventKind → Place → Result (Event × Place) RowFault
 event_behind kinds.SingleStep = row_at (event_row kinds.SingleStep) events.SingleStep
 event_behind kinds.Breakpoint = row_at (event_row kinds.Breakpoint) events.Breakpoint
@@ -47,6 +52,7 @@ event_behind kinds.ClassPrepare = row_at (event_row kinds.ClassPrepare) events.C
 event_behind kinds.VMStart = row_at (event_row kinds.VMStart) events.VMStart
 event_behind kinds.VMDeath = row_at (event_row kinds.VMDeath) events.VMDeath
 
+-- the event that begins here with its kind's byte; another byte is a bad kind
 abbrev pub event_of_kind : Option EventKind → ℕ → Place → Result (Event × Place) RowFault
 event_of_kind (Some kind) at place = event_behind kind place
 event_of_kind None at place = Err (faults.BadKind at)
@@ -70,6 +76,7 @@ told (events.ClassPrepare r t tag c s status) = said number r ∷ said thread t 
 told (events.VMStart r t) = said number r ∷ said thread t ∷ []
 told (events.VMDeath r) = said number r ∷ []
 
+-- its kind's byte, and what it says
 abbrev pub spell_event : IdSizes → Event → List ℕ
 spell_event sizes event = bytes_high_first 1 (byte_of_kind (kind_of event)) ++ spell_told sizes (told event)
 

@@ -1,5 +1,7 @@
--- The modifiers of an event request (JDWP, EventRequest command set, "Set"): a byte that says which it is, and its
--- parts.
+-- The modifiers of an event request (JDWP, EventRequest command set, Set): a byte that says which it is, and its parts.
+--
+-- `modifier_at` reads one from a place, `spell_modifier` is its bytes, `FitsModifier` says that it has a spelling, and
+-- `InRangeModifier` that its numbers are of their types.
 use Rattle.std.specs.Prelude.{ℕ, List, [], ◌∷◌, ◌++◌, Option, Some, None, Result, Err, ◌==◌, find}
 use Rattle.std.specs.Int.{bytes_high_first}
 use Rattle.jdwp_values.specs.declared.fault.RowFault.{RowFault}
@@ -14,6 +16,7 @@ use Rattle.jdwp_events.specs.declared.modifier.Modifier.TheVariants as modifiers
 use Rattle.jdwp_events.specs.declared.modifier.ModifierKind.{ModifierKind}
 use Rattle.jdwp_events.specs.declared.modifier.ModifierKind.TheVariants as kinds
 
+-- the byte of each modifier (JDWP, EventRequest command set, Set, modKind)
 abbrev pub byte_of_modifier : ModifierKind → ℕ
 byte_of_modifier kinds.Count = 1
 byte_of_modifier kinds.ThreadOnly = 3
@@ -33,6 +36,7 @@ modifier_kinds = kinds.Count ∷ kinds.ThreadOnly ∷ kinds.ClassOnly ∷ kinds.
 abbrev pub modifier_of_byte : ℕ → Option ModifierKind
 modifier_of_byte byte = find (λ kind. byte_of_modifier kind == byte) modifier_kinds
 
+-- which modifier it is
 abbrev pub kind_of : Modifier → ModifierKind
 kind_of (modifiers.Count _) = kinds.Count
 kind_of (modifiers.ThreadOnly _) = kinds.ThreadOnly
@@ -43,7 +47,7 @@ kind_of (modifiers.LocationOnly _) = kinds.LocationOnly
 kind_of (modifiers.ExceptionOnly _ _ _) = kinds.ExceptionOnly
 kind_of (modifiers.Step _ _ _) = kinds.Step
 
--- the parts behind a kind's byte
+-- the parts behind a kind's byte (JDWP, EventRequest command set, Set)
 abbrev pub modifier_row : ModifierKind → List Part
 modifier_row kinds.Count = int ∷ []
 modifier_row kinds.ThreadOnly = thread ∷ []
@@ -54,6 +58,7 @@ modifier_row kinds.LocationOnly = location ∷ []
 modifier_row kinds.ExceptionOnly = class ∷ byte ∷ byte ∷ []
 modifier_row kinds.Step = thread ∷ int ∷ int ∷ []
 
+-- the modifier behind its kind's byte, read by the kind's row
 abbrev pub modifier_behind : ModifierKind → Place → Result (Modifier × Place) RowFault
 modifier_behind kinds.Count = row_at (modifier_row kinds.Count) modifiers.Count
 modifier_behind kinds.ThreadOnly = row_at (modifier_row kinds.ThreadOnly) modifiers.ThreadOnly
@@ -64,6 +69,7 @@ modifier_behind kinds.LocationOnly = row_at (modifier_row kinds.LocationOnly) mo
 modifier_behind kinds.ExceptionOnly = row_at (modifier_row kinds.ExceptionOnly) modifiers.ExceptionOnly
 modifier_behind kinds.Step = row_at (modifier_row kinds.Step) modifiers.Step
 
+-- the modifier that begins here with its kind's byte; another byte is a bad tag
 abbrev pub modifier_of_kind : Option ModifierKind → ℕ → Place → Result (Modifier × Place) RowFault
 modifier_of_kind (Some kind) at place = modifier_behind kind place
 modifier_of_kind None at place = Err (faults.Part (record { fault = BadTag; at = at }))
@@ -82,6 +88,7 @@ told (modifiers.LocationOnly at) = said location at ∷ []
 told (modifiers.ExceptionOnly c caught uncaught) = said class c ∷ said byte caught ∷ said byte uncaught ∷ []
 told (modifiers.Step t size depth) = said thread t ∷ said int size ∷ said int depth ∷ []
 
+-- a modifier's byte, and what it says
 abbrev pub spell_modifier : IdSizes → Modifier → List ℕ
 spell_modifier sizes modifier =
     bytes_high_first 1 (byte_of_modifier (kind_of modifier)) ++ spell_told sizes (told modifier)

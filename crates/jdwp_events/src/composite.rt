@@ -11,16 +11,18 @@ use jdwp_values::{
 use std::alloc::Global;
 use wire_core::{Blob, List, NoMemory};
 
-/// What happened in the target at one time, and which threads that suspended (JDWP, Event command set, "Composite").
+/// What happened in the target at one time, and which threads that suspended (JDWP, Event command set, Composite).
 #[derive(Debug, Drop)]
 pub struct Composite {
     pub policy: Policy,
     pub events: List<Event>,
 }
 
-/// Why a body is no composite: the first fault from the left, with its place in the body.
+/// Why a body is no composite: the first fault from the left. Its `at` is the offset, in bytes from the body's start,
+/// of the part that can't be read.
 #[derive(Clone, Copy, Debug, PartialEq, Eq)]
 pub enum CompositeFault {
+    /// Memory for the events or their texts was refused.
     NoMemory,
     /// Too few bytes are left for a part.
     Short { at: u32 },
@@ -81,7 +83,9 @@ fn read(alloc: Global, sizes: IdSizes, body: &[u8]) -> Result<Composite, Composi
     Ok(Composite { policy, events })
 }
 
-/// Reads the composite that the whole body spells.
+/// Reads the composite that the whole body spells, the data of a command packet behind its header (JDWP, Event command
+/// set, Composite). The ids take as many bytes as the sizes say; the texts are copied. Else the fault is that of the
+/// first part from the left that can't be read.
 pub fn read_composite(
     alloc: Global,
     sizes: IdSizes,
@@ -99,7 +103,8 @@ pub fn read_composite(
     read(alloc, sizes, body)
 }
 
-/// Writes a composite whose ids fit the sizes.
+/// The body that spells a composite (JDWP, Event command set, Composite), without a packet's header. Its ids fit the
+/// sizes; its texts and its list have fewer than 2^31 bytes and events. `NoMemory` comes where memory is refused.
 #[tactic(auto, unfolding(crate::specs::Composites::spell_composite))]
 pub fn write_composite(
     alloc: Global,

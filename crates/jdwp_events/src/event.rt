@@ -12,19 +12,22 @@ use std::alloc::Global;
 use wire_core::{Blob, NoMemory};
 
 /// An event of a composite, with the id of the request that asked for it; 0 where none did (JDWP, Event command set,
-/// "Composite").
+/// Composite).
 #[derive(Debug, Drop)]
 pub enum Event {
+    /// The thread made its step, and stands at a place.
     SingleStep {
         request: u32,
         thread: ThreadId,
         at: Location,
     },
+    /// The thread came to a breakpoint.
     Breakpoint {
         request: u32,
         thread: ThreadId,
         at: Location,
     },
+    /// The thread threw an object, which is caught at the place `catch`, or nowhere if that is null.
     Exception {
         request: u32,
         thread: ThreadId,
@@ -32,14 +35,17 @@ pub enum Event {
         exception: Value,
         catch: Location,
     },
+    /// The thread started.
     ThreadStart {
         request: u32,
         thread: ThreadId,
     },
+    /// The thread ended.
     ThreadDeath {
         request: u32,
         thread: ThreadId,
     },
+    /// The thread prepared a class, of this signature and with these bits of status (JDWP, Constants, ClassStatus).
     ClassPrepare {
         request: u32,
         thread: ThreadId,
@@ -48,10 +54,12 @@ pub enum Event {
         signature: Blob,
         status: i32,
     },
+    /// The target started, with this thread.
     VMStart {
         request: u32,
         thread: ThreadId,
     },
+    /// The target ends.
     VMDeath {
         request: u32,
     },

@@ -1,7 +1,7 @@
 ghost use Rattle.std.specs.Prelude.{◌≡◌};
 ghost use Rattle.jdwp_events.specs.Kinds.{byte_of_kind, kind_of_byte, byte_of_policy, policy_of_byte};
 
-/// Which threads an event suspends (JDWP, "SuspendPolicy Constants"): none, the one of the event, or all.
+/// Which threads an event suspends (JDWP, Constants, SuspendPolicy): none, the one of the event, or all.
 #[derive(Clone, Copy, Debug, PartialEq, Eq, PartialOrd, Ord)]
 pub enum Policy {
     NoThread,
@@ -34,7 +34,7 @@ impl Policy {
     }
 }
 
-/// What happened in the target (JDWP, "EventKind Constants").
+/// What happened in the target (JDWP, Constants, EventKind).
 #[derive(Clone, Copy, Debug, PartialEq, Eq, PartialOrd, Ord)]
 pub enum EventKind {
     SingleStep,

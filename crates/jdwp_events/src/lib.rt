@@ -9,7 +9,7 @@ mod modifier;
 pub use composite::{Composite, CompositeFault, read_composite, write_composite};
 pub use event::Event;
 pub use kind::{EventKind, Policy};
-pub use modifier::Modifier;
+pub use modifier::{Modifier, ModifierKind};
 
 #[cfg(test)]
 mod tests;

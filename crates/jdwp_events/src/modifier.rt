@@ -9,20 +9,28 @@ use jdwp_values::{
 use std::alloc::Global;
 use wire_core::{Blob, NoMemory};
 
-/// What narrows an event request (JDWP, EventRequest command set, "Set"). Bytes and numbers are kept whatever they are.
+/// What narrows an event request (JDWP, EventRequest command set, Set). Bytes and numbers are kept whatever they are.
 #[derive(Debug, Drop)]
 pub enum Modifier {
+    /// The event is told once, when it happens for this time.
     Count(i32),
+    /// Events of this thread alone.
     ThreadOnly(ThreadId),
+    /// Events in this class, or a class below it.
     ClassOnly(ClassId),
+    /// Events in classes whose names match this pattern.
     ClassMatch(Blob),
+    /// Events in classes whose names don't match it.
     ClassExclude(Blob),
+    /// Events at this place.
     LocationOnly(Location),
+    /// Exceptions of this class, or of each where its id is 0; a byte of 0 leaves out those that are caught, or not.
     ExceptionOnly {
         class: ClassId,
         caught: u8,
         uncaught: u8,
     },
+    /// Steps of this thread (JDWP, Constants, StepSize and StepDepth).
     Step {
         thread: ThreadId,
         size: i32,
@@ -30,7 +38,7 @@ pub enum Modifier {
     },
 }
 
-/// Which modifier it is.
+/// Which modifier it is (JDWP, EventRequest command set, Set, modKind).
 #[derive(Clone, Copy, Debug, PartialEq, Eq)]
 pub enum ModifierKind {
     Count,

@@ -1,7 +1,6 @@
 ghost use Rattle.std.specs.Prelude.{◌≡◌, [], ◌∷◌, IfOk};
 
 use super::*;
-use crate::modifier::ModifierKind;
 use jdwp_values::{
     ClassId, IdSizes, Location, MethodId, ObjectId, ReadTrouble, Reader, Row, RowFault, ThreadId,
     TypeTag, Value, ValueFault, Writer,
@@ -9,6 +8,65 @@ use jdwp_values::{
 use std::alloc::Global;
 use std::test::Fail;
 use wire_core::{Blob, NoMemory};
+
+#[test]
+fn each_policy_has_its_byte(rt: HostRuntime) {
+    for (byte, policy) in [
+        (0, Policy::NoThread),
+        (1, Policy::EventThread),
+        (2, Policy::All),
+    ] {
+        assert_eq!(rt; Policy::from_byte(byte), Some(policy));
+        assert_eq!(rt; policy.byte(), byte);
+    }
+    assert_eq!(rt; Policy::from_byte(3), None);
+}
+
+#[test]
+fn each_event_kind_has_its_byte(rt: HostRuntime) {
+    for (byte, kind) in [
+        (1, EventKind::SingleStep),
+        (2, EventKind::Breakpoint),
+        (4, EventKind::Exception),
+        (6, EventKind::ThreadStart),
+        (7, EventKind::ThreadDeath),
+        (8, EventKind::ClassPrepare),
+        (90, EventKind::VMStart),
+        (99, EventKind::VMDeath),
+    ] {
+        assert_eq!(rt; EventKind::from_byte(byte), Some(kind));
+        assert_eq!(rt; kind.byte(), byte);
+    }
+}
+
+#[test]
+fn each_modifier_has_its_byte(rt: HostRuntime) {
+    for (byte, kind) in [
+        (1, ModifierKind::Count),
+        (3, ModifierKind::ThreadOnly),
+        (4, ModifierKind::ClassOnly),
+        (5, ModifierKind::ClassMatch),
+        (6, ModifierKind::ClassExclude),
+        (7, ModifierKind::LocationOnly),
+        (8, ModifierKind::ExceptionOnly),
+        (10, ModifierKind::Step),
+    ] {
+        assert_eq!(rt; ModifierKind::from_byte(byte), Some(kind));
+        assert_eq!(rt; kind.byte(), byte);
+    }
+}
+
+// FramePop, ClassUnload, MethodEntry and VMDisconnected have bytes among the kinds, and the modifiers Conditional,
+// FieldOnly and SourceNameMatch among the modifiers; none of them is known here.
+#[test]
+fn other_bytes_are_no_kinds(rt: HostRuntime) {
+    for byte in [0, 3, 9, 40, 100] {
+        assert_eq!(rt; EventKind::from_byte(byte), None);
+    }
+    for byte in [0, 2, 9, 12] {
+        assert_eq!(rt; ModifierKind::from_byte(byte), None);
+    }
+}
 
 fn made(size: u32) -> Result<IdSizes, Fail>
     ensures { IfOk result (λ s. s.field ∷ s.method ∷ s.object ∷ s.class ∷ s.frame ∷ []
@@ -200,7 +258,7 @@ fn write_modifiers(alloc: Global, sizes: IdSizes) -> Result<Blob, NoMemory>
 }
 
 #[test]
-fn modifiers_of_each_kind(rt: HostRuntime) -> Result<(), Fail> {
+fn modifiers_of_each_kind_are_written_and_read(rt: HostRuntime) -> Result<(), Fail> {
     let sizes = made(1)?;
     let written = write_modifiers(rt.alloc(), sizes)?;
     assert_eq!(rt; written.as_slice(), MODIFIERS.as_slice());

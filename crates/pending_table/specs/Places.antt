@@ -26,6 +26,7 @@ abbrev pub AreApart : List (ℕ × Asked) → Type 0
 AreApart [] = Unit {0}
 AreApart (s ∷ sent) = (pending_under s.0 sent ≡ None) × AreApart sent
 
+-- sixteen places hold a window: its commands in front, no id twice
 pub record IsTable (places : List (Option Sent)) (count next : ℕ) : Type 0 where
   pub whole : length places ≡ 16
   pub packed : IsPacked places

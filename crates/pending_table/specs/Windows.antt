@@ -1,5 +1,5 @@
--- The window of pending commands (JDWP, "JDWP Packets", the field id: a reply has the id of its command, and the
--- sender sees to it that the ids of commands without a reply differ).
+-- The window of pending commands (JDWP, JDWP Packets, id: a reply has the id of its command, and the sender sees to it
+-- that the ids of commands without a reply differ).
 use Rattle.std.specs.Prelude.{◌≡◌, ℕ, suc, ◌+◌, ◌-◌, ◌%◌, ◌^◌, Bool, ◌==◌, ◌||◌, if◌then◌else◌, List, [], ◌∷◌, ◌++◌}
 use Rattle.std.specs.Prelude.{length, Option, Some, None, is_some}
 use Rattle.jdwp_commands.specs.declared.asked.Asked.{Asked}
@@ -18,6 +18,7 @@ pub record Window : Type 0 where
   pub sent : List (ℕ × Asked)
   pub next : ℕ
 
+-- no command was sent
 abbrev pub fresh : Window
 fresh = record { sent = []; next = 0 }
 
@@ -42,9 +43,11 @@ pub record LackOne (id : ℕ) (asked : Asked) (sent others : List (ℕ × Asked)
 abbrev pub is_full : Window → Bool
 is_full w = (length w.sent == 16) || is_some (pending_under (id_of w.next) w.sent)
 
+-- a command is sent, behind those that were
 abbrev pub with_sent : Asked → Window → Window
 with_sent asked w = record { sent = w.sent ++ (id_of w.next, asked) ∷ []; next = (w.next + 1) % turn }
 
+-- the reply of this id came
 abbrev pub settled : ℕ → Window → Window
 settled id w = record { sent = without id w.sent; next = w.next }
 
@@ -53,6 +56,7 @@ pub data Move : Type 0 where
   sends : Asked → Move
   settles : ℕ → Move
 
+-- what a move makes of the window
 abbrev pub move : Move → Window → Window
 move (sends asked) = with_sent asked
 move (settles id) = settled id

@@ -9,7 +9,7 @@ use std::marker::Model;
 #[derive(Clone, Copy, Debug, PartialEq, Eq)]
 pub struct UnknownReply(pub u32);
 
-/// The commands that were sent and have no reply yet, at most 16 (JDWP, "JDWP Packets", the field `id`).
+/// The commands that were sent and have no reply yet, at most 16 (JDWP, JDWP Packets, id).
 ///
 /// The ids are 1, 2, and so on to 2^32 - 1, and then 1 again. Contracts see the commands behind their ids, in the
 /// order in which they were sent. No call takes memory.
@@ -67,7 +67,7 @@ impl Pending {
         self.next + 1
     }
 
-    /// Adds a command, and answers its id.
+    /// Adds a command to a window that isn't full, and answers the id that its packet carries.
     pub fn send(&mut self, asked: Asked) -> u32
         requires { is_full self.old ≡ false }
         ensures id { result ≡ id_of self.old.next }
