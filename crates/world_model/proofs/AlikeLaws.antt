@@ -24,7 +24,7 @@ use Rattle.pending_table.specs.Windows.{pending_under, without, id_of}
 use Rattle.wire_core.specs.declared.outside.Entry.{Entry}
 use Rattle.wire_core.specs.declared.outside.Side.{Side}
 use Rattle.world_model.specs.Machine.{Message, Allows}
-use Rattle.world_model.specs.Session.{At, Place, Word, word_said, Serve, IsReply, Happens, Speaks, Says, Session}
+use Rattle.world_model.specs.Session.{At, Place, Word, word_said, Serve, IsReply, Happens, Speaks, Brings, Session}
 use Rattle.world_model.specs.declared.ending.Limits.{Limits}
 use Rattle.world_model.proofs.SizeLaws.{AreKnown, is_sized, still_known, ComesBehind, asked_behind}
 
@@ -165,14 +165,14 @@ behind_speaking old Speaks.greets one all = all
 behind_speaking old (Speaks.sends {asked} serve) one all =
     behind_more old.sizes old.commands.sent (id_of old.commands.next, asked) all (one asked refl)
 
-behind_saying : (old : Place) {message : Message} {place : Place} → Says old message place → PlaceBehind old
+behind_saying : (old : Place) {message : Message} {place : Place} → Brings old message place → PlaceBehind old
     → PlaceBehind place
-behind_saying old (Says.hears whole reading) all = all
-behind_saying old (Says.greeted came) all = all
-behind_saying old (Says.answers {id} {later} whole under serve reply sizes none) all =
+behind_saying old (Brings.hears whole reading) all = all
+behind_saying old (Brings.greeted came) all = all
+behind_saying old (Brings.answers {id} {later} whole under serve reply sizes none) all =
     behind_later old.sizes later (without id old.commands.sent) (still_known sizes)
     (behind_without old.sizes id old.commands.sent all)
-behind_saying old (Says.ends came) all = all
+behind_saying old (Brings.ends came) all = all
 
 behind_happening : {at next : At} {entry : Entry} → Happens at entry next → PlaceBehind at.place
     → PlaceBehind next.place

@@ -235,7 +235,7 @@ owed_answered s asked replied h =
 -- The requests and their responses -----------------------------------------------------------------------------------
 
 -- the responses answer the first of the requests, and these are the others
-record AreOwed (messages : List Message) (others : List Request) : Type 0 where
+pub record AreOwed (messages : List Message) (others : List Request) : Type 0 where
   pub answered : List Request
   pub requests : requests_of messages ≡ answered ++ others
   pub responses : AreAnswered answered (responses_of (told_of messages))
@@ -323,7 +323,7 @@ owed_allowed {messages} {s} (Allows.answers {asked} {replied} first others idle 
 owed_allowed {messages} {s} (Allows.ends idle) doing h =
     owed_silent _ refl refl (sym (owed_ended_from s s.phase (does_due messages s Due.waits idle doing))) h
 
-are_owed : {limits : Limits} {log : List Entry} {messages : List Message} {turns : ℕ} {at : At}
+pub are_owed : {limits : Limits} {log : List Entry} {messages : List Message} {turns : ℕ} {at : At}
     → Session limits log messages turns at → AreOwed messages (without_response at.state)
 are_owed Session.begins = record { answered = []; requests = refl; responses = AreAnswered.none }
 are_owed (Session.goes {messages} {at} {next} s on is) =

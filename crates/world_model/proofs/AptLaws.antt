@@ -21,7 +21,7 @@ use Rattle.wire_core.specs.declared.outside.Entry.{Entry}
 use Rattle.wire_core.specs.declared.outside.Side.{Side}
 use Rattle.world_model.specs.Laws.{AreServed}
 use Rattle.world_model.specs.Machine.{State, fresh, Due, Message, Allows, due}
-use Rattle.world_model.specs.Session.{At, Place, Session, Speaks, Says, IsReply}
+use Rattle.world_model.specs.Session.{At, Place, Session, Speaks, Brings, IsReply}
 use Rattle.world_model.specs.declared.ending.Limits.{Limits}
 use Rattle.world_model.proofs.AnsweringLaws.{are_served}
 use Rattle.world_model.proofs.DoingLaws.{DoesIn, does}
@@ -105,11 +105,11 @@ apt_reply : {sizes : IdSizes} {asked : Asked} {error : ℕ} {body : List ℕ} {r
 apt_reply {sizes} {asked} (IsReply.answers {body} {answer} e) = answer_of sizes body asked answer e
 apt_reply (IsReply.refuses some tolerated) = tt
 
-apt_said : {place next : Place} {message : Message} → Says place message next → IsApt message
-apt_said (Says.hears whole reading) = tt
-apt_said (Says.greeted came) = tt
-apt_said (Says.answers whole under serve reply sizes composites) = apt_reply reply
-apt_said (Says.ends came) = tt
+apt_said : {place next : Place} {message : Message} → Brings place message next → IsApt message
+apt_said (Brings.hears whole reading) = tt
+apt_said (Brings.greeted came) = tt
+apt_said (Brings.answers whole under serve reply sizes composites) = apt_reply reply
+apt_said (Brings.ends came) = tt
 
 apt_spoken : {place next : Place} {message : Message} {side : Side} {bytes : List ℕ}
     → Speaks place message side bytes next → IsApt message

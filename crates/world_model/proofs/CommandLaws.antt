@@ -17,9 +17,9 @@ use Rattle.wire_core.specs.declared.outside.Side.{Side}
 use Rattle.wire_core.specs.declared.outside.Side.TheVariants.{Client, Target}
 use Rattle.world_model.specs.Machine.{State, Message, Allows}
 use Rattle.world_model.specs.Session.{At, Place, Word, last_words, client_words, end_word, fails_gone, without_response}
-use Rattle.world_model.specs.Session.{one_told, command_bytes, link_ending, ended, word_side, word_bytes, word_said}
-use Rattle.world_model.specs.Session.{Serve, Happens, Speaks, Says, Session}
-use Rattle.world_model.specs.Laws.{given_by, given, is_aside, nth_command, AreSpelled, word_given, given_last}
+use Rattle.world_model.specs.Session.{one_told, nth_command, command_bytes, link_ending, ended, word_side, word_bytes}
+use Rattle.world_model.specs.Session.{word_said, Serve, Happens, Speaks, Brings, Session}
+use Rattle.world_model.specs.Laws.{given_by, given, is_aside, AreSpelled, word_given, given_last}
 use Rattle.world_model.specs.Laws.{of_the_machine, of_the_words, HasLostTarget, BehindGiven, AreGiven, SaysLast}
 use Rattle.world_model.specs.declared.ending.Ending.{Ending}
 use Rattle.world_model.specs.declared.ending.Limits.{Limits}
@@ -198,11 +198,11 @@ same_id next count is = omega (arith, is)
 
 -- what comes in
 saying : {log : List Entry} {messages : List Message} {at : At} {message : Message} {place : Place} (next : State)
-    → at.said ≡ [] → Says at.place message place → IsWhole log messages at
+    → at.said ≡ [] → Brings at.place message place → IsWhole log messages at
     → IsSent log (messages ++ message ∷ []) (record at { state = next; place = place })
-saying {message} next none (Says.hears whole reading) h = aside message refl refl refl refl none h
-saying {message} next none (Says.greeted came) h = aside message refl refl refl refl none h
-saying {at} next none (Says.answers {asked} {replied} whole under serve reply sizes raw) h = record {
+saying {message} next none (Brings.hears whole reading) h = aside message refl refl refl refl none h
+saying {message} next none (Brings.greeted came) h = aside message refl refl refl refl none h
+saying {at} next none (Brings.answers {asked} {replied} whole under serve reply sizes raw) h = record {
   count = h.count;
   bytes = h.bytes;
   rest = [];
@@ -211,7 +211,7 @@ saying {at} next none (Says.answers {asked} {replied} whole under serve reply si
   sent_are = as_whole h.count h.bytes at.said none h.sent_are;
   behind = Rest.no_rest;
 }
-saying {message} next none (Says.ends came) h = aside message refl refl refl refl none h
+saying {message} next none (Brings.ends came) h = aside message refl refl refl refl none h
 
 -- what goes out
 speaking : {log : List Entry} {messages : List Message} {at : At} {message : Message} {side : Side} {bytes : List ℕ}

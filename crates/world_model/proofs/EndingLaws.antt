@@ -1,6 +1,6 @@
 -- An ending has its cause.
 use Rattle.std.proofs.Common.{◌≡◌, ℕ, ◌+◌, Bool, true, false, List, [], ◌∷◌, ◌++◌, Some, None, Result, Ok, Err}
-use Rattle.std.proofs.Common.{take, refl, sym, ap, subst, ◌∙◌, append_assoc}
+use Rattle.std.proofs.Common.{length, take, ◌<◌, refl, sym, ap, subst, ◌∙◌, append_assoc, arith}
 use Rattle.std.proofs.lemmas.List.{append-nil}
 use Rattle.std.specs.Prelude.{replicate}
 use Rattle.dap_frames.specs.Frames.{Frame, frame_front}
@@ -24,14 +24,15 @@ use Rattle.wire_core.specs.declared.outside.Entry.TheVariants.{Out, Failed, Quie
 use Rattle.wire_core.specs.declared.outside.Side.{Side}
 use Rattle.wire_core.specs.declared.outside.Side.TheVariants.{Client, Target}
 use Rattle.world_model.specs.Causes.{requests_of, AreLast, IsClientFault, IsBodyFault}
-use Rattle.world_model.specs.Causes.{IsCompositeFault, RefusesComposite, HasAnswer, IsTargetFault, Cause}
+use Rattle.world_model.specs.Causes.{IsCompositeFault, RefusesComposite, HasAnswer, IsTargetFault, Cause, IsLogged}
+use Rattle.world_model.specs.Causes.{is_by_entry, AreSent, IsCutShort, HasEnded}
 use Rattle.world_model.specs.Laws.{AreRead}
 use Rattle.world_model.specs.Machine.{is_disconnect, Due, Message}
 use Rattle.world_model.specs.Session.{At, Place, ended, Word, word_said, word_side, word_bytes}
 use Rattle.world_model.specs.Session.{Serve, ReadsTarget, Happens, Stops, Session, link_ending}
 use Rattle.world_model.specs.Session.{target_front, waiting_requests, body_ending, composite_ending}
 use Rattle.world_model.specs.declared.ending.Ending.{Ending}
-use Rattle.world_model.specs.declared.ending.Ending.TheVariants.{BadTarget}
+use Rattle.world_model.specs.declared.ending.Ending.TheVariants.{Left, BadTarget, ClientLink, TargetLink}
 use Rattle.world_model.specs.declared.ending.Limits.{Limits}
 use Rattle.world_model.specs.declared.ending.TargetFault.{TargetFault}
 use Rattle.world_model.proofs.AlikeLaws.{answered_alike}
@@ -40,6 +41,7 @@ use Rattle.world_model.proofs.DoingLaws.{IsDone, does_due, does}
 use Rattle.world_model.proofs.FaultLaws.{IsOfBody, answer_fault, composite_fault_in}
 use Rattle.world_model.proofs.HearingLaws.{are_heard}
 use Rattle.world_model.proofs.QuietLaws.{EndsQuiet, quiet_so}
+use Rattle.world_model.proofs.StepLaws.{before_ending}
 
 -- A `disconnect` is the last request ---------------------------------------------------------------------------------
 
@@ -302,3 +304,189 @@ cause steady (Session.silences {log} {kept} {at} {word} s more proper) =
     caused_on (broken_send (word_side word) (take kept (word_bytes at.place word))) at.place.told at.said []
     (at.broken + 1) (broken_sends (word_side word) (take kept (word_bytes at.place word)))
     (cause steady s)
+
+-- What comes since ---------------------------------------------------------------------------------------------------
+
+abbrev IsEnded : Limits → List Entry → List Message → ℕ → At → Type 0
+IsEnded limits log messages turns at =
+    (ending : Ending) → at.ending ≡ Some ending → HasEnded limits log messages turns at ending
+
+-- a session that goes on hasn't ended
+unended_yet : {limits : Limits} {log : List Entry} {messages : List Message} {turns : ℕ} (at : At) → at.ending ≡ None
+    → IsEnded limits log messages turns at
+unended_yet at goes_on = λ ending is. cc
+
+-- A cause has come, and no last word was said yet.
+ends_now : {limits : Limits} {log : List Entry} {messages : List Message} {turns : ℕ} {at next : At} (last : Ending)
+    (cause : List Entry) (taken : ℕ) → Session limits log messages turns at → at.ending ≡ None
+    → next.ending ≡ Some last → IsLogged at last cause taken → next.place ≡ at.place → next.said ≡ []
+    → next.state ≡ at.state → IsEnded limits (log ++ cause) messages (turns + taken) next
+ends_now {limits} {log} {messages} {turns} {at} {next} last cause taken s goes_on is_last logged place said state
+    ending is =
+    let same : last ≡ ending = cc in
+    record {
+      before = log;
+      cause = cause;
+      words = [];
+      cut = [];
+      earlier = turns;
+      taken = taken;
+      last = at;
+      log_is = sym (append-nil ((log ++ cause) ++ []) ∙ append-nil (log ++ cause));
+      turns_are = refl;
+      session = s;
+      not_ended = goes_on;
+      is_cause = subst (λ (e : Ending). IsLogged at e cause taken) same logged;
+      are_words = rw (place, said) AreSent.none;
+      is_cut = IsCutShort.whole;
+      same_state = state;
+    }
+
+-- a cause that stands inside leaves no entry
+composite_inside : (read : Result Composite CompositeFault) (offset : ℕ)
+    → is_by_entry (composite_ending read offset) ≡ false
+composite_inside (Ok composite) offset = refl
+composite_inside (Err composite_faults.NoMemory) offset = refl
+composite_inside (Err (composite_faults.Short place)) offset = refl
+composite_inside (Err (composite_faults.BadKind place)) offset = refl
+composite_inside (Err (composite_faults.BadPolicy place)) offset = refl
+composite_inside (Err (composite_faults.BadCount place)) offset = refl
+composite_inside (Err (composite_faults.BadTag place)) offset = refl
+composite_inside (Err (composite_faults.Trailing place)) offset = refl
+
+body_inside : (fault : BodyFault) (offset : ℕ) → is_by_entry (body_ending fault offset) ≡ false
+body_inside body_faults.NoMemory offset = refl
+body_inside body_faults.UnknownCommand offset = refl
+body_inside (body_faults.Short place) offset = refl
+body_inside (body_faults.BadTag place) offset = refl
+body_inside (body_faults.BadCount place) offset = refl
+body_inside (body_faults.Trailing place) offset = refl
+
+inside : {limits : Limits} {log : List Entry} {messages : List Message} {turns : ℕ} {at : At} {ending : Ending}
+    → Session limits log messages turns at → Stops limits turns at ending → is_by_entry ending ≡ false
+inside {messages} {at} {ending} s (Stops.over on is) =
+    let d = does_due messages at.state (Due.over ending) is (does s) in rw d.is refl
+inside s (Stops.flood many) = refl
+inside s (Stops.misframed reads front) = refl
+inside s (Stops.not_json reads front body) = refl
+inside s (Stops.not_a_message reads front body) = refl
+inside s (Stops.mispacked reads front) = refl
+inside s (Stops.bad_command reads front other) = refl
+inside s (Stops.bad_composite {body} {sizes} reads front is known) = composite_inside (composite_at sizes body) _
+inside s (Stops.unknown reads front nothing) = refl
+inside s (Stops.refused reads front asked some intolerable) = refl
+inside s (Stops.bad_answer {fault} reads front under serves answer) = body_inside fault _
+inside s (Stops.bad_sizes reads front under serves answer numbers bad) = refl
+inside s (Stops.bad_raw found {first} reads front under serves answer numbers raw) =
+    composite_inside (composite_at found first.body) first.at
+inside s (Stops.idle waits more all) = refl
+inside s (Stops.spent waits all) = refl
+
+ends_outside : {limits : Limits} {log : List Entry} {messages : List Message} {turns : ℕ} {at next : At}
+    {entry : Entry} (n : ℕ) → Session limits log messages turns at → at.ending ≡ None → Happens at entry next
+    → IsEnded limits (log ++ entry ∷ []) messages (turns + 1) (record next { quiets = n })
+ends_outside n s goes_on Happens.piece = unended_yet _ goes_on
+ends_outside n s goes_on Happens.packets = unended_yet _ goes_on
+ends_outside n s goes_on Happens.leaves =
+    ends_now Left _ 1 s goes_on refl IsLogged.shut refl (before_ending s goes_on).said refl
+ends_outside n s goes_on Happens.loses =
+    ends_now ClientLink _ 1 s goes_on refl (IsLogged.lost Client) refl (before_ending s goes_on).said refl
+ends_outside n s goes_on Happens.ends = unended_yet _ goes_on
+ends_outside n s goes_on Happens.loses_target =
+    ends_now TargetLink _ 1 s goes_on refl (IsLogged.lost Target) refl (before_ending s goes_on).said refl
+ends_outside n s goes_on Happens.passes_quiet = unended_yet _ goes_on
+
+-- one more word is said: none had failed
+word_log : (before cause words : List Entry) (entry : Entry)
+    → before ++ cause ++ words ++ [] ++ entry ∷ [] ≡ before ++ cause ++ (words ++ entry ∷ []) ++ []
+word_log before cause words entry =
+    ap (λ (log : List Entry). log ++ entry ∷ []) (append-nil (before ++ cause ++ words))
+    ∙ append_assoc (before ++ cause) words (entry ∷ [])
+    ∙ sym (append-nil (before ++ cause ++ (words ++ entry ∷ [])))
+
+one_word : {limits : Limits} {log : List Entry} {messages : List Message} {turns : ℕ} {at : At} {word : Word}
+    {left : List Word} {ending : Ending} → at.left ≡ word ∷ left → HasEnded limits log messages turns at ending
+    → HasEnded limits (log ++ Out (word_side word) (word_bytes at.place word) ∷ []) messages turns
+    (record at { place = word_said at.place word; said = at.said ++ word ∷ []; left = left }) ending
+one_word {limits} {log} {messages} {turns} {at} {word} {left} {ending} more h = by_cut h.cut h.is_cut h.log_is
+  where
+    by_cut : (cut : List Entry) → IsCutShort at cut → log ≡ h.before ++ h.cause ++ h.words ++ cut
+        → HasEnded limits (log ++ Out (word_side word) (word_bytes at.place word) ∷ []) messages turns
+        (record at { place = word_said at.place word; said = at.said ++ word ∷ []; left = left }) ending
+    by_cut [] IsCutShort.whole log_is = record {
+      before = h.before;
+      cause = h.cause;
+      words = h.words ++ Out (word_side word) (word_bytes at.place word) ∷ [];
+      cut = [];
+      earlier = h.earlier;
+      taken = h.taken;
+      last = h.last;
+      log_is = ap (λ (log : List Entry). log ++ Out (word_side word) (word_bytes at.place word) ∷ []) log_is
+          ∙ word_log h.before h.cause h.words (Out (word_side word) (word_bytes at.place word));
+      turns_are = h.turns_are;
+      session = h.session;
+      not_ended = h.not_ended;
+      is_cause = h.is_cause;
+      are_words = AreSent.one_more word h.are_words;
+      is_cut = IsCutShort.whole;
+      same_state = h.same_state;
+    }
+    by_cut cut (IsCutShort.cut_short other none proper) log_is = cc
+
+-- it can't be said
+word_fails : {limits : Limits} {log : List Entry} {messages : List Message} {turns kept : ℕ} {at : At} {word : Word}
+    {left : List Word} {ending : Ending} → at.left ≡ word ∷ left → kept < length (word_bytes at.place word)
+    → HasEnded limits log messages turns at ending
+    → HasEnded limits (log ++ broken_send (word_side word) (take kept (word_bytes at.place word))) messages turns
+    (record at { left = []; broken = at.broken + 1 }) ending
+word_fails {limits} {log} {messages} {turns} {kept} {at} {word} {left} {ending} more proper h =
+    by_cut h.cut h.is_cut h.log_is
+  where
+    by_cut : (cut : List Entry) → IsCutShort at cut → log ≡ h.before ++ h.cause ++ h.words ++ cut
+        → HasEnded limits (log ++ broken_send (word_side word) (take kept (word_bytes at.place word))) messages turns
+        (record at { left = []; broken = at.broken + 1 }) ending
+    by_cut [] IsCutShort.whole log_is = record {
+      before = h.before;
+      cause = h.cause;
+      words = h.words;
+      cut = broken_send (word_side word) (take kept (word_bytes at.place word));
+      earlier = h.earlier;
+      taken = h.taken;
+      last = h.last;
+      log_is = ap (λ (log : List Entry). log ++ broken_send (word_side word) (take kept (word_bytes at.place word)))
+          (log_is ∙ append-nil (h.before ++ h.cause ++ h.words));
+      turns_are = h.turns_are;
+      session = h.session;
+      not_ended = h.not_ended;
+      is_cause = h.is_cause;
+      are_words = h.are_words;
+      is_cut = IsCutShort.cut_short word refl proper;
+      same_state = h.same_state;
+    }
+    by_cut cut (IsCutShort.cut_short other none less) log_is = cc
+
+-- no turn is taken
+same_turns : {limits : Limits} {log : List Entry} {messages : List Message} {turns : ℕ} {at : At}
+    → IsEnded limits log messages (turns + 0) at → IsEnded limits log messages turns at
+same_turns {limits} {log} {messages} {turns} {at} h =
+    subst (λ (n : ℕ). IsEnded limits log messages n at) (omega arith) h
+
+pub has_ended : {limits : Limits} {log : List Entry} {messages : List Message} {turns : ℕ} {at : At}
+    → Session limits log messages turns at → IsEnded limits log messages turns at
+has_ended Session.begins = unended_yet _ refl
+has_ended (Session.goes s on is) = unended_yet _ on.goes_on
+has_ended (Session.speaks s on allows speaks) = unended_yet _ on.goes_on
+has_ended (Session.hears s on allows says) = unended_yet _ on.goes_on
+has_ended (Session.ignores s reads whole reading) = unended_yet _ reads.on.goes_on
+has_ended (Session.keeps s reads whole composite unknown) = unended_yet _ reads.on.goes_on
+has_ended (Session.drops s on gone) = unended_yet _ on.goes_on
+has_ended (Session.happens s waits more patient comes) = ends_outside _ s waits.on.goes_on comes
+has_ended (Session.breaks {kept} {side} {bytes} s on allows speaks proper) =
+    same_turns (ends_now (link_ending side) (broken_send side (take kept bytes)) 0 s on.goes_on refl
+    (IsLogged.broken allows speaks proper) refl (before_ending s on.goes_on).said refl)
+has_ended {limits} {messages} {turns} (Session.stops {log} {at} {ending} s goes_on stops) =
+    subst (λ (log : List Entry). IsEnded limits log messages turns (ended at ending)) (append-nil log)
+    (same_turns (ends_now ending [] 0 s goes_on refl
+    (IsLogged.nothing (inside s stops)) refl (before_ending s goes_on).said refl))
+has_ended (Session.says s more) = λ ending is. one_word more (has_ended s ending is)
+has_ended (Session.silences s more proper) = λ ending is. word_fails more proper (has_ended s ending is)

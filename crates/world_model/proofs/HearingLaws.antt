@@ -14,7 +14,7 @@ use Rattle.wire_core.specs.declared.outside.Entry.{Entry}
 use Rattle.wire_core.specs.declared.outside.Entry.TheVariants.{Out}
 use Rattle.wire_core.specs.declared.outside.Side.{Side}
 use Rattle.world_model.specs.Machine.{State, is_disconnect, Due, Message, Allows}
-use Rattle.world_model.specs.Session.{At, start, Place, Word, word_side, word_bytes, word_said, Speaks, Says, Session}
+use Rattle.world_model.specs.Session.{At, start, Place, Word, word_side, word_bytes, word_said, Speaks, Brings, Session}
 use Rattle.world_model.specs.Laws.{heard_by, heard, request_by, requests_of, AreRead, AreHeard}
 use Rattle.world_model.specs.declared.ending.Limits.{Limits}
 use Rattle.world_model.proofs.StepLaws.{flat_map_one_more, Comes, Happens-comes, keeps_due, keeps_ended, keeps_answered}
@@ -103,18 +103,18 @@ heard_speaking {log} {messages} {at} (Speaks.sends serve) (Allows.asks {question
 
 -- what comes in
 heard_saying : {log : List Entry} {messages : List Message} {at : At} {message : Message} {next : State} {place : Place}
-    → Says at.place message place → Allows at.state message next → AreHeard log messages at
+    → Brings at.place message place → Allows at.state message next → AreHeard log messages at
     → AreHeard log (messages ++ message ∷ []) (record at { state = next; place = place })
-heard_saying {messages} {at} (Says.hears {frame} whole reading) (Allows.hears {request} idle is_open) h =
+heard_saying {messages} {at} (Brings.hears {frame} whole reading) (Allows.hears {request} idle is_open) h =
     one_more_frame messages _ at _ whole refl h
     (hearing messages request (at.place.client.at, frame) at.state.closing is_open reading)
-heard_saying {messages} (Says.greeted came) (Allows.greeted idle first) h =
+heard_saying {messages} (Brings.greeted came) (Allows.greeted idle first) h =
     still_heard refl (no_request messages Message.greeted refl) refl refl h
-heard_saying {messages} {at} (Says.answers whole under serve reply sizes none)
+heard_saying {messages} {at} (Brings.answers whole under serve reply sizes none)
     (Allows.answers {asked} {replied} before after idle pending) h =
     still_heard refl (no_request messages (Message.answers asked replied) refl) refl
     (keeps_answered (record at.state { pending = before ++ after }) asked replied) h
-heard_saying {messages} {at} (Says.ends came) (Allows.ends idle) h =
+heard_saying {messages} {at} (Brings.ends came) (Allows.ends idle) h =
     still_heard refl (no_request messages Message.ends refl) refl (keeps_ended at.state) h
 
 -- something comes from the outside

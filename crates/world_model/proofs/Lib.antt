@@ -12,6 +12,7 @@ pub mod GoneLaws
 pub mod GreetingLaws
 pub mod HearingLaws
 pub mod IdLaws
+pub mod LastAnswerLaws
 pub mod NumberLaws
 pub mod OutcomeLaws
 pub mod PartLaws

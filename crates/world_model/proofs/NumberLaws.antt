@@ -5,7 +5,7 @@ use Rattle.std.proofs.Common.{length-append, arith}
 use Rattle.std.proofs.lemmas.Bool.{eqb-true}
 use Rattle.jdwp_values.specs.declared.id.ThreadId.{ThreadId}
 use Rattle.world_model.specs.Machine.{Named, is_among, with_thread, with_threads, number_among, thread_told}
-use Rattle.world_model.specs.Shown.{HasNumber, AreNumberedOnce, AreInOrder, number_of}
+use Rattle.world_model.specs.Shown.{HasNumber, AreNumberedOnce, AreInOrder, thread_number}
 use Rattle.world_model.proofs.IdLaws.{last_or_not}
 
 -- Places ------------------------------------------------------------------------------------------------------------
@@ -256,7 +256,7 @@ in_order_one {numbers} threads thread h = by_among (is_among threads thread) ref
 
 in_order_from : (numbers : List ℕ) (threads : List ThreadId) (named : List Named) (all : List ThreadId)
     → with_threads threads named ≡ all → AreInOrder numbers (length threads)
-    → AreInOrder (numbers ++ map number_of (map (thread_told all) named)) (length all)
+    → AreInOrder (numbers ++ map thread_number (map (thread_told all) named)) (length all)
 in_order_from numbers threads [] all is h = rw (sym is, append-nil numbers) h
 in_order_from numbers threads (first ∷ named) all is h =
     let one : List ThreadId = with_thread threads first.thread in
@@ -267,12 +267,12 @@ in_order_from numbers threads (first ∷ named) all is h =
     let now : AreInOrder (numbers ++ number_among all first.thread ∷ []) (length one) =
     rw stays (in_order_one threads first.thread h) in
     subst (λ (told : List ℕ). AreInOrder told (length all))
-    (append_assoc numbers (number_among all first.thread ∷ []) (map number_of (map (thread_told all) named)))
+    (append_assoc numbers (number_among all first.thread ∷ []) (map thread_number (map (thread_told all) named)))
     (in_order_from (numbers ++ number_among all first.thread ∷ []) one named all is now)
 
 -- new threads have the next numbers
 pub in_order_with : (numbers : List ℕ) (threads : List ThreadId) (named : List Named)
     → AreInOrder numbers (length threads)
-    → AreInOrder (numbers ++ map number_of (map (thread_told (with_threads threads named)) named))
+    → AreInOrder (numbers ++ map thread_number (map (thread_told (with_threads threads named)) named))
     (length (with_threads threads named))
 in_order_with numbers threads named h = in_order_from numbers threads named (with_threads threads named) refl h

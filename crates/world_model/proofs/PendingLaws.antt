@@ -18,7 +18,7 @@ use Rattle.world_model.specs.Machine.{due_for, beside, without_target, asks_some
 use Rattle.world_model.specs.Machine.{measured_by, changed_by, shown_by, responded, after_event, reply_among}
 use Rattle.world_model.specs.Machine.{sizes_reply, next_wish, threads_need, attached_from, ended_from, target_ended}
 use Rattle.world_model.specs.Machine.{is_end, wish_of, wish_settled, noted, answered}
-use Rattle.world_model.specs.Session.{At, Place, Word, word_said, Speaks, Says, Happens, Session}
+use Rattle.world_model.specs.Session.{At, Place, Word, word_said, Speaks, Brings, Happens, Session}
 use Rattle.world_model.specs.declared.ending.Limits.{Limits}
 use Rattle.world_model.specs.declared.machine.Item.{Item}
 use Rattle.world_model.specs.declared.machine.Item.TheVariants as items
@@ -275,11 +275,11 @@ pending_speaking {at} (Speaks.sends serve) (Allows.asks {question} before after 
     one_sent_more (id_of at.place.commands.next, a_question question) (a_question question) at.state.pending refl
     (alone_due at.state (Due.asks (before ++ question ∷ after)) is) refl refl h
 
-pending_saying : {at : At} {message : Message} {next : State} {place : Place} → Says at.place message place
+pending_saying : {at : At} {message : Message} {next : State} {place : Place} → Brings at.place message place
     → Allows at.state message next → ArePending at → ArePending (record at { state = next; place = place })
-pending_saying (Says.hears whole reading) (Allows.hears idle is_open) h = stays_pending refl refl h
-pending_saying (Says.greeted came) (Allows.greeted idle first) h = stays_pending refl refl h
-pending_saying {at} (Says.answers {id} whole under serve reply sizes none)
+pending_saying (Brings.hears whole reading) (Allows.hears idle is_open) h = stays_pending refl refl h
+pending_saying (Brings.greeted came) (Allows.greeted idle first) h = stays_pending refl refl h
+pending_saying {at} (Brings.answers {id} whole under serve reply sizes none)
     (Allows.answers {asked} {replied} before after idle among) h =
     let now : State = record at.state { pending = before ++ after } in
     let rest = (stays_answered now asked replied).pending in
@@ -288,7 +288,7 @@ pending_saying {at} (Says.answers {id} whole under serve reply sizes none)
       known = rw rest (omega (arith, h.known, fewer, one_left_out id at.place.commands.sent asked under));
       few = rw rest (omega (arith, h.few, fewer));
     }
-pending_saying {at} (Says.ends came) (Allows.ends idle) h = stays_pending refl (stays_ended at.state).pending h
+pending_saying {at} (Brings.ends came) (Allows.ends idle) h = stays_pending refl (stays_ended at.state).pending h
 
 pending_happening : {at next : At} {entry : Entry} (n : ℕ) → Happens at entry next → ArePending at
     → ArePending (record next { quiets = n })

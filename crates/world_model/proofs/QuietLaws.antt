@@ -9,7 +9,7 @@ use Rattle.wire_core.specs.declared.outside.Entry.{Entry}
 use Rattle.wire_core.specs.declared.outside.Entry.TheVariants.{Quiet}
 use Rattle.wire_core.specs.declared.outside.Side.{Side}
 use Rattle.world_model.specs.Machine.{State, due, Due, Message, Allows}
-use Rattle.world_model.specs.Session.{At, Place, Raw, quiets_after, Happens, Speaks, Says, Waits, Session}
+use Rattle.world_model.specs.Session.{At, Place, Raw, quiets_after, Happens, Speaks, Brings, Waits, Session}
 use Rattle.world_model.specs.declared.ending.Limits.{Limits}
 use Rattle.world_model.proofs.StepLaws.{before_ending}
 
@@ -46,13 +46,13 @@ not_speaking (Allows.answers before after idle pending) speaks w = elim speaks [
 not_speaking (Allows.ends idle) speaks w = elim speaks [ ]
 
 not_hearing : {limits : Limits} {at : At} {message : Message} {next : State} {place : Place}
-    → Allows at.state message next → Says at.place message place → Waits limits at → ⊥
-not_hearing {at} (Allows.hears idle is_open) (Says.hears whole reading) w =
+    → Allows at.state message next → Brings at.place message place → Waits limits at → ⊥
+not_hearing {at} (Allows.hears idle is_open) (Brings.hears whole reading) w =
     not_framed at is_open whole w.nothing_whole
-not_hearing (Allows.greeted idle first) (Says.greeted came) w = let taken = w.greeted in cc
-not_hearing (Allows.answers before after idle pending) (Says.answers whole under serve reply sizes none) w =
+not_hearing (Allows.greeted idle first) (Brings.greeted came) w = let taken = w.greeted in cc
+not_hearing (Allows.answers before after idle pending) (Brings.answers whole under serve reply sizes none) w =
     let waits = w.no_packet in cc
-not_hearing (Allows.ends idle) (Says.ends came) w = let none = w.not_ended in cc
+not_hearing (Allows.ends idle) (Brings.ends came) w = let none = w.not_ended in cc
 not_hearing (Allows.tells is) says w = elim says [ ]
 not_hearing (Allows.greets is) says w = elim says [ ]
 not_hearing (Allows.sends is) says w = elim says [ ]

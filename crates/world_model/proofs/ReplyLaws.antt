@@ -28,7 +28,7 @@ use Rattle.world_model.specs.Machine.{State, Due, Message, Allows}
 use Rattle.world_model.specs.Replies.{came_by, came, is_beside, AreSaid, kept_by, kept_of, AreKept}
 use Rattle.world_model.specs.Replies.{is_end_taken, is_end_come, one_if, under_id, AreReplied}
 use Rattle.world_model.specs.Session.{At, Raw, Place, Word, word_side, word_bytes, word_said, past_packet}
-use Rattle.world_model.specs.Session.{is_composite, Serve, IsReply, Measures, Speaks, Says, Happens, Session}
+use Rattle.world_model.specs.Session.{is_composite, Serve, IsReply, Measures, Speaks, Brings, Happens, Session}
 use Rattle.world_model.specs.declared.ending.Limits.{Limits}
 use Rattle.world_model.specs.declared.machine.Phase.{Phase}
 use Rattle.world_model.specs.declared.machine.Phase.TheVariants.{Gone}
@@ -268,22 +268,22 @@ answering {log} {messages} {at} {id} {error} {body} {asked} {replied} {later} ne
 
 -- what comes in
 saying : {log : List Entry} {messages : List Message} {at : At} {message : Message} {next : State} {place : Place}
-    → Says at.place message place → ((id error : ℕ) (body : List ℕ) (asked : Asked) (replied : Replied)
+    → Brings at.place message place → ((id error : ℕ) (body : List ℕ) (asked : Asked) (replied : Replied)
     (used other : IdSizes) → pending_under id at.place.commands.sent ≡ Some asked → Serve at.place.sizes used
     → IsReply used asked error body replied → Serve at.place.sizes other → IsReply other asked error body replied)
     → Allows at.state message next → IsSaid log messages at
     → IsSaid log (messages ++ message ∷ []) (record at { state = next; place = place })
-saying {message} (Says.hears whole reading) same allows h =
+saying {message} (Brings.hears whole reading) same allows h =
     beside_said message refl refl (alike refl refl refl refl) (stands_allowed allows (λ is. cc)) h
-saying (Says.greeted it_came) same (Allows.greeted idle first) h = greeted_said first h
-saying {next} (Says.answers {id} {error} {body} {asked} {replied} {sizes} whole under serve reply sized none) same
+saying (Brings.greeted it_came) same (Allows.greeted idle first) h = greeted_said first h
+saying {next} (Brings.answers {id} {error} {body} {asked} {replied} {sizes} whole under serve reply sized none) same
     allows h =
     let one = just_one_left_out id asked _ under in
     answering next whole
     (λ other served. same id error body asked replied sizes other under serve reply served) sized one.others_are
     (stands_allowed allows (λ is. cc)) h
     (are_among h.unreplied one.front one.back id asked (sym h.pending ∙ one.sent_are))
-saying {message} (Says.ends it_came) same allows h =
+saying {message} (Brings.ends it_came) same allows h =
     beside_said message refl refl (alike refl refl refl refl) (stands_allowed allows (λ is. cc)) h
 
 -- what goes out
@@ -492,19 +492,19 @@ taken_speaking {log} {messages} {message} (Speaks.sends serve) allows h =
     (stands_allowed allows (λ is. cc)).greeted refl refl h
 
 taken_saying : {log : List Entry} {messages : List Message} {at : At} {message : Message} {next : State} {place : Place}
-    → Says at.place message place → Allows at.state message next → AreTaken log messages at
+    → Brings at.place message place → Allows at.state message next → AreTaken log messages at
     → AreTaken log (messages ++ message ∷ []) (record at { state = next; place = place })
-taken_saying {messages} {message} (Says.hears whole reading) allows h =
+taken_saying {messages} {message} (Brings.hears whole reading) allows h =
     keeps_taken (count_none is_end_taken messages message refl) refl (stands_allowed allows (λ is. cc)).greeted
     refl refl h
-taken_saying {messages} {message} (Says.greeted it_came) allows h = record {
+taken_saying {messages} {message} (Brings.greeted it_came) allows h = record {
   came_first = λ _. it_came;
   ends = omega (arith, h.ends, count_none is_end_taken messages message refl);
 }
-taken_saying {messages} {message} (Says.answers whole under serve reply sizes none) allows h =
+taken_saying {messages} {message} (Brings.answers whole under serve reply sizes none) allows h =
     keeps_taken (count_none is_end_taken messages message refl) refl (stands_allowed allows (λ is. cc)).greeted
     refl refl h
-taken_saying {messages} {message} (Says.ends it_came) allows h =
+taken_saying {messages} {message} (Brings.ends it_came) allows h =
     let one = ap one_if it_came in
     record {
       came_first = rw (stands_allowed allows (λ is. cc)).greeted h.came_first;
@@ -600,12 +600,12 @@ cut_speaking Speaks.tells = refl
 cut_speaking Speaks.greets = refl
 cut_speaking (Speaks.sends serve) = refl
 
-cut_saying : {old place : Place} {message : Message} → Says old message place
+cut_saying : {old place : Place} {message : Message} → Brings old message place
     → place.target.greeted ≡ old.target.greeted
-cut_saying (Says.hears whole reading) = refl
-cut_saying (Says.greeted it_came) = refl
-cut_saying (Says.answers whole under serve reply sized none) = refl
-cut_saying (Says.ends it_came) = refl
+cut_saying (Brings.hears whole reading) = refl
+cut_saying (Brings.greeted it_came) = refl
+cut_saying (Brings.answers whole under serve reply sized none) = refl
+cut_saying (Brings.ends it_came) = refl
 
 is_cut_off : {limits : Limits} {log : List Entry} {messages : List Message} {turns : ℕ} {at : At}
     → Session limits log messages turns at → IsGreeted (came log) → at.place.target.greeted ≡ true

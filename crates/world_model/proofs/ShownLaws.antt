@@ -30,7 +30,8 @@ use Rattle.world_model.specs.Machine.{refusal}
 use Rattle.world_model.specs.Machine.{target_ended, is_end, wish_of, wish_settled, noted, answered}
 use Rattle.world_model.specs.Machine.{fresh, queued, sent}
 use Rattle.world_model.specs.Session.{At, Session}
-use Rattle.world_model.specs.Shown.{numbers_in_outcome, numbers_told, numbers_of, number_of, AreInOrder, AreListed}
+use Rattle.world_model.specs.Shown.{numbers_in_outcome, numbers_told, thread_numbers, thread_number, AreInOrder}
+use Rattle.world_model.specs.Shown.{AreListed}
 use Rattle.world_model.specs.Shown.{AnswersThreads, IsShown, IsRefused, AreShown}
 use Rattle.world_model.specs.Standings.{IsReplied}
 use Rattle.world_model.specs.declared.ending.Limits.{Limits}
@@ -127,17 +128,17 @@ answers_threads {request} outcome d = record {
 -- Numbers that were told --------------------------------------------------------------------------------------------
 
 numbers_more : (messages : List Message) (last : Message)
-    → numbers_of (messages ++ last ∷ []) ≡ numbers_of messages ++ flat_map numbers_told (told_by last)
+    → thread_numbers (messages ++ last ∷ []) ≡ thread_numbers messages ++ flat_map numbers_told (told_by last)
 numbers_more messages last =
     ap (λ (told : List Told). flat_map numbers_told told) (flat_map_one_more told_by messages last)
     ∙ flat_map-append numbers_told (told_of messages) (told_by last)
 
 -- nothing of threads was told with it
 numbers_same : (messages : List Message) (last : Message) → flat_map numbers_told (told_by last) ≡ []
-    → numbers_of (messages ++ last ∷ []) ≡ numbers_of messages
+    → thread_numbers (messages ++ last ∷ []) ≡ thread_numbers messages
 numbers_same messages last none =
-    numbers_more messages last ∙ ap (λ (more : List ℕ). numbers_of messages ++ more) none
-    ∙ append-nil (numbers_of messages)
+    numbers_more messages last ∙ ap (λ (more : List ℕ). thread_numbers messages ++ more) none
+    ∙ append-nil (thread_numbers messages)
 
 no_numbers : (told : Told) → TellsNone told → numbers_told told ≡ []
 no_numbers (a_response response) none = by_outcome response.outcome none
@@ -152,7 +153,7 @@ no_numbers (an_event event) none = refl
 -- what was told of threads so far
 pub record WasTold (messages : List Message) (numbered : List ThreadId) : Type 0 where
   pub distinct : AreDistinct numbered
-  pub in_order : AreInOrder (numbers_of messages) (length numbered)
+  pub in_order : AreInOrder (thread_numbers messages) (length numbered)
   pub lists : Each messages (Lists numbered)
   pub refusals : Each messages Refuses
 
@@ -214,9 +215,9 @@ told_list {messages} {since} {request} {names} old d found h =
     record {
       distinct = distinct_with old names h.distinct;
       in_order = subst (λ (told : List ℕ). AreInOrder told (length new))
-          (ap (λ (told : List ℕ). numbers_of messages ++ told)
-          (sym (append-nil (map number_of (map (thread_told new) names)))) ∙ sym (numbers_more messages last))
-          (in_order_with (numbers_of messages) old names h.in_order);
+          (ap (λ (told : List ℕ). thread_numbers messages ++ told)
+          (sym (append-nil (map thread_number (map (thread_told new) names)))) ∙ sym (numbers_more messages last))
+          (in_order_with (thread_numbers messages) old names h.in_order);
       lists = each_more (Lists new) last
           (λ response it. subst (λ (r : Response). Lists new messages r) (same_response it) shown)
           (subst (λ (numbered : List ThreadId). Each messages (Lists numbered)) (sym more.1) (shown_on more.0 h.lists));

@@ -35,7 +35,7 @@ use Rattle.world_model.specs.Machine.{threads_need}
 use Rattle.world_model.specs.Machine.{request_parts, end_parts, parts_of, in_hand, attached_from, ended_from}
 use Rattle.world_model.specs.Machine.{target_ended, is_end, is_dead, with_answer, wish_of, wish_settled, noted}
 use Rattle.world_model.specs.Session.{At, Place, Word, Serve, IsReply, Measures, numbers_in, word_said, Happens, Speaks}
-use Rattle.world_model.specs.Session.{Says}
+use Rattle.world_model.specs.Session.{Brings}
 use Rattle.world_model.specs.Session.{Session}
 use Rattle.world_model.specs.declared.ending.Limits.{Limits}
 use Rattle.world_model.specs.declared.machine.Answered.{Answered}
@@ -422,15 +422,15 @@ sized_allowed (Allows.answers {asked} {replied} first others idle among) other h
 sized_allowed {s} (Allows.ends idle) other h = sized_ended s
 
 sized_saying : (at : At) {message : Message} {next : State} {place : Place} → Allows at.state message next
-    → Says at.place message place → Sized at.place.sizes at.state → Sized place.sizes next
-sized_saying at allows (Says.hears whole reading) h = sized_allowed allows (λ asked replied is. cc) h
-sized_saying at allows (Says.greeted came) h = sized_allowed allows (λ asked replied is. cc) h
+    → Brings at.place message place → Sized at.place.sizes at.state → Sized place.sizes next
+sized_saying at allows (Brings.hears whole reading) h = sized_allowed allows (λ asked replied is. cc) h
+sized_saying at allows (Brings.greeted came) h = sized_allowed allows (λ asked replied is. cc) h
 sized_saying at (Allows.answers {asked} {replied} first others idle among)
-    (Says.answers whole under serve reply sizes_now none) h =
+    (Brings.answers whole under serve reply sizes_now none) h =
     let now : State = record at.state { pending = first ++ others } in
     sized_if_end (is_end asked replied) (noted now asked replied) (λ alive.
     sized_noted now asked replied reply sizes_now alive (record { attached = h.attached; fresh = h.fresh }))
-sized_saying at allows (Says.ends came) h = sized_allowed allows (λ asked replied is. cc) h
+sized_saying at allows (Brings.ends came) h = sized_allowed allows (λ asked replied is. cc) h
 
 sized_speaking : (at : At) {message : Message} {next : State} {side : Side} {bytes : List ℕ} {place : Place}
     → Allows at.state message next → Speaks at.place message side bytes place → Sized at.place.sizes at.state

@@ -13,7 +13,7 @@ use Rattle.wire_core.specs.declared.outside.Side.{Side}
 use Rattle.wire_core.specs.declared.outside.Side.TheVariants.{Client, Target}
 use Rattle.world_model.specs.Machine.{State, due, Due, Message, Allows}
 use Rattle.world_model.specs.Session.{At, Place, Word, told_bytes, last_words, target_words, link_ending, ended}
-use Rattle.world_model.specs.Session.{word_side, word_bytes, word_said, Speaks, Says, Session}
+use Rattle.world_model.specs.Session.{word_side, word_bytes, word_said, Speaks, Brings, Session}
 use Rattle.world_model.specs.Laws.{sent_by, sent, told_by, told_by_word, told_of, told_last, frames_after}
 use Rattle.world_model.specs.Laws.{HasLost, of_machine, of_words, Behind, IsNumbered}
 use Rattle.world_model.specs.Laws.{SaysLast, none_yet, all_said, cut_short}
@@ -189,14 +189,14 @@ told_word messages said word =
 
 -- what comes in tells the client nothing
 saying : {log : List Entry} {at : At} {message : Message} {place : Place} (messages : List Message) (next : State)
-    → Says at.place message place → IsWhole log (told_so messages at) at
+    → Brings at.place message place → IsWhole log (told_so messages at) at
     → IsSent log (told_so (messages ++ message ∷ []) at) (record at { state = next; place = place })
-saying {at} {message} messages next (Says.hears whole reading) h =
+saying {at} {message} messages next (Brings.hears whole reading) h =
     stays refl (told_none messages message at refl) refl h
-saying {at} {message} messages next (Says.greeted came) h = stays refl (told_none messages message at refl) refl h
-saying {at} {message} messages next (Says.answers whole under serve reply sizes none) h =
+saying {at} {message} messages next (Brings.greeted came) h = stays refl (told_none messages message at refl) refl h
+saying {at} {message} messages next (Brings.answers whole under serve reply sizes none) h =
     stays refl (told_none messages message at refl) refl h
-saying {at} {message} messages next (Says.ends came) h = stays refl (told_none messages message at refl) refl h
+saying {at} {message} messages next (Brings.ends came) h = stays refl (told_none messages message at refl) refl h
 
 -- what goes out
 speaking : {log : List Entry} {at : At} {message : Message} {side : Side} {bytes : List ℕ} {place : Place}

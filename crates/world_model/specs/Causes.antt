@@ -1,6 +1,6 @@
 -- Why a session has ended: the cause of each ending, said of where the session stands, its messages and its log.
 use Rattle.std.specs.Prelude.{ℕ, ◌≡◌, ◌<◌, ◌+◌, ◌*◌, ◌∷◌, ◌++◌, Bool, true, false, List, [], replicate, position}
-use Rattle.std.specs.Prelude.{Some, None, Result, Ok, Err}
+use Rattle.std.specs.Prelude.{length, take, Some, None, Result, Ok, Err}
 use Rattle.std.specs.List.{flat_map, AllByRecursion}
 use Rattle.dap_frames.specs.Frames.{Frame, frame_front}
 use Rattle.dap_frames.specs.declared.fault.FrameFault.{FrameFault}
@@ -24,13 +24,16 @@ use Rattle.jdwp_packets.specs.declared.fault.PacketFault.{PacketFault}
 use Rattle.jdwp_values.specs.Sizes.{is_no_size}
 use Rattle.jdwp_values.specs.declared.sizes.IdSizes.{IdSizes}
 use Rattle.pending_table.specs.Windows.{pending_under}
+use Rattle.wire_core.specs.Outside.{broken_send}
 use Rattle.wire_core.specs.Streams.{Front, Uncut}
 use Rattle.wire_core.specs.declared.outside.Entry.{Entry}
 use Rattle.wire_core.specs.declared.outside.Entry.TheVariants.{In, Out, Shut, Failed, Quiet}
+use Rattle.wire_core.specs.declared.outside.Side.{Side}
 use Rattle.wire_core.specs.declared.outside.Side.TheVariants.{Client, Target}
-use Rattle.world_model.specs.Machine.{is_disconnect, response_to, Message}
+use Rattle.world_model.specs.Machine.{State, is_disconnect, response_to, Message, Allows}
 use Rattle.world_model.specs.Session.{At, Place, Raw, target_front, Serve, is_tolerated, numbers_in, numbers_of, header}
-use Rattle.world_model.specs.Session.{is_composite, waiting_count, Reads, ReadsTarget, Waits}
+use Rattle.world_model.specs.Session.{is_composite, waiting_count, Reads, ReadsTarget, Waits, Word, word_side}
+use Rattle.world_model.specs.Session.{word_bytes, word_said, link_ending, Speaks, Session}
 use Rattle.world_model.specs.declared.ending.ClientFault.{ClientFault}
 use Rattle.world_model.specs.declared.ending.ClientFault.TheVariants.{Frame as misframed, NotJson, NotAMessage}
 use Rattle.world_model.specs.declared.ending.Ending.{Ending}
@@ -44,6 +47,7 @@ use Rattle.world_model.specs.declared.ending.TargetFault.TheVariants.{BadCommand
 
 -- What came last --------------------------------------------------------------------------------------------------
 
+-- the request, where it is one that was heard
 abbrev pub request_by : Message → List Request
 request_by (Message.hears request) = request ∷ []
 request_by _ = []
@@ -113,7 +117,7 @@ pub data RefusesComposite (sizes : IdSizes) (body : List ℕ) (at : ℕ) : Targe
   not_served : {composite : Composite} → composite_at sizes body ≡ Ok composite
       → RefusesComposite sizes body at BadCommand at
 
--- a reply to a pending command stands at the front of the target's uncut bytes (JDWP, Reply packets)
+-- a reply to a pending command stands at the front of the target's uncut bytes (JDWP, JDWP Packets, reply packet)
 pub record HasReply (place : Place) (asked : Asked) (error : ℕ) (body : List ℕ) : Type 0 where
   pub id : ℕ
   pub taken : ℕ
@@ -130,8 +134,8 @@ pub record HasAnswer (place : Place) (asked : Asked) (read : Result Answer BodyF
 -- handshake or no packet; a command that is no composite, or a composite that is refused; a reply with an id under
 -- which no command is pending, and this id; an answer whose body has a fault, or whose sizes of ids are none; or an
 -- answer with the sizes of ids, where the first of the composites that were kept is refused. A body begins 11 bytes
--- behind its packet's first, and a size of ids has 4 (JDWP, JDWP Handshake, JDWP Packets, and VirtualMachine command
--- set, IDSizes).
+-- behind its packet's first, and a size of ids has 4 (JDWP, JDWP Start Up; JDWP, JDWP Packets; JDWP, VirtualMachine
+-- command set, IDSizes).
 pub data IsTargetFault (place : Place) : TargetFault → ℕ → ℕ → Type 0 where
   bad_packet : {fault : PacketFault} {distance : ℕ} → target_front place ≡ Front.faulty fault distance
       → IsTargetFault place (mispacked fault) (place.target.stream.at + distance) 0
@@ -187,3 +191,57 @@ pub data Cause (limits : Limits) (log : List Entry) (messages : List Message) (t
   idle : Waits limits (unended at) → turns < limits.turns → AreLast log (replicate limits.quiet Quiet)
       → Cause limits log messages turns at Idle
   spent : Waits limits (unended at) → turns ≡ limits.turns → Cause limits log messages turns at Spent
+
+-- Since then --------------------------------------------------------------------------------------------------------
+
+-- the endings whose cause is an entry of the log: the client has left, or a link has failed
+abbrev pub is_by_entry : Ending → Bool
+is_by_entry Left = true
+is_by_entry ClientLink = true
+is_by_entry TargetLink = true
+is_by_entry _ = false
+
+-- What a cause leaves in the log of a session that stands here, and in how many turns: nothing, where it stands in the
+-- bytes, in the machine or in a limit; the end of the client's stream or the failure of a link, for which the session
+-- waited; or what a send that failed leaves of a message that was due, and the failure.
+pub data IsLogged (at : At) : Ending → List Entry → ℕ → Type 0 where
+  nothing : {ending : Ending} → is_by_entry ending ≡ false → IsLogged at ending [] 0
+  shut : IsLogged at Left (Shut Client ∷ []) 1
+  lost : (side : Side) → IsLogged at (link_ending side) (Failed side ∷ []) 1
+  broken : {message : Message} {next : State} {side : Side} {bytes : List ℕ} {place : Place} {kept : ℕ}
+      → Allows at.state message next → Speaks at.place message side bytes place → kept < length bytes
+      → IsLogged at (link_ending side) (broken_send side (take kept bytes)) 0
+
+-- From this place on these last words were sent, whole, as these entries, up to that place.
+pub data AreSent : Place → List Word → List Entry → Place → Type 0 where
+  none : {place : Place} → AreSent place [] [] place
+  one_more : {place now : Place} {words : List Word} {entries : List Entry} (word : Word)
+      → AreSent place words entries now
+      → AreSent place (words ++ word ∷ []) (entries ++ Out (word_side word) (word_bytes now word) ∷ [])
+      (word_said now word)
+
+-- Behind them stands nothing, or what the send that failed leaves of one word more; then none is left.
+pub data IsCutShort (at : At) : List Entry → Type 0 where
+  whole : IsCutShort at []
+  cut_short : {kept : ℕ} (word : Word) → at.left ≡ [] → kept < length (word_bytes at.place word)
+      → IsCutShort at (broken_send (word_side word) (take kept (word_bytes at.place word)))
+
+-- A session that has ended is one that hadn't, what its cause left in the log, and then last words alone. Since then
+-- the machine took no step, and of the place in the bytes only the count of what was told has changed.
+pub record HasEnded (limits : Limits) (log : List Entry) (messages : List Message) (turns : ℕ) (at : At)
+    (ending : Ending) : Type 0 where
+  pub before : List Entry
+  pub cause : List Entry
+  pub words : List Entry
+  pub cut : List Entry
+  pub earlier : ℕ
+  pub taken : ℕ
+  pub last : At
+  pub log_is : log ≡ before ++ cause ++ words ++ cut
+  pub turns_are : turns ≡ earlier + taken
+  pub session : Session limits before messages earlier last
+  pub not_ended : last.ending ≡ None
+  pub is_cause : IsLogged last ending cause taken
+  pub are_words : AreSent last.place at.said words at.place
+  pub is_cut : IsCutShort at cut
+  pub same_state : at.state ≡ last.state

@@ -1,5 +1,5 @@
 -- What holds of every session, in the words of its two sides. The laws stand at the end, behind what they speak of.
-use Rattle.std.specs.Prelude.{ℕ, ℤ, ◌≡◌, ◌<◌, ◌+◌, ◌∷◌, ◌++◌, Bool, true, false, List, [], length}
+use Rattle.std.specs.Prelude.{ℕ, ℤ, ◌≡◌, ◌<◌, ◌≤◌, ◌+◌, ◌∷◌, ◌++◌, Bool, true, false, List, [], length}
 use Rattle.std.specs.Prelude.{take, drop, count_by, Option, Some, None, Ok}
 use Rattle.std.specs.List.{flat_map}
 use Rattle.dap_frames.specs.Frames.{Frame, frame_front, frame_bytes}
@@ -10,7 +10,6 @@ use Rattle.dap_messages.specs.declared.requests.Request.{Request}
 use Rattle.dap_messages.specs.declared.told.Response.{Response}
 use Rattle.dap_messages.specs.declared.told.Told.{Told}
 use Rattle.dap_messages.specs.declared.told.Told.TheVariants.{Response as a_response, Event as an_event}
-use Rattle.jdwp_commands.specs.Commands.{number_of, spell_command}
 use Rattle.jdwp_commands.specs.declared.answer.Answer.TheVariants as variants
 use Rattle.jdwp_commands.specs.declared.asked.Asked.{Asked}
 use Rattle.jdwp_commands.specs.declared.asked.Asked.TheVariants.{Question as a_question, Effect as an_effect}
@@ -20,25 +19,25 @@ use Rattle.jdwp_commands.specs.declared.effect.Effect.TheVariants as effects
 use Rattle.jdwp_commands.specs.declared.question.Question.TheVariants as questions
 use Rattle.jdwp_events.specs.declared.kind.EventKind.{EventKind}
 use Rattle.jdwp_events.specs.declared.kind.Policy.TheVariants.{NoThread}
-use Rattle.jdwp_packets.specs.Packets.{packet_bytes, command_packet, handshake}
+use Rattle.jdwp_packets.specs.Packets.{handshake}
 use Rattle.jdwp_values.specs.declared.id.ThreadId.{ThreadId}
 use Rattle.jdwp_values.specs.declared.sizes.IdSizes.{IdSizes}
-use Rattle.pending_table.specs.Windows.{id_of}
 use Rattle.wire_core.specs.Outside.{broken_send}
 use Rattle.wire_core.specs.Streams.{uncut, fed, Hands}
 use Rattle.wire_core.specs.declared.outside.Entry.{Entry}
 use Rattle.wire_core.specs.declared.outside.Entry.TheVariants.{In, Out, Shut, Failed, Quiet}
 use Rattle.wire_core.specs.declared.outside.Side.{Side}
 use Rattle.wire_core.specs.declared.outside.Side.TheVariants.{Client, Target}
-use Rattle.world_model.specs.Causes.{Cause}
+use Rattle.world_model.specs.Causes.{Cause, HasEnded}
 pub use Rattle.world_model.specs.Causes.{request_by, requests_of}
 use Rattle.world_model.specs.Machine.{State, fresh, is_disconnect, is_at_rest, due, Due, next_wish, Message}
 use Rattle.world_model.specs.Machine.{Allows, Run}
-use Rattle.world_model.specs.Replies.{AreReplied}
+use Rattle.world_model.specs.Replies.{target_bytes, AreReplied}
 use Rattle.world_model.specs.Standings.{StandsAsReplied}
 use Rattle.world_model.specs.Session.{At, Place, Word, without_response, last_words, told_bytes, word_side, word_bytes}
-use Rattle.world_model.specs.Session.{Serve, Speaks, Measures, Session}
+use Rattle.world_model.specs.Session.{nth_command, dispose_packet, Serve, Speaks, Measures, Session}
 use Rattle.world_model.specs.declared.ending.Ending.{Ending}
+use Rattle.world_model.specs.declared.ending.Ending.TheVariants.{BadTarget, TargetLink, TargetRefused, Idle}
 use Rattle.world_model.specs.declared.ending.Limits.{Limits}
 use Rattle.world_model.specs.declared.machine.Phase.TheVariants.{Attached}
 use Rattle.world_model.specs.declared.machine.Wish.TheVariants.{ThreadStart, ThreadDeath}
@@ -48,6 +47,7 @@ abbrev pub client_bytes : Side → List ℕ → List ℕ
 client_bytes Client bytes = bytes
 client_bytes Target bytes = []
 
+-- the bytes from the client that an entry brings
 abbrev pub heard_by : Entry → List ℕ
 heard_by (In side bytes) = client_bytes side bytes
 heard_by (Out side bytes) = []
@@ -55,6 +55,11 @@ heard_by (Shut side) = []
 heard_by (Failed side) = []
 heard_by Quiet = []
 
+-- all bytes that a log heard from the client, joined
+abbrev pub heard : List Entry → List ℕ
+heard log = flat_map heard_by log
+
+-- the bytes to the client that an entry brings
 abbrev pub sent_by : Entry → List ℕ
 sent_by (In side bytes) = []
 sent_by (Out side bytes) = client_bytes side bytes
@@ -62,33 +67,32 @@ sent_by (Shut side) = []
 sent_by (Failed side) = []
 sent_by Quiet = []
 
--- all bytes that a log heard from the client, joined
-abbrev pub heard : List Entry → List ℕ
-heard log = flat_map heard_by log
-
 -- all bytes that a log sent to the client, joined
 abbrev pub sent : List Entry → List ℕ
 sent log = flat_map sent_by log
 
+-- what the client is told, where the message is that
 abbrev pub told_by : Message → List Told
 told_by (Message.tells told) = told ∷ []
 told_by _ = []
-
-abbrev pub told_by_word : Word → List Told
-told_by_word (Word.tells told) = told ∷ []
-told_by_word Word.disposes = []
-
-abbrev pub response_told : Told → List Response
-response_told (a_response response) = response ∷ []
-response_told (an_event event) = []
 
 -- what the client was told by the machine, in order
 abbrev pub told_of : List Message → List Told
 told_of messages = flat_map told_by messages
 
--- and by the last words
+-- what the client is told, where the last word is that
+abbrev pub told_by_word : Word → List Told
+told_by_word (Word.tells told) = told ∷ []
+told_by_word Word.disposes = []
+
+-- what the client was told by last words, in order
 abbrev pub told_last : List Word → List Told
 told_last said = flat_map told_by_word said
+
+-- the response, where what is told is one
+abbrev pub response_told : Told → List Response
+response_told (a_response response) = response ∷ []
+response_told (an_event event) = []
 
 -- the responses among what was told
 abbrev pub responses_of : List Told → List Response
@@ -96,8 +100,8 @@ responses_of told = flat_map response_told told
 
 -- Numbers ----------------------------------------------------------------------------------------------------------
 
--- What was told as frames, one after the other, with the numbers that follow `before`
--- (DAP overview, Base protocol: `seq` is 1 for the first message and goes up by 1).
+-- What was told as frames, one after the other, with the numbers that follow `before` (DAP overview, Base protocol; DAP
+-- specification, Base Protocol, ProtocolMessage, `seq`: 1 for the first message, and one more for each).
 abbrev pub frames_after : ℕ → List Told → List ℕ
 frames_after before [] = []
 frames_after before (told ∷ rest) = frame_bytes (told_text (before + 1) told) ++ frames_after (before + 1) rest
@@ -128,7 +132,7 @@ pub record IsNumbered (log : List Entry) (messages : List Message) (at : At) : T
 
 -- Responses --------------------------------------------------------------------------------------------------------
 
--- the response is to the request (DAP overview, Base protocol, Response: `request_seq` and `command`)
+-- the response is to the request (DAP specification, Base Protocol, Response, `request_seq` and `command`)
 pub record IsAnswer (request : Request) (response : Response) : Type 0 where
   pub seq : response.request_seq ≡ request.seq
   pub command : response.command ≡ request.name
@@ -152,6 +156,26 @@ pub record AreServed (messages : List Message) (s : State) : Type 0 where
   pub requests : requests_of messages ≡ answered ++ without_response s
   pub responses : AreAnswered answered (responses_of (told_of messages))
   pub all : IsAtRest s → requests_of messages ≡ answered
+
+-- the endings that are told to the client, whose requests fail then: the target was lost, or refused a command, or
+-- nothing came for too long
+abbrev pub tells_client : Ending → Bool
+tells_client (BadTarget fault at id) = true
+tells_client TargetLink = true
+tells_client (TargetRefused set command code) = true
+tells_client Idle = true
+tells_client _ = false
+
+-- So it is with all responses, those among the last words included: they answer the first of the requests, one each,
+-- in order. Where an ending is told to the client, no request is left without one once no last word is left, unless the
+-- client's link has failed.
+pub record AreServedInAll (log : List Entry) (messages : List Message) (at : At) : Type 0 where
+  pub answered : List Request
+  pub left : List Request
+  pub requests : requests_of messages ≡ answered ++ left
+  pub responses : AreAnswered answered (responses_of (told_of messages ++ told_last at.said))
+  pub all : {ending : Ending} → at.ending ≡ Some ending → tells_client ending ≡ true → at.left ≡ [] → ¬ HasLost log
+      → left ≡ []
 
 -- The target's requests ----------------------------------------------------------------------------------------------
 
@@ -199,11 +223,7 @@ pub data SaysLast (log : List Entry) (at : At) : Option Ending → Type 0 where
 
 -- Commands -----------------------------------------------------------------------------------------------------------
 
--- the bytes, where their side is the target
-abbrev pub target_bytes : Side → List ℕ → List ℕ
-target_bytes Client bytes = []
-target_bytes Target bytes = bytes
-
+-- the bytes to the target that an entry brings
 abbrev pub given_by : Entry → List ℕ
 given_by (In side bytes) = []
 given_by (Out side bytes) = target_bytes side bytes
@@ -225,12 +245,7 @@ is_aside (Message.sends asked) = false
 is_aside (Message.answers asked replied) = false
 is_aside Message.ends = true
 
--- the packet of a command, with so many commands before it (JDWP, Command packets: the id, set and number, and body)
-abbrev pub nth_command : ℕ → IdSizes → Asked → List ℕ
-nth_command n sizes asked =
-    packet_bytes (command_packet (id_of n) (number_of asked).0 (number_of asked).1 (spell_command sizes asked))
-
--- These messages are sent to the target as these bytes: its handshake where it was sent (JDWP, JDWP Handshake), and
+-- These messages are sent to the target as these bytes: its handshake where it was sent (JDWP, JDWP Start Up), and
 -- each command as one packet, with the ids 1, 2, 3 and so on. So many commands are among them, and by then these sizes
 -- of ids were replied, with which the bodies are spelled that follow; those before are the same with any sizes.
 pub data AreSpelled : List Message → ℕ → Option IdSizes → List ℕ → Type 0 where
@@ -249,12 +264,12 @@ pub data AreSpelled : List Message → ℕ → Option IdSizes → List ℕ → T
       (asked : Asked) (replied : Replied) → Measures sizes replied later → AreSpelled messages n sizes bytes
       → AreSpelled (messages ++ Message.answers asked replied ∷ []) n later bytes
 
--- the last word to a target that is left to run on, with so many commands before it (JDWP, VirtualMachine command set,
--- Dispose)
+-- the bytes to the target that a last word brings, with so many commands before it
 abbrev pub word_given : ℕ → Word → List ℕ
 word_given n (Word.tells told) = []
-word_given n Word.disposes = packet_bytes (command_packet (id_of n) 1 6 [])
+word_given n Word.disposes = dispose_packet n
 
+-- all bytes that the last words send to the target, joined
 abbrev pub given_last : ℕ → List Word → List ℕ
 given_last n said = flat_map (word_given n) said
 
@@ -298,7 +313,7 @@ pub record IsGiven (messages : List Message) (thread : ThreadId) : Type 0 where
       (an_answer (variants.AllThreads (earlier ++ thread ∷ later))) ∷ after
 
 -- A command that may follow these messages: the thread whose name it asks for was given by the target, or no id of the
--- target's stands in it (JDWP, Protocol details, objectID: ids are the target's to give).
+-- target's stands in it (JDWP, Detailed Command Information, common data types, objectID).
 pub data HasReadIds (messages : List Message) : Asked → Type 0 where
   name : {thread : ThreadId} → IsGiven messages thread → HasReadIds messages (a_question (questions.ThreadName thread))
   sizes : HasReadIds messages (a_question questions.IdSizes)
@@ -317,6 +332,13 @@ comes (Shut side) = true
 comes (Failed side) = true
 comes Quiet = true
 
+-- Each turn is an entry of the log that was waited for. A send that failed leaves one more, which looks so: at most two
+-- do, one of the machine's and one of a last word, and none before the session has ended.
+pub record AreTurns (log : List Entry) (turns : ℕ) (at : At) : Type 0 where
+  pub are_waited : count_by comes log ≡ turns + at.broken
+  pub few_broken : at.broken ≤ 2
+  pub none_yet : at.ending ≡ None → at.broken ≡ 0
+
 -- The laws ---------------------------------------------------------------------------------------------------------
 
 -- this holds of every session
@@ -330,16 +352,16 @@ Numbers = Always (λ limits log messages turns at. IsNumbered log messages at)
 
 -- Requests are answered one by one, in the order in which they came.
 abbrev pub Responses : Type 0
-Responses = Always (λ limits log messages turns at. AreServed messages at.state)
+Responses = Always (λ limits log messages turns at. AreServed messages at.state × AreServedInAll log messages at)
 
 -- The requests are what the client's bytes say.
 abbrev pub Requests : Type 0
 Requests = Always (λ limits log messages turns at. AreHeard log messages at)
 
--- An ending has its cause, and nothing comes after it but last words. Want of memory is none.
+-- An ending has its cause, and nothing comes after that but last words. Want of memory is none.
 abbrev pub Endings : Type 0
 Endings = Always (λ limits log messages turns at. (ending : Ending) → at.ending ≡ Some ending
-    → Cause limits log messages turns at ending)
+    → Cause limits log messages turns at ending × HasEnded limits log messages turns at ending)
 
 -- The messages of a session are a run of the machine.
 abbrev pub Runs : Type 0
@@ -347,7 +369,7 @@ Runs = Always (λ limits log messages turns at. Run fresh messages at.state)
 
 -- A turn is a wait that gave something: each entry but those of sends.
 abbrev pub Turns : Type 0
-Turns = Always (λ limits log messages turns at. count_by comes log ≡ turns + at.broken)
+Turns = Always (λ limits log messages turns at. AreTurns log turns at)
 
 -- At rest, once attached, the event requests that are wished stand as the target replied to them, and no item waits.
 abbrev pub Settles : Type 0

@@ -56,6 +56,7 @@ use Rattle.world_model.specs.declared.manner.Manner.{Manner}
 abbrev pub usual_manner : Manner
 usual_manner = record { lines_from_one = true; columns_from_one = true; shows_types = false }
 
+-- how a client asks to be served (DAP specification, Initialize request, its arguments)
 abbrev pub manner_of : InitializeArguments → Manner
 manner_of arguments = record {
   lines_from_one = arguments.lines_start_at1;
@@ -88,6 +89,7 @@ pub record State : Type 0 where
   pub pending : List Asked
   pub closing : Bool
 
+-- a session that has heard and told nothing
 abbrev pub fresh : State
 fresh = record {
   manner = usual_manner;
@@ -110,6 +112,7 @@ abbrev pub set_of : Wish → Effect
 set_of ThreadStart = Set kinds.ThreadStart NoThread []
 set_of ThreadDeath = Set kinds.ThreadDeath NoThread []
 
+-- the wish whose event request is of this kind (JDWP, Constants, EventKind)
 abbrev pub wish_of_kind : EventKind → Option Wish
 wish_of_kind kinds.ThreadStart = Some ThreadStart
 wish_of_kind kinds.ThreadDeath = Some ThreadDeath
@@ -120,6 +123,7 @@ abbrev pub wish_of : Effect → Option Wish
 wish_of (Set kind policy modifiers) = wish_of_kind kind
 wish_of _ = None
 
+-- the wish wasn't asked for yet
 abbrev pub is_open : Standing → Bool
 is_open Open = true
 is_open (Installed request) = false
@@ -129,21 +133,25 @@ is_open Refused = false
 abbrev pub next_wish : State → Option Wish
 next_wish s = if is_open s.start then Some ThreadStart else (if is_open s.death then Some ThreadDeath else None)
 
+-- what became of a wish is kept
 abbrev pub with_standing : State → Wish → Standing → State
 with_standing s ThreadStart standing = record s { start = standing }
 with_standing s ThreadDeath standing = record s { death = standing }
 
--- what the reply to its request makes of a wish
+-- the id of the event request that the reply to Set gives, which is of no other kind (JDWP, EventRequest command set,
+-- Set)
 abbrev pub request_in : Answer → ℕ
 request_in (variants.Set request) = request
 request_in _ = 0
 
+-- what the reply to its request makes of a wish
 abbrev pub standing_of : Replied → Standing
 standing_of (an_answer answer) = Installed (request_in answer)
 standing_of (an_error code) = Refused
 
 -- Failures -----------------------------------------------------------------------------------------------------------
 
+-- the first that is there
 abbrev pub first_of : {A : Type 0} → List (Option A) → Option A
 first_of [] = None
 first_of (None ∷ others) = first_of others
@@ -165,6 +173,7 @@ twice Fresh = None
 twice Attached = Some already_attached
 twice Gone = None
 
+-- of the requests only `attach` fails for that
 abbrev pub if_attached : Phase → Command → Option Failure
 if_attached phase (Attach arguments) = twice phase
 if_attached phase _ = None
@@ -175,6 +184,7 @@ early Fresh = Some not_attached
 early Attached = None
 early Gone = None
 
+-- of the requests only `threads` fails for that
 abbrev pub if_fresh : Phase → Command → Option Failure
 if_fresh phase Threads = early phase
 if_fresh phase _ = None
@@ -185,12 +195,13 @@ late Fresh = None
 late Attached = None
 late Gone = Some target_gone
 
+-- `attach` and `threads` fail for that
 abbrev pub if_gone : Phase → Command → Option Failure
 if_gone phase (Attach arguments) = late phase
 if_gone phase Threads = late phase
 if_gone phase _ = None
 
--- the failure that is known before anything is done: the first that applies (DAP overview, Base protocol,
+-- the failure that is known before anything is done: the first that applies (DAP specification, Base Protocol,
 -- ErrorResponse)
 abbrev pub failure_of : Phase → Command → Option Failure
 failure_of phase command =
@@ -204,10 +215,12 @@ abbrev pub leaving_by : Bool → Leaving
 leaving_by true = Exits
 leaving_by false = Disposes
 
+-- the command by which a target is left (JDWP, VirtualMachine command set, Dispose and Exit)
 abbrev pub effect_of : Leaving → Effect
 effect_of Disposes = Dispose
 effect_of Exits = Exit (pos 0)
 
+-- only a target that is attached has to be left
 abbrev pub leaves_from : Phase → Leaving → List Part
 leaves_from Fresh leaving = []
 leaves_from Attached leaving = Leaves leaving ∷ []
@@ -224,10 +237,12 @@ row_of phase (Disconnect arguments) =
 row_of phase Unsupported = []
 row_of phase (BadArguments name) = []
 
+-- a request that fails does nothing but tell its failure
 abbrev pub parts_by : Option Failure → List Part → List Part
 parts_by (Some failure) row = Responds (failed failure) ∷ []
 parts_by None row = row
 
+-- what a request does in this phase
 abbrev pub request_parts : Phase → Command → List Part
 request_parts phase command = parts_by (failure_of phase command) (row_of phase command)
 
@@ -236,10 +251,12 @@ abbrev pub end_parts : Bool → List Part
 end_parts true = []
 end_parts false = Announces Terminated ∷ []
 
+-- what an item does when its turn comes
 abbrev pub parts_of : State → Item → List Part
 parts_of s (items.Request request) = request_parts s.phase request.command
 parts_of s items.TargetEnd = end_parts s.terminated
 
+-- the request that ends the session (DAP specification, Disconnect request)
 abbrev pub is_disconnect : Command → Bool
 is_disconnect (Disconnect arguments) = true
 is_disconnect _ = false
@@ -253,23 +270,27 @@ pub data Need (A : Type 0) : Type 0 where
   fails : ℕ → Need A
   lacks : List Question → Need A
 
+-- the reply, where the question is for the sizes of ids
 abbrev pub sizes_reply : Question → Replied → Option Replied
 sizes_reply questions.IdSizes replied = Some replied
 sizes_reply _ replied = None
 
+-- the reply, where the question is for all threads
 abbrev pub threads_reply : Question → Replied → Option Replied
 threads_reply questions.AllThreads replied = Some replied
 threads_reply _ replied = None
 
+-- the reply, where the question is for the name of this thread
 abbrev pub name_reply : ThreadId → Question → Replied → Option Replied
 name_reply thread (questions.ThreadName other) replied = if other.0 == thread.0 then Some replied else None
 name_reply thread _ replied = None
 
--- the first reply among the answers to the question that is sought
+-- the first of the two that is there
 abbrev pub or_else : Option Replied → Option Replied → Option Replied
 or_else None others = others
 or_else (Some replied) others = Some replied
 
+-- the first reply among the answers to the question that is sought
 abbrev pub reply_among : (Question → Replied → Option Replied) → List Answered → Option Replied
 reply_among sought [] = None
 reply_among sought (a ∷ answers) = or_else (sought a.question a.replied) (reply_among sought answers)
@@ -279,57 +300,66 @@ pub record Named : Type 0 where
   pub thread : ThreadId
   pub name : List ℕ
 
--- the threads whose names weren't answered yet
+-- the question for a thread's name, unless it was answered, before the others
 abbrev pub unnamed_first : Option Replied → ThreadId → List Question → List Question
 unnamed_first None thread others = questions.ThreadName thread ∷ others
 unnamed_first (Some replied) thread others = others
 
+-- the threads whose names weren't answered yet, each as its question
 abbrev pub unnamed : List Answered → List ThreadId → List Question
 unnamed answers [] = []
 unnamed answers (thread ∷ threads) =
     unnamed_first (reply_among (name_reply thread) answers) thread (unnamed answers threads)
 
--- the threads with their names, but those whose names were refused
+-- the thread under the name that was answered, before the others; an answer to ThreadName is of no other kind
 abbrev pub name_answered : Answer → ThreadId → List Named → List Named
 name_answered (variants.ThreadName name) thread others = record { thread = thread; name = name } ∷ others
 name_answered _ thread others = others
 
+-- the thread with its name, unless that wasn't answered or was refused, before the others
 abbrev pub named_first : Option Replied → ThreadId → List Named → List Named
 named_first None thread others = others
 named_first (Some (an_answer answer)) thread others = name_answered answer thread others
 named_first (Some (an_error code)) thread others = others
 
+-- the threads with their names, but those whose names were refused
 abbrev pub named : List Answered → List ThreadId → List Named
 named answers [] = []
 named answers (thread ∷ threads) = named_first (reply_among (name_reply thread) answers) thread (named answers threads)
 
+-- the value, where no question is left
 abbrev pub has_or_lacks : {A : Type 0} → List Question → A → Need A
 has_or_lacks [] x = has x
 has_or_lacks (question ∷ questions) x = lacks (question ∷ questions)
 
+-- what a list of these threads needs: the name of each
 abbrev pub names_need : List Answered → List ThreadId → Need (List Named)
 names_need answers threads = has_or_lacks (unnamed answers threads) (named answers threads)
 
+-- what the list of the threads that were answered needs; an answer to AllThreads is of no other kind
 abbrev pub listed : List Answered → Answer → Need (List Named)
 listed given (variants.AllThreads threads) = names_need given threads
 listed given _ = has []
 
--- what `threads` needs: all threads, and the name of each (JDWP, VirtualMachine command set, AllThreads;
--- ThreadReference command set, Name)
+-- what `threads` needs, by the reply to the question for all threads
 abbrev pub threads_by : Option Replied → List Answered → Need (List Named)
 threads_by None answers = lacks (questions.AllThreads ∷ [])
 threads_by (Some (an_answer answer)) answers = listed answers answer
 threads_by (Some (an_error code)) answers = fails code
 
+-- what `threads` needs: all threads, and the name of each (JDWP, VirtualMachine command set, AllThreads; JDWP,
+-- ThreadReference command set, Name)
 abbrev pub threads_need : List Answered → Need (List Named)
 threads_need answers = threads_by (reply_among threads_reply answers) answers
 
 -- Threads ------------------------------------------------------------------------------------------------------------
 
+-- the thread was told before
 abbrev pub is_among : List ThreadId → ThreadId → Bool
 is_among [] thread = false
 is_among (first ∷ threads) thread = if first.0 == thread.0 then true else is_among threads thread
 
+-- a thread is told, behind those that were, once
 abbrev pub with_thread : List ThreadId → ThreadId → List ThreadId
 with_thread threads thread = if is_among threads thread then threads else threads ++ thread ∷ []
 
@@ -343,10 +373,11 @@ abbrev pub number_among : List ThreadId → ThreadId → ℕ
 number_among [] thread = 1
 number_among (first ∷ threads) thread = if first.0 == thread.0 then 1 else number_among threads thread + 1
 
--- Thread (DAP specification, Types); a name of JDWP is shown as text
+-- a thread as it is told, its name as text (DAP specification, Types, Thread)
 abbrev pub thread_told : List ThreadId → Named → Thread
 thread_told threads named = record { id = number_among threads named.thread; name = lossy named.name }
 
+-- the body of the response to `threads` (DAP specification, Threads request)
 abbrev pub threads_told : List ThreadId → List Named → Shape
 threads_told threads named = thread_list (map (thread_told threads) named)
 
@@ -367,11 +398,12 @@ pub data Due : Type 0 where
   asks : List Question → Due
   over : Ending → Due
 
--- the response to a request: its sequence number and its command come back (DAP overview, Base protocol, Response)
+-- the response to a request: its sequence number and its command come back (DAP specification, Base Protocol, Response)
 abbrev pub response_to : Request → Outcome → Told
 response_to request outcome =
     a_response (record { request_seq = request.seq; command = request.name; outcome = outcome })
 
+-- these parts are left of the item in hand
 abbrev pub in_hand : State → Hand → List Part → State
 in_hand s hand parts = record s { hand = Some (record hand { parts = parts }) }
 
@@ -388,31 +420,38 @@ abbrev pub responded : Item → Outcome → State → Due
 responded (items.Request request) outcome next = tells (response_to request outcome) next
 responded items.TargetEnd outcome next = goes next
 
+-- the handshake is waited for (JDWP, JDWP Start Up)
 abbrev pub greeted_by : Bool → State → Due
 greeted_by true next = goes next
 greeted_by false next = waits
 
+-- the sizes of ids are asked for, unless they were replied (JDWP, VirtualMachine command set, IDSizes)
 abbrev pub measured_by : Option Replied → State → Due
 measured_by None next = asks (questions.IdSizes ∷ [])
 measured_by (Some replied) next = goes next
 
+-- the next event request that is wished is set (JDWP, EventRequest command set, Set)
 abbrev pub changed_by : Option Wish → State → State → Due
 changed_by None s next = goes next
 changed_by (Some wish) s next = sends (set_of wish) s
 
+-- the threads of a list count as told
 abbrev pub with_shown : State → List Named → State
 with_shown s named = record s { threads = with_threads s.threads named }
 
+-- the list is told, or the failure, or what is lacking is asked for
 abbrev pub shown_by : Need (List Named) → Item → State → Due
 shown_by (has named) item next =
     responded item (Success (threads_told (with_threads next.threads named) named)) (with_shown next named)
 shown_by (fails code) item next = responded item (failed (refusal code)) next
 shown_by (lacks questions) item next = asks questions
 
+-- what an event changes: `terminated` is told once
 abbrev pub after_event : Event → State → State
 after_event Initialized s = s
 after_event Terminated s = record s { terminated = true }
 
+-- a target that is gone stays gone
 abbrev pub attached_from : Phase → Phase
 attached_from Fresh = Attached
 attached_from Attached = Attached
@@ -433,6 +472,7 @@ due_part s hand (Announces event ∷ parts) = tells (an_event event) (after_even
 due_part s hand (Serves manner ∷ parts) = goes (record (in_hand s hand parts) { manner = manner })
 due_part s hand (Finishes ∷ parts) = over Done
 
+-- what is due by the item in hand; with nothing in hand the next item is begun
 abbrev pub due_in : State → Option Hand → Due
 due_in s None = due_next s s.waiting
 due_in s (Some hand) = due_part s hand hand.parts
@@ -441,6 +481,7 @@ due_in s (Some hand) = due_part s hand hand.parts
 abbrev pub window : ℕ
 window = 1
 
+-- with no question that may be asked now nothing is due
 abbrev pub asks_some : List Question → Due
 asks_some [] = waits
 asks_some (question ∷ questions) = asks (question ∷ questions)
@@ -468,6 +509,8 @@ due_for Fresh pending step = beside pending step
 due_for Attached pending step = beside pending step
 due_for Gone pending step = without_target step
 
+-- What is due in a state: the one function that the session and the laws stand on. The item in hand says what; commands
+-- that have no reply come first, and a target that is gone gets nothing.
 unfoldable pub due : State → Due
 due s = due_for s.phase s.pending (due_in s s.hand)
 
@@ -477,20 +520,23 @@ awaits_greeting [] = false
 awaits_greeting (Awaits ∷ parts) = true
 awaits_greeting (_ ∷ parts) = false
 
+-- the same of what is in hand
 abbrev pub greets_in_hand : Option Hand → Bool
 greets_in_hand None = false
 greets_in_hand (Some hand) = awaits_greeting hand.parts
 
--- nothing is pending: no command and no handshake
+-- no command has no reply yet, and no handshake is waited for
 abbrev pub none_pending : List Asked → Option Hand → Bool
 none_pending [] hand = not (greets_in_hand hand)
 none_pending (asked ∷ pending) hand = false
 
+-- of a target that is gone nothing is pending
 abbrev pub rests_in : Phase → List Asked → Option Hand → Bool
 rests_in Fresh pending hand = none_pending pending hand
 rests_in Attached pending hand = none_pending pending hand
 rests_in Gone pending hand = true
 
+-- nothing is pending: no command and no handshake
 abbrev pub is_at_rest : State → Bool
 is_at_rest s = rests_in s.phase s.pending s.hand
 
@@ -511,10 +557,11 @@ parts_without (items.Request request) parts =
     if is_disconnect request.command then parts else Responds (failed target_gone) ∷ []
 parts_without items.TargetEnd parts = parts
 
+-- the item in hand is given up
 abbrev pub given_up : Hand → Hand
 given_up hand = record hand { parts = parts_without hand.item hand.parts }
 
--- The target ends: the item in hand is given up, and the end is an item behind all that wait. It ends once.
+-- the item in hand is given up, and the target's end is an item behind all that wait
 abbrev pub ended_now : State → State
 ended_now s = record s {
   phase = Gone;
@@ -522,11 +569,13 @@ ended_now s = record s {
   waiting = s.waiting ++ items.TargetEnd ∷ [];
 }
 
+-- a target that is gone doesn't end again
 abbrev pub ended_from : Phase → State → State
 ended_from Fresh s = ended_now s
 ended_from Attached s = ended_now s
 ended_from Gone s = s
 
+-- the target ends, once
 abbrev pub target_ended : State → State
 target_ended s = ended_from s.phase s
 
@@ -541,13 +590,16 @@ abbrev pub is_dead : Replied → Bool
 is_dead (an_answer answer) = false
 is_dead (an_error code) = code == 112
 
+-- the reply shows that the target has ended, and that not because it was left
 abbrev pub is_end : Asked → Replied → Bool
 is_end asked replied = if is_leaving asked then false else is_dead replied
 
+-- a question of the item in hand is answered
 abbrev pub with_answer : Question → Replied → Hand → Hand
 with_answer question replied hand =
     record hand { answers = hand.answers ++ record { question = question; replied = replied } ∷ [] }
 
+-- the reply to the request of a wish is kept
 abbrev pub wish_settled : State → Option Wish → Replied → State
 wish_settled s None replied = s
 wish_settled s (Some wish) replied = with_standing s wish (standing_of replied)
@@ -557,6 +609,7 @@ abbrev pub noted : State → Asked → Replied → State
 noted s (a_question question) replied = record s { hand = option_map (with_answer question replied) s.hand }
 noted s (an_effect effect) replied = wish_settled s (wish_of effect) replied
 
+-- a command is answered; the error of a target that has ended is its end
 abbrev pub answered : State → Asked → Replied → State
 answered s asked replied = if is_end asked replied then target_ended (noted s asked replied) else noted s asked replied
 

@@ -35,8 +35,9 @@ pub record WasReplied (messages : List Message) (asked : Asked) (replied : Repli
 -- The outcome of a request that is answered behind these messages, by its command, by whether an `attach` has
 -- succeeded (the first Bool) and by whether the target has ended (the second). There is one for each, but that
 -- `threads`, where it has its target, tells a list where the target answered which threads there are, or the error with
--- which it refused to. The success of an `attach` stands with its event, below (DAP overview, Base protocol, Response:
--- `success` and `message`; DAP specification, Requests, Initialize, Attach, Threads and Disconnect).
+-- which it refused to. The success of an `attach` stands with its event, below (DAP specification, Base Protocol,
+-- Response, `success` and `message`; DAP specification, Initialize request, Attach request, Threads request and
+-- Disconnect request).
 pub data IsOutcome (messages : List Message) : Bool → Bool → Command → Outcome → Type 0 where
   not_served : {attached ended : Bool} → IsOutcome messages attached ended Unsupported (failed unsupported)
   misused : {attached ended : Bool} {name : List ℕ}

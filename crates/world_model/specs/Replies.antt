@@ -19,12 +19,13 @@ use Rattle.world_model.specs.declared.machine.Phase.TheVariants.{Gone}
 -- Bytes --------------------------------------------------------------------------------------------------------------
 
 -- the bytes, where their side is the target
-abbrev pub target_given : Side → List ℕ → List ℕ
-target_given Client bytes = []
-target_given Target bytes = bytes
+abbrev pub target_bytes : Side → List ℕ → List ℕ
+target_bytes Client bytes = []
+target_bytes Target bytes = bytes
 
+-- the bytes from the target that an entry brings
 abbrev pub came_by : Entry → List ℕ
-came_by (In side bytes) = target_given side bytes
+came_by (In side bytes) = target_bytes side bytes
 came_by (Out side bytes) = []
 came_by (Shut side) = []
 came_by (Failed side) = []
@@ -47,10 +48,9 @@ is_beside (Message.answers asked replied) = false
 is_beside Message.ends = true
 
 -- The target's packets, each behind its offset, are in order what these messages say of it. A reply is to the command
--- with its id, which had none yet, and says what its error and body say (JDWP, Reply packets: the reply has the id of
--- its command). A command of the target's is a composite, and comes while the sizes of ids aren't known (JDWP, Event
--- command set, Composite).
--- By then the handshake was taken up, or not: once, and before any command is sent (JDWP, JDWP Handshake). So many
+-- with its id, which had none yet, and says what its error and body say (JDWP, JDWP Packets, reply packet). A command
+-- of the target's is a composite, and comes while the sizes of ids aren't known (JDWP, Event command set, Composite).
+-- By then the handshake was taken up, or not: once, and before any command is sent (JDWP, JDWP Start Up). So many
 -- commands are among the messages, with the ids 1, 2, 3 and so on; these of them have no reply yet, each behind its
 -- number, how many were sent before it. And these sizes of ids were replied, with which bodies are read that follow;
 -- those before are the same with any sizes.
@@ -79,6 +79,7 @@ pub data AreSaid : List (ℕ × Packet) → List Message → Bool → ℕ → Li
 
 -- Composites ---------------------------------------------------------------------------------------------------------
 
+-- a command among the packets, with its offset
 abbrev pub kept_by : ℕ × Packet → List Raw
 kept_by (offset, command_packet id set number body) = record { at = offset; body = body } ∷ []
 kept_by (offset, reply_packet id error body) = []
@@ -105,10 +106,12 @@ is_end_taken (Message.sends asked) = false
 is_end_taken (Message.answers asked replied) = false
 is_end_taken Message.ends = true
 
+-- the target's side
 abbrev pub is_target : Side → Bool
 is_target Client = false
 is_target Target = true
 
+-- the end of the target's stream came
 abbrev pub is_end_come : Entry → Bool
 is_end_come (In side bytes) = false
 is_end_come (Out side bytes) = false
@@ -116,6 +119,7 @@ is_end_come (Shut side) = is_target side
 is_end_come (Failed side) = false
 is_end_come Quiet = false
 
+-- 1 where it is so
 abbrev pub one_if : Bool → ℕ
 one_if false = 0
 one_if true = 1
@@ -126,7 +130,7 @@ one_if true = 1
 abbrev pub under_id : ℕ × Asked → ℕ × Asked
 under_id command = (id_of command.0, command.1)
 
--- The target's bytes are its handshake, once it came, and packets (JDWP, JDWP Handshake and JDWP Packets), which say
+-- The target's bytes are its handshake, once it came, and packets (JDWP, JDWP Start Up; JDWP, JDWP Packets), which say
 -- what the messages say of it; what is not cut are the bytes from its offset on. Commands without a reply are pending,
 -- each under its id, and no more of them than there is room for. The handshake is cut off where the bytes begin with
 -- it, and taken up only there; and each end of the target's stream is taken up, but one that has just come.

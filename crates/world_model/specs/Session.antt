@@ -81,6 +81,7 @@ pub record Place : Type 0 where
   pub commands : Window
   pub raw : List Raw
 
+-- before anything came
 abbrev pub nowhere : Place
 nowhere = record {
   told = 0;
@@ -114,14 +115,17 @@ owed_by request (parts.Responds outcome ∷ rest) = request ∷ owed_by request 
 owed_by request (parts.Shows ∷ rest) = request ∷ owed_by request rest
 owed_by request (_ ∷ rest) = owed_by request rest
 
+-- the request in hand, where it still gets a response; the target's end is owed none
 abbrev pub owed_in : Item → List Part → List Request
 owed_in (items.Request request) rest = owed_by request rest
 owed_in items.TargetEnd rest = []
 
+-- the same of what is in hand, if anything is
 abbrev pub owed_in_hand : Option Hand → List Request
 owed_in_hand None = []
 owed_in_hand (Some hand) = owed_in hand.item hand.parts
 
+-- the requests among the items that wait
 abbrev pub waiting_requests : List Item → List Request
 waiting_requests [] = []
 waiting_requests (items.Request request ∷ rest) = request ∷ waiting_requests rest
@@ -131,9 +135,11 @@ waiting_requests (items.TargetEnd ∷ rest) = waiting_requests rest
 abbrev pub without_response : State → List Request
 without_response s = owed_in_hand s.hand ++ waiting_requests s.waiting
 
+-- the request fails, since its target is gone (DAP specification, Base Protocol, ErrorResponse)
 abbrev pub fails_gone : Request → Word
 fails_gone request = Word.tells (response_to request (failed target_gone))
 
+-- `terminated` is told, unless it was (DAP specification, Events, Terminated)
 abbrev pub end_word : Bool → List Word
 end_word true = []
 end_word false = Word.tells (an_event Terminated) ∷ []
@@ -148,8 +154,8 @@ target_words Fresh = []
 target_words Attached = Word.disposes ∷ []
 target_words Gone = []
 
--- What is said after an ending: to the client where the target was lost, and to the target where the client was, or
--- either where neither is to blame.
+-- What is said after an ending: to the client where the target was lost; to the target where the client was, and at
+-- the limits on turns and on items; to both where the target refused a command, or nothing came for too long.
 abbrev pub last_words : Ending → State → List Word
 last_words Done s = []
 last_words Left s = target_words s.phase
@@ -177,9 +183,11 @@ pub record At : Type 0 where
   pub left : List Word
   pub broken : ℕ
 
+-- the beginning of a session
 abbrev pub start : At
 start = record { state = fresh; place = nowhere; quiets = 0; ending = None; said = []; left = []; broken = 0 }
 
+-- the cause of this ending has come, and its last words are left to be said
 abbrev pub ended : At → Ending → At
 ended at ending = record at { ending = Some ending; left = last_words ending at.state }
 
@@ -190,10 +198,11 @@ waiting_count at = length at.state.waiting + length at.place.raw
 -- Bytes of messages --------------------------------------------------------------------------------------------------
 
 -- The bytes of the next message that the client is told: messages are numbered 1, 2, 3, and so on, and each is one
--- frame (DAP overview, Base protocol: `seq`, and the header's `Content-Length`).
+-- frame (DAP overview, Base protocol; DAP specification, Base Protocol, ProtocolMessage, `seq`).
 abbrev pub told_bytes : Place → Told → List ℕ
 told_bytes place told = frame_bytes (told_text (place.told + 1) told)
 
+-- one message more was told
 abbrev pub one_told : Place → Place
 one_told place = record place { told = place.told + 1 }
 
@@ -203,12 +212,17 @@ pub data Serve : Option IdSizes → IdSizes → Type 0 where
   any : {sizes : IdSizes} → Serve None sizes
   known : {sizes : IdSizes} → Serve (Some sizes) sizes
 
--- the bytes of the next command: its id, its set and number, and its body (JDWP, Command packets)
-abbrev pub command_bytes : Place → IdSizes → Asked → List ℕ
-command_bytes place sizes asked =
-    packet_bytes
-    (command_packet (id_of place.commands.next) (number_of asked).0 (number_of asked).1 (spell_command sizes asked))
+-- the packet of a command, with so many commands before it: its id, its set and number, and its body (JDWP, JDWP
+-- Packets, command packet)
+abbrev pub nth_command : ℕ → IdSizes → Asked → List ℕ
+nth_command n sizes asked =
+    packet_bytes (command_packet (id_of n) (number_of asked).0 (number_of asked).1 (spell_command sizes asked))
 
+-- the bytes of the next command
+abbrev pub command_bytes : Place → IdSizes → Asked → List ℕ
+command_bytes place sizes asked = nth_command place.commands.next sizes asked
+
+-- one command more was sent
 abbrev pub one_sent : Place → Asked → Place
 one_sent place asked = record place { commands = with_sent asked place.commands }
 
@@ -220,18 +234,20 @@ pub data Speaks : Place → Message → Side → List ℕ → Place → Type 0 w
   sends : {place : Place} {asked : Asked} {sizes : IdSizes} → Serve place.sizes sizes
       → Speaks place (Message.sends asked) Target (command_bytes place sizes asked) (one_sent place asked)
 
--- the commands whose refusal ends a session, since nothing can stand in for their answer
+-- the questions whose refusal ends a session
 abbrev pub is_essential_question : Question → Bool
 is_essential_question questions.IdSizes = true
 is_essential_question questions.AllClasses = true
 is_essential_question _ = false
 
+-- the effects whose refusal does
 abbrev pub is_essential_effect : Effect → Bool
 is_essential_effect (effects.Clear kind request) = true
 is_essential_effect effects.Resume = true
 is_essential_effect effects.Suspend = true
 is_essential_effect _ = false
 
+-- the commands whose refusal ends a session, since nothing can stand in for their answer
 abbrev pub is_essential : Asked → Bool
 is_essential (a_question question) = is_essential_question question
 is_essential (an_effect effect) = is_essential_effect effect
@@ -240,8 +256,8 @@ is_essential (an_effect effect) = is_essential_effect effect
 abbrev pub is_tolerated : Asked → ℕ → Bool
 is_tolerated asked code = if is_essential asked then code == 112 else true
 
--- What the reply packet to a command says (JDWP, Reply packets): the error 0 stands for an answer; the body of another
--- error is not looked at.
+-- What the reply packet to a command says (JDWP, JDWP Packets, reply packet): the error 0 stands for an answer; the
+-- body of another error is not looked at.
 pub data IsReply (sizes : IdSizes) (asked : Asked) : ℕ → List ℕ → Replied → Type 0 where
   answers : {body : List ℕ} {answer : Answer} → answer_at sizes asked body ≡ Ok answer
       → IsReply sizes asked 0 body (an_answer answer)
@@ -255,6 +271,7 @@ numbers_in (an_answer (variants.IdSizes field method object class frame)) =
 numbers_in (an_answer _) = None
 numbers_in (an_error code) = None
 
+-- the five sizes in the order of the reply (JDWP, VirtualMachine command set, IDSizes)
 abbrev pub numbers_of : IdSizes → List ℕ
 numbers_of sizes = sizes.field ∷ sizes.method ∷ sizes.object ∷ sizes.class ∷ sizes.frame ∷ []
 
@@ -265,20 +282,20 @@ pub data Measures (old : Option IdSizes) (replied : Replied) : Option IdSizes �
 
 -- What comes in: a request is one whole frame at the front of the client's uncut bytes, a reply one whole packet at the
 -- front of the target's; with the reply that gives the sizes no composite may be left that waits for them.
-pub data Says : Place → Message → Place → Type 0 where
+pub data Brings : Place → Message → Place → Type 0 where
   hears : {place : Place} {heard : Request} {frame : Frame} {n : ℕ}
       → frame_front place.client.pending ≡ Front.whole frame n → reading_of frame.body ≡ Ok (a_request heard)
-      → Says place (Message.hears heard) (record place { client = past place.client n })
-  greeted : {place : Place} → place.target.greeted ≡ true → Says place Message.greeted place
+      → Brings place (Message.hears heard) (record place { client = past place.client n })
+  greeted : {place : Place} → place.target.greeted ≡ true → Brings place Message.greeted place
   answers : {place : Place} {id error n : ℕ} {body : List ℕ} {asked : Asked} {replied : Replied} {sizes : IdSizes}
       {later : Option IdSizes}
       → target_front place ≡ Front.whole (reply_packet id error body) n
       → pending_under id place.commands.sent ≡ Some asked
       → Serve place.sizes sizes → IsReply sizes asked error body replied → Measures place.sizes replied later
       → (numbers_in replied ≡ None) ⊎ (place.raw ≡ [])
-      → Says place (Message.answers asked replied)
+      → Brings place (Message.answers asked replied)
       (record (past_packet place n) { commands = settled id place.commands; sizes = later })
-  ends : {place : Place} → place.ended ≡ true → Says place Message.ends (record place { ended = false })
+  ends : {place : Place} → place.ended ≡ true → Brings place Message.ends (record place { ended = false })
 
 -- Going on -----------------------------------------------------------------------------------------------------------
 
@@ -338,7 +355,7 @@ quiets_after Quiet n = n + 1
 abbrev pub target_fault : TargetFault → ℕ → Ending
 target_fault fault at = BadTarget fault at 0
 
--- how many bytes of a packet stand before its body
+-- how many bytes of a packet stand before its body (JDWP, JDWP Packets, header)
 abbrev pub header : ℕ
 header = 11
 
@@ -434,20 +451,27 @@ module _ (limits : Limits) where
 
 -- Sessions -----------------------------------------------------------------------------------------------------------
 
+-- the ending by the failure of a side's link
 abbrev pub link_ending : Side → Ending
 link_ending Client = ClientLink
 link_ending Target = TargetLink
 
--- the last words as bytes: what is told is numbered on, and the target gets one more command (JDWP, VirtualMachine
--- command set, Dispose)
+-- the side that gets a last word
 abbrev pub word_side : Word → Side
 word_side (Word.tells told) = Client
 word_side Word.disposes = Target
 
+-- the packet that lets a target run on, with so many commands before it: its set is 1, its number 6, and it has no body
+-- (JDWP, VirtualMachine command set, Dispose)
+abbrev pub dispose_packet : ℕ → List ℕ
+dispose_packet n = packet_bytes (command_packet (id_of n) 1 6 [])
+
+-- the bytes of a last word: what is told is numbered on, and the target gets one command more
 abbrev pub word_bytes : Place → Word → List ℕ
 word_bytes place (Word.tells told) = told_bytes place told
-word_bytes place Word.disposes = packet_bytes (command_packet (id_of place.commands.next) 1 6 [])
+word_bytes place Word.disposes = dispose_packet place.commands.next
 
+-- a last word was said
 abbrev pub word_said : Place → Word → Place
 word_said place (Word.tells told) = one_told place
 word_said place Word.disposes = place
@@ -471,7 +495,7 @@ pub data Session (limits : Limits) : List Entry → List Message → ℕ → At 
   hears : {log : List Entry} {messages : List Message} {turns : ℕ} {at : At} {message : Message} {next : State}
       {place : Place}
       → Session limits log messages turns at → IsOn limits at → Allows at.state message next
-      → Says at.place message place
+      → Brings at.place message place
       → Session limits log (messages ++ message ∷ []) turns (record at { state = next; place = place })
   -- a response or an event of the client is passed over
   ignores : {log : List Entry} {messages : List Message} {turns : ℕ} {at : At} {frame : Frame} {n : ℕ}
@@ -532,7 +556,8 @@ pub data Ends (at : At) : Ending → Type 0 where
   caused : {ending : Ending} → at.ending ≡ Some ending → at.left ≡ [] → Ends at ending
   no_memory : Ends at NoMemory
 
--- What a call did to the outside is a session within its limits that ended so.
+-- What a call did to the outside is a session within its limits that ended so. Over an outside that keeps no log this
+-- ties the session to nothing that was done. And want of memory may end any session, wherever it stands.
 pub record IsSession (old new : Outside) (limits : Limits) (ending : Ending) : Type 0 where
   pub added : List Entry
   pub messages : List Message

@@ -46,25 +46,29 @@ pub data AreInOrder : List ℕ → ℕ → Type 0 where
   one_new : {numbers : List ℕ} {count : ℕ} → AreInOrder numbers count
       → AreInOrder (numbers ++ (count + 1) ∷ []) (count + 1)
 
-abbrev pub number_of : Thread → ℕ
-number_of thread = thread.id
+-- a thread's number
+abbrev pub thread_number : Thread → ℕ
+thread_number thread = thread.id
 
+-- the numbers of threads in a body
 abbrev pub numbers_in_shape : Shape → List ℕ
 numbers_in_shape Nothing = []
 numbers_in_shape Capabilities = []
-numbers_in_shape (thread_list threads) = map number_of threads
+numbers_in_shape (thread_list threads) = map thread_number threads
 
+-- the numbers of threads in an outcome
 abbrev pub numbers_in_outcome : Outcome → List ℕ
 numbers_in_outcome (Success shape) = numbers_in_shape shape
 numbers_in_outcome (failed failure) = []
 
+-- the numbers of threads in what is told
 abbrev pub numbers_told : Told → List ℕ
 numbers_told (a_response response) = numbers_in_outcome response.outcome
 numbers_told (an_event event) = []
 
 -- the numbers of threads in all that the client was told, in order
-abbrev pub numbers_of : List Message → List ℕ
-numbers_of messages = flat_map numbers_told (told_of messages)
+abbrev pub thread_numbers : List Message → List ℕ
+thread_numbers messages = flat_map numbers_told (told_of messages)
 
 -- Lists of threads --------------------------------------------------------------------------------------------------
 
@@ -123,7 +127,7 @@ pub record AreShown (messages : List Message) (numbered : List ThreadId) : Type 
       → messages ≡ before ++ Message.tells (a_response response) ∷ after
       → response.outcome ≡ failed (refusal code) → IsRefused before response code
   pub once : AreNumberedOnce numbered
-  pub in_order : AreInOrder (numbers_of messages) (length numbered)
+  pub in_order : AreInOrder (thread_numbers messages) (length numbered)
 
 -- The law -----------------------------------------------------------------------------------------------------------
 

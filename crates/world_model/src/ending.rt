@@ -3,7 +3,8 @@ use jdwp_packets::PacketFault;
 use wire_core::NoMemory;
 
 /// The limits of a session: the happenings that it takes, the waits in vain in a row, and the items that wait.
-/// Each is at least 1, and `turns` is at most 2^40.
+/// Each is at least 1, and `turns` is at most 2^40. A wait in vain takes about two milliseconds over the sockets of
+/// `wire_edge`, so that `quiet` counts these, and not seconds.
 #[derive(Clone, Copy, Debug, PartialEq, Eq)]
 pub struct Limits {
     pub turns: u64,
@@ -15,7 +16,8 @@ impl Limits {
     ghost use Rattle.std.specs.Prelude.{◌≡◌};
     ghost use Rattle.world_model.specs.Session.{AreLimits};
 
-    /// The limits of a session that serves an editor: 2^40 happenings, a day of silence, 65,536 waiting items.
+    /// The limits of a session that serves an editor: 2^40 happenings, 43,200,000 waits in vain in a row, which is
+    /// about a day of silence, and 65,536 waiting items.
     pub fn standard() -> Limits
         ensures values { result ≡ record { turns = 1099511627776; quiet = 43200000; waiting = 65536 } }
         ensures usable { AreLimits result }
@@ -29,7 +31,7 @@ impl Limits {
 }
 
 /// What is wrong with the client's bytes: a byte that no frame has there, a body that is no JSON value, or one that is
-/// no message (DAP overview, Base protocol).
+/// no message (DAP overview, Base protocol; DAP specification, Base Protocol, ProtocolMessage).
 #[derive(Clone, Copy, Debug, PartialEq, Eq)]
 pub enum ClientFault {
     Frame(FrameFault),
@@ -37,9 +39,9 @@ pub enum ClientFault {
     NotAMessage,
 }
 
-/// What is wrong with the target's bytes: a packet, a part of a body, sizes of ids outside 1 to 8, a composite that
-/// suspends one thread alone, a command that the bridge doesn't take, or a reply to no command (JDWP, JDWP Packets and
-/// Protocol details).
+/// What is wrong with the target's bytes: a packet, a part of a body, sizes of ids outside 1 to 8, a command that the
+/// bridge doesn't take, or a reply to no command (JDWP, JDWP Packets; JDWP, Detailed Command Information). No composite
+/// is taken yet: a good one is a `BadCommand`, and `PolicyThread`, one that suspends one thread alone, never comes.
 #[derive(Clone, Copy, Debug, PartialEq, Eq)]
 pub enum TargetFault {
     Packet(PacketFault),

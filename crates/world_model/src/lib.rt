@@ -5,6 +5,8 @@ mod ending;
 mod laws;
 mod machine;
 mod manner;
+#[cfg(test)]
+mod tests;
 
 pub use ending::{ClientFault, Ending, Limits, TargetFault};
 pub use laws::{

@@ -44,7 +44,7 @@ pub enum Item {
 /// tail of the list.
 #[derive(Debug, Drop)]
 pub enum Part {
-    /// The handshake goes to the target (JDWP, Handshake).
+    /// The handshake goes to the target (JDWP, JDWP Start Up).
     Greets,
     /// The target's handshake comes.
     Awaits,
