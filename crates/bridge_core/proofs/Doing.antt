@@ -1,5 +1,5 @@
 -- What each part of an item leads to.
-use Rattle.std.proofs.Common.{◌≡◌, ◌∷◌, ◌∙◌, ℕ, refl, sym, ap, true, false, List, [], Option, Some, None}
+use Rattle.std.proofs.Common.{◌≡◌, ◌∷◌, ℕ, refl, sym, true, false, List, [], Option, Some, None}
 use Rattle.std.specs.Option.{is_some}
 use Rattle.dap_messages.specs.declared.told.Event.TheVariants.{Initialized, Terminated}
 use Rattle.dap_messages.specs.declared.told.Outcome.{Outcome}
@@ -19,9 +19,7 @@ use Rattle.bridge_core.proofs.Stepping.{waits_is, goes_is, tells_is, over_is, gr
 use Rattle.world_model.specs.Machine.{State, Hand, attached_from, Named, Need, Due, due_in, parts_of, response_to}
 use Rattle.world_model.specs.Machine.{responded, measured_by, changed_by, shown_by, with_shown, reply_among}
 use Rattle.world_model.specs.Machine.{sizes_reply, next_wish, set_of, effect_of, threads_need, threads_told}
-use Rattle.world_model.specs.Machine.{with_threads, refusal, name_reply, unnamed, unnamed_first, named, names_need}
-use Rattle.world_model.specs.Machine.{has_or_lacks}
-use Rattle.jdwp_values.specs.declared.id.ThreadId.{ThreadId}
+use Rattle.world_model.specs.Machine.{with_threads, refusal}
 use Rattle.world_model.specs.declared.ending.Ending.TheVariants.{Done}
 use Rattle.world_model.specs.declared.machine.Answered.{Answered}
 use Rattle.world_model.specs.declared.machine.Item.{Item}
@@ -111,25 +109,6 @@ pub shown_has : (need : Need (List Named)) (item : Item) (next : State) (named :
     → shown_by need item next ≡ responded item (Success (threads_told (with_threads next.threads named) named))
     (with_shown next named)
 shown_has need item next named e = rw e refl
-
-pub lacks_of : (questions : List Question) (named : List Named) (first : Question) (others : List Question)
-    → questions ≡ first ∷ others
-    → has_or_lacks questions named ≡ Need.lacks (first ∷ others)
-lacks_of questions named first others e = rw e refl
-
--- the first thread without a name is asked for
-pub first_lacking : (answers : List Answered) (threads left : List ThreadId) (thread : ThreadId)
-    (others : List ThreadId)
-    → left ≡ thread ∷ others → None ≡ reply_among (name_reply thread) answers
-    → unnamed answers left ≡ unnamed answers threads
-    → (x : List Question) × (names_need answers threads ≡ Need.lacks (questions.ThreadName thread ∷ x))
-first_lacking answers threads left thread others l n u =
-    let first : unnamed answers left ≡ questions.ThreadName thread ∷ unnamed answers others =
-    rw l (ap (λ (reply : Option Replied). unnamed_first reply thread (unnamed answers others)) (sym n)) in (
-      unnamed answers others,
-      lacks_of (unnamed answers threads) (named answers threads) (questions.ThreadName thread) (unnamed answers others)
-          (sym u ∙ first),
-    )
 
 -- the hand that was taken is put back
 pub none_back : (kept mid : Kept) → None ≡ kept.hand → mid ≡ record kept { hand = None } → mid ≡ kept
@@ -248,31 +227,28 @@ module _ (kept : Kept) (hand : Hand) (new : Kept) where
       (state_of (holding kept (before parts.Changes hand)) pending)
       (state_of (holding kept hand) pending) w))
 
-  pub shows_asks : (answers : List Answered) (question : Question) (step : Step) → answers ≡ hand.answers
-      → IsNeed (threads_need answers) (needs.Lacks question) → step ≡ asking new.phase question
-      → new ≡ holding kept (before parts.Shows hand) → Steps (holding kept (before parts.Shows hand)) step new
-  shows_asks answers question step a n d e =
+  pub shows_asks : (question : Question) (step : Step) → IsNeed (threads_need hand.answers) (needs.Lacks question)
+      → step ≡ asking new.phase question → new ≡ holding kept (before parts.Shows hand)
+      → Steps (holding kept (before parts.Shows hand)) step new
+  shows_asks question step n d e =
       rw (d, e) (asks_is (holding kept (before parts.Shows hand)) kept.phase question n.0 refl
       (λ pending. shown_lacks (threads_need hand.answers) hand.item (state_of (holding kept hand) pending)
-      (question ∷ n.0) (rw (← a) n.1)))
+      (question ∷ n.0) n.1))
 
-  pub shows_fails : (answers : List Answered) (code : ℕ) (step : Step) → answers ≡ hand.answers
-      → IsNeed (threads_need answers) (needs.Fails code) → step ≡ responding hand.item (failed (refusal code))
-      → new ≡ holding kept hand → Steps (holding kept (before parts.Shows hand)) step new
-  shows_fails answers code step a n d e = rw (d, e)
+  pub shows_fails : (code : ℕ) (step : Step) → IsNeed (threads_need hand.answers) (needs.Fails code)
+      → step ≡ responding hand.item (failed (refusal code)) → new ≡ holding kept hand
+      → Steps (holding kept (before parts.Shows hand)) step new
+  shows_fails code step n d e = rw (d, e)
       (responded_is (holding kept (before parts.Shows hand)) (holding kept hand) hand.item (failed (refusal code))
-      (λ pending. shown_fails (threads_need hand.answers) hand.item (state_of (holding kept hand) pending) code
-      (rw (← a) n)))
+      (λ pending. shown_fails (threads_need hand.answers) hand.item (state_of (holding kept hand) pending) code n))
 
-  pub shows_has : (answers : List Answered) (named : List Named) (step : Step) (mid : Kept) (shape : Shape)
-      → answers ≡ hand.answers
-      → IsNeed (threads_need answers) (needs.Has named)
+  pub shows_has : (named : List Named) (step : Step) (mid : Kept) (shape : Shape)
+      → IsNeed (threads_need hand.answers) (needs.Has named)
       → mid ≡ record kept { threads = with_threads kept.threads named }
       → shape ≡ threads_told mid.threads named → step ≡ responding hand.item (Success shape)
       → new ≡ holding mid hand → Steps (holding kept (before parts.Shows hand)) step new
-  shows_has answers named step mid shape a n m t d e = rw (d, e, t, m)
+  shows_has named step mid shape n m t d e = rw (d, e, t, m)
       (responded_is (holding kept (before parts.Shows hand))
       (holding (record kept { threads = with_threads kept.threads named }) hand)
       hand.item (Success (threads_told (with_threads kept.threads named) named))
-      (λ pending. shown_has (threads_need hand.answers) hand.item (state_of (holding kept hand) pending) named
-      (rw (← a) n)))
+      (λ pending. shown_has (threads_need hand.answers) hand.item (state_of (holding kept hand) pending) named n))

@@ -1,5 +1,5 @@
 -- What the target's packets lead to.
-use Rattle.std.proofs.Common.{◌≡◌, ℕ, ◌<◌, Bool, true, false, cond, List, [], ◌∷◌, ◌++◌, length, get_or, drop, inr, map}
+use Rattle.std.proofs.Common.{◌≡◌, ℕ, ◌<◌, Bool, true, false, cond, List, [], ◌∷◌, ◌++◌, length, get_or, drop, inr}
 use Rattle.std.proofs.Common.{Option, Some, refl, sym, ap, subst, ◌∙◌, arith}
 use Rattle.std.specs.Prelude.{◌==◌, Result, Ok, Err, IfOk, IfErr, OnOk}
 use Rattle.jdwp_commands.specs.Answers.{answer_at}
@@ -19,7 +19,7 @@ use Rattle.bridge_core.specs.Raws.{raw_seen}
 use Rattle.bridge_core.specs.declared.raw.RawComposite.{RawComposite}
 use Rattle.bridge_core.specs.Machines.{Kept, state_of, Becomes}
 use Rattle.bridge_core.specs.Steps.{Sight, sight, IsLike, Answers, RefusesPacket, Overflows, GoesOn, Moves, TakesPacket}
-use Rattle.bridge_core.specs.Steps.{RefusesEnd, without_target}
+use Rattle.bridge_core.specs.Steps.{RefusesEnd, without_target, asked_of}
 use Rattle.world_model.specs.Machine.{State, answered}
 use Rattle.world_model.specs.Session.{Raw, Serve, IsReply, Measures, is_tolerated, is_composite, numbers_in, numbers_of}
 use Rattle.world_model.specs.Session.{composite_ending, body_ending}
@@ -31,15 +31,12 @@ use Rattle.world_model.specs.declared.ending.Ending.TheVariants.{NoMemory}
 abbrev Commands : Type 0
 Commands = List (ℕ × Asked)
 
-abbrev pub asked_in : Commands → List Asked
-asked_in sent = map (λ (s : ℕ × Asked). s.1) sent
-
 -- the command that is pending under an id, between the others
 pub record IsAmong (id : ℕ) (sent : Commands) (asked : Asked) : Type 0 where
   pub before : List Asked
   pub after : List Asked
-  pub all : asked_in sent ≡ before ++ asked ∷ after
-  pub others : asked_in (without id sent) ≡ before ++ after
+  pub all : asked_of sent ≡ before ++ asked ∷ after
+  pub others : asked_of (without id sent) ≡ before ++ after
 
 pub among : (id : ℕ) (sent : Commands) (asked : Asked) → pending_under id sent ≡ Some asked → IsAmong id sent asked
 among id [] asked e = absurd cc
@@ -51,7 +48,7 @@ among id (s ∷ sent) asked e = by (s.0 == id) refl (among id sent asked) e
       after = is.after;
       all = ap (λ (l : List Asked). s.1 ∷ l) is.all;
       others =
-          ap (λ (b : Bool). asked_in (cond b sent (s ∷ without id sent))) differs ∙ ap (λ (l : List Asked). s.1 ∷ l)
+          ap (λ (b : Bool). asked_of (cond b sent (s ∷ without id sent))) differs ∙ ap (λ (l : List Asked). s.1 ∷ l)
           is.others;
     }
 
@@ -59,9 +56,9 @@ among id (s ∷ sent) asked e = by (s.0 == id) refl (among id sent asked) e
         → cond b (Some s.1) (pending_under id sent) ≡ Some asked → IsAmong id (s ∷ sent) asked
     by true is again e = record {
       before = [];
-      after = asked_in sent;
-      all = ap (λ (a : Asked). a ∷ asked_in sent) (let same : s.1 ≡ asked = cc in same);
-      others = ap (λ (b : Bool). asked_in (cond b sent (s ∷ without id sent))) is;
+      after = asked_of sent;
+      all = ap (λ (a : Asked). a ∷ asked_of sent) (let same : s.1 ≡ asked = cc in same);
+      others = ap (λ (b : Bool). asked_of (cond b sent (s ∷ without id sent))) is;
     }
     by false is again e = later is (again e)
 
@@ -158,7 +155,7 @@ answers kept after told commands left sizes later served raw limit id error body
         raw = raw;
         limit = limit;
       })
-          (becomes (asked_in (without id commands.sent)) ∙ ap
+          (becomes (asked_of (without id commands.sent)) ∙ ap
           (λ (p : List Asked). answered (state_of kept p) asked replied) is.others));
     }
 

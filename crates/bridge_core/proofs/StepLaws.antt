@@ -1,5 +1,5 @@
 -- How the machine goes on to what is seen next, and what then goes out.
-use Rattle.std.proofs.Common.{◌≡◌, ℕ, ◌+◌, ◌^◌, ◌<◌, ◌≤◌, Bool, true, false, List, [], ◌∷◌, ◌++◌, Option, map, refl}
+use Rattle.std.proofs.Common.{◌≡◌, ℕ, ◌+◌, ◌^◌, ◌<◌, ◌≤◌, Bool, true, false, List, [], ◌∷◌, ◌++◌, Option, refl}
 use Rattle.std.proofs.Common.{sym, ap, subst, ◌∙◌, arith}
 use Rattle.std.specs.Prelude.{◌↔◌, IsTrue, not, nat_lt, Result, Ok, Err, IfOk}
 use Rattle.dap_messages.specs.Reading.{reading_of}
@@ -22,7 +22,7 @@ use Rattle.wire_core.specs.declared.outside.Side.TheVariants.{Client, Target}
 use Rattle.bridge_core.specs.Fitting.{MaySend}
 use Rattle.bridge_core.specs.Machines.{Kept, state_of, IsFree, IsStep, Becomes, word_of, SaysNext}
 use Rattle.bridge_core.specs.Steps.{Sight, sight, Goes, work, in_state, Sends, IsIdle, Finds, SaysWord, Takes, Refuses}
-use Rattle.bridge_core.specs.Steps.{waiting_in}
+use Rattle.bridge_core.specs.Steps.{waiting_in, asked_of}
 use Rattle.bridge_core.specs.Telling.{is_empty, is_held, is_going, ComesTo, IsTold, IsSent, IsSaid}
 use Rattle.bridge_core.specs.declared.machine.LastWord.{LastWord}
 use Rattle.bridge_core.specs.declared.machine.LastWord.TheVariants as words
@@ -69,7 +69,7 @@ pub changed : (old new : Kept) (told : ℕ) (commands : Window) (sizes : Option 
     sight new told commands sizes raw limit ≡ in_state before (change before.state)
 changed old new told commands sizes raw limit change becomes =
     ap (λ (s : State). record { state = s; told = told; commands = commands; sizes = sizes; raw = raw; limit = limit })
-    (becomes (map (λ (c : ℕ × Asked). c.1) commands.sent))
+    (becomes (asked_of commands.sent))
 
 -- Going on ------------------------------------------------------------------------------------------------------------
 
@@ -269,36 +269,33 @@ asks old middle new question side bytes came is =
 abbrev Commands : Type 0
 Commands = List (ℕ × Asked)
 
-abbrev asked_in : Commands → List Asked
-asked_in sent = map (λ (s : ℕ × Asked). s.1) sent
-
-is_empty_where : (sent : Commands) (result : Bool) → IsTrue result ↔ (sent ≡ []) → result ≡ is_empty (asked_in sent)
+is_empty_where : (sent : Commands) (result : Bool) → IsTrue result ↔ (sent ≡ []) → result ≡ is_empty (asked_of sent)
 is_empty_where [] true e = refl
 is_empty_where [] false e = absurd (let is = e.1 refl in cc)
 is_empty_where (s ∷ sent) true e = absurd (let is = e.0 refl in cc)
 is_empty_where (s ∷ sent) false e = refl
 
 pub fresh_held : (phase : Phase) (sent : Commands) (result : Bool) → phase ≡ Fresh → IsTrue result ↔ (sent ≡ [])
-    → not result ≡ is_held phase (asked_in sent)
+    → not result ≡ is_held phase (asked_of sent)
 fresh_held phase sent result is e = rw is (ap not (is_empty_where sent result e))
 
 pub attached_held : (phase : Phase) (sent : Commands) (result : Bool) → phase ≡ Attached → IsTrue result ↔ (sent ≡ [])
-    → not result ≡ is_held phase (asked_in sent)
+    → not result ≡ is_held phase (asked_of sent)
 attached_held phase sent result is e = rw is (ap not (is_empty_where sent result e))
 
 pub awaits_where_empty : (sent : Commands) (hand : Option Hand) (result : Bool) → IsTrue result ↔ (sent ≡ [])
     → result ≡ true
-    → not (greets_in_hand hand) ≡ none_pending (asked_in sent) hand
+    → not (greets_in_hand hand) ≡ none_pending (asked_of sent) hand
 awaits_where_empty [] hand result e is = refl
 awaits_where_empty (s ∷ sent) hand result e is = absurd (let none = e.0 is in cc)
 
 pub awaits_where_not : (sent : Commands) (hand : Option Hand) (result : Bool) → IsTrue result ↔ (sent ≡ [])
     → result ≡ false
-    → false ≡ none_pending (asked_in sent) hand
+    → false ≡ none_pending (asked_of sent) hand
 awaits_where_not [] hand result e is = absurd (let all = e.1 refl in cc)
 awaits_where_not (s ∷ sent) hand result e is = refl
 
-asked_more : (sent : Commands) (more : ℕ × Asked) → asked_in (sent ++ more ∷ []) ≡ asked_in sent ++ more.1 ∷ []
+asked_more : (sent : Commands) (more : ℕ × Asked) → asked_of (sent ++ more ∷ []) ≡ asked_of sent ++ more.1 ∷ []
 asked_more [] more = refl
 asked_more (s ∷ sent) more = ap (λ (l : List Asked). s.1 ∷ l) (asked_more sent more)
 
@@ -354,7 +351,7 @@ pub says_word : (ending : Ending) (old said : Kept) (told : ℕ) (commands : Win
     → SaysWord ending (sight old told commands sizes raw limit) side bytes new
 says_word ending old said told commands sizes raw limit word side bytes new next is = record {
   word = word_of word;
-  left = next (asked_in commands.sent) ∙ ap (λ (s : State). word_of word ∷ last_words ending s) (sym is.same);
+  left = next (asked_of commands.sent) ∙ ap (λ (s : State). word_of word ∷ last_words ending s) (sym is.same);
   side_is = is.side_is;
   bytes_are = is.bytes_are;
   place_is = is.place_is;
@@ -392,12 +389,12 @@ flooded old new told commands sizes raw limit body at request reads becomes none
 
 -- The window ----------------------------------------------------------------------------------------------------------
 
-free_window : (sent : Commands) (next : ℕ) → asked_in sent ≡ [] → is_full (record { sent = sent; next = next }) ≡ false
+free_window : (sent : Commands) (next : ℕ) → asked_of sent ≡ [] → is_full (record { sent = sent; next = next }) ≡ false
 free_window [] next e = refl
 free_window (s ∷ sent) next e = absurd cc
 
 -- a window without commands isn't full
-pub not_full : (commands : Window) → asked_in commands.sent ≡ [] → is_full commands ≡ false
+pub not_full : (commands : Window) → asked_of commands.sent ≡ [] → is_full commands ≡ false
 not_full commands e = free_window commands.sent commands.next e
 
 pub may_send : (old new : Sight) (effect : Effect) → ComesTo old (steps.Sends effect) new

@@ -29,11 +29,12 @@ abbrev pub object_size : Option IdSizes → ℕ
 object_size None = 8
 object_size (Some sizes) = sizes.object
 
--- the threads that a reply gives
+-- the threads that an answer gives
 abbrev pub threads_in_answer : Answer → List ThreadId
 threads_in_answer (variants.AllThreads threads) = threads
 threads_in_answer _ = []
 
+-- the threads that a reply gives: an error gives none
 abbrev pub threads_in : Replied → List ThreadId
 threads_in (an_answer answer) = threads_in_answer answer
 threads_in (an_error code) = []
@@ -42,6 +43,7 @@ threads_in (an_error code) = []
 abbrev pub GivesBelow : ℕ → Replied → Type 0
 GivesBelow bound replied = AllByRecursion (λ (thread : ThreadId). thread.0 < bound) (threads_in replied)
 
+-- and so are those of all answers
 abbrev pub AreBelow : ℕ → List Answered → Type 0
 AreBelow bound [] = Unit {0}
 AreBelow bound (first ∷ answers) = GivesBelow bound first.replied × AreBelow bound answers
@@ -64,6 +66,7 @@ pub data IsSoundHand (bound : ℕ) (hand : Hand) : Type 0 where
   no_threads : NoneShows hand.parts → AreBelow 0 hand.answers → IsSoundHand bound hand
   no_sizes : NoneMeasures hand.parts → AreBelow bound hand.answers → IsSoundHand bound hand
 
+-- what is in hand is sound, if anything is
 abbrev pub IsSoundIn : ℕ → Option Hand → Type 0
 IsSoundIn bound hand = IfSome hand (IsSoundHand bound)
 

@@ -30,6 +30,7 @@ pub record Kept : Type 0 where
   pub hand : Option Hand
   pub closing : Bool
 
+-- nothing was heard and nothing told
 abbrev pub kept_fresh : Kept
 kept_fresh = record {
   manner = usual_manner;
@@ -86,6 +87,7 @@ Steps old step new =
 abbrev pub Becomes : Kept → (State → State) → Kept → Type 0
 Becomes old change new = (pending : List Asked) → state_of new pending ≡ change (state_of old pending)
 
+-- one of the last words, as the session has it
 abbrev pub word_of : LastWord → Word
 word_of (words.Tells told) = Word.tells told
 word_of words.Disposes = Word.disposes
@@ -95,5 +97,6 @@ abbrev pub SaysNext : Ending → Kept → LastWord → Kept → Type 0
 SaysNext ending old word new = (pending : List Asked)
     → last_words ending (state_of old pending) ≡ word_of word ∷ last_words ending (state_of new pending)
 
+-- none of them is left
 abbrev pub SaysNone : Ending → Kept → Type 0
 SaysNone ending old = (pending : List Asked) → last_words ending (state_of old pending) ≡ []

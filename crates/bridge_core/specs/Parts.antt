@@ -29,6 +29,7 @@ holding kept hand = record kept { hand = Some hand }
 abbrev pub before : Part → Hand → Hand
 before part hand = record hand { parts = part ∷ hand.parts }
 
+-- the target is gone
 abbrev pub is_gone : Phase → Bool
 is_gone Fresh = false
 is_gone Attached = false
@@ -93,10 +94,12 @@ asking Gone question = steps.Waits
 abbrev pub rest_left : Kept → List Word
 rest_left kept = map fails_gone (waiting_requests kept.waiting) ++ end_word kept.terminated
 
+-- a message that may be told to the client, as the words that this is
 abbrev pub told_words : Option Told → List Word
 told_words None = []
 told_words (Some told) = Word.tells told ∷ []
 
+-- and any of the last words
 abbrev pub last_word : Option LastWord → List Word
 last_word None = []
 last_word (Some word) = word_of word ∷ []

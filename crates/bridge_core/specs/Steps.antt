@@ -46,6 +46,7 @@ pub record Sight : Type 0 where
   pub raw : List Raw
   pub limit : ℕ
 
+-- a core that has heard and told nothing
 abbrev pub fresh_core : ℕ → Sight
 fresh_core limit = record { state = fresh; told = 0; commands = unsent; sizes = None; raw = []; limit = limit }
 
@@ -71,6 +72,7 @@ pub record Uncuts : Type 0 where
   pub target : Received
   pub ended : Bool
 
+-- the place of a session: what its core holds of it, and what the core doesn't
 abbrev pub place_of : Sight → Uncuts → Place
 place_of core uncuts = record {
   told = core.told;
@@ -92,9 +94,11 @@ raw_in Fresh raw = raw
 raw_in Attached raw = raw
 raw_in Gone raw = []
 
+-- a core without the composites that are passed over
 abbrev pub dropped : Sight → Sight
 dropped core = record core { raw = raw_in core.state.phase core.raw }
 
+-- a core whose machine is in this state
 abbrev pub in_state : Sight → State → Sight
 in_state core state = record core { state = state }
 
@@ -105,15 +109,17 @@ pub data Goes : State → State → Type 0 where
   stays : {s : State} → Goes s s
   goes : {s middle next : State} → due s ≡ Due.goes middle → Goes middle next → Goes s next
 
--- How much the machine can still do by itself: each step lessens it.
+-- what is left to do of the item in hand
 abbrev pub hand_work : Option Hand → ℕ
 hand_work None = 0
 hand_work (Some hand) = 2 + 2 * length hand.parts
 
+-- a command may be sent where none is pending
 abbrev pub free_work : List Asked → ℕ
 free_work [] = 1
 free_work (asked ∷ pending) = 0
 
+-- How much the machine can still do by itself: each step lessens it.
 abbrev pub work : State → ℕ
 work s = 20 * length s.waiting + hand_work s.hand + free_work s.pending
 
@@ -191,15 +197,17 @@ pub record Answers (old : Sight) (id error : ℕ) (body : List ℕ) (new : Sight
     sizes = later;
   }
 
--- a packet as the cutter hands it out, with its offset in the target's stream
+-- the offset in the target's stream of a packet, as the cutter hands it out
 abbrev pub offset_of : Shown → ℕ
 offset_of (Command at id set number body) = at
 offset_of (Reply at id error body) = at
 
+-- its body
 abbrev pub body_of : Shown → List ℕ
 body_of (Command at id set number body) = body.now
 body_of (Reply at id error body) = body.now
 
+-- the packet itself
 abbrev pub packet_of : Shown → Packet
 packet_of (Command at id set number body) = command_packet id set number body.now
 packet_of (Reply at id error body) = reply_packet id error body.now
@@ -221,6 +229,7 @@ pub record Overflows (heard new : Sight) : Type 0 where
   pub no_room : heard.limit < waiting_in heard
   pub is : new ≡ heard
 
+-- a packet was heard, and there is room for what it leads to
 pub record TakesPacket (old : Sight) (at : ℕ) (packet : Packet) (new : Sight) : Type 0 where
   pub heard : Sight
   pub moves : Moves old at packet heard
@@ -292,3 +301,8 @@ pub record SaysWord (ending : Ending) (old : Sight) (side : Side) (bytes : List 
   pub place_is : (uncuts : Uncuts) → place_of new uncuts ≡ word_said (place_of old uncuts) word
   pub same_limit : new.limit ≡ old.limit
   pub small : side ≡ Client → new.told < 2 ^ 63
+
+-- nothing is left to say, and all is as before but what the machine let go
+pub record SaysNoMore (ending : Ending) (old new : Sight) : Type 0 where
+  pub none_left : last_words ending new.state ≡ []
+  pub same : new ≡ in_state old new.state

@@ -20,6 +20,7 @@ use Rattle.world_model.specs.Session.{Serve, word_side, word_bytes, word_said}
 use Rattle.world_model.specs.declared.machine.Phase.{Phase}
 use Rattle.world_model.specs.declared.machine.Phase.TheVariants.{Fresh, Attached, Gone}
 
+-- no command is without a reply
 abbrev pub is_empty : List Asked → Bool
 is_empty [] = true
 is_empty (asked ∷ pending) = false

@@ -3,10 +3,11 @@ ghost use Rattle.dap_messages.specs.declared.requests.Request.{Request as AReque
 ghost use Rattle.world_model.specs.Session.{owed_by};
 ghost use Rattle.world_model.specs.declared.machine.Part.{Part as APart};
 ghost use Rattle.bridge_core.specs.Fitting.{AreFewer};
-ghost use Rattle.bridge_core.specs.Parts.{before};
-ghost use Rattle.world_model.specs.Machine.{awaits_greeting, given_up, with_answer};
+ghost use Rattle.bridge_core.specs.Parts.{before, IsNeed};
+ghost use Rattle.world_model.specs.Machine.{awaits_greeting, given_up, threads_need, with_answer};
 
 use crate::row::parts_without;
+use crate::threads::{Need, threads_need};
 use jdwp_commands::{Question, Replied};
 use std::alloc::Global;
 use std::collections::VecDeque;
@@ -15,19 +16,25 @@ use wire_core::{List, NoMemory};
 use world_model::{Answered, Item, Part};
 
 /// The item in hand, what is left of it to do, and what was answered for it.
+///
+/// So many of the threads that were answered are known to have their names: these aren't looked up again at each step.
 #[derive(Debug, Drop)]
 pub(crate) struct Hand {
     item: Item,
     parts: VecDeque<Part>,
     answers: List<Answered>,
+    named: usize,
 }
 
 impl Model for Hand {
+    ghost use Rattle.bridge_core.specs.Naming.{AreNamed, threads_given};
     ghost use Rattle.world_model.specs.Machine.{Hand as AHand};
 
     ghost Value = { AHand };
 
     ghost view = { λ h. record { item = h.item; parts = h.parts.items; answers = h.answers } };
+
+    ghost invariant = { λ h. AreNamed h.answers (threads_given h.answers) h.named };
 }
 
 impl Hand {
@@ -39,6 +46,7 @@ impl Hand {
             item,
             parts,
             answers: List::new(alloc),
+            named: 0,
         }
     }
 
@@ -87,12 +95,14 @@ impl Hand {
             item,
             parts,
             answers,
+            named,
         } = self;
         let parts = parts_without(alloc, &item, parts)?;
         Ok(Hand {
             item,
             parts,
             answers,
+            named,
         })
     }
 
@@ -104,7 +114,16 @@ impl Hand {
     ) -> Result<(), NoMemory>
         ensures { OnOk result (self.new ≡ with_answer question replied self.old) }
     {
-        self.answers.push(Answered { question, replied })
+        self.answers.push(Answered { question, replied })?;
+        Ok(())
+    }
+
+    /// What `threads` needs of what was answered for the item.
+    pub(crate) fn threads_need(&mut self, alloc: Global) -> Result<Need, NoMemory>
+        ensures need { IfOk result (IsNeed (threads_need self.old.answers)) }
+        ensures same { self.new ≡ self.old }
+    {
+        threads_need(alloc, self.answers.as_slice(), &mut self.named)
     }
 
     /// Lets the parts go up to the next one that responds to the request, with it, if there is one.

@@ -16,13 +16,13 @@ use jdwp_values::IdSizes;
 use std::alloc::Global;
 use world_model::{Ending, TargetFault};
 
-// How many bytes of a packet stand before its body.
+// How many bytes of a packet stand before its body (JDWP, JDWP Packets).
 const HEADER: u64 = 11;
 
 // The error of a target that has ended (JDWP, Error Constants, VM_DEAD).
 const VM_DEAD: u16 = 112;
 
-// The set and the number of a composite (JDWP, Event command set).
+// The set and the number of a composite (JDWP, Event command set, Composite).
 const EVENT_SET: u8 = 64;
 
 const COMPOSITE: u8 = 100;

@@ -245,6 +245,7 @@ impl Machine {
     ) -> Result<Option<LastWord>, NoMemory>
         ensures some { IfOk result (λ word. IfSome word (λ w. SaysNext ending.now self.old w self.new)) }
         ensures none { IfOk result (λ word. IfNone word (SaysNone ending.now self.old)) }
+        ensures no_more { IfOk result (λ word. IfNone word (SaysNone ending.now self.new)) }
         ensures less { AsksNoMore self.old.hand self.new.hand }
     {
         words::next_word(alloc, self, ending)
@@ -283,7 +284,8 @@ impl Machine {
     /// The first item that waits is taken.
     pub(crate) fn next_item(&mut self) -> Option<Item>
         ensures { MatchOption result ((self.old.waiting ≡ []) × (self.new ≡ self.old))
-            (λ item. (self.old.waiting ≡ item ∷ self.new.waiting) × (self.new ≡ record self.old { waiting = self.new.waiting })) }
+            (λ item. (self.old.waiting ≡ item ∷ self.new.waiting)
+            × (self.new ≡ record self.old { waiting = self.new.waiting })) }
     {
         self.waiting.pop_front()
     }

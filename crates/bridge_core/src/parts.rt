@@ -8,7 +8,7 @@ ghost use Rattle.world_model.specs.declared.machine.Part.TheVariants as parts;
 use crate::hand::Hand;
 use crate::machine::{Machine, Step};
 use crate::row::{effect_of, refusal, response_to, set_of};
-use crate::threads::{Named, Need, has_sizes, threads_need, threads_told};
+use crate::threads::{Named, Need, has_sizes, threads_told};
 use dap_messages::{Event, Outcome, Shape, Told};
 use jdwp_commands::Question;
 use std::alloc::Global;
@@ -170,11 +170,11 @@ fn told_threads(alloc: Global, machine: &mut Machine, named: &[Named]) -> Result
     threads_told(alloc, machine.threads(), named)
 }
 
-fn shows(alloc: Global, machine: &mut Machine, hand: Hand) -> Result<Step, NoMemory>
+fn shows(alloc: Global, machine: &mut Machine, mut hand: Hand) -> Result<Step, NoMemory>
     ensures { MatchResult result (λ step. Steps (holding machine.old (before parts.Shows hand)) step machine.new)
         (λ _. machine.new.hand ≡ machine.old.hand) }
 {
-    match threads_need(alloc, hand.answers())? {
+    match hand.threads_need(alloc)? {
         Need::Lacks(question) => {
             keep(machine, hand, Part::Shows)?;
             Ok(asked(machine, question))

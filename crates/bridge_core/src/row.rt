@@ -17,7 +17,7 @@ use std::collections::VecDeque;
 use wire_core::{List, NoMemory, Text};
 use world_model::{Item, Leaving, Manner, Part, Phase, Standing, Wish};
 
-// The error of a target that has ended (JDWP, Error Constants).
+// The error of a target that has ended (JDWP, Error Constants, VM_DEAD).
 const VM_DEAD: u16 = 112;
 
 /// Whether the client asks to end the session.

@@ -1,10 +1,10 @@
 ghost use Rattle.std.specs.Prelude.{◌≡◌, ◌^◌, ◌<◌, ◌≤◌, ◌+◌, nat_lt, true, false, [], length, OnOk, IfErr, IfOk};
-ghost use Rattle.std.specs.Prelude.{IfSome, IfNone};
+ghost use Rattle.std.specs.Prelude.{IfSome, IfNone, OnErr};
 ghost use Rattle.bridge_core.specs.Fitting.{MaySend};
 ghost use Rattle.bridge_core.specs.Machines.{IsStep};
 ghost use Rattle.bridge_core.specs.Steps.{fresh_core, Takes, Refuses, TakesPacket, RefusesPacket, GoesOn, RefusesEnd};
-ghost use Rattle.bridge_core.specs.Steps.{without_target, Finds, IsIdle, Sends, SaysWord, in_state, offset_of};
-ghost use Rattle.bridge_core.specs.Steps.{packet_of, body_of, KeepsRaw, Answers, Overflows, waiting_in};
+ghost use Rattle.bridge_core.specs.Steps.{without_target, Finds, IsIdle, Sends, SaysWord, SaysNoMore, in_state};
+ghost use Rattle.bridge_core.specs.Steps.{offset_of, packet_of, body_of, KeepsRaw, Answers, Overflows, waiting_in};
 ghost use Rattle.bridge_core.specs.Telling.{is_held, is_going, ComesTo, IsTold, IsSent, IsSaid};
 ghost use Rattle.jdwp_packets.specs.Packets.{command_packet, reply_packet, handshake, packet_bytes};
 ghost use Rattle.wire_core.specs.declared.outside.Side.TheVariants.{Target as of_target};
@@ -26,7 +26,7 @@ use std::marker::Model;
 use wire_core::{Blob, List, NoMemory, Side};
 use world_model::{ClientFault, Ending, Limits, Phase, TargetFault};
 
-// What goes to the target first (JDWP, Handshake).
+// What goes to the target first (JDWP, JDWP Start Up).
 const HANDSHAKE: [u8; 14] = *b"JDWP-Handshake";
 
 // The set and the number of the command that lets a target run on (JDWP, VirtualMachine command set, Dispose).
@@ -195,10 +195,13 @@ impl Core {
         }
     }
 
-    /// The next of an ending's last words, or nothing where all were handed out.
+    /// The next of an ending's last words, or nothing where all were handed out. Where memory is refused nothing is
+    /// told, and the word may be lost.
     pub fn last_words(&mut self, alloc: Global, ending: &Ending) -> Result<Option<Out>, NoMemory>
         ensures none { IfOk result (λ out. IfNone out (last_words ending.now self.old.state ≡ [])) }
+        ensures no_more { IfOk result (λ out. IfNone out (SaysNoMore ending.now self.old self.new)) }
         ensures says { IfOk result (λ out. IfSome out (λ o. SaysWord ending.now self.old o.side o.bytes self.new)) }
+        ensures err { OnErr result (self.new ≡ in_state self.old self.new.state) }
     {
         match self.machine.next_word(alloc, ending)? {
             None => Ok(None),
@@ -334,7 +337,8 @@ impl Core {
 
     // Tells the client the next message.
     fn tell(&mut self, alloc: Global, told: &Told) -> Result<Out, NoMemory>
-        ensures { IfOk result (λ out. IsTold self.old told.now out.side out.bytes self.new) }
+        ensures ok { IfOk result (λ out. IsTold self.old told.now out.side out.bytes self.new) }
+        ensures err { OnErr result (self.new ≡ self.old) }
     {
         let bytes = framed(alloc, self.told, told)?;
         self.told += 1;
@@ -346,7 +350,8 @@ impl Core {
 
     // Says one of the last words.
     fn say(&mut self, alloc: Global, word: LastWord) -> Result<Out, NoMemory>
-        ensures { IfOk result (λ out. IsSaid self.old word out.side out.bytes self.new) }
+        ensures ok { IfOk result (λ out. IsSaid self.old word out.side out.bytes self.new) }
+        ensures err { OnErr result (self.new ≡ self.old) }
     {
         match word {
             LastWord::Tells(told) => self.tell(alloc, &told),
@@ -395,7 +400,7 @@ fn is_going(step: &Step) -> bool
     }
 }
 
-// The handshake goes to the target (JDWP, Handshake).
+// The handshake goes to the target (JDWP, JDWP Start Up).
 fn greeting(alloc: Global) -> Result<Out, NoMemory>
     ensures { IfOk result (λ out. (out.side ≡ of_target) × (out.bytes ≡ handshake)) }
 {

@@ -7,6 +7,8 @@ use world_model::{ClientFault, Ending, Limits, TargetFault};
 const ATTACH: [u8; 82] =
     *b"{\"seq\":1,\"type\":\"request\",\"command\":\"attach\",\"arguments\":{\"sourceRoots\":[\"/src\"]}}";
 
+const DISCONNECT: [u8; 49] = *b"{\"seq\":1,\"type\":\"request\",\"command\":\"disconnect\"}";
+
 // A reply in a packet at the offset 100: sizes of ids, of which that of classes is given, or the id of an event
 // request.
 fn answer(core: &mut Core, rt: &HostRuntime, id: u32, error: u16, class: u8) -> Option<Ending> {
@@ -180,6 +182,20 @@ fn what_a_core_refuses(rt: HostRuntime) -> Result<(), Fail> {
             .is_ok()
     );
     assert_eq!(rt; core.target_shut(rt.alloc()).err(), Some(Ending::Flood));
+    core.finish();
+    Ok(())
+}
+
+#[test]
+fn a_closing_core_has_no_last_word(rt: HostRuntime) -> Result<(), Fail> {
+    let mut core = Core::new(rt.alloc(), &Limits::standard())?;
+    let heard = core.client_body(rt.alloc(), 7, &DISCONNECT).is_ok();
+    assert!(rt; heard && core.is_closing());
+    assert_eq!(rt; core.target_shut(rt.alloc()).err(), None);
+    assert!(rt;
+        core.last_words(rt.alloc(), &Ending::Spent)
+            .is_ok_and(|out| out.is_none())
+    );
     core.finish();
     Ok(())
 }

@@ -1,7 +1,10 @@
-ghost use Rattle.std.specs.Prelude.{◌≡◌, ◌++◌, [], if◌then◌else◌, Some, None, IfOk, OnOk, option_copied};
+ghost use Rattle.std.specs.Prelude.{◌≡◌, ◌++◌, [], if◌then◌else◌, Some, None, IfOk, OnOk, MatchOption, option_copied};
 ghost use Rattle.std.specs.Option.{is_some};
 ghost use Rattle.jdwp_commands.specs.declared.asked.Replied.{Replied as AReplied};
+ghost use Rattle.bridge_core.specs.Fitting.{threads_in_answer};
+ghost use Rattle.bridge_core.specs.Naming.{AreNamed, IsFirstUnnamed, threads_given};
 ghost use Rattle.world_model.specs.Machine.{sizes_reply, threads_reply, name_reply, reply_among, names_need, listed};
+ghost use Rattle.world_model.specs.Machine.{named, unnamed};
 ghost use Rattle.world_model.specs.Machine.{threads_need, is_among, with_thread, with_threads, number_among};
 ghost use Rattle.world_model.specs.Machine.{thread_told, threads_told, named_first};
 ghost use Rattle.bridge_core.specs.Parts.{IsNeed};
@@ -98,12 +101,12 @@ fn add_named(
     alloc: Global,
     found: &mut List<Named>,
     thread: ThreadId,
-    replied: &Replied,
+    replied: Option<&Replied>,
 ) -> Result<(), NoMemory>
-    ensures { OnOk result (found.new ≡ found.old ++ named_first (Some replied.now) thread []) }
+    ensures { OnOk result (found.new ≡ found.old ++ named_first (option_copied replied.entry) thread []) }
 {
     match replied {
-        Replied::Answer(Answer::ThreadName(name)) => {
+        Some(Replied::Answer(Answer::ThreadName(name))) => {
             let name = List::from_slice(alloc, name.as_slice())?;
             found.push(Named { thread, name })
         }
@@ -111,35 +114,96 @@ fn add_named(
     }
 }
 
-fn names_need(alloc: Global, answers: &[Answered], threads: &[ThreadId]) -> Result<Need, NoMemory>
-    ensures { IfOk result (IsNeed (names_need answers.now threads.now)) }
+// Whether the question for a thread's name has a reply. The last answer is mostly the one that is sought.
+fn has_name(answers: &[Answered], thread: ThreadId) -> bool
+    ensures { result ≡ is_some (reply_among (name_reply thread) answers.now) }
+{
+    for place in (0..answers.len()).rev() {
+        if asks_name(&answers[place].question, thread) {
+            return true;
+        }
+    }
+    false
+}
+
+// The first thread whose name has no reply. So many threads before it have one; the count goes on to it.
+fn next_unnamed(answers: &[Answered], threads: &[ThreadId], count: &mut usize) -> Option<ThreadId>
+    requires { AreNamed answers.now threads.now count.old }
+    ensures named { AreNamed answers.now threads.now count.new }
+    ensures next { MatchOption result (unnamed answers.now threads.now ≡ [])
+        (IsFirstUnnamed answers.now threads.now) }
+{
+    while *count < threads.len() {
+        let thread = threads[*count];
+        if !has_name(answers, thread) {
+            return Some(thread);
+        }
+        *count += 1;
+    }
+    None
+}
+
+// The threads with their names, but for those whose names were refused.
+fn with_names(
+    alloc: Global,
+    answers: &[Answered],
+    threads: &[ThreadId],
+) -> Result<List<Named>, NoMemory>
+    ensures { IfOk result (λ found. found ≡ named answers.now threads.now) }
 {
     let mut found = List::new(alloc);
     for thread in threads {
-        match name_reply(answers, *thread) {
-            None => return Ok(Need::Lacks(Question::ThreadName(*thread))),
-            Some(replied) => add_named(alloc, &mut found, *thread, replied)?,
-        }
+        add_named(alloc, &mut found, *thread, name_reply(answers, *thread))?;
     }
-    Ok(Need::Has(found))
+    Ok(found)
 }
 
-fn listed(alloc: Global, answers: &[Answered], answer: &Answer) -> Result<Need, NoMemory>
-    ensures { IfOk result (IsNeed (listed answers.now answer.now)) }
+fn names_need(
+    alloc: Global,
+    answers: &[Answered],
+    threads: &[ThreadId],
+    count: &mut usize,
+) -> Result<Need, NoMemory>
+    requires { AreNamed answers.now threads.now count.old }
+    ensures need { IfOk result (IsNeed (names_need answers.now threads.now)) }
+    ensures named { AreNamed answers.now threads.now count.new }
+{
+    match next_unnamed(answers, threads, count) {
+        Some(thread) => Ok(Need::Lacks(Question::ThreadName(thread))),
+        None => Ok(Need::Has(with_names(alloc, answers, threads)?)),
+    }
+}
+
+fn listed(
+    alloc: Global,
+    answers: &[Answered],
+    answer: &Answer,
+    count: &mut usize,
+) -> Result<Need, NoMemory>
+    requires { AreNamed answers.now (threads_in_answer answer.now) count.old }
+    ensures need { IfOk result (IsNeed (listed answers.now answer.now)) }
+    ensures named { AreNamed answers.now (threads_in_answer answer.now) count.new }
 {
     match answer {
-        Answer::AllThreads(threads) => names_need(alloc, answers, threads.as_slice()),
+        Answer::AllThreads(threads) => names_need(alloc, answers, threads.as_slice(), count),
         _ => Ok(Need::Has(List::new(alloc))),
     }
 }
 
-/// What `threads` needs: all threads, and the name of each.
-pub(crate) fn threads_need(alloc: Global, answers: &[Answered]) -> Result<Need, NoMemory>
-    ensures { IfOk result (IsNeed (threads_need answers.now)) }
+/// What `threads` needs: all threads, and the name of each. So many of the threads have their names already; the count
+/// goes on to the first that has none.
+pub(crate) fn threads_need(
+    alloc: Global,
+    answers: &[Answered],
+    count: &mut usize,
+) -> Result<Need, NoMemory>
+    requires { AreNamed answers.now (threads_given answers.now) count.old }
+    ensures need { IfOk result (IsNeed (threads_need answers.now)) }
+    ensures named { AreNamed answers.now (threads_given answers.now) count.new }
 {
     match threads_reply(answers) {
         None => Ok(Need::Lacks(Question::AllThreads)),
-        Some(Replied::Answer(answer)) => listed(alloc, answers, answer),
+        Some(Replied::Answer(answer)) => listed(alloc, answers, answer, count),
         Some(Replied::Error(code)) => Ok(Need::Fails(*code)),
     }
 }

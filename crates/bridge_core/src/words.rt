@@ -95,7 +95,8 @@ fn waiting_word(alloc: Global, machine: &mut Machine) -> Result<Option<Told>, No
 // The next word for the item in hand.
 fn owed_word(alloc: Global, hand: &mut Hand) -> Result<Option<Told>, NoMemory>
     ensures some { IfOk result (λ word. IfSome word
-        (λ told. map fails_gone (owed_in hand.old.item hand.old.parts) ≡ Word.tells told ∷ map fails_gone (owed_in hand.new.item hand.new.parts))) }
+        (λ told. map fails_gone (owed_in hand.old.item hand.old.parts)
+        ≡ Word.tells told ∷ map fails_gone (owed_in hand.new.item hand.new.parts))) }
     ensures none { IfOk result (λ word. IfNone word (owed_in hand.old.item hand.old.parts ≡ [])) }
     ensures less { AsksNoMore (Some hand.old) (Some hand.new) }
 {
@@ -160,6 +161,7 @@ pub(crate) fn next_word(
 ) -> Result<Option<LastWord>, NoMemory>
     ensures some { IfOk result (λ word. IfSome word (λ w. SaysNext ending.now machine.old w machine.new)) }
     ensures none { IfOk result (λ word. IfNone word (SaysNone ending.now machine.old)) }
+    ensures no_more { IfOk result (λ word. IfNone word (SaysNone ending.now machine.new)) }
     ensures less { AsksNoMore machine.old.hand machine.new.hand }
 {
     if !tells_client(ending) {

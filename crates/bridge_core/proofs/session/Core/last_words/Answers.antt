@@ -9,4 +9,4 @@ returns-in_ok-say-in-Some-clause-says c =
     rw (← c.self.view_is)
     (says_word c.args.ending.now self.machine c.next_word.new.self self.told self.commands self.sizes
     (raw_seen self.raw)
-    self.limit c.in-Some.word _ _ _ next c.in_ok-say-in-Some.ensures)
+    self.limit c.in-Some.word _ _ _ next c.in_ok-say-in-Some.ensures.ok)

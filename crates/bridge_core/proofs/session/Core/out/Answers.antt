@@ -16,7 +16,7 @@ returns-in_err-tell-in-Tells-clause-over c =
 
 pub returns-in_ok-tell-in-Tells-clause-sends : goal.returns-in_ok-tell-in-Tells-clause-sends
 returns-in_ok-tell-in-Tells-clause-sends c =
-    tells _ _ _ c.in-Tells.told _ _ (rw c.in-Tells.is at c.in_ok-go.ensures.comes) c.in_ok-tell-in-Tells.ensures
+    tells _ _ _ c.in-Tells.told _ _ (rw c.in-Tells.is at c.in_ok-go.ensures.comes) c.in_ok-tell-in-Tells.ensures.ok
 
 pub returns-in_err-greeting-in-Greets-clause-over : goal.returns-in_err-greeting-in-Greets-clause-over
 returns-in_err-greeting-in-Greets-clause-over c =
@@ -26,7 +26,8 @@ returns-in_err-greeting-in-Greets-clause-over c =
 
 pub returns-in_ok-greeting-in-Greets-clause-sends : goal.returns-in_ok-greeting-in-Greets-clause-sends
 returns-in_ok-greeting-in-Greets-clause-sends c =
-    greets _ _ _ _ (rw c.in-Greets.is at c.in_ok-go.ensures.comes) c.in_ok-greeting-in-Greets.ensures.0 c.in_ok-greeting-in-Greets.ensures.1
+    greets _ _ _ _ (rw c.in-Greets.is at c.in_ok-go.ensures.comes) c.in_ok-greeting-in-Greets.ensures.0
+    c.in_ok-greeting-in-Greets.ensures.1
 
 pub returns-in_err-send-in-Sends-clause-over : goal.returns-in_err-send-in-Sends-clause-over
 returns-in_err-send-in-Sends-clause-over c =
