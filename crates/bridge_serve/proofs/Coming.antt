@@ -13,7 +13,8 @@ use Rattle.world_model.specs.Session.{At, Session, Happens, ended, last_words, t
 use Rattle.world_model.specs.declared.ending.Ending.{Ending}
 use Rattle.world_model.specs.declared.ending.Ending.TheVariants.{Left, ClientLink, TargetLink, NoMemory}
 use Rattle.world_model.specs.declared.ending.Limits.{Limits}
-use Rattle.bridge_serve.specs.Following.{standing, Heard, Leads, Blames, IsLeft, IsCounted, IsReady, MayHear, Hears}
+use Rattle.bridge_serve.specs.Serving.{Blames}
+use Rattle.bridge_serve.specs.Following.{standing, Heard, Leads, IsLeft, IsCounted, IsReady, MayHear, Hears}
 use Rattle.bridge_serve.specs.Following.{HearsEnd}
 use Rattle.bridge_serve.proofs.LastWords.{each_client, each_target, attached_is_here, left_for_memory}
 use Rattle.bridge_serve.proofs.Moves.{Continues, leads_by}

@@ -1,6 +1,6 @@
 -- How the bodies that the client's cutter hands out lead a session on.
-use Rattle.std.proofs.Common.{◌≡◌, ℕ, ◌+◌, ◌<◌, ◌≤◌, ◌⊎◌, refl, sym, ap, subst, ◌∙◌, arith, Bool, true, false, List}
-use Rattle.std.proofs.Common.{length, None, Some, Ok, Err}
+use Rattle.std.proofs.Common.{◌≡◌, ℕ, ◌+◌, ◌<◌, ◌≤◌, ◌⊎◌, refl, sym, ap, subst, ◌∙◌, arith, true, false, List}
+use Rattle.std.proofs.Common.{length, Option, Some, Ok, Err}
 use Rattle.std.proofs.lemmas.List.{length-drop}
 use Rattle.bridge_core.specs.Steps.{Sight, place_of, in_state, waiting_in, Takes, Refuses}
 use Rattle.dap_frames.proofs.FrameLaws.{front-steady}
@@ -12,18 +12,20 @@ use Rattle.dap_frames.specs.declared.fault.FrameTrouble.{FrameTrouble}
 use Rattle.dap_messages.specs.Reading.{reading_of}
 use Rattle.dap_messages.specs.declared.requests.Incoming.TheVariants.{Request as a_request}
 use Rattle.dap_messages.specs.declared.requests.Request.{Request}
-use Rattle.jdwp_packets.specs.Receiving.{Received}
-use Rattle.wire_core.specs.Outside.{Outside}
+use Rattle.wire_core.specs.Outside.{Outside, IsOpen}
 use Rattle.wire_core.specs.Streams.{Front, waits, whole, faulty, Uncut, past, left}
 use Rattle.wire_core.specs.declared.outside.Entry.{Entry}
+use Rattle.wire_core.specs.declared.outside.Side.TheVariants.{Target}
 use Rattle.world_model.specs.Machine.{Message, Allows, queued}
 use Rattle.world_model.specs.Session as session
-use Rattle.world_model.specs.Session.{At, Session, Says, Reads, Waits, target_front}
+use Rattle.world_model.specs.Session.{Session, Brings, Reads, Waits, target_front}
 use Rattle.world_model.specs.declared.ending.ClientFault.TheVariants.{Frame as frame_fault, NotJson, NotAMessage}
 use Rattle.world_model.specs.declared.ending.Ending.{Ending}
 use Rattle.world_model.specs.declared.ending.Ending.TheVariants.{BadClient}
 use Rattle.world_model.specs.declared.ending.Limits.{Limits}
-use Rattle.bridge_serve.specs.Following.{standing, Heard, IsReady, IsTakenUp, Stops}
+use Rattle.world_model.specs.declared.machine.Phase.TheVariants.{Gone}
+use Rattle.bridge_serve.specs.Following.{standing, Heard, IsReady, IsTakenUp, CoreIsReady, Stops}
+use Rattle.bridge_serve.specs.Following.{body_taken, IsMisframed}
 use Rattle.bridge_serve.proofs.Taking.{TakesUp, SameEnds, IsReading, core_ready, on_in, floods, forgets, stops_there}
 use Rattle.bridge_serve.proofs.Moves.{leads_in_place}
 
@@ -42,18 +44,11 @@ answer_whole waits at body answer = cc
 answer_whole (whole frame size) at body answer = (frame, size, refl, answer.0, answer.1)
 answer_whole (faulty fault distance) at body answer = cc
 
-pub taken_whole : (old : Uncut) (body : Body) → IsTaken old (Ok (Some body)) → IsWhole old body
-taken_whole old body taken =
-    let found = answer_whole (frame_front old.pending) old.at body taken in
+taken_whole : (old : Uncut) (next : Option Body) (body : Body) → IsTaken old (Ok next) → next ≡ Some body
+    → IsWhole old body
+taken_whole old next body taken some =
+    let found = answer_whole (frame_front old.pending) old.at body (rw some at taken) in
     record { frame = found.0; size = found.1; front = found.2; at = found.3; bytes = found.4 }
-
-answer_none : (front : Front Frame FrameFault) (at : ℕ) → IsAnswer front at (Ok None) → front ≡ waits
-answer_none waits at answer = refl
-answer_none (whole frame size) at answer = absurd answer
-answer_none (faulty fault distance) at answer = cc
-
-pub taken_none : (old : Uncut) → IsTaken old (Ok None) → frame_front old.pending ≡ waits
-taken_none old taken = answer_none (frame_front old.pending) old.at taken
 
 answer_fault : (front : Front Frame FrameFault) (at : ℕ) (trouble : FrameTrouble) → IsAnswer front at (Err trouble)
     → (distance : ℕ) × (front ≡ faulty trouble.fault distance) × (trouble.at ≡ at + distance)
@@ -68,12 +63,8 @@ pub taken_fault : (old : Uncut) (trouble : FrameTrouble) → IsTaken old (Err tr
     → (distance : ℕ) × (frame_front old.pending ≡ faulty trouble.fault distance) × (trouble.at ≡ old.at + distance)
 taken_fault old trouble taken = answer_fault (frame_front old.pending) old.at trouble taken
 
-pub rest_is : (old rest : Uncut) (body : Body) (found : IsWhole old body) → rest ≡ left (frame_front old.pending) old
-    → rest ≡ past old found.size
-rest_is old rest body found is = is ∙ ap (λ (front : Front Frame FrameFault). left front old) found.front
-
--- a body that was taken leaves fewer bytes
-pub fewer_left : (old : Uncut) (body : Body) (found : IsWhole old body)
+-- what is left of the bytes, which come no further
+fewer_left : (old : Uncut) (body : Body) (found : IsWhole old body)
     → (length (past old found.size).pending < length old.pending)
     × ((past old found.size).at + length (past old found.size).pending ≡ old.at + length old.pending)
 fewer_left old body found =
@@ -86,6 +77,28 @@ fewer_left old body found =
 -- the frame is cut
 abbrev pub frame_cut : Heard → ℕ → Heard
 frame_cut heard n = record heard { uncuts = record heard.uncuts { client = past heard.uncuts.client n } }
+
+-- What the taking of a body found, and what is left then.
+pub record Next (heard heard' : Heard) (body : Body) : Type 0 where
+  pub found : IsWhole heard.uncuts.client body
+  pub left : heard' ≡ frame_cut heard found.size
+
+-- what is left, by what stands at the front
+abbrev left_by : Heard → Front Frame FrameFault → Heard
+left_by heard front = record heard { uncuts = record heard.uncuts { client = left front heard.uncuts.client } }
+
+pub next_of : (heard : Heard) {heard' : Heard} {next : Option Body} {body : Body}
+    → IsTaken heard.uncuts.client (Ok next) → next ≡ Some body → heard' ≡ body_taken heard → Next heard heard' body
+next_of heard {heard'} {next} {body} taken some is =
+    let found = taken_whole heard.uncuts.client next body taken some in
+    record { found = found; left = is ∙ ap (left_by heard) found.front }
+
+-- a body that was taken leaves fewer bytes
+pub fewer_behind : {heard heard' : Heard} {body : Body} → Next heard heard' body
+    → length heard'.uncuts.client.pending < length heard.uncuts.client.pending
+fewer_behind {heard} {heard'} {body} next =
+    subst (λ (h : Heard). length h.uncuts.client.pending < length heard.uncuts.client.pending) (sym next.left)
+    (fewer_left heard.uncuts.client body next.found).0
 
 -- the session of this core reads on
 reads : (limits : Limits) (o : Outside) (core : Sight) (heard : Heard) → IsReady o core heard
@@ -105,7 +118,7 @@ request_comes : (o : Outside) (core : Sight) (heard : Heard) (frame : Frame) (n 
 request_comes o core heard frame n request ready is_open front reading limits turns limit log messages s = (
   _,
   Session.hears s (on_in limits o core heard ready limit) (Allows.hears ready.nothing_due is_open)
-      (Says.hears front reading),
+      (Brings.hears front reading),
 )
 
 same_ends : (heard : Heard) (body : Body) (found : IsWhole heard.uncuts.client body)
@@ -145,13 +158,24 @@ takes o core core' heard body reading is_open found (Takes.passes read is) =
       ends = same_ends heard body found;
     })
 
-pub takes_body : (o : Outside) (core core' : Sight) (heard : Heard) (body : Body) → IsReading o core heard
-    → core.state.closing ≡ false
-    → (found : IsWhole heard.uncuts.client body) → Takes core body.bytes.now core'
-    → TakesUp o core core' heard (frame_cut heard found.size)
-takes_body o core core' heard body reading is_open found taken =
-    takes o core core' heard body reading is_open found
-    (subst (λ (bytes : List ℕ). Takes core bytes core') found.bytes taken)
+pub takes_body : {o : Outside} {core : Sight} {heard heard' : Heard} {body : Body} → IsReading o core heard
+    → core.state.closing ≡ false → Next heard heard' body → (core' : Sight) → Takes core body.bytes.now core'
+    → TakesUp o core core' heard heard'
+takes_body {o} {core} {heard} {heard'} {body} reading is_open next core' taken =
+    let found = next.found in
+    subst (λ (h : Heard). TakesUp o core core' heard h) (sym next.left)
+    (takes o core core' heard body reading is_open found
+    (subst (λ (bytes : List ℕ). Takes core bytes core') found.bytes taken))
+
+-- behind a body the core may tell and send
+pub ready_behind : (o : Outside) (core middle : Sight) (body : List ℕ) → CoreIsReady o core → Takes core body middle
+    → CoreIsReady o middle
+ready_behind o core middle body ready (Takes.hears read is room) = record {
+  client = ready.client;
+  target = subst (λ (c : Sight). (c.state.phase ≡ Gone → ⊥) → IsOpen Target o) (sym is) ready.target;
+  room = room;
+}
+ready_behind o core middle body ready (Takes.passes read is) = subst (λ (c : Sight). CoreIsReady o c) (sym is) ready
 
 -- A body ends the session.
 refused_by : (o : Outside) (core core' : Sight) (heard : Heard) (frame : Frame) (n : ℕ) (ending : Ending)
@@ -179,28 +203,26 @@ refused_by o core core' heard frame n ending reading is_open front (Refuses.floo
     (request_comes o core heard frame n request reading.ready is_open front read) refl now.client now.target is
     (subst (λ (c : Sight). c.limit < waiting_in c) is more)
 
-pub refuses_body : (o : Outside) (core core' : Sight) (heard : Heard) (body : Body) (ending : Ending)
-    → IsReading o core heard
-    → core.state.closing ≡ false → (found : IsWhole heard.uncuts.client body)
-    → Refuses core body.bytes.now body.at core' ending
-    → Stops o o core core' heard ending
-refuses_body o core core' heard body ending reading is_open found refuses =
+pub refuses_body : {o : Outside} {core : Sight} {heard heard' : Heard} {body : Body} → IsReading o core heard
+    → core.state.closing ≡ false → Next heard heard' body → (core' : Sight) (ending : Ending)
+    → Refuses core body.bytes.now body.at core' ending → Stops o o core core' heard ending
+refuses_body {o} {core} {heard} {heard'} {body} reading is_open next core' ending refuses =
+    let found = next.found in
     refused_by o core core' heard found.frame found.size ending reading is_open found.front
     (subst (λ (at : ℕ). Refuses core found.frame.body at core' ending) found.at
     (subst (λ (bytes : List ℕ). Refuses core bytes body.at core' ending) found.bytes refuses))
 
 -- a byte that no frame has there
-pub misframed : (o : Outside) (core : Sight) (heard : Heard) (trouble : FrameTrouble) → IsReading o core heard
-    → core.state.closing ≡ false
-    → IsTaken heard.uncuts.client (Err trouble)
-    → Stops o o core core heard (BadClient (frame_fault trouble.fault) trouble.at)
-misframed o core heard trouble reading is_open taken =
+pub misframed : {o : Outside} {core : Sight} {heard : Heard} (ending : Ending) → IsReading o core heard
+    → core.state.closing ≡ false → IsMisframed heard ending → Stops o o core core heard ending
+misframed {o} {core} {heard} ending reading is_open (trouble, taken, is) =
     let found = taken_fault heard.uncuts.client trouble taken in
     let now = core_ready o core heard reading.ready reading.taken_up.not_ended in
-    subst (λ (at : ℕ). Stops o o core core heard (BadClient (frame_fault trouble.fault) at)) (sym found.2)
+    subst (λ (e : Ending). Stops o o core core heard e) (sym is)
+    (subst (λ (at : ℕ). Stops o o core core heard (BadClient (frame_fault trouble.fault) at)) (sym found.2)
     (stops_there o core core core heard heard _ (λ limits turns limit log messages s. (messages, s))
     (λ limits turns limit. session.Stops.misframed (reads limits o core heard reading.ready limit is_open) found.1)
-    now.client now.target refl refl refl tt)
+    now.client now.target refl refl refl tt))
 
 -- the session waits
 pub waits_on : (limits : Limits) (o : Outside) (core : Sight) (heard : Heard) → IsReady o core heard
@@ -217,46 +239,3 @@ waits_on limits o core heard ready taken_up no_packet nothing_whole limit = reco
   none_raw = ready.none_raw;
   on = on_in limits o core heard ready limit;
 }
-
-pub same_greeting : (core middle : Sight) (body : List ℕ) → Takes core body middle
-    → middle.state.greeted ≡ core.state.greeted
-same_greeting core middle body (Takes.hears read is room) = ap (λ (c : Sight). c.state.greeted) is
-same_greeting core middle body (Takes.passes read is) = ap (λ (c : Sight). c.state.greeted) is
-
-module _ (heard : Heard) (client : Uncut) (target : Received) (ended : Bool) (quiets : ℕ)
-    (view : (let it : Heard = record
-    { uncuts = record { client = client; target = target; ended = ended }; quiets = quiets } in it ≡ heard)) where
-  pub kept_body : (client' : Uncut) (body : Body) (found : IsWhole heard.uncuts.client body)
-      → client' ≡ left (frame_front client.pending) client
-      → (let it : Heard = record
-      { uncuts = record { client = client'; target = target; ended = ended }; quiets = quiets } in it ≡ frame_cut heard
-      found.size)
-  kept_body client' body found is =
-      let here = ap (λ (h : Heard). h.uncuts.client) view in
-      let rest =
-      rest_is heard.uncuts.client client' body found
-      (is ∙ ap (λ (u : Uncut). left (frame_front u.pending) u) here) in
-      ap (λ (u : Uncut). record
-      { uncuts = record { client = u; target = target; ended = ended }; quiets = quiets }) rest
-      ∙ ap (λ (h : Heard). record {
-        uncuts =
-            record { client = past heard.uncuts.client found.size; target = h.uncuts.target; ended = h.uncuts.ended };
-        quiets = h.quiets;
-      }) view
-
-  pub kept_none : (client' : Uncut) → frame_front heard.uncuts.client.pending ≡ waits
-      → client' ≡ left (frame_front client.pending) client
-      → (let it : Heard = record
-      { uncuts = record { client = client'; target = target; ended = ended }; quiets = quiets } in it ≡ heard)
-  kept_none client' none is =
-      let here = ap (λ (h : Heard). h.uncuts.client) view in
-      let rest : client' ≡ heard.uncuts.client =
-      is ∙ ap (λ (u : Uncut). left (frame_front u.pending) u) here
-      ∙ ap (λ (front : Front Frame FrameFault). left front heard.uncuts.client) none in
-      ap (λ (u : Uncut). record
-      { uncuts = record { client = u; target = target; ended = ended }; quiets = quiets }) rest
-      ∙ ap (λ (h : Heard). record {
-        uncuts = record { client = heard.uncuts.client; target = h.uncuts.target; ended = h.uncuts.ended };
-        quiets =
-            h.quiets;
-      }) view

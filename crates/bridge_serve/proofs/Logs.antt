@@ -6,7 +6,7 @@ use Rattle.std.specs.Option.{option_map}
 use Rattle.wire_core.specs.Outside.{Outside, Adds, Rose}
 use Rattle.wire_core.specs.declared.outside.Entry.{Entry}
 use Rattle.world_model.specs.declared.ending.Ending.{Ending}
-use Rattle.bridge_serve.specs.Following.{Keeps, Blames}
+use Rattle.bridge_serve.specs.Serving.{Keeps, Blames}
 
 -- nothing was logged
 pub adds_none : (log : Option (List Entry)) → log ≡ option_map (λ before. before ++ []) log

@@ -10,13 +10,14 @@ use Rattle.wire_core.specs.declared.outside.Side.{Side}
 use Rattle.wire_core.specs.declared.outside.Side.TheVariants.{Client, Target}
 use Rattle.world_model.specs.Machine.{State, Message, Due}
 use Rattle.world_model.specs.Session as session
-use Rattle.world_model.specs.Session.{At, Place, Word, Session, IsOn, ended, link_ending, last_words, client_words}
+use Rattle.world_model.specs.Session.{At, Place, Session, IsOn, ended, link_ending, last_words}
 use Rattle.world_model.specs.Session.{target_words}
 use Rattle.world_model.specs.declared.ending.Ending.{Ending}
 use Rattle.world_model.specs.declared.ending.Ending.TheVariants.{Done, ClientLink, TargetLink, NoMemory}
 use Rattle.world_model.specs.declared.ending.Limits.{Limits}
 use Rattle.world_model.specs.declared.machine.Phase.TheVariants.{Gone}
-use Rattle.bridge_serve.specs.Following.{standing, Heard, nothing_heard, Leads, Stopped, IsLeft, IsCounted, Blames}
+use Rattle.bridge_serve.specs.Serving.{Blames}
+use Rattle.bridge_serve.specs.Following.{standing, Heard, nothing_heard, Leads, Stopped, IsLeft, IsCounted}
 use Rattle.bridge_serve.specs.Following.{Framed, CoreIsReady, CoreGoesOn, CoreStops}
 use Rattle.bridge_serve.proofs.LastWords.{each_client, each_target, attached_is_here, left_at, left_for_memory}
 use Rattle.bridge_serve.proofs.LastWords.{speaks_bytes}

@@ -1,10 +1,11 @@
 -- How what came of the target is taken up: its end, its handshake, and its packets.
-use Rattle.std.proofs.Common.{◌≡◌, ℕ, ◌+◌, ◌<◌, ◌≤◌, ◌==◌, ◌^◌, refl, sym, ap, subst, ◌∙◌, arith, Bool, true, false}
+use Rattle.std.proofs.Common.{◌≡◌, ℕ, ◌+◌, ◌<◌, ◌≤◌, ◌==◌, refl, sym, ap, subst, ◌∙◌, arith, Bool, true, false}
 use Rattle.std.proofs.Common.{if◌then◌else◌, List, [], ◌∷◌, ◌++◌, length, take, drop, Option, None, Some, Result, Ok}
 use Rattle.std.proofs.Common.{Err, OnOk, IfErr}
 use Rattle.std.proofs.lemmas.List.{length-drop, length-take-le}
-use Rattle.bridge_core.specs.Steps.{Sight, in_state, waiting_in, raw_in, offset_of, packet_of, body_of, IsLike, Moves}
-use Rattle.bridge_core.specs.Steps.{RefusesPacket, RefusesEnd, TakesPacket, GoesOn as fits, without_target}
+use Rattle.bridge_core.specs.Steps.{Sight, in_state, waiting_in, raw_in, dropped, offset_of, packet_of, body_of}
+use Rattle.bridge_core.specs.Steps.{IsLike, Moves, RefusesPacket, RefusesEnd, TakesPacket, GoesOn as fits}
+use Rattle.bridge_core.specs.Steps.{without_target}
 use Rattle.jdwp_commands.specs.declared.asked.Asked.{Asked}
 use Rattle.jdwp_commands.specs.declared.asked.Asked.TheVariants.{Question as a_question, Effect as an_effect}
 use Rattle.jdwp_commands.specs.declared.asked.Replied.{Replied}
@@ -18,7 +19,7 @@ use Rattle.jdwp_packets.proofs.PacketLaws.{packet-steady, whole-is}
 use Rattle.jdwp_packets.specs.Packets as packets
 use Rattle.jdwp_packets.specs.Packets.{Packet, command_packet, reply_packet, packet_front, greeting_front, flags_of}
 use Rattle.jdwp_packets.specs.Packets.{size_of}
-use Rattle.jdwp_packets.specs.Receiving.{Received, received_front, before_greeting, left_behind}
+use Rattle.jdwp_packets.specs.Receiving.{Received, received_front, before_greeting}
 use Rattle.jdwp_packets.specs.Taking.{IsAnswer, IsTaken, Shows}
 use Rattle.jdwp_packets.specs.declared.cutter.Packet.{Packet as Shown}
 use Rattle.jdwp_packets.specs.declared.cutter.Packet.TheVariants.{Command, Reply}
@@ -31,8 +32,8 @@ use Rattle.wire_core.specs.declared.outside.Side.TheVariants.{Client, Target}
 use Rattle.world_model.specs.Machine.{State, Message, Allows, due, Due, target_ended, ended_from, answered, noted}
 use Rattle.world_model.specs.Machine.{wish_of, wish_settled, is_end}
 use Rattle.world_model.specs.Session as session
-use Rattle.world_model.specs.Session.{At, Place, Raw, Session, Says, IsOn, ReadsTarget, ended, last_words, target_front}
-use Rattle.world_model.specs.Session.{composite_ending, body_ending, target_fault}
+use Rattle.world_model.specs.Session.{Raw, Session, Brings, IsOn, ReadsTarget, ended, last_words}
+use Rattle.world_model.specs.Session.{composite_ending, body_ending}
 use Rattle.world_model.specs.declared.ending.Ending.{Ending}
 use Rattle.world_model.specs.declared.ending.Ending.TheVariants.{BadTarget, ClientLink, TargetLink, Flood, NoMemory}
 use Rattle.world_model.specs.declared.ending.Limits.{Limits}
@@ -41,8 +42,10 @@ use Rattle.world_model.specs.declared.machine.Phase.{Phase}
 use Rattle.world_model.specs.declared.machine.Phase.TheVariants.{Fresh, Attached, Gone}
 use Rattle.world_model.specs.declared.machine.Wish.{Wish}
 use Rattle.world_model.specs.declared.machine.Wish.TheVariants.{ThreadStart, ThreadDeath}
-use Rattle.bridge_serve.specs.Following.{standing, Heard, Leads, Blames, IsReady, IsTakenUp, CoreIsReady, CoreGoesOn}
-use Rattle.bridge_serve.specs.Following.{CoreStops, GoesOn, Stops, client_end, target_end}
+use Rattle.bridge_serve.specs.Serving.{Blames}
+use Rattle.bridge_serve.specs.Following.{standing, Heard, Leads, IsReady, IsTakenUp, CoreIsReady, CoreGoesOn}
+use Rattle.bridge_serve.specs.Following.{CoreStops, GoesOn, Stops, client_end, target_end, packet_taken, IsMispacked}
+use Rattle.bridge_serve.specs.Following.{Handles, HandlesLast}
 use Rattle.bridge_serve.proofs.LastWords.{words_of_pending, left_at, left_for_memory}
 use Rattle.bridge_serve.proofs.Logs.{keeps_same, keeps_on, blames_on}
 use Rattle.bridge_serve.proofs.Moves.{leads_in_place, stopped_on, is_on}
@@ -96,6 +99,24 @@ tells_last old new core middle core' heard heard' ending takes stops = record {
   keeps = stops.keeps;
   blames = stops.blames;
 }
+
+-- what was heard was taken up, and the session goes on or ends behind it
+pub handles_on : {hears : Sight → Type 0} {old new : Outside} {core core' : Sight} {heard heard' : Heard}
+    → ((middle : Sight) → hears middle → TakesUp old core middle heard heard') → Handles hears old new core'
+    → GoesOn old new core core' heard heard'
+handles_on {old = old} {new = new} {core = core} {core' = core'} {heard = heard} {heard' = heard'} takes handles =
+    tells_on old new core handles.middle core' heard heard' (takes handles.middle handles.heard) handles.goes_on
+    handles.nothing_due
+
+pub handles_last : {hears : Sight → Type 0} {refuses : Sight → Ending → Type 0} {old new : Outside} {core core' : Sight}
+    {heard heard' : Heard} {ending : Ending}
+    → ((middle : Sight) → hears middle → TakesUp old core middle heard heard')
+    → ((there : Sight) (last : Ending) → refuses there last → Stops old old core there heard last)
+    → HandlesLast hears refuses old new core' ending → Stops old new core core' heard ending
+handles_last {core' = core'} {ending = ending} takes refused (HandlesLast.refuses h) = refused core' ending h
+handles_last {old = old} {new = new} {core = core} {core' = core'} {heard = heard} {heard' = heard'} {ending = ending}
+    takes refused (HandlesLast.stops {middle = middle} h stops) =
+    tells_last old new core middle core' heard heard' ending (takes middle h) stops
 
 -- both sides are open, but for a target that is gone
 pub core_ready : (o : Outside) (core : Sight) (heard : Heard) → IsReady o core heard → heard.uncuts.ended ≡ false
@@ -247,6 +268,13 @@ none_of_gone Fresh raw gone = cc
 none_of_gone Attached raw gone = cc
 none_of_gone Gone raw gone = refl
 
+-- where there is room, there is room still where they are passed over
+ready_dropped : (o : Outside) (there : Sight) → IsOpen Client o → ((there.state.phase ≡ Gone → ⊥) → IsOpen Target o)
+    → waiting_in there ≤ there.limit → CoreIsReady o (dropped there)
+ready_dropped o there client target room =
+    let fewer = fewer_raw there.state.phase there.raw in
+    record { client = client; target = target; room = omega (arith, room, fewer) }
+
 -- What was taken up fits, and of a target that is gone composites are passed over.
 pub takes_up : (o : Outside) (core there middle : Sight) (heard heard' : Heard)
     → ((limits : Limits) (turns : ℕ) → core.limit ≡ limits.waiting → (log : List Entry) (messages : List Message)
@@ -257,7 +285,6 @@ pub takes_up : (o : Outside) (core there middle : Sight) (heard heard' : Heard)
     → TakesUp o core middle heard heard'
 takes_up o core there middle heard heard' comes same_limit client target shaken ends fitting =
     let room = fitting.room in
-    let fewer = fewer_raw there.state.phase there.raw in
     subst (λ (c : Sight). TakesUp o core c heard heard') (sym fitting.is) (record {
       leads = λ limits turns limit. leads_in_place limits o turns _ _ (λ log messages s.
           let come = comes limits turns limit log messages s in (
@@ -265,7 +292,7 @@ takes_up o core there middle heard heard' comes same_limit client target shaken 
             drop_in limits there heard' log come.0 turns there.state.phase refl
                 (is_on limits there heard' (same_limit ∙ limit) room) come.1,
           ));
-      ready = record { client = client; target = target; room = omega (arith, room, fewer) };
+      ready = ready_dropped o there client target room;
       shaken = shaken;
       none_raw = none_of_gone there.state.phase there.raw;
       same_limit = same_limit;
@@ -296,7 +323,7 @@ end_comes : (o : Outside) (core : Sight) (heard : Heard) → IsReady o core hear
     → Session limits log messages turns (standing core heard)
     → (later : List Message) × Session limits log later turns (standing (without_target core) (end_taken heard))
 end_comes o core heard ready is_ended limits turns limit log messages s =
-    (_, Session.hears s (on_in limits o core heard ready limit) (Allows.ends ready.nothing_due) (Says.ends is_ended))
+    (_, Session.hears s (on_in limits o core heard ready limit) (Allows.ends ready.nothing_due) (Brings.ends is_ended))
 
 pub takes_end : (o : Outside) (core middle : Sight) (heard : Heard) → IsReady o core heard → heard.uncuts.ended ≡ true
     → fits (without_target core) middle → TakesUp o core middle heard (end_taken heard)
@@ -329,7 +356,7 @@ takes_greeting o core core' heard ready not_ended first came is =
       leads = λ limits turns limit. leads_in_place limits o turns _ _ (λ log messages s. (
         _,
         Session.hears s (on_in limits o core heard ready limit) (Allows.greeted ready.nothing_due first)
-            (Says.greeted came),
+            (Brings.greeted came),
       ));
       ready = record { client = now.client; target = now.target; room = now.room };
       shaken = λ _. came;
@@ -391,6 +418,10 @@ pub record IsReading (o : Outside) (core : Sight) (heard : Heard) : Type 0 where
   pub ready : IsReady o core heard
   pub taken_up : IsTakenUp core heard
 
+pub is_reading : {o : Outside} {core : Sight} {heard : Heard} → IsReady o core heard → IsTakenUp core heard
+    → IsReading o core heard
+is_reading ready taken_up = record { ready = ready; taken_up = taken_up }
+
 reads_target : (limits : Limits) (o : Outside) (core : Sight) (heard : Heard) → IsReading o core heard
     → core.limit ≡ limits.waiting
     → ReadsTarget limits (standing core heard)
@@ -418,10 +449,10 @@ packet_comes o core there heard packet n reading front (Moves.reply answers) lim
       (sym answers.becomes)
       (Session.hears s (on_in limits o core heard reading.ready limit)
       (Allows.answers answers.before answers.after reading.ready.nothing_due answers.pending)
-      (Says.answers front answers.is_pending answers.serve answers.is_reply answers.measures answers.none_raw)),
+      (Brings.answers front answers.is_pending answers.serve answers.is_reply answers.measures answers.none_raw)),
 )
 
--- a packet that was taken leaves fewer bytes
+-- a whole packet is one behind the handshake
 received_whole : (greeted : Bool) (bytes : List ℕ) (packet : Packet) (n : ℕ)
     → received_front greeted bytes ≡ whole packet n
     → packet_front bytes ≡ whole packet n
@@ -453,9 +484,10 @@ answer_whole (whole packet size) at shown answer =
     (size, ap front is.1, is.0)
 answer_whole (faulty fault distance) at shown answer = cc
 
-pub taken_whole : (old : Received) (shown : Shown) → IsTaken old (Ok (Some shown)) → IsWhole old shown
-taken_whole old shown taken =
-    let found = answer_whole (received_front old.greeted old.stream.pending) old.stream.at shown taken in
+taken_whole : (old : Received) (next : Option Shown) (shown : Shown) → IsTaken old (Ok next) → next ≡ Some shown
+    → IsWhole old shown
+taken_whole old next shown taken some =
+    let found = answer_whole (received_front old.greeted old.stream.pending) old.stream.at shown (rw some at taken) in
     record { size = found.0; front = found.1; at = found.2 }
 
 answer_none : (front : Front Packet PacketFault) (at : ℕ) → IsAnswer front at (Ok None) → front ≡ waits
@@ -463,8 +495,10 @@ answer_none waits at answer = refl
 answer_none (whole packet size) at answer = absurd answer
 answer_none (faulty fault distance) at answer = cc
 
-pub taken_none : (old : Received) → IsTaken old (Ok None) → received_front old.greeted old.stream.pending ≡ waits
-taken_none old taken = answer_none (received_front old.greeted old.stream.pending) old.stream.at taken
+pub taken_none : (old : Received) (next : Option Shown) → IsTaken old (Ok next) → next ≡ None
+    → received_front old.greeted old.stream.pending ≡ waits
+taken_none old next taken none =
+    answer_none (received_front old.greeted old.stream.pending) old.stream.at (rw none at taken)
 
 answer_fault : (front : Front Packet PacketFault) (at : ℕ) (trouble : PacketTrouble) → IsAnswer front at (Err trouble)
     → (distance : ℕ) × (front ≡ faulty trouble.fault distance) × (trouble.at ≡ at + distance)
@@ -480,11 +514,30 @@ pub taken_fault : (old : Received) (trouble : PacketTrouble) → IsTaken old (Er
     × (trouble.at ≡ old.stream.at + distance)
 taken_fault old trouble taken = answer_fault (received_front old.greeted old.stream.pending) old.stream.at trouble taken
 
-pub rest_is : (old rest : Received) (shown : Shown) (found : IsWhole old shown) → rest ≡ left_behind old
-    → rest ≡ record old { stream = past old.stream found.size }
-rest_is old rest shown found is =
-    is ∙ ap (λ (front : Front Packet PacketFault). record { greeted = old.greeted; stream = left front old.stream })
-    found.front
+-- What the taking of a packet found, and what is left then.
+pub record Next (heard heard' : Heard) (shown : Shown) : Type 0 where
+  pub found : IsWhole heard.uncuts.target shown
+  pub left : heard' ≡ packet_cut heard found.size
+
+-- what is left, by what stands at the front
+abbrev left_by : Heard → Front Packet PacketFault → Heard
+left_by heard front = record heard {
+  uncuts = record heard.uncuts {
+    target = record heard.uncuts.target { stream = left front heard.uncuts.target.stream };
+  };
+}
+
+pub next_of : (heard : Heard) {heard' : Heard} {next : Option Shown} {shown : Shown}
+    → IsTaken heard.uncuts.target (Ok next) → next ≡ Some shown → heard' ≡ packet_taken heard → Next heard heard' shown
+next_of heard {heard'} {next} {shown} taken some is =
+    let found = taken_whole heard.uncuts.target next shown taken some in
+    record { found = found; left = is ∙ ap (left_by heard) found.front }
+
+-- nothing was found
+pub none_left : (heard : Heard) {heard' : Heard}
+    → received_front heard.uncuts.target.greeted heard.uncuts.target.stream.pending ≡ waits
+    → heard' ≡ packet_taken heard → heard' ≡ heard
+none_left heard none is = is ∙ ap (left_by heard) none
 
 -- the bytes of a packet's body
 abbrev body_in : Packet → List ℕ
@@ -500,8 +553,10 @@ body_if : (test : Bool) (a b : Packet) (body : List ℕ) → body_in a ≡ body 
 body_if true a b body h k = h
 body_if false a b body h k = k
 
-pub short_body : (old : Received) (shown : Shown) → IsWhole old shown → length (body_of shown) ≤ 67108853
-short_body old shown found =
+pub short_body : {heard heard' : Heard} {shown : Shown} → Next heard heard' shown → length (body_of shown) ≤ 67108853
+short_body {heard} {heard'} {shown} next =
+    let old = heard.uncuts.target in
+    let found = next.found in
     let bytes = old.stream.pending in
     let is =
     whole-is bytes (packet_of shown) found.size
@@ -516,7 +571,8 @@ short_body old shown found =
     let most = sized.2 in
     omega (arith, count, cut, all, most)
 
-pub fewer_left : (old : Received) (shown : Shown) (found : IsWhole old shown)
+-- what is left of the bytes, which come no further
+fewer_left : (old : Received) (shown : Shown) (found : IsWhole old shown)
     → (length (past old.stream found.size).pending < length old.stream.pending)
     × ((past old.stream found.size).at + length (past old.stream found.size).pending ≡ old.stream.at + length
     old.stream.pending)
@@ -528,18 +584,37 @@ fewer_left old shown found =
     let cut = length-drop found.size old.stream.pending in
     (omega (arith, some, most, cut), omega (arith, some, most, cut))
 
-pub takes_packet : (o : Outside) (core middle : Sight) (heard : Heard) (shown : Shown) → IsReading o core heard
-    → (found : IsWhole heard.uncuts.target shown) → TakesPacket core (offset_of shown) (packet_of shown) middle
-    → TakesUp o core middle heard (packet_cut heard found.size)
-takes_packet o core middle heard shown reading found takes =
+-- a packet that was taken leaves fewer bytes
+pub fewer_behind : {heard heard' : Heard} {shown : Shown} → Next heard heard' shown
+    → length heard'.uncuts.target.stream.pending < length heard.uncuts.target.stream.pending
+fewer_behind {heard} {heard'} {shown} next =
+    subst (λ (h : Heard). length h.uncuts.target.stream.pending < length heard.uncuts.target.stream.pending)
+    (sym next.left)
+    (fewer_left heard.uncuts.target shown next.found).0
+
+pub takes_packet : {o : Outside} {core : Sight} {heard heard' : Heard} {shown : Shown} → IsReading o core heard
+    → Next heard heard' shown → (middle : Sight) → TakesPacket core (offset_of shown) (packet_of shown) middle
+    → TakesUp o core middle heard heard'
+takes_packet {o} {core} {heard} {heard'} {shown} reading next middle takes =
+    let found = next.found in
     let now = core_ready o core heard reading.ready reading.taken_up.not_ended in
     let moves = subst (λ (at : ℕ). Moves core at (packet_of shown) takes.heard) found.at takes.moves in
     let left = moving core takes.heard heard.uncuts.target.stream.at (packet_of shown) moves in
-    takes_up o core takes.heard middle heard (packet_cut heard found.size)
+    subst (λ (h : Heard). TakesUp o core middle heard h) (sym next.left)
+    (takes_up o core takes.heard middle heard (packet_cut heard found.size)
     (packet_comes o core takes.heard heard (packet_of shown) found.size reading found.front moves) left.limit now.client
     (λ here. now.target (λ gone. here (left.stays_gone gone)))
     (λ greeted. reading.ready.shaken (sym left.greeted ∙ greeted))
-    (record { client = refl; target = (fewer_left heard.uncuts.target shown found).1; quiets = refl }) takes.goes_on
+    (record { client = refl; target = (fewer_left heard.uncuts.target shown found).1; quiets = refl }) takes.goes_on)
+
+-- behind a packet the core may tell and send
+pub ready_behind : (o : Outside) (core middle : Sight) (at : ℕ) (packet : Packet) → CoreIsReady o core
+    → TakesPacket core at packet middle → CoreIsReady o middle
+ready_behind o core middle at packet ready takes =
+    let left = moving core takes.heard at packet takes.moves in
+    subst (λ (c : Sight). CoreIsReady o c) (sym takes.goes_on.is)
+    (ready_dropped o takes.heard ready.client (λ here. ready.target (λ gone. here (left.stays_gone gone)))
+    takes.goes_on.room)
 
 -- A packet ends the session.
 no_link_of_body : (fault : BodyFault) (at : ℕ) → IsNoLink (body_ending fault at)
@@ -605,44 +680,42 @@ refused_by o core core' heard packet n ending reading front
     numbers raw)
     (no_link_of_composite (composite_at found first.body) first.at)
 
-pub refuses_packet : (o : Outside) (core core' : Sight) (heard : Heard) (shown : Shown) (ending : Ending)
-    → IsReading o core heard
-    → (found : IsWhole heard.uncuts.target shown) → RefusesPacket core (offset_of shown) (packet_of shown) core' ending
-    → Stops o o core core' heard ending
-refuses_packet o core core' heard shown ending reading found refuses =
+pub refuses_packet : {o : Outside} {core : Sight} {heard heard' : Heard} {shown : Shown} → IsReading o core heard
+    → Next heard heard' shown → (core' : Sight) (ending : Ending)
+    → RefusesPacket core (offset_of shown) (packet_of shown) core' ending → Stops o o core core' heard ending
+refuses_packet {o} {core} {heard} {heard'} {shown} reading next core' ending refuses =
+    let found = next.found in
     refused_by o core core' heard (packet_of shown) found.size ending reading found.front
     (subst (λ (at : ℕ). RefusesPacket core at (packet_of shown) core' ending) found.at refuses)
 
 -- a byte that no packet has there
-pub mispacked : (o : Outside) (core : Sight) (heard : Heard) (trouble : PacketTrouble) → IsReading o core heard
-    → IsTaken heard.uncuts.target (Err trouble)
-    → Stops o o core core heard (BadTarget (packet_fault trouble.fault) trouble.at 0)
-mispacked o core heard trouble reading taken =
+pub mispacked : {o : Outside} {core : Sight} {heard : Heard} (ending : Ending) → IsReading o core heard
+    → IsMispacked heard ending → Stops o o core core heard ending
+mispacked {o} {core} {heard} ending reading (trouble, taken, is) =
     let found = taken_fault heard.uncuts.target trouble taken in
     let now = core_ready o core heard reading.ready reading.taken_up.not_ended in
-    subst (λ (at : ℕ). Stops o o core core heard (BadTarget (packet_fault trouble.fault) at 0)) (sym found.2)
+    subst (λ (e : Ending). Stops o o core core heard e) (sym is)
+    (subst (λ (at : ℕ). Stops o o core core heard (BadTarget (packet_fault trouble.fault) at 0)) (sym found.2)
     (stops_there o core core core heard heard _ (λ limits turns limit log messages s. (messages, s))
     (λ limits turns limit. session.Stops.mispacked (reads_target limits o core heard reading limit) found.1)
-    now.client now.target refl refl refl tt)
+    now.client now.target refl refl refl tt))
 
--- What was taken up stays so.
-pub taken_up_on : (old new : Outside) (core middle core' : Sight) (heard heard' : Heard) → IsTakenUp core heard
-    → middle.state.greeted ≡ core.state.greeted → CoreGoesOn old new middle core'
-    → heard'.uncuts.target.greeted ≡ heard.uncuts.target.greeted
-    → heard'.uncuts.ended ≡ heard.uncuts.ended → IsTakenUp core' heard'
-taken_up_on old new core middle core' heard heard' taken same on greeted ended = record {
-  greeted = on.framed.greeted ∙ same ∙ taken.greeted ∙ sym greeted;
-  not_ended = ended ∙ taken.not_ended;
-}
-
-pub same_greeting : (core middle : Sight) (at : ℕ) (packet : Packet) → TakesPacket core at packet middle
+same_greeting : (core middle : Sight) (at : ℕ) (packet : Packet) → TakesPacket core at packet middle
     → middle.state.greeted ≡ core.state.greeted
 same_greeting core middle at packet takes =
     ap (λ (c : Sight). c.state.greeted) takes.goes_on.is ∙ (moving core takes.heard at packet takes.moves).greeted
 
-pub small_place : (heard : Heard) (shown : Shown) → IsWhole heard.uncuts.target shown → target_end heard < 2 ^ 62
-    → offset_of shown < 2 ^ 62
-small_place heard shown found small = let at = found.at in omega (arith, at, small)
+-- what was taken up stays so
+pub taken_up_on : {old new : Outside} {core core' : Sight} {heard heard' : Heard} {shown : Shown} → IsTakenUp core heard
+    → Next heard heard' shown → Handles (TakesPacket core (offset_of shown) (packet_of shown)) old new core'
+    → IsTakenUp core' heard'
+taken_up_on {core = core} {shown = shown} taken next handles = record {
+  greeted =
+      handles.goes_on.framed.greeted
+      ∙ same_greeting core handles.middle (offset_of shown) (packet_of shown) handles.heard
+      ∙ taken.greeted ∙ sym (ap (λ (h : Heard). h.uncuts.target.greeted) next.left);
+  not_ended = ap (λ (h : Heard). h.uncuts.ended) next.left ∙ taken.not_ended;
+}
 
 -- Results ------------------------------------------------------------------------------------------------------------
 
@@ -666,68 +739,11 @@ module _ (heard : Heard) (client : Uncut) (target : Received) (ended : Bool) (qu
       in it ≡ end_taken heard)
   kept_taken = ap (λ (h : Heard). end_taken h) view
 
-  pub kept_packet : (target' : Received) (shown : Shown) (found : IsWhole heard.uncuts.target shown)
-      → target' ≡ left_behind target
-      → (let it : Heard = record
-      { uncuts = record { client = client; target = target'; ended = ended }; quiets = quiets } in it ≡ packet_cut heard
-      found.size)
-  kept_packet target' shown found is =
-      let here = ap (λ (h : Heard). h.uncuts.target) view in
-      let rest = rest_is heard.uncuts.target target' shown found (is ∙ ap left_behind here) in
-      ap (λ (r : Received). record
-      { uncuts = record { client = client; target = r; ended = ended }; quiets = quiets }) rest
-      ∙ ap (λ (h : Heard). record {
-        uncuts =
-            record {
-              client = h.uncuts.client;
-              target = record heard.uncuts.target
-                  { stream = past heard.uncuts.target.stream found.size };
-              ended = h.uncuts.ended;
-            };
-        quiets = h.quiets;
-      }) view
-
-  pub kept_none : (target' : Received)
-      → received_front heard.uncuts.target.greeted heard.uncuts.target.stream.pending ≡ waits
-      → target' ≡ left_behind target
-      → (let it : Heard = record
-      { uncuts = record { client = client; target = target'; ended = ended }; quiets = quiets } in it ≡ heard)
-  kept_none target' none is =
-      let here = ap (λ (h : Heard). h.uncuts.target) view in
-      let rest : target' ≡ heard.uncuts.target =
-      is ∙ ap left_behind here
-      ∙ ap (λ (front : Front Packet PacketFault). record
-      { greeted = heard.uncuts.target.greeted; stream = left front heard.uncuts.target.stream }) none in
-      ap (λ (r : Received). record
-      { uncuts = record { client = client; target = r; ended = ended }; quiets = quiets }) rest
-      ∙ ap (λ (h : Heard). record {
-        uncuts = record { client = h.uncuts.client; target = heard.uncuts.target; ended = h.uncuts.ended };
-        quiets =
-            h.quiets;
-      }) view
-
 -- the same, said of what is kept
 pub goes_as : {old new : Outside} {core core' : Sight} {heard heard' kept : Heard} → heard' ≡ kept
     → GoesOn old new core core' heard kept
     → GoesOn old new core core' heard heard'
 goes_as {old} {new} {core} {core'} {heard} is h = subst (λ (k : Heard). GoesOn old new core core' heard k) (sym is) h
-
-pub taken_as : {core : Sight} {heard' kept : Heard} → heard' ≡ kept → IsTakenUp core kept → IsTakenUp core heard'
-taken_as {core} is h = subst (λ (k : Heard). IsTakenUp core k) (sym is) h
-
-pub none_as : {heard' kept : Heard} → heard' ≡ kept
-    → received_front kept.uncuts.target.greeted kept.uncuts.target.stream.pending ≡ waits
-    → received_front heard'.uncuts.target.greeted heard'.uncuts.target.stream.pending ≡ waits
-none_as is h =
-    subst (λ (k : Heard). received_front k.uncuts.target.greeted k.uncuts.target.stream.pending ≡ waits) (sym is) h
-
-pub fewer_packets : {heard' kept : Heard} (n : ℕ) → heard' ≡ kept → length kept.uncuts.target.stream.pending < n
-    → length heard'.uncuts.target.stream.pending < n
-fewer_packets n is h = subst (λ (k : Heard). length k.uncuts.target.stream.pending < n) (sym is) h
-
-pub fewer_bodies : {heard' kept : Heard} (n : ℕ) → heard' ≡ kept → length kept.uncuts.client.pending < n
-    → length heard'.uncuts.client.pending < n
-fewer_bodies n is h = subst (λ (k : Heard). length k.uncuts.client.pending < n) (sym is) h
 
 pub is_true : (inside now : Bool) → true ≡ inside → inside ≡ now → now ≡ true
 is_true inside now is view = sym view ∙ sym is

@@ -6,11 +6,12 @@ use Rattle.wire_core.specs.Outside.{Outside, IsOpen}
 use Rattle.wire_core.specs.declared.outside.Side.TheVariants.{Client, Target}
 use Rattle.world_model.specs.Machine.{due}
 use Rattle.world_model.specs.Session as session
-use Rattle.world_model.specs.Session.{At, start, Session, Waits, Ends, IsSession, ended, last_words}
+use Rattle.world_model.specs.Session.{At, start, Session, Waits, Ends, IsSession, ended}
 use Rattle.world_model.specs.declared.ending.Ending.{Ending}
 use Rattle.world_model.specs.declared.ending.Ending.TheVariants.{Idle, Spent, NoMemory}
 use Rattle.world_model.specs.declared.ending.Limits.{Limits}
-use Rattle.bridge_serve.specs.Following.{standing, Heard, nothing_heard, Follows, Leads, Keeps, Blames, IsReady}
+use Rattle.bridge_serve.specs.Serving.{Keeps, Blames}
+use Rattle.bridge_serve.specs.Following.{standing, Heard, nothing_heard, Follows, Leads, IsReady}
 use Rattle.bridge_serve.specs.Following.{MayHear, GoesOn, Stops, Hears, HearsEnd, Ran, Says, Served}
 use Rattle.bridge_serve.proofs.LastWords.{left_at, left_for_memory}
 use Rattle.bridge_serve.proofs.Logs.{adds_none, keeps_same, keeps_on, blames_on, rose_then}

@@ -11,7 +11,7 @@ use Rattle.wire_core.specs.declared.outside.Side.TheVariants.{Client, Target}
 use Rattle.world_model.specs.Session.{At, Place, Word, Session, last_words, word_side, word_bytes, word_said}
 use Rattle.world_model.specs.declared.ending.Ending.{Ending}
 use Rattle.world_model.specs.declared.ending.Limits.{Limits}
-use Rattle.bridge_serve.specs.Following.{Leads, IsCounted, IsLeft, Speakable, Speaks, FallsSilent, Forgets}
+use Rattle.bridge_serve.specs.Following.{Leads, IsCounted, IsLeft, Speakable, SaysOne, FallsSilent, Forgets}
 use Rattle.bridge_serve.specs.Following.{nothing_heard}
 use Rattle.bridge_serve.proofs.LastWords.{each_map, same_bytes, word_some_bytes}
 use Rattle.bridge_serve.proofs.Logs.{keeps_same, keeps_on}
@@ -109,7 +109,7 @@ module _ (ending : Ending) (core core' : Sight) (side : Side) (bytes : List ℕ)
       )
 
   pub says_one : (old new : Outside) → Speakable old (last_words ending core.state) → sends old new side bytes
-      → Speaks old new core core' ending
+      → SaysOne old new core core' ending
   says_one old new speakable sent = record {
     leads = λ limits turns at left. says_at limits old new turns at sent left;
     keeps = record { counts = sent.counts; asked = sent.asked };
@@ -160,7 +160,7 @@ forgets o core ending = record { leads = λ limits turns at left. (at, λ begin 
 
 -- nothing was said yet
 pub speaks_none : (o : Outside) (core : Sight) (ending : Ending) → Speakable o (last_words ending core.state)
-    → Speaks o o core core ending
+    → SaysOne o o core core ending
 speaks_none o core ending speakable = record {
   leads = λ limits turns at left. (at, λ begin follows. follows, left);
   keeps = keeps_same o;
@@ -168,8 +168,8 @@ speaks_none o core ending speakable = record {
 }
 
 -- one after the other
-pub speaks_on : (a b c : Outside) (x y z : Sight) (ending : Ending) → Speaks a b x y ending → Speaks b c y z ending
-    → Speaks a c x z ending
+pub speaks_on : (a b c : Outside) (x y z : Sight) (ending : Ending) → SaysOne a b x y ending → SaysOne b c y z ending
+    → SaysOne a c x z ending
 speaks_on a b c x y z ending h k = record {
   leads = λ limits turns at left.
       let first = h.leads limits turns at left in
@@ -179,7 +179,7 @@ speaks_on a b c x y z ending h k = record {
   speakable = k.speakable;
 }
 
-pub silent_on : (a b c : Outside) (x y : Sight) (ending : Ending) → Speaks a b x y ending → FallsSilent b c y ending
+pub silent_on : (a b c : Outside) (x y : Sight) (ending : Ending) → SaysOne a b x y ending → FallsSilent b c y ending
     → FallsSilent a c x ending
 silent_on a b c x y ending h k = record {
   leads = λ limits turns at left.
@@ -189,7 +189,7 @@ silent_on a b c x y ending h k = record {
   keeps = keeps_on h.keeps k.keeps;
 }
 
-pub forgets_on : (a b c : Outside) (x y : Sight) (ending : Ending) → Speaks a b x y ending → Forgets b c y ending
+pub forgets_on : (a b c : Outside) (x y : Sight) (ending : Ending) → SaysOne a b x y ending → Forgets b c y ending
     → Forgets a c x ending
 forgets_on a b c x y ending h k = record {
   leads = λ limits turns at left.

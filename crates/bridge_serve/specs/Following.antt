@@ -1,17 +1,25 @@
 -- How the loop over the wires follows the session relation: words for what each helper of the loop does.
-use Rattle.std.specs.Prelude.{ℕ, ◌≡◌, ◌+◌, ◌≤◌, ◌<◌, ◌⊎◌, true, false, List, [], length, None, Some}
+use Rattle.std.specs.Prelude.{ℕ, ◌≡◌, ◌+◌, ◌≤◌, ◌<◌, ◌⊎◌, true, false, List, [], length, None, Some, Err}
 use Rattle.std.specs.List.{AllByRecursion}
 use Rattle.bridge_core.specs.Steps.{Sight, Uncuts, place_of, waiting_in}
-use Rattle.jdwp_packets.specs.Receiving.{nothing_received}
-use Rattle.wire_core.specs.Outside.{Outside, Adds, Counts, IsOpen, Rose}
-use Rattle.wire_core.specs.Streams.{uncut}
+use Rattle.dap_frames.specs.Frames.{frame_front}
+use Rattle.dap_frames.specs.Taking.{IsTaken as IsBody}
+use Rattle.dap_frames.specs.declared.fault.FrameTrouble.{FrameTrouble}
+use Rattle.jdwp_packets.specs.Receiving.{nothing_received, left_behind}
+use Rattle.jdwp_packets.specs.Taking.{IsTaken as IsPacket}
+use Rattle.jdwp_packets.specs.declared.fault.PacketTrouble.{PacketTrouble}
+use Rattle.wire_core.specs.Outside.{Outside, Adds, IsOpen}
+use Rattle.wire_core.specs.Streams.{uncut, left}
 use Rattle.wire_core.specs.declared.outside.Entry.{Entry}
 use Rattle.wire_core.specs.declared.outside.Side.TheVariants.{Client, Target}
 use Rattle.world_model.specs.Machine.{Message, due, Due}
+use Rattle.bridge_serve.specs.Serving.{Keeps, Blames}
 use Rattle.world_model.specs.Session.{At, start, Place, Word, word_side, last_words, Session, Waits, IsSession}
+use Rattle.world_model.specs.declared.ending.ClientFault.TheVariants.{Frame as frame_fault}
 use Rattle.world_model.specs.declared.ending.Ending.{Ending}
-use Rattle.world_model.specs.declared.ending.Ending.TheVariants.{ClientLink, TargetLink, NoMemory}
+use Rattle.world_model.specs.declared.ending.Ending.TheVariants.{BadClient, BadTarget, NoMemory}
 use Rattle.world_model.specs.declared.ending.Limits.{Limits}
+use Rattle.world_model.specs.declared.ending.TargetFault.TheVariants.{Packet as packet_fault}
 use Rattle.world_model.specs.declared.machine.Phase.TheVariants.{Gone}
 
 -- what came in and isn't handled yet, and how many waits in a row were in vain
@@ -19,6 +27,7 @@ pub record Heard : Type 0 where
   pub uncuts : Uncuts
   pub quiets : ℕ
 
+-- nothing came yet
 abbrev pub nothing_heard : Heard
 nothing_heard = record { uncuts = record { client = uncut; target = nothing_received; ended = false }; quiets = 0 }
 
@@ -33,16 +42,6 @@ standing core heard = record {
   left = [];
   broken = 0;
 }
-
--- no count fell, and no other name was asked for
-pub record Keeps (old new : Outside) : Type 0 where
-  pub counts : Counts old new
-  pub asked : new.asked ≡ old.asked
-
--- a fault of a link comes only where its count rose
-pub record Blames (old new : Outside) (ending : Ending) : Type 0 where
-  pub client : ending ≡ ClientLink → Rose old.client.faults new.client.faults
-  pub target : ending ≡ TargetLink → Rose old.target.faults new.target.faults
 
 -- both sides are open, but for a target that is gone or whose end came
 pub record Opens (o : Outside) (core : Sight) (heard : Heard) : Type 0 where
@@ -75,6 +74,30 @@ client_end heard = heard.uncuts.client.at + length heard.uncuts.client.pending
 
 abbrev pub target_end : Heard → ℕ
 target_end heard = heard.uncuts.target.stream.at + length heard.uncuts.target.stream.pending
+
+-- What is cut of what came -------------------------------------------------------------------------------------------
+
+-- the client's next body was handed out, where a whole frame was there
+abbrev pub body_taken : Heard → Heard
+body_taken heard = record heard {
+  uncuts = record heard.uncuts { client = left (frame_front heard.uncuts.client.pending) heard.uncuts.client };
+}
+
+-- a byte that no frame has there ends the session
+abbrev pub IsMisframed : Heard → Ending → Type 0
+IsMisframed heard ending =
+    (trouble : FrameTrouble) × IsBody heard.uncuts.client (Err trouble)
+    × (ending ≡ BadClient (frame_fault trouble.fault) trouble.at)
+
+-- the target's next packet was handed out, where a whole one was there
+abbrev pub packet_taken : Heard → Heard
+packet_taken heard = record heard { uncuts = record heard.uncuts { target = left_behind heard.uncuts.target } }
+
+-- a byte that no packet has there ends the session
+abbrev pub IsMispacked : Heard → Ending → Type 0
+IsMispacked heard ending =
+    (trouble : PacketTrouble) × IsPacket heard.uncuts.target (Err trouble)
+    × (ending ≡ BadTarget (packet_fault trouble.fault) trouble.at 0)
 
 -- Endings ------------------------------------------------------------------------------------------------------------
 
@@ -184,8 +207,22 @@ pub record CoreStops (old new : Outside) (core core' : Sight) (ending : Ending) 
   pub keeps : Keeps old new
   pub blames : Blames old new ending
 
+-- the core heard something, and told and sent what was due then
+pub record Handles (hears : Sight → Type 0) (old new : Outside) (core' : Sight) : Type 0 where
+  pub middle : Sight
+  pub heard : hears middle
+  pub goes_on : CoreGoesOn old new middle core'
+  pub nothing_due : due core'.state ≡ Due.waits
+
+-- what it heard ended the session, or the session ended while that was told and sent
+pub data HandlesLast (hears : Sight → Type 0) (refuses : Sight → Ending → Type 0) (old : Outside)
+    : Outside → Sight → Ending → Type 0 where
+  refuses : {core' : Sight} {ending : Ending} → refuses core' ending → HandlesLast hears refuses old old core' ending
+  stops : {new : Outside} {middle core' : Sight} {ending : Ending} → hears middle
+      → CoreStops old new middle core' ending → HandlesLast hears refuses old new core' ending
+
 -- one of the last words was said
-pub record Speaks (old new : Outside) (core core' : Sight) (ending : Ending) : Type 0 where
+pub record SaysOne (old new : Outside) (core core' : Sight) (ending : Ending) : Type 0 where
   pub leads : (limits : Limits) (turns : ℕ) (at : At) → IsLeft old core at ending
       → (to : At) × Leads limits old turns at new turns to × IsLeft new core' to ending
   pub keeps : Keeps old new

@@ -1,6 +1,8 @@
-ghost use Rattle.std.specs.Prelude.{◌≡◌, ◌^◌, ◌<◌, ◌⊎◌, length, IfErr, OnOk, Ok, true, false};
+ghost use Rattle.std.specs.Prelude.{◌≡◌, ◌^◌, ◌<◌, ◌≤◌, ◌⊎◌, length, IfErr, OnOk, Ok, true, false};
 ghost use Rattle.bridge_serve.specs.Following.{standing, IsReady, IsTakenUp, GoesOn, Stops, target_end};
-ghost use Rattle.bridge_core.specs.Steps.{place_of};
+ghost use Rattle.bridge_serve.specs.Following.{CoreIsReady, Handles, HandlesLast};
+ghost use Rattle.bridge_core.specs.Steps.{place_of, offset_of, packet_of, body_of, Takes, Refuses, TakesPacket};
+ghost use Rattle.bridge_core.specs.Steps.{RefusesPacket};
 ghost use Rattle.dap_frames.specs.Frames.{frame_front};
 ghost use Rattle.wire_core.specs.Streams.{waits};
 ghost use Rattle.world_model.specs.Session.{Waits, target_front};
@@ -9,9 +11,11 @@ ghost use Rattle.world_model.specs.declared.ending.Limits.{Limits};
 use crate::inputs::Inputs;
 use crate::telling::tell;
 use bridge_core::Core;
+use dap_frames::Body;
+use jdwp_packets::Packet;
 use std::alloc::Global;
 use wire_core::Wires;
-use world_model::{ClientFault, Ending, TargetFault};
+use world_model::Ending;
 
 /// Handles all that came, message by message, each as far as possible before the next one is cut.
 pub(crate) fn handle<W: Wires>(
@@ -51,10 +55,8 @@ fn take_end<W: Wires>(
         return Ok(());
     }
     inputs.ended = false;
-    match core.target_shut(alloc) {
-        Ok(()) => tell(alloc, wires, core),
-        Err(ending) => Err(ending),
-    }
+    core.target_shut(alloc)?;
+    tell(alloc, wires, core)
 }
 
 // Takes up the target's handshake.
@@ -116,21 +118,33 @@ fn take_packet<W: Wires>(
     ensures no_packet { result ≡ Ok false → target_front (place_of core.new inputs.new.uncuts) ≡ waits }
     ensures err { IfErr result (Stops (W.outside wires.old) (W.outside wires.new) core.old core.new inputs.old) }
 {
-    match inputs.packets.take() {
-        Ok(Some(packet)) => match core.target_packet(alloc, packet) {
-            Ok(()) => match tell(alloc, wires, core) {
-                Ok(()) => Ok(true),
-                Err(ending) => Err(ending),
-            },
-            Err(ending) => Err(ending),
-        },
-        Ok(None) => Ok(false),
-        Err(trouble) => Err(Ending::BadTarget {
-            fault: TargetFault::Packet(trouble.fault),
-            at: trouble.at,
-            id: 0,
-        }),
-    }
+    let Some(packet) = inputs.next_packet()? else {
+        return Ok(false);
+    };
+    hear_packet(alloc, wires, core, packet)?;
+    Ok(true)
+}
+
+// Hears a packet, and tells and sends what is due then.
+fn hear_packet<W: Wires>(
+    alloc: Global,
+    wires: &mut W,
+    core: &mut Core,
+    packet: Packet<'_>,
+) -> Result<(), Ending>
+    requires ready { CoreIsReady (W.outside wires.old) core.old }
+    requires small { offset_of packet < 2 ^ 62 }
+    requires short { length (body_of packet) ≤ 67108853 }
+    ensures ok { OnOk result
+        (Handles (TakesPacket core.old (offset_of packet.entry) (packet_of packet.entry))
+        (W.outside wires.old) (W.outside wires.new) core.new) }
+    ensures err { IfErr result
+        (HandlesLast (TakesPacket core.old (offset_of packet.entry) (packet_of packet.entry))
+        (RefusesPacket core.old (offset_of packet.entry) (packet_of packet.entry))
+        (W.outside wires.old) (W.outside wires.new) core.new) }
+{
+    core.target_packet(alloc, packet)?;
+    tell(alloc, wires, core)
 }
 
 // Handles the client's bodies, one after the other.
@@ -175,18 +189,27 @@ fn take_body<W: Wires>(
     if core.is_closing() {
         return Ok(false);
     }
-    match inputs.cutter.take() {
-        Ok(Some(body)) => match core.client_body(alloc, body.at, body.bytes) {
-            Ok(()) => match tell(alloc, wires, core) {
-                Ok(()) => Ok(true),
-                Err(ending) => Err(ending),
-            },
-            Err(ending) => Err(ending),
-        },
-        Ok(None) => Ok(false),
-        Err(trouble) => Err(Ending::BadClient {
-            fault: ClientFault::Frame(trouble.fault),
-            at: trouble.at,
-        }),
-    }
+    let Some(body) = inputs.next_body()? else {
+        return Ok(false);
+    };
+    hear_body(alloc, wires, core, body)?;
+    Ok(true)
+}
+
+// Hears a body, and tells and sends what is due then.
+fn hear_body<W: Wires>(
+    alloc: Global,
+    wires: &mut W,
+    core: &mut Core,
+    body: Body<'_>,
+) -> Result<(), Ending>
+    requires { CoreIsReady (W.outside wires.old) core.old }
+    ensures ok { OnOk result
+        (Handles (Takes core.old body.entry.bytes.now) (W.outside wires.old) (W.outside wires.new) core.new) }
+    ensures err { IfErr result
+        (HandlesLast (Takes core.old body.entry.bytes.now) (Refuses core.old body.entry.bytes.now body.entry.at)
+        (W.outside wires.old) (W.outside wires.new) core.new) }
+{
+    core.client_body(alloc, body.at, body.bytes)?;
+    tell(alloc, wires, core)
 }

@@ -1,6 +1,7 @@
 ghost use Rattle.std.specs.Prelude.{◌≡◌, ◌+◌, ◌^◌, ◌<◌, ◌≤◌, length, OnOk, IfErr};
 ghost use Rattle.bridge_core.specs.Steps.{Sight};
-ghost use Rattle.bridge_serve.specs.Following.{Keeps, MayHear, Hears, HearsEnd, client_end, target_end};
+ghost use Rattle.bridge_serve.specs.Serving.{Keeps};
+ghost use Rattle.bridge_serve.specs.Following.{MayHear, Hears, HearsEnd, client_end, target_end};
 ghost use Rattle.wire_core.specs.Outside.{IsOpen};
 ghost use Rattle.wire_core.specs.declared.outside.Side.TheVariants.{Client};
 ghost use Rattle.world_model.specs.declared.ending.Limits.{Limits};

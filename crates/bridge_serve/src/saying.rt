@@ -1,5 +1,5 @@
 ghost use Rattle.std.specs.Prelude.{◌≡◌, ◌<◌, length, Ok, true, false, OnOk, OnErr};
-ghost use Rattle.bridge_serve.specs.Following.{Speakable, Speaks, FallsSilent, Forgets, Says};
+ghost use Rattle.bridge_serve.specs.Following.{Speakable, SaysOne, FallsSilent, Forgets, Says};
 ghost use Rattle.world_model.specs.Session.{last_words};
 
 use bridge_core::Core;
@@ -40,7 +40,7 @@ fn say_next<W: Wires>(
     ending: &Ending,
 ) -> Result<bool, NoMemory>
     requires { Speakable (W.outside wires.old) (last_words ending.now core.old.state) }
-    ensures more { result ≡ Ok true → Speaks (W.outside wires.old) (W.outside wires.new) core.old core.new ending.now }
+    ensures more { result ≡ Ok true → SaysOne (W.outside wires.old) (W.outside wires.new) core.old core.new ending.now }
     ensures fewer { result ≡ Ok true
         → length (last_words ending.now core.new.state) < length (last_words ending.now core.old.state) }
     ensures silent { result ≡ Ok false → FallsSilent (W.outside wires.old) (W.outside wires.new) core.old ending.now }

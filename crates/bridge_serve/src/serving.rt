@@ -1,6 +1,7 @@
 ghost use Rattle.std.specs.Prelude.{◌≡◌, length, replicate, vec_len, IfOk, OnOk, IfErr};
 ghost use Rattle.bridge_core.specs.Steps.{fresh_core};
-ghost use Rattle.bridge_serve.specs.Following.{Keeps, Blames, Served, Ran};
+ghost use Rattle.bridge_serve.specs.Serving.{Keeps, Blames};
+ghost use Rattle.bridge_serve.specs.Following.{Served, Ran};
 ghost use Rattle.wire_core.specs.Outside.{IsOpen};
 ghost use Rattle.wire_core.specs.declared.outside.Side.TheVariants.{Client, Target};
 ghost use Rattle.world_model.specs.Session.{AreLimits, IsSession};

@@ -1,5 +1,5 @@
 use Rattle.std.proofs.Common.{length}
-use Rattle.bridge_serve.specs.Following.{Speaks}
+use Rattle.bridge_serve.specs.Following.{SaysOne}
 use Rattle.world_model.specs.Session.{last_words}
 use Rattle.bridge_serve.proofs.saying.say_all.Given as goal
 
@@ -7,7 +7,7 @@ use Rattle.bridge_serve.proofs.saying.say_all.Given as goal
 abbrev pub invariant-loop : goal.invariant-loop
 invariant-loop g l =
     let outside = g.W.Wires.outside in
-    Speaks (outside l.initial.wires) (outside l.wires) l.initial.core l.core l.ending
+    SaysOne (outside l.initial.wires) (outside l.wires) l.initial.core l.core l.ending
 
 -- each takes one
 abbrev pub decreases-loop : goal.decreases-loop
