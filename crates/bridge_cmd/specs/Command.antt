@@ -1,11 +1,11 @@
 -- The program: what its words make it do, what it prints, and the status that it ends with.
-use Rattle.std.specs.Prelude.{ℕ, List}
+use Rattle.std.specs.Prelude.{ℕ, ◌≡◌, List, []}
 use Rattle.bridge_cmd.specs.Lines.{Prints, line_of, status_of}
 use Rattle.bridge_cmd.specs.Words.{AreRefused, Names}
 use Rattle.bridge_cmd.specs.declared.printing.Outcome.{Outcome}
 use Rattle.bridge_cmd.specs.declared.printing.Outcome.TheVariants.{Misused, NotOpened, Ended}
 use Rattle.bridge_cmd.specs.declared.words.Addresses.{Addresses}
-use Rattle.bridge_serve.specs.Following.{Keeps, Blames}
+use Rattle.bridge_serve.specs.Serving.{Keeps, Blames}
 use Rattle.wire_core.specs.Output.{Printed}
 use Rattle.wire_core.specs.Outside.{Outside, Connects, FailsToConnect}
 use Rattle.world_model.specs.Session.{IsSession}
@@ -40,3 +40,12 @@ pub record Runs (words : List (List ℕ)) (old new : Outside) (before after : Pr
   pub outcome : Outcome
   pub does : Does words old new outcome
   pub prints : Prints before after (line_of outcome) (status_of outcome) status
+
+-- the status of a run on these words, over wires that were not used before
+pub record IsRun (words : List (List ℕ)) (status : ℕ) : Type 0 where
+  pub old : Outside
+  pub new : Outside
+  pub before : Printed
+  pub after : Printed
+  pub unused : old.asked ≡ []
+  pub runs : Runs words old new before after status

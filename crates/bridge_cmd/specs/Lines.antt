@@ -20,6 +20,7 @@ use Rattle.world_model.specs.declared.ending.TargetFault.TheVariants.{Packet, Sh
 use Rattle.world_model.specs.declared.ending.TargetFault.TheVariants.{BadPolicy, Trailing, BadSizes, PolicyThread}
 use Rattle.world_model.specs.declared.ending.TargetFault.TheVariants.{BadCommand, UnknownReply}
 
+-- the name of a fault of a frame
 abbrev pub frame_fault_name : FrameFault → List ℕ
 frame_fault_name NoLength = codes "NoLength"
 frame_fault_name TwoLengths = codes "TwoLengths"
@@ -39,6 +40,7 @@ abbrev pub client_fault_line : ClientFault → ℕ → List ℕ
 client_fault_line fault at =
     codes "ended 3 client " ++ client_fault_name fault ++ codes " at " ++ decimal at ++ codes "\n"
 
+-- the name of a fault of a packet
 abbrev pub packet_fault_name : PacketFault → List ℕ
 packet_fault_name BadHandshake = codes "BadHandshake"
 packet_fault_name ShortLength = codes "ShortLength"
@@ -59,6 +61,7 @@ target_fault_name PolicyThread = codes "PolicyThread"
 target_fault_name BadCommand = codes "BadCommand"
 target_fault_name UnknownReply = codes "UnknownReply"
 
+-- only this fault is told with an id
 abbrev pub is_unknown_reply : TargetFault → Bool
 is_unknown_reply UnknownReply = true
 is_unknown_reply _ = false
@@ -68,12 +71,12 @@ abbrev pub named_at : List ℕ → ℕ → List ℕ
 named_at name at = name ++ codes " at " ++ decimal at
 
 -- the line of a fault of the target's bytes, with its offset in the target's stream, and of a reply to no command also
--- with the id that it answers (JDWP, JDWP Packets, Reply Packet)
+-- with the id that it answers (JDWP, JDWP Packets, reply packet)
 abbrev pub target_fault_line : TargetFault → ℕ → ℕ → List ℕ
 target_fault_line fault at id = codes "ended 4 target " ++ named_at (target_fault_name fault) at
     ++ (if is_unknown_reply fault then codes " id " ++ decimal id ++ codes "\n" else codes "\n")
 
--- the number of a command: its set, and its number in that (JDWP, JDWP Packets, Command Packet); then what follows
+-- the number of a command: its set, and its number in that (JDWP, JDWP Packets, command packet); then what follows
 abbrev pub command_then : ℕ → ℕ → List ℕ → List ℕ
 command_then set command rest = decimal set ++ (codes "." ++ (decimal command ++ rest))
 

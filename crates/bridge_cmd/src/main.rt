@@ -2,6 +2,9 @@
 //! that speaks the Java Debug Wire Protocol.
 #![tactic(auto)]
 
+ghost use Rattle.std.specs.Prelude.{IfOk};
+ghost use Rattle.bridge_cmd.specs.Command.{IsRun};
+
 mod command;
 mod printing;
 #[cfg(test)]
@@ -11,7 +14,7 @@ mod words;
 use command::bridge_main;
 use std::process::ExitCode;
 use std::{env, io};
-use wire_core::{List, Text};
+use wire_core::{List, Text, Word};
 use wire_edge::{DiskFiles, StdOutput, TcpWires};
 
 // The status where memory runs out before the words are there.
@@ -31,14 +34,15 @@ fn run(rt: HostRuntime) -> io::Result<u8> {
             return Ok(OUT_OF_MEMORY);
         }
     }
+    run_on(rt, words.as_slice())
+}
+
+// Runs the program on these words over the network, the disk and the standard output.
+fn run_on(rt: HostRuntime, words: &[Word]) -> io::Result<u8>
+    ensures { IfOk result (IsRun words.now) }
+{
     let mut wires = TcpWires::new(rt.clone()?);
     let mut files = DiskFiles::new(rt.clone()?);
     let mut out = StdOutput::new(rt.clone()?);
-    Ok(bridge_main(
-        rt.alloc(),
-        words.as_slice(),
-        &mut wires,
-        &mut files,
-        &mut out,
-    ))
+    Ok(bridge_main(rt.alloc(), words, &mut wires, &mut files, &mut out))
 }

@@ -132,20 +132,22 @@ fn status(
     Ok(bridge_main(alloc, words.as_slice(), wires, &mut files, out))
 }
 
+// Words that are none of the program's.
+const REFUSED_WORDS: [&[&str]; 9] = [
+    &[],
+    &["attach", "--listen", "A", "--target", "B"],
+    &["serve", "--listen", "A"],
+    &["serve", "--listen", "A", "--target"],
+    &["serve", "--listen", "A", "--target", "-B"],
+    &["serve", "--listen", "A", "--target", "B", "C"],
+    &["serve", "--listen", "A", "--target", "B", "--listen", "C"],
+    &["serve", "--help"],
+    &["serve", "--version"],
+];
+
 #[test]
 fn words_are_refused(rt: HostRuntime) -> Result<(), Fail> {
-    let refused: [&[&str]; 9] = [
-        &[],
-        &["attach", "--listen", "A", "--target", "B"],
-        &["serve", "--listen", "A"],
-        &["serve", "--listen", "A", "--target"],
-        &["serve", "--listen", "A", "--target", "-B"],
-        &["serve", "--listen", "A", "--target", "B", "C"],
-        &["serve", "--listen", "A", "--target", "B", "--listen", "C"],
-        &["serve", "--help"],
-        &["serve", "--version"],
-    ];
-    for words in refused {
+    for words in REFUSED_WORDS {
         let mut wires = wires_of(rt.alloc(), &[INITIALIZE])?;
         let mut out = output_of(rt.alloc(), false)?;
         assert_eq!(rt; status(rt.alloc(), words, &mut wires, &mut out)?, 2);
@@ -155,15 +157,17 @@ fn words_are_refused(rt: HostRuntime) -> Result<(), Fail> {
     Ok(())
 }
 
+// Words that are the program's.
+const TAKEN_WORDS: [&[&str]; 4] = [
+    SERVE,
+    &["serve", "--target", "B", "--listen", "A"],
+    &["serve", "--listen=A", "--target", "B"],
+    &["serve", "--listen", "", "--target", "B"],
+];
+
 #[test]
 fn words_are_taken(rt: HostRuntime) -> Result<(), Fail> {
-    let taken: [&[&str]; 4] = [
-        SERVE,
-        &["serve", "--target", "B", "--listen", "A"],
-        &["serve", "--listen=A", "--target", "B"],
-        &["serve", "--listen", "", "--target", "B"],
-    ];
-    for words in taken {
+    for words in TAKEN_WORDS {
         let mut wires = MemoryWires::closed(rt.alloc());
         let mut out = output_of(rt.alloc(), false)?;
         assert_eq!(rt; status(rt.alloc(), words, &mut wires, &mut out)?, 7);
@@ -172,62 +176,64 @@ fn words_are_taken(rt: HostRuntime) -> Result<(), Fail> {
     Ok(())
 }
 
+// The pieces of a client, the status and the line that they end with, and how many messages are sent.
+const SESSIONS: [(&[&[u8]], u8, &str, usize); 11] = [
+    (&[INITIALIZE, DISCONNECT], 0, "ended 0 done\n", 2),
+    (&[], 1, "ended 1 left\n", 0),
+    (
+        &[b"Content-Length: 2\r\nContent-Length: 2\r\n\r\n{}"],
+        3,
+        "ended 3 client TwoLengths at 33\n",
+        0,
+    ),
+    (
+        &[b"Content-Length: 16777216\r\n\r\n"],
+        1,
+        "ended 1 left\n",
+        0,
+    ),
+    (
+        &[b"Content-Length: 16777217\r\n\r\n"],
+        3,
+        "ended 3 client TooLong at 23\n",
+        0,
+    ),
+    (
+        &[b"Content-Length: 00000000002\r\n\r\n{}"],
+        3,
+        "ended 3 client BadLength at 26\n",
+        0,
+    ),
+    (&[b"X: y\r\n\r\n"], 3, "ended 3 client NoLength at 6\n", 0),
+    (
+        &[b"X:", &[b' '; 4071], b"\r\nContent-Length: 2\r\n\r\n{}"],
+        3,
+        "ended 3 client NotAMessage at 4096\n",
+        0,
+    ),
+    (
+        &[b"X:", &[b' '; 4096]],
+        3,
+        "ended 3 client HeaderTooLong at 4096\n",
+        0,
+    ),
+    (
+        &[INITIALIZE, b"Content-Length: 1\r\n\r\n{"],
+        3,
+        "ended 3 client NotJson at 125\n",
+        1,
+    ),
+    (
+        &[b"Content-Length: 2\r\n\r\n{}"],
+        3,
+        "ended 3 client NotAMessage at 21\n",
+        0,
+    ),
+];
+
 #[test]
 fn sessions_end_with_their_line(rt: HostRuntime) -> Result<(), Fail> {
-    let sessions: [(&[&[u8]], u8, &str, usize); 11] = [
-        (&[INITIALIZE, DISCONNECT], 0, "ended 0 done\n", 2),
-        (&[], 1, "ended 1 left\n", 0),
-        (
-            &[b"Content-Length: 2\r\nContent-Length: 2\r\n\r\n{}"],
-            3,
-            "ended 3 client TwoLengths at 33\n",
-            0,
-        ),
-        (
-            &[b"Content-Length: 16777216\r\n\r\n"],
-            1,
-            "ended 1 left\n",
-            0,
-        ),
-        (
-            &[b"Content-Length: 16777217\r\n\r\n"],
-            3,
-            "ended 3 client TooLong at 23\n",
-            0,
-        ),
-        (
-            &[b"Content-Length: 00000000002\r\n\r\n{}"],
-            3,
-            "ended 3 client BadLength at 26\n",
-            0,
-        ),
-        (&[b"X: y\r\n\r\n"], 3, "ended 3 client NoLength at 6\n", 0),
-        (
-            &[b"X:", &[b' '; 4071], b"\r\nContent-Length: 2\r\n\r\n{}"],
-            3,
-            "ended 3 client NotAMessage at 4096\n",
-            0,
-        ),
-        (
-            &[b"X:", &[b' '; 4096]],
-            3,
-            "ended 3 client HeaderTooLong at 4096\n",
-            0,
-        ),
-        (
-            &[INITIALIZE, b"Content-Length: 1\r\n\r\n{"],
-            3,
-            "ended 3 client NotJson at 125\n",
-            1,
-        ),
-        (
-            &[b"Content-Length: 2\r\n\r\n{}"],
-            3,
-            "ended 3 client NotAMessage at 21\n",
-            0,
-        ),
-    ];
-    for (pieces, wanted, line, sent) in sessions {
+    for (pieces, wanted, line, sent) in SESSIONS {
         let mut wires = wires_of(rt.alloc(), pieces)?;
         let mut out = output_of(rt.alloc(), false)?;
         assert_eq!(rt; status(rt.alloc(), SERVE, &mut wires, &mut out)?, wanted);
@@ -243,90 +249,95 @@ fn sessions_end_with_their_line(rt: HostRuntime) -> Result<(), Fail> {
     Ok(())
 }
 
+const CLIENT: Side = Side::Client;
+
+const TARGET: Side = Side::Target;
+
+// The pieces of both sides behind a request to attach, whether the link to the target fails then, the status, the line,
+// and what the target is sent last.
+const TARGET_SESSIONS: [(&[(Side, &[u8])], bool, u8, &str, &[u8]); 10] = [
+    (&[], true, 6, "ended 6 target link\n", HANDSHAKE),
+    (
+        &[(TARGET, b"JDWP-handshake")],
+        false,
+        4,
+        "ended 4 target BadHandshake at 5\n",
+        HANDSHAKE,
+    ),
+    (
+        &[(TARGET, HANDSHAKE), (TARGET, b"\x00\x00\x00\x0a")],
+        false,
+        4,
+        "ended 4 target ShortLength at 14\n",
+        ASKED_SIZES,
+    ),
+    (
+        &[(TARGET, HANDSHAKE), (TARGET, SIZES_OF_NINE)],
+        false,
+        4,
+        "ended 4 target BadSizes at 33\n",
+        ASKED_SIZES,
+    ),
+    (
+        &[(TARGET, HANDSHAKE), (TARGET, SIZES), (TARGET, REFUSED)],
+        false,
+        4,
+        "ended 4 target UnknownReply at 45 id 1\n",
+        SET_START,
+    ),
+    (
+        &[(TARGET, HANDSHAKE), (TARGET, REFUSED)],
+        false,
+        11,
+        "ended 11 refused 1.7 error 13\n",
+        ASKED_SIZES,
+    ),
+    (
+        &[(TARGET, HANDSHAKE), (TARGET, SIZES)],
+        true,
+        6,
+        "ended 6 target link\n",
+        SET_START,
+    ),
+    // attached, a client leaves, disconnects, and has the target exit
+    (
+        &[(TARGET, HANDSHAKE), (TARGET, SIZES), (TARGET, BOTH_SET)],
+        false,
+        1,
+        "ended 1 left\n",
+        DISPOSE,
+    ),
+    (
+        &[
+            (TARGET, HANDSHAKE),
+            (TARGET, SIZES),
+            (TARGET, BOTH_SET),
+            (CLIENT, DISCONNECT),
+            (TARGET, LEFT),
+        ],
+        false,
+        0,
+        "ended 0 done\n",
+        DISPOSE,
+    ),
+    (
+        &[
+            (TARGET, HANDSHAKE),
+            (TARGET, SIZES),
+            (TARGET, BOTH_SET),
+            (CLIENT, TERMINATE),
+            (TARGET, LEFT),
+        ],
+        false,
+        0,
+        "ended 0 done\n",
+        EXIT,
+    ),
+];
+
 #[test]
 fn sessions_with_a_target_end_with_their_line(rt: HostRuntime) -> Result<(), Fail> {
-    let client = Side::Client;
-    let target = Side::Target;
-    let sessions: [(&[(Side, &[u8])], bool, u8, &str, &[u8]); 10] = [
-        (&[], true, 6, "ended 6 target link\n", HANDSHAKE),
-        (
-            &[(target, b"JDWP-handshake")],
-            false,
-            4,
-            "ended 4 target BadHandshake at 5\n",
-            HANDSHAKE,
-        ),
-        (
-            &[(target, HANDSHAKE), (target, b"\x00\x00\x00\x0a")],
-            false,
-            4,
-            "ended 4 target ShortLength at 14\n",
-            ASKED_SIZES,
-        ),
-        (
-            &[(target, HANDSHAKE), (target, SIZES_OF_NINE)],
-            false,
-            4,
-            "ended 4 target BadSizes at 33\n",
-            ASKED_SIZES,
-        ),
-        (
-            &[(target, HANDSHAKE), (target, SIZES), (target, REFUSED)],
-            false,
-            4,
-            "ended 4 target UnknownReply at 45 id 1\n",
-            SET_START,
-        ),
-        (
-            &[(target, HANDSHAKE), (target, REFUSED)],
-            false,
-            11,
-            "ended 11 refused 1.7 error 13\n",
-            ASKED_SIZES,
-        ),
-        (
-            &[(target, HANDSHAKE), (target, SIZES)],
-            true,
-            6,
-            "ended 6 target link\n",
-            SET_START,
-        ),
-        // attached, a client leaves, disconnects, and has the target exit
-        (
-            &[(target, HANDSHAKE), (target, SIZES), (target, BOTH_SET)],
-            false,
-            1,
-            "ended 1 left\n",
-            DISPOSE,
-        ),
-        (
-            &[
-                (target, HANDSHAKE),
-                (target, SIZES),
-                (target, BOTH_SET),
-                (client, DISCONNECT),
-                (target, LEFT),
-            ],
-            false,
-            0,
-            "ended 0 done\n",
-            DISPOSE,
-        ),
-        (
-            &[
-                (target, HANDSHAKE),
-                (target, SIZES),
-                (target, BOTH_SET),
-                (client, TERMINATE),
-                (target, LEFT),
-            ],
-            false,
-            0,
-            "ended 0 done\n",
-            EXIT,
-        ),
-    ];
-    for (pieces, fails, wanted, line, last) in sessions {
+    for (pieces, fails, wanted, line, last) in TARGET_SESSIONS {
         let mut wires = wires_of_target(rt.alloc(), pieces, fails)?;
         let mut out = output_of(rt.alloc(), false)?;
         assert_eq!(rt; status(rt.alloc(), SERVE, &mut wires, &mut out)?, wanted);
@@ -336,64 +347,41 @@ fn sessions_with_a_target_end_with_their_line(rt: HostRuntime) -> Result<(), Fai
     Ok(())
 }
 
+// Outcomes, each with its status and its line.
+const OUTCOMES: [(Outcome, u8, &str); 8] = [
+    (Outcome::NotOpened, 7, NOT_OPENED),
+    (
+        Outcome::Ended(Ending::ClientLink),
+        5,
+        "ended 5 client link\n",
+    ),
+    (Outcome::Ended(Ending::Idle), 12, "ended 12 idle\n"),
+    (Outcome::Ended(Ending::Spent), 13, "ended 13 turns\n"),
+    (Outcome::Ended(Ending::Flood), 14, "ended 14 flood\n"),
+    (Outcome::Ended(Ending::NoMemory), 70, "ended 70 memory\n"),
+    (
+        Outcome::Ended(Ending::BadTarget {
+            fault: TargetFault::UnknownReply,
+            at: 75,
+            id: 4_294_967_295,
+        }),
+        4,
+        "ended 4 target UnknownReply at 75 id 4294967295\n",
+    ),
+    (
+        Outcome::Ended(Ending::BadTarget {
+            fault: TargetFault::PolicyThread,
+            at: 86,
+            id: 0,
+        }),
+        4,
+        "ended 4 target PolicyThread at 86\n",
+    ),
+];
+
 #[test]
 fn outcomes_have_their_line(rt: HostRuntime) -> Result<(), Fail> {
-    let outcomes: [(Outcome, u8, &str); 13] = [
-        (Outcome::NotOpened, 7, NOT_OPENED),
-        (
-            Outcome::Ended(Ending::ClientLink),
-            5,
-            "ended 5 client link\n",
-        ),
-        (Outcome::Ended(Ending::Idle), 12, "ended 12 idle\n"),
-        (Outcome::Ended(Ending::Spent), 13, "ended 13 turns\n"),
-        (Outcome::Ended(Ending::Flood), 14, "ended 14 flood\n"),
-        (Outcome::Ended(Ending::NoMemory), 70, "ended 70 memory\n"),
-        (
-            fault(FrameFault::NoLength, 6),
-            3,
-            "ended 3 client NoLength at 6\n",
-        ),
-        (
-            fault(FrameFault::TwoLengths, 33),
-            3,
-            "ended 3 client TwoLengths at 33\n",
-        ),
-        (
-            fault(FrameFault::BadLength, 26),
-            3,
-            "ended 3 client BadLength at 26\n",
-        ),
-        (
-            fault(FrameFault::TooLong, 23),
-            3,
-            "ended 3 client TooLong at 23\n",
-        ),
-        (
-            fault(FrameFault::HeaderTooLong, 9_223_372_036_854_775_807),
-            3,
-            "ended 3 client HeaderTooLong at 9223372036854775807\n",
-        ),
-        (
-            Outcome::Ended(Ending::BadTarget {
-                fault: TargetFault::UnknownReply,
-                at: 75,
-                id: 4_294_967_295,
-            }),
-            4,
-            "ended 4 target UnknownReply at 75 id 4294967295\n",
-        ),
-        (
-            Outcome::Ended(Ending::BadTarget {
-                fault: TargetFault::PolicyThread,
-                at: 86,
-                id: 0,
-            }),
-            4,
-            "ended 4 target PolicyThread at 86\n",
-        ),
-    ];
-    for (outcome, wanted, line) in outcomes {
+    for (outcome, wanted, line) in OUTCOMES {
         let mut out = output_of(rt.alloc(), false)?;
         assert_eq!(rt; tell(rt.alloc(), outcome, &mut out), wanted);
         assert_eq!(rt; out.bytes().as_slice(), line.as_bytes());
@@ -401,11 +389,37 @@ fn outcomes_have_their_line(rt: HostRuntime) -> Result<(), Fail> {
     Ok(())
 }
 
-fn fault(fault: FrameFault, at: u64) -> Outcome {
-    Outcome::Ended(Ending::BadClient {
-        fault: ClientFault::Frame(fault),
-        at,
-    })
+// Faults of a frame, each with its offset and its line.
+const FRAME_FAULTS: [(FrameFault, u64, &str); 5] = [
+    (FrameFault::NoLength, 6, "ended 3 client NoLength at 6\n"),
+    (
+        FrameFault::TwoLengths,
+        33,
+        "ended 3 client TwoLengths at 33\n",
+    ),
+    (
+        FrameFault::BadLength,
+        26,
+        "ended 3 client BadLength at 26\n",
+    ),
+    (FrameFault::TooLong, 23, "ended 3 client TooLong at 23\n"),
+    (
+        FrameFault::HeaderTooLong,
+        9_223_372_036_854_775_807,
+        "ended 3 client HeaderTooLong at 9223372036854775807\n",
+    ),
+];
+
+#[test]
+fn faults_of_a_frame_have_their_line(rt: HostRuntime) -> Result<(), Fail> {
+    for (fault, at, line) in FRAME_FAULTS {
+        let fault = ClientFault::Frame(fault);
+        let mut out = output_of(rt.alloc(), false)?;
+        let outcome = Outcome::Ended(Ending::BadClient { fault, at });
+        assert_eq!(rt; tell(rt.alloc(), outcome, &mut out), 3);
+        assert_eq!(rt; out.bytes().as_slice(), line.as_bytes());
+    }
+    Ok(())
 }
 
 #[test]
