@@ -1,0 +1,7 @@
+pub mod TableLaws
+pub mod PackageLaws
+pub mod ViewLaws
+pub mod HistoryLaws
+pub mod LineLaws
+pub mod SignatureLaws
+pub mod LocationLaws

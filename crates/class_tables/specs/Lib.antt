@@ -1,0 +1,7 @@
+pub mod Tables
+pub mod Facts
+pub mod Signatures
+pub mod Lines
+pub mod Lookups
+pub mod Views
+pub mod Histories
