@@ -3,6 +3,7 @@ import json
 import os
 import socket
 import subprocess
+import sys
 import time
 
 TOP = os.path.dirname(os.path.dirname(os.path.abspath(__file__)))
@@ -46,8 +47,10 @@ DISCONNECTED = response(2, 2, "disconnect")
 
 
 def built():
-    """Proves and builds the program, which is run without words by this, and gives its path."""
-    subprocess.run(["rt", "run"], cwd=FOLDER, stdout=subprocess.DEVNULL, stderr=subprocess.DEVNULL, check=False)
+    """Proves and builds the program, which is run without words by this (status 2), and gives its path."""
+    done = subprocess.run(["rt", "run"], cwd=FOLDER, stdout=subprocess.PIPE, stderr=subprocess.STDOUT, check=False)
+    if done.returncode != 2:
+        sys.exit(done.stdout.decode(errors="replace") + "the program wasn't built")
     return os.path.join(FOLDER, "out", "bridge_cmd")
 
 
