@@ -61,7 +61,8 @@ impl Classes {
     }
 
     /// Learns a class's tag and signature, and whether it is prepared; a class that was prepared stays so. Where memory
-    /// is refused all stays as it was, as in each call that learns.
+    /// is refused all stays as it was, as in each call that learns (JDWP, VirtualMachine command set, AllClasses; JDWP,
+    /// Event command set, Composite, ClassPrepare).
     pub fn learn(
         &mut self,
         class: ClassId,
@@ -81,7 +82,7 @@ impl Classes {
         self.loaded.put(class, loaded)
     }
 
-    /// Learns the name of a class's source file, or that it has none.
+    /// Learns the name of a class's source file, or that it has none (JDWP, ReferenceType command set, SourceFile).
     pub fn learn_source(&mut self, class: ClassId, source: Option<Blob>) -> Result<(), NoMemory>
         ensures ok { OnOk result (self.new ≡ with_fact (has_source class source) self.old) }
         ensures err { OnErr result (self.new ≡ self.old) }
@@ -89,7 +90,7 @@ impl Classes {
         self.sources.put(class, source)
     }
 
-    /// Learns a class's methods.
+    /// Learns a class's methods (JDWP, ReferenceType command set, Methods).
     pub fn learn_methods(&mut self, class: ClassId, methods: List<Method>) -> Result<(), NoMemory>
         ensures ok { OnOk result (self.new ≡ with_fact (has_methods class methods) self.old) }
         ensures err { OnErr result (self.new ≡ self.old) }
@@ -97,7 +98,7 @@ impl Classes {
         self.methods.put(class, methods)
     }
 
-    /// Learns a method's lines, or that it has none.
+    /// Learns a method's lines, or that it has none (JDWP, Method command set, LineTable).
     pub fn learn_lines(
         &mut self,
         class: ClassId,
@@ -110,7 +111,7 @@ impl Classes {
         self.lines.put((class, method), lines)
     }
 
-    /// Learns a method's variables, or that it has none.
+    /// Learns a method's variables, or that it has none (JDWP, Method command set, VariableTable).
     pub fn learn_variables(
         &mut self,
         class: ClassId,
@@ -123,7 +124,7 @@ impl Classes {
         self.variables.put((class, method), variables)
     }
 
-    /// Learns a class's fields.
+    /// Learns a class's fields (JDWP, ReferenceType command set, Fields).
     pub fn learn_fields(&mut self, class: ClassId, fields: List<Field>) -> Result<(), NoMemory>
         ensures ok { OnOk result (self.new ≡ with_fact (has_fields class fields) self.old) }
         ensures err { OnErr result (self.new ≡ self.old) }
@@ -131,7 +132,7 @@ impl Classes {
         self.fields.put(class, fields)
     }
 
-    /// Learns the class that a class extends.
+    /// Learns the class that a class extends (JDWP, ClassType command set, Superclass).
     pub fn learn_super(&mut self, class: ClassId, above: ClassId) -> Result<(), NoMemory>
         ensures ok { OnOk result (self.new ≡ with_fact (is_below class above) self.old) }
         ensures err { OnErr result (self.new ≡ self.old) }
@@ -139,7 +140,7 @@ impl Classes {
         self.supers.put(class, above)
     }
 
-    /// The class at a place among those that were learnt, in the order in which they were first learnt.
+    /// The class at a place, from 0, among those that were learnt, in the order in which they were first learnt.
     pub fn nth(&self, place: usize) -> Option<ClassId>
         ensures { result ≡ nth_in (found_in self.now) place }
     {
@@ -186,7 +187,8 @@ impl Classes {
         Some(variables.as_ref())
     }
 
-    /// The key of a class; `None` exactly where its source is not known or its signature is not that of a class.
+    /// The key of a class; `None` exactly where its source is not known or its signature is not that of a class (JDWP,
+    /// ReferenceType command set, Signature and SourceFile).
     pub fn key_of(&self, class: ClassId) -> Option<KeyView<'_>>
         ensures { option_map key_shown result ≡ key_in (found_in self.now) class }
     {
@@ -194,7 +196,7 @@ impl Classes {
     }
 
     /// The line of a location: that of the entry with the greatest index not above it, the last of ties; `None` exactly
-    /// where no entry of a known line table is at or below it.
+    /// where no entry of a known line table is at or below it (JDWP, Method command set, LineTable).
     pub fn line_of(&self, location: Location) -> Option<i32>
         ensures { result ≡ line_in (found_in self.now) location }
     {
@@ -204,7 +206,9 @@ impl Classes {
     }
 
     /// The locations of a line in a class: for each method that has an entry of the line, in the order of the methods,
-    /// the least code index of such entries. A class that was not learnt, or whose methods were not, has none.
+    /// the least code index of such entries; a native method has none, nor has a class that was not learnt or whose
+    /// methods were not. `NoMemory` comes where memory is refused (JDWP, Method command set, LineTable; JDWP, Detailed
+    /// Command Information, common data types, location).
     pub fn locations(
         &self,
         alloc: Global,

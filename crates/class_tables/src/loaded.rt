@@ -5,7 +5,7 @@ use jdwp_values::TypeTag;
 use wire_core::Blob;
 
 /// How the target lists a class: what it is, its signature, and whether it was prepared (JDWP, VirtualMachine command
-/// set, "AllClasses").
+/// set, AllClasses).
 #[derive(Debug, Drop)]
 pub(crate) struct Loaded {
     pub(crate) tag: TypeTag,

@@ -6,7 +6,8 @@ use crate::signature::package_in;
 use jdwp_values::{ClassId, Field, Method, TypeTag};
 use wire_core::{Blob, List};
 
-/// What is known of a class, each fact where it was learnt; a source may be known to be absent.
+/// What is known of a class, each fact where it was learnt; a source may be known to be absent (JDWP, ReferenceType
+/// command set, Signature, SourceFile, Methods and Fields; JDWP, ClassType command set, Superclass).
 #[derive(Clone, Copy, Debug)]
 pub struct ClassView<'a> {
     pub tag: Option<TypeTag>,
@@ -18,7 +19,8 @@ pub struct ClassView<'a> {
     pub above: Option<ClassId>,
 }
 
-/// The key of a class: the path of its package, empty in the default package, and the name of its source file.
+/// The key of a class: the path of its package, in bytes with `/` between its parts and empty in the default package,
+/// and the name of its source file (JDWP, ReferenceType command set, Signature and SourceFile).
 #[derive(Clone, Copy, Debug, PartialEq, Eq)]
 pub struct KeyView<'a> {
     pub package: &'a [u8],
