@@ -99,6 +99,7 @@ def bridged(program, count):
         assert len(json.loads(body)["body"]["threads"]) == count
         client.send(request(4, "disconnect"))
         client.receive()
+        assert bridge.status() == 0
     return took, spent
 
 
