@@ -18,7 +18,8 @@ import sys
 import tempfile
 import threading
 
-from over_tcp import PATIENCE, TOP, Client, built, dial, free_port, request
+from building import TOP, plainly, program_of
+from over_tcp import PATIENCE, Client, dial, free_port, request
 
 SOURCE = """
 public class Main {
@@ -159,7 +160,7 @@ def main():
     if not all(shutil.which(tool) for tool in ("java", "javac", "jdb")):
         print("skipped: no JDK")
         return 0
-    program = sys.argv[1] if len(sys.argv) > 1 else built()
+    program = program_of(sys.argv[1:])
     with tempfile.TemporaryDirectory() as folder:
         compiled(folder)
         port = free_port()
@@ -181,4 +182,4 @@ def main():
 
 
 if __name__ == "__main__":
-    sys.exit(main())
+    plainly(main)

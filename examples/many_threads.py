@@ -13,7 +13,8 @@ import sys
 import threading
 import time
 
-from over_tcp import Bridge, built, request
+from building import plainly, program_of
+from over_tcp import Bridge, request
 from round_trips import processor_seconds
 
 COUNTS = (100, 1000, 5000)
@@ -104,7 +105,7 @@ def bridged(program, count):
 
 
 def main():
-    program = sys.argv[1] if len(sys.argv) > 1 else built()
+    program = program_of(sys.argv[1:])
     for count in COUNTS:
         plain = plain_loop(count)
         took, spent = bridged(program, count)
@@ -113,4 +114,4 @@ def main():
 
 
 if __name__ == "__main__":
-    main()
+    plainly(main)

@@ -1,14 +1,10 @@
 """What the scripts share: the program between a client and a target on the loopback interface."""
 import json
-import os
 import socket
 import subprocess
-import sys
 import time
 
-TOP = os.path.dirname(os.path.dirname(os.path.abspath(__file__)))
-FOLDER = os.path.join(TOP, "crates", "bridge_cmd")
-PATIENCE = 20
+from building import PATIENCE, built
 
 CAPABILITIES = {
     "exceptionBreakpointFilters": [
@@ -44,14 +40,6 @@ def response(seq, request_seq, command, body=None):
 
 INITIALIZED = response(1, 1, "initialize", CAPABILITIES)
 DISCONNECTED = response(2, 2, "disconnect")
-
-
-def built():
-    """Proves and builds the program, which is run without words by this (status 2), and gives its path."""
-    done = subprocess.run(["rt", "run"], cwd=FOLDER, stdout=subprocess.PIPE, stderr=subprocess.STDOUT, check=False)
-    if done.returncode != 2:
-        sys.exit(done.stdout.decode(errors="replace") + "the program wasn't built")
-    return os.path.join(FOLDER, "out", "bridge_cmd")
 
 
 def free_port():

@@ -12,7 +12,8 @@ import sys
 import threading
 import time
 
-from over_tcp import Bridge, Client, built, dial, free_port, request
+from building import plainly, program_of
+from over_tcp import Bridge, Client, dial, free_port, request
 
 BUSY = 2000
 SILENT = 30
@@ -64,7 +65,7 @@ def processor_seconds(pid):
 
 
 def main():
-    program = sys.argv[1] if len(sys.argv) > 1 else built()
+    program = program_of(sys.argv[1:])
     port, ready = free_port(), threading.Event()
     threading.Thread(target=echo, args=(port, ready), daemon=True).start()
     ready.wait()
@@ -82,4 +83,4 @@ def main():
 
 
 if __name__ == "__main__":
-    sys.exit(main())
+    plainly(main)

@@ -8,11 +8,15 @@ usage: examples/two_requests.py [PROGRAM]
 """
 import sys
 
-from over_tcp import INITIALIZED, DISCONNECTED, Bridge, built, request
+if sys.version_info < (3, 8):
+    sys.exit("two_requests.py: Python 3.8 or later is needed, and this is %d.%d" % sys.version_info[:2])
+
+from building import plainly, program_of
+from over_tcp import INITIALIZED, DISCONNECTED, Bridge, request
 
 
 def main():
-    program = sys.argv[1] if len(sys.argv) > 1 else built()
+    program = program_of(sys.argv[1:])
     with Bridge(program) as bridge:
         client = bridge.client()
         answers = []
@@ -22,10 +26,22 @@ def main():
             answers.append(client.receive())
             print("client <", answers[-1].decode())
         status = bridge.status()
-        print("to the target:", bridge.heard_by_target() or "nothing")
-        print("status", status)
-    return 0 if answers == [INITIALIZED, DISCONNECTED] and status == 0 else 1
+        heard = bridge.heard_by_target()
+    print("to the target:", heard or "nothing")
+    print("status", status)
+    wrong = [what for what, is_right in (
+        ("the answer to initialize", answers[0] == INITIALIZED),
+        ("the answer to disconnect", answers[1] == DISCONNECTED),
+        ("what the target was sent", heard == b""),
+        ("the program's status", status == 0),
+    ) if not is_right]
+    if wrong:
+        print("WRONG: %s" % ", ".join(wrong))
+        return 1
+    print("Right: both answers, byte for byte; nothing was sent to the target; the status is that of a session done.")
+    print("Next: examples/debug.py MAIN.java starts a Java program with the bridge beside it, for an editor to attach.")
+    return 0
 
 
 if __name__ == "__main__":
-    sys.exit(main())
+    plainly(main)

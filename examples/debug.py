@@ -1,0 +1,194 @@
+#!/usr/bin/env python3
+"""Starts a Java program with the bridge beside it, and says where an editor attaches.
+
+MAIN is a class, looked for in the class path, or a .java file, which is compiled first. The Java program runs with its
+own standard streams, and its words are those behind MAIN. One session is served. Whatever ends this script, Ctrl-C too,
+the Java program and the bridge end with it. Its status is that of the bridge; 2 where nothing was started, 130 after
+Ctrl-C.
+
+usage: examples/debug.py [--suspend] [--port N] [--class-path PATH] [--sources FOLDER] [--program PROGRAM] MAIN [WORD..]
+
+  --suspend           the Java program waits for its debugger before its first line; today such a session ends at attach
+  --port N            the port for the editor; without it a free one
+  --class-path PATH   where the classes are; without it the current folder, or where a .java file is compiled to
+  --sources FOLDER    a root of sources, once or more; without it the current folder, or the root of a .java file
+  --program PROGRAM   a built bridge; without it the one of this repository, which is built first
+"""
+import argparse
+import contextlib
+import json
+import os
+import re
+import shutil
+import signal
+import socket
+import subprocess
+import sys
+import tempfile
+import time
+
+if sys.version_info < (3, 8):
+    sys.exit("debug.py: Python 3.8 or later is needed, and this is %d.%d" % sys.version_info[:2])
+
+from building import PATIENCE, plainly, program_of, stop
+from over_tcp import free_port
+
+# How long an editor has to disconnect once the Java program has ended, in seconds.
+LEAVE = 5
+# How long a bridge that reached its target may take to listen, in seconds, and the status of one that didn't reach it.
+SETTLE = 3
+NOT_OPENED = 7
+PACKAGE = re.compile(r"^\s*package\s+([\w.]+)\s*;", re.MULTILINE)
+
+
+def options():
+    words = argparse.ArgumentParser(description=__doc__, formatter_class=argparse.RawDescriptionHelpFormatter,
+                                    usage=argparse.SUPPRESS)
+    words.add_argument("--suspend", action="store_true", help=argparse.SUPPRESS)
+    words.add_argument("--port", type=int, help=argparse.SUPPRESS)
+    words.add_argument("--class-path", help=argparse.SUPPRESS)
+    words.add_argument("--sources", action="append", help=argparse.SUPPRESS)
+    words.add_argument("--program", help=argparse.SUPPRESS)
+    words.add_argument("main", metavar="MAIN", help=argparse.SUPPRESS)
+    words.add_argument("words", nargs=argparse.REMAINDER, help=argparse.SUPPRESS)
+    return words.parse_args()
+
+
+def jdk_tool(name):
+    """The path of a tool of the JDK: of JAVA_HOME, else of the path."""
+    home = os.environ.get("JAVA_HOME")
+    found = home and shutil.which(name, path=os.path.join(home, "bin")) or shutil.which(name)
+    return found or stop("there is no %s: a JDK has to be in the path, or named by JAVA_HOME" % name)
+
+
+def read_source(path):
+    """The class of a .java file, and the root of its sources: the folder that its package stands in."""
+    try:
+        with open(path, encoding="utf-8") as file:
+            package = PACKAGE.search(file.read())
+    except OSError as trouble:
+        stop("%s can't be read: %s" % (path, trouble.strerror))
+    folder = os.path.dirname(os.path.abspath(path))
+    name = os.path.splitext(os.path.basename(path))[0]
+    if not package:
+        return name, folder
+    within = os.path.join(os.sep, *package[1].split("."))
+    root = folder[: -len(within)] if folder.endswith(within) else folder
+    return package[1] + "." + name, root or os.sep
+
+
+def compiled(path, root, classes, class_path):
+    words = [jdk_tool("javac"), "-g", "-d", classes, "-sourcepath", root]
+    words += ["-cp", class_path] if class_path else []
+    if subprocess.run([*words, path], check=False).returncode != 0:
+        stop("%s wasn't compiled" % path)
+
+
+def end(process):
+    """Ends a process that may have ended: by a request first."""
+    if process.poll() is None:
+        process.terminate()
+        try:
+            process.wait(PATIENCE)
+        except subprocess.TimeoutExpired:
+            process.kill()
+            process.wait()
+
+
+def is_free(port):
+    with contextlib.suppress(OSError), socket.create_server(("127.0.0.1", port)):
+        return True
+    return False
+
+
+def started(main, words, class_path, suspend, port):
+    agent = "-agentlib:jdwp=transport=dt_socket,server=y,quiet=y,suspend=%s,address=127.0.0.1:%d"
+    java = [jdk_tool("java"), agent % ("y" if suspend else "n", port), "-cp", class_path]
+    return subprocess.Popen([*java, main, *words])
+
+
+def is_opened(bridge, port):
+    """Whether the bridge reached its target, which it dials before it listens; where it didn't, it ends at once."""
+    until = time.monotonic() + SETTLE
+    while bridge.poll() is None and time.monotonic() < until:
+        try:
+            socket.create_connection(("127.0.0.1", port), PATIENCE).close()
+            return True
+        except ConnectionRefusedError:
+            # It doesn't listen yet, or no more, where an editor was quicker than this.
+            time.sleep(0.02)
+    return bridge.poll() != NOT_OPENED
+
+
+def bridged(program, port, target, java):
+    """The bridge, once it listens at the port. It is started again until the Java machine listens, too."""
+    words = [program, "serve", "--listen", "127.0.0.1:%d" % port, "--target", "127.0.0.1:%d" % target]
+    until = time.monotonic() + PATIENCE
+    while True:
+        bridge = subprocess.Popen(words, stdout=subprocess.PIPE, text=True)
+        if is_opened(bridge, port):
+            return bridge
+        said = bridge.communicate()[0].strip()
+        if java.poll() is not None:
+            stop("the Java program ended with status %d, before the bridge reached it" % java.returncode)
+        if time.monotonic() > until:
+            stop("the bridge reached no Java machine: %s" % said)
+        time.sleep(0.1)
+
+
+def watched(bridge, java):
+    """Waits until both have ended, says how each did, and gives the bridge's status. An editor may leave a while after
+    the Java program."""
+    left = None
+    while bridge.poll() is None:
+        if left is None and java.poll() is not None:
+            tell_end(java)
+            left = time.monotonic() + LEAVE
+        if left is not None and time.monotonic() > left:
+            end(bridge)
+            print("Session: ended by this script, as no editor disconnected within %d s" % LEAVE, flush=True)
+            return 1
+        time.sleep(0.05)
+    print("Session: %s" % bridge.stdout.read().strip(), flush=True)
+    if left is None:
+        if java.poll() is None:
+            print("Java program: runs on; Ctrl-C ends it", flush=True)
+        tell_end(java)
+    return bridge.returncode if bridge.returncode >= 0 else 1
+
+
+def tell_end(java):
+    print("Java program: ended with status %d" % java.wait(), flush=True)
+
+
+def run(chosen, folder, running):
+    """Starts all that is asked for, and gives the bridge's status at its end."""
+    main, roots, class_path = chosen.main, chosen.sources, chosen.class_path
+    if chosen.port and not is_free(chosen.port):
+        stop("port %d is taken" % chosen.port)
+    program = program_of([chosen.program] if chosen.program else [])
+    if main.endswith(".java"):
+        name, root = read_source(main)
+        compiled(main, root, folder, class_path)
+        main, roots = name, roots or [root]
+        class_path = folder + (os.pathsep + class_path if class_path else "")
+    target, port = free_port(), chosen.port or free_port()
+    java = started(main, chosen.words, class_path or ".", chosen.suspend, target)
+    running.callback(end, java)
+    bridge = bridged(program, port, target, java)
+    running.callback(end, bridge)
+    print("Java program: %s, process %d%s" % (main, java.pid, ", waits for its debugger" if chosen.suspend else ""))
+    print("Editor: attach to the debug adapter at 127.0.0.1, port %d, with the arguments" % port)
+    print("  " + json.dumps({"sourceRoots": [os.path.abspath(root) for root in roots or ["."]]}), flush=True)
+    return watched(bridge, java)
+
+
+def main():
+    chosen = options()
+    signal.signal(signal.SIGTERM, lambda *_: sys.exit(130))
+    with tempfile.TemporaryDirectory() as folder, contextlib.ExitStack() as running:
+        return run(chosen, folder, running)
+
+
+if __name__ == "__main__":
+    plainly(main)
