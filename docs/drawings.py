@@ -1,7 +1,7 @@
 #!/usr/bin/env python3
-"""Draws docs/layers.svg: the crates between an editor and a Java machine. A new crate is a word more in ROWS.
+"""Draws the documents' pictures, docs/layers.svg and docs/session.svg, from the tables ROWS and MESSAGES.
 
-usage: docs/layers.py
+usage: docs/drawings.py
 """
 import os
 from xml.sax.saxutils import escape
@@ -23,7 +23,23 @@ ROWS = [
     [(1, PROVED, "wire_core", "texts, lists, the outside as traits")],
     [(1, EDGE, "wire_edge", "TCP, disk, standard output: what the system did is trusted")],
 ]
-LEGEND = [(PROVED, "proved code"), (MODEL, "definitions and laws"), (LATER, "proved, for later"), (EDGE, "trusted edge")]
+LEGEND = [
+    (PROVED, "proved code"), (MODEL, "definitions and laws"), (LATER, "proved, for later"), (EDGE, "trusted edge"),
+]
+
+# A session's messages: the way of each (the editor's side has one sign, the Java machine's two), and what it says.
+MESSAGES = [
+    (">", "initialize"), ("<", "success, with the capabilities"),
+    (">", "attach, with the roots of sources"), (">>", "JDWP-Handshake"), ("<<", "JDWP-Handshake"),
+    (">>", "1: IDSizes"), ("<<", "1: 8, 8, 8, 8, 8"),
+    (">>", "2: Set, thread starts"), ("<<", "2: request 2"), (">>", "3: Set, thread deaths"), ("<<", "3: request 3"),
+    ("<", "success"), ("<", "initialized"),
+    (">", "threads"), (">>", "4: AllThreads"), ("<<", "4: threads 1, 2"),
+    (">>", "5: ThreadName of 1"), ("<<", "5: main"), (">>", "6: ThreadName of 2"), ("<<", "6: Finalizer"),
+    ("<", "success: 1 main, 2 Finalizer"),
+    (">", "disconnect"), (">>", "7: Dispose"), ("<<", "7: done"), ("<", "success"),
+]
+STEP = 24
 
 
 def box(x, y, width, height, colour, name, what=""):
@@ -36,13 +52,15 @@ def box(x, y, width, height, colour, name, what=""):
     return rows
 
 
-def arrow(x, y, to, text):
-    """A line with a head at both ends, and what goes over it."""
-    return ['<line x1="%g" y1="%g" x2="%g" y2="%g" stroke="#445" marker-start="url(#head)" marker-end="url(#head)"/>'
-            % (x, y, to, y), '<text x="%g" y="%g" class="what">%s</text>' % ((x + to) / 2, y - 8, escape(text))]
+def arrow(x, y, to, text, heads):
+    """A line with a head at its end or at both ends, and what goes over it."""
+    marks = 'marker-end="url(#head)"' + (' marker-start="url(#head)"' if heads == "both" else "")
+    return ['<line x1="%g" y1="%g" x2="%g" y2="%g" stroke="#445" %s/>' % (x, y, to, y, marks),
+            '<text x="%g" y="%g" class="what">%s</text>' % ((x + to) / 2, y - 6, escape(text))]
 
 
-def drawn():
+def layers():
+    """The crates between an editor and a Java machine, each standing on some of those below it."""
     rows, y = [], 10
     for row in ROWS:
         unit = (RIGHT - LEFT - GAP * (len(row) - 1)) / sum(share for share, *_ in row)
@@ -54,7 +72,7 @@ def drawn():
     edge = y - GAP - HEIGHT / 2
     rows += box(10, 10, 75, y - GAP - 10, OUTSIDE, "editor", "DAP")
     rows += box(WIDTH - 85, 10, 75, y - GAP - 10, OUTSIDE, "Java", "JDWP")
-    rows += arrow(92, edge, LEFT - 7, "TCP") + arrow(RIGHT + 7, edge, WIDTH - 92, "TCP")
+    rows += arrow(92, edge, LEFT - 7, "TCP", "both") + arrow(RIGHT + 7, edge, WIDTH - 92, "TCP", "both")
     for at, (colour, text) in enumerate(LEGEND):
         x = LEFT + at * 190
         rows.append('<rect x="%g" y="%g" width="14" height="14" fill="%s" stroke="#445"/>' % (x, y + 4, colour))
@@ -62,18 +80,36 @@ def drawn():
     return rows, y + 30
 
 
-def main():
-    rows, height = drawn()
+def session():
+    """The messages of a session, from top to bottom, between three lines of time."""
+    editor, bridge, java = 120, WIDTH / 2, WIDTH - 120
+    ways = {">": (editor, bridge), "<": (bridge, editor), ">>": (bridge, java), "<<": (java, bridge)}
+    bottom = 70 + STEP * len(MESSAGES)
+    rows = []
+    for x in (editor, bridge, java):
+        rows.append('<line x1="%g" y1="50" x2="%g" y2="%g" stroke="#99a"/>' % (x, x, bottom))
+    rows += box(editor - 60, 10, 120, 40, OUTSIDE, "editor") + box(bridge - 60, 10, 120, 40, PROVED, "bridge")
+    rows += box(java - 60, 10, 120, 40, OUTSIDE, "Java machine")
+    for at, (way, text) in enumerate(MESSAGES):
+        start, to = ways[way]
+        inset = 3 if start < to else -3
+        rows += arrow(start + inset, 80 + STEP * at, to - inset, text, "end")
+    return rows, bottom + 10
+
+
+def write(name, drawing):
+    rows, height = drawing
     head = '<svg xmlns="http://www.w3.org/2000/svg" viewBox="0 0 %d %d" font-family="sans-serif">' % (WIDTH, height)
     style = ('<style>text { text-anchor: middle; fill: #112; } .name { font-size: 15px; font-weight: bold; } '
              '.what { font-size: 12px; } .key { font-size: 12px; text-anchor: start; }</style>')
     marker = ('<defs><marker id="head" markerWidth="9" markerHeight="8" refX="7" refY="4" orient="auto-start-reverse">'
               '<path d="M0,0 L8,4 L0,8 z" fill="#445"/></marker></defs>')
     ground = '<rect width="%d" height="%d" fill="#fff"/>' % (WIDTH, height)
-    path = os.path.join(os.path.dirname(os.path.abspath(__file__)), "layers.svg")
+    path = os.path.join(os.path.dirname(os.path.abspath(__file__)), name)
     with open(path, "w", encoding="utf-8") as file:
         file.write("\n".join([head, style, marker, ground, *rows, "</svg>"]) + "\n")
 
 
 if __name__ == "__main__":
-    main()
+    write("layers.svg", layers())
+    write("session.svg", session())
