@@ -12,7 +12,7 @@ usage: examples/debug.py [--suspend] [--port N] [--class-path PATH] [--sources F
   --port N            the port for the editor; without it a free one
   --class-path PATH   where the classes are; without it the current folder, or where a .java file is compiled to
   --sources FOLDER    a root of sources, once or more; without it the current folder, or the root of a .java file
-  --program PROGRAM   a built bridge; without it the one of this repository, which is built first
+  --program PROGRAM   a built bridge; without it the one of this repository, which is built where it isn't yet
 """
 import argparse
 import contextlib
@@ -30,7 +30,7 @@ import time
 if sys.version_info < (3, 8):
     sys.exit("debug.py: Python 3.8 or later is needed, and this is %d.%d" % sys.version_info[:2])
 
-from building import PATIENCE, plainly, program_of, stop
+from building import PATIENCE, PROGRAM, plainly, program_of, stop
 from over_tcp import free_port
 
 # How long an editor has to disconnect once the Java program has ended, in seconds.
@@ -166,7 +166,8 @@ def run(chosen, folder, running):
     main, roots, class_path = chosen.main, chosen.sources, chosen.class_path
     if chosen.port and not is_free(chosen.port):
         stop("port %d is taken" % chosen.port)
-    program = program_of([chosen.program] if chosen.program else [])
+    named = chosen.program or (PROGRAM if os.path.isfile(PROGRAM) else None)
+    program = program_of([named] if named else [])
     if main.endswith(".java"):
         name, root = read_source(main)
         compiled(main, root, folder, class_path)
