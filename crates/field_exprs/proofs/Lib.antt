@@ -1,0 +1,7 @@
+pub mod Fronts
+pub mod Spans
+pub mod Tails
+pub mod HopBreaks
+pub mod ReadSoFar
+pub mod Wholes
+pub mod Answering

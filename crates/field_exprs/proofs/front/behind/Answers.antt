@@ -1,0 +1,6 @@
+use Rattle.std.proofs.lemmas.Str.Pattern.{strip_prefix_char}
+use Rattle.field_exprs.proofs.front.behind.Goals as goal
+
+pub returns : goal.returns
+returns c =
+    strip_prefix_char c.args.sign c.args.text.now c.strip_prefix.result c.strip_prefix.ensures.cases c.requires
