@@ -1,0 +1,4 @@
+pub mod StartLaws
+pub mod PlaceLaws
+pub mod SessionLaws
+pub mod ReferenceLaws

@@ -1,0 +1,4 @@
+pub mod Things
+pub mod Numbers
+pub mod Starts
+pub mod Sessions
