@@ -1,0 +1,9 @@
+pub mod Order
+pub mod Names
+pub mod Wanted
+pub mod Places
+pub mod Wished
+pub mod Requests
+pub mod Wishes
+pub mod Entries
+pub mod Tidy

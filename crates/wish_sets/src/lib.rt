@@ -1,0 +1,21 @@
+//! Which event requests a session wishes of its target, which ones stand, and the next change that leads there.
+#![tactic(auto)]
+
+mod change;
+mod entry;
+mod facts;
+mod laws;
+mod wish;
+
+pub use change::{Change, Settled};
+pub use entry::{EntryAt, EntryState, FunctionEntry, LineEntry};
+pub use facts::{KnownClass, KnownMethod};
+pub use laws::{
+    a_package_is_watched_where_it_is_wished, a_refusal_is_kept_while_it_is_wished,
+    changes_lead_to_what_is_wished, each_wish_is_wished_once, the_next_change_is_new,
+    what_stands_is_tidy,
+};
+pub use wish::{Depth, StepWish, Wish};
+
+#[cfg(test)]
+mod tests;

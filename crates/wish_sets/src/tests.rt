@@ -1,0 +1,126 @@
+use crate::{Depth, Wish};
+use jdwp_events::{EventKind, Modifier, Policy};
+use jdwp_values::{ClassId, Location, MethodId, ThreadId, TypeTag};
+use std::alloc::Global;
+use std::test::Fail;
+use wire_core::{List, Text};
+
+// A location in a class, in its method 7 at index 8.
+fn at(class: u64) -> Location {
+    Location {
+        tag: TypeTag::Class,
+        class: ClassId(class),
+        method: MethodId(7),
+        index: 8,
+    }
+}
+
+// One wish of each kind, and of some kinds two, in wish order.
+fn wishes(alloc: Global) -> Result<List<Wish>, Fail> {
+    let mut wishes = List::new(alloc);
+    wishes.push(Wish::ThreadStart)?;
+    wishes.push(Wish::ThreadDeath)?;
+    wishes.push(Wish::Watch(Text::from_str(alloc, "")?))?;
+    wishes.push(Wish::Watch(Text::from_str(alloc, "com.shop")?))?;
+    wishes.push(Wish::Stop(at(9)))?;
+    wishes.push(Wish::Stop(at(10)))?;
+    wishes.push(Wish::Thrown {
+        caught: false,
+        uncaught: true,
+    })?;
+    wishes.push(Wish::Step {
+        thread: ThreadId(1),
+        depth: Depth::Out,
+    })?;
+    Ok(wishes)
+}
+
+#[test]
+fn wishes_stand_by_kind_and_content(rt: HostRuntime) -> Result<(), Fail> {
+    let wishes = wishes(rt.alloc())?;
+    for (place, wish) in wishes.as_slice().iter().enumerate() {
+        for (other_place, other) in wishes.as_slice().iter().enumerate() {
+            assert_eq!(rt; wish.cmp(other), place.cmp(&other_place));
+            assert_eq!(rt; wish.partial_cmp(other), place.partial_cmp(&other_place));
+            assert_eq!(rt; wish == other, place == other_place);
+        }
+    }
+    Ok(())
+}
+
+// Kinds and policies as the standard numbers them (JDWP, Constants, EventKind and SuspendPolicy).
+#[test]
+fn each_wish_has_its_kind_and_policy(rt: HostRuntime) -> Result<(), Fail> {
+    let wishes = wishes(rt.alloc())?;
+    let rows = [
+        (6, Policy::NoThread),
+        (7, Policy::NoThread),
+        (8, Policy::All),
+        (8, Policy::All),
+        (2, Policy::All),
+        (2, Policy::All),
+        (4, Policy::All),
+        (1, Policy::All),
+    ];
+    for (wish, (kind, policy)) in wishes.as_slice().iter().zip(rows) {
+        assert_eq!(rt; Some(wish.kind()), EventKind::from_byte(kind));
+        assert_eq!(rt; wish.policy(), policy);
+    }
+    Ok(())
+}
+
+// What the modifiers of the table's wishes are (JDWP, EventRequest command set, Set, modifiers).
+#[test]
+fn each_wish_has_its_modifiers(rt: HostRuntime) -> Result<(), Fail> {
+    let wishes = wishes(rt.alloc())?;
+    let rows = [
+        "List { items: [] }",
+        "List { items: [] }",
+        "List { items: [ClassMatch(List { items: [42] })] }",
+        "List { items: [ClassMatch(List { items: [99, 111, 109, 46, 115, 104, 111, 112, 46, 42] })] }",
+    ];
+    for (wish, row) in wishes.as_slice().iter().zip(rows) {
+        let modifiers = wish.modifiers(rt.alloc())?;
+        let told = format!(in rt.alloc(); "{modifiers:?}")?;
+        assert_eq!(rt; told.as_str(), row);
+    }
+    Ok(())
+}
+
+#[test]
+fn a_breakpoint_a_step_and_exceptions_are_narrowed(rt: HostRuntime) -> Result<(), Fail> {
+    let alloc = rt.alloc();
+    let stop = Wish::Stop(at(9)).modifiers(alloc)?;
+    assert!(rt; matches!(stop.as_slice(), [Modifier::LocationOnly(place)] if *place == at(9)));
+    let thrown = Wish::Thrown {
+        caught: false,
+        uncaught: true,
+    };
+    let thrown = thrown.modifiers(alloc)?;
+    assert!(rt;
+        matches!(
+            thrown.as_slice(),
+            [Modifier::ExceptionOnly {
+                class: ClassId(0),
+                caught: 0,
+                uncaught: 1
+            }]
+        )
+    );
+    let step = Wish::Step {
+        thread: ThreadId(1),
+        depth: Depth::Out,
+    };
+    let step = step.modifiers(alloc)?;
+    assert!(rt;
+        matches!(
+            step.as_slice(),
+            [Modifier::Step {
+                thread: ThreadId(1),
+                size: 1,
+                depth: 2
+            }]
+        )
+    );
+    Ok(())
+}
