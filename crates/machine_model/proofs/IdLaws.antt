@@ -1,0 +1,330 @@
+-- Each id in a command was read before it: what holds of the ids that stand in the machine holds of those in a command.
+use Rattle.std.proofs.Common.{◌≡◌, ◌⊎◌, inl, inr, ℕ, Bool, true, false, cond, not, List, [], ◌∷◌, ◌++◌, Option, Some}
+use Rattle.std.proofs.Common.{None}
+use Rattle.std.proofs.Common.{refl, sym, ap, subst, ◌∙◌, append-nil, arith, option_map}
+use Rattle.std.specs.List.{AllByRecursion as All, Contains, find}
+use Rattle.std.specs.Option.{option_or}
+use Rattle.std.proofs.lemmas.List.Concat.{flat_map-append}
+use Rattle.std.proofs.lemmas.List.Elements.{Contains-append_left, Contains-append_right, Contains-get_or}
+use Rattle.std.proofs.lemmas.List.Elements.{recursion_from_All}
+use Rattle.jdwp_commands.specs.Commands.{FitsCommand, told_question}
+use Rattle.jdwp_commands.specs.declared.asked.Asked.TheVariants as commands
+use Rattle.jdwp_values.specs.declared.sizes.IdSizes.{IdSizes}
+use Rattle.machine_model.specs.Ids.{HasReadIds, Id, IsNull, WasRead, class, ids_asked, ids_given, ids_read}
+use Rattle.machine_model.specs.Names.{Want, Deed, Dispose, Does, Effect, Exit, Part, Question, Sent, TargetCommand}
+use Rattle.machine_model.specs.Names.{a_question, an_effect, Clear, Set, Success, thread_list}
+use Rattle.machine_model.specs.Plans.{question_of}
+use Rattle.machine_model.specs.Replying.{wire}
+use Rattle.machine_model.specs.Requests.{Wishes, effect_due, effect_of}
+use Rattle.machine_model.specs.Runs.{Message, Run}
+use Rattle.machine_model.specs.State.{State, Machine, is_empty, is_gone, is_some, fresh}
+use Rattle.wish_sets.specs.Wanted.{Wanted, nothing_wanted}
+use Rattle.wish_sets.specs.Wished.{wished}
+use Rattle.wish_sets.specs.Wishes.{EventRequest, clears, is_missing, is_surplus, next_change, sets}
+use Rattle.wish_sets.specs.declared.wish.Wish.{Wish}
+use Rattle.wish_sets.specs.declared.wish.Wish.TheVariants as wishes
+use Rattle.machine_model.proofs.IdRows.{FitsId, all_weak, plain_fits}
+use Rattle.machine_model.proofs.PlanIds.{IsAskable, IsAsked, IsReplied, IsWanted, OfNamed, OfThread, OnSome}
+use Rattle.machine_model.proofs.PlanIds.{is_sizes}
+use Rattle.machine_model.proofs.Standing.{IsKept, Near, PartStands, asked_in, left_in, queue_in}
+use Rattle.machine_model.proofs.StandingReplies.{queued_near, sizes_is}
+use Rattle.machine_model.proofs.StandingWalk.{kept_on}
+use Rattle.machine_model.proofs.Stepping.{Loses, Moves, by_moves, with_said}
+
+-- A weaker test -------------------------------------------------------------------------------------------------------
+
+module _ (P Q : Id → Type 0) (k : (id : Id) → P id → Q id) where
+  weak_ids : (ids : List Id) → All P ids → All Q ids
+  weak_ids ids h = all_weak P Q k ids h
+
+  weak_part : (part : Part) → PartStands P part → PartStands Q part
+  weak_part (Part.Responds (Success (thread_list named))) h =
+      all_weak (OfNamed P) (OfNamed Q) (λ one. k _) named h
+  weak_part _ h = tt
+
+  weak_sent : (sized : Bool) (sent : Sent) → IsAsked P sized sent → IsAsked Q sized sent
+  weak_sent sized sent h = record { reply = by_reply sent.reply h.reply; first = h.first }
+    where
+      by_reply : (reply : Option _) → IsReplied P reply → IsReplied Q reply
+      by_reply None h = tt
+      by_reply (Some replied) h = weak_ids _ h
+
+  weak_near : (state : State) (left : List Part) (queue : List Want) (asked : List Sent) → Near P state left queue asked
+      → Near Q state left queue asked
+  weak_near state left queue asked n = record {
+    threads = all_weak (OfThread P) (OfThread Q) (λ thread. k _) state.threads n.threads;
+    classes = record {
+      methods = all_weak _ _ (λ entry. weak_ids _) state.classes.methods n.classes.methods;
+      fields = all_weak _ _ (λ entry. weak_ids _) state.classes.fields n.classes.fields;
+      supers = all_weak _ _ (λ entry. k _) state.classes.supers n.classes.supers;
+    };
+    wanted = n.wanted;
+    order = n.order;
+    parts = all_weak (PartStands P) (PartStands Q) weak_part left n.parts;
+    wants = all_weak (IsWanted P (is_some state.sizes)) (IsWanted Q (is_some state.sizes))
+        (λ want w. record { ids = weak_ids _ w.ids; plain = w.plain; first = w.first }) queue n.wants;
+    replies = all_weak (IsAsked P (is_some state.sizes)) (IsAsked Q (is_some state.sizes))
+        (weak_sent (is_some state.sizes)) asked n.replies;
+  }
+
+  pub weak_kept : (messages : List Message) (m : Machine) → IsKept P messages m → IsKept Q messages m
+  weak_kept messages m h = record {
+    once = h.once;
+    sizes = h.sizes;
+    none_late = h.none_late;
+    near = λ near. weak_near m.state (left_in m.hand) (queue_in m.hand) (asked_in m.hand) (h.near near);
+  }
+
+-- Runs ----------------------------------------------------------------------------------------------------------------
+
+-- a test of ids by the messages so far: what passes goes on to pass, and what the target gives passes
+pub record IsIdTest (P : List Message → Id → Type 0) : Type 0 where
+  pub null : (messages : List Message) → P messages (class 0)
+  pub grows : (messages : List Message) (message : Message) (id : Id) → P messages id → P (messages ++ message ∷ []) id
+  pub brings : (messages : List Message) (m next : Machine) (message : Message) → IsKept (P messages) messages m
+      → Moves m (Some message) next → is_gone next.state.phase ≡ false → All (P (messages ++ message ∷ []))
+      (ids_given message)
+
+kept_next : {P : List Message → Id → Type 0} → IsIdTest P → (messages : List Message) (m next : Machine)
+    (said : Option Message) → IsKept (P messages) messages m → Moves m said next
+    → IsKept (P (with_said messages said)) (with_said messages said) next
+kept_next {P} t messages m next None k move = kept_on messages m next None (t.null messages) k move (λ near. tt)
+kept_next {P} t messages m next (Some message) k move =
+    kept_on messages m next (Some message) (t.null (messages ++ message ∷ []))
+    (weak_kept (P messages) (P (messages ++ message ∷ [])) (t.grows messages message) messages m k) move
+    (λ near. t.brings messages m next message k move near)
+
+none_yet : (P : Id → Type 0) → IsKept P [] fresh
+none_yet P = record {
+  once = omega arith;
+  sizes = λ near. refl;
+  none_late = λ near. refl;
+  near = λ near. record {
+    threads = tt;
+    classes = record { methods = tt; fields = tt; supers = tt };
+    wanted = refl;
+    order = refl;
+    parts = tt;
+    wants = tt;
+    replies = tt;
+  };
+}
+
+pub always_kept : {P : List Message → Id → Type 0} → IsIdTest P → {messages : List Message} {m : Machine}
+    → Run messages m → IsKept (P messages) messages m
+always_kept {P} t r = by_moves {Holds = λ (messages : List Message) (m : Machine). IsKept (P messages) messages m}
+    (record {
+      starts = none_yet
+          (P []);
+      moves = λ messages m next said k move. kept_next t messages m next said k move;
+    }) r
+
+-- What is sent --------------------------------------------------------------------------------------------------------
+
+-- a command that may be sent: its ids pass, it has a spelling by them, and it has none where no sizes are known
+pub record MaySend (P : Id → Type 0) (sized : Bool) (command : TargetCommand) : Type 0 where
+  pub ids : All P (ids_asked (wire command))
+  pub sized_first : cond (is_empty (ids_asked (wire command))) true sized ≡ true
+  pub fits : (used : IdSizes) → All (FitsId used) (ids_asked (wire command)) → FitsCommand used (wire command)
+
+deed_may : (P : Id → Type 0) (sized : Bool) (deed : Deed) → MaySend P sized (an_effect (Does deed))
+deed_may P sized Dispose = record { ids = tt; sized_first = refl; fits = λ used h. tt }
+deed_may P sized Exit = record { ids = tt; sized_first = refl; fits = λ used h. (tt, tt) }
+
+-- While nothing is wanted but the starts and ends of threads, no event request has an id.
+clear_may : (P : Id → Type 0) (sized : Bool) (wish : Wish) (request : ℕ) → MaySend P sized (an_effect
+    (Clear wish request))
+clear_may P sized wish request = record { ids = tt; sized_first = refl; fits = λ used h. (tt, (tt, tt)) }
+
+abbrev SetMay : (Id → Type 0) → Bool → Wish → Type 0
+SetMay P sized wish = MaySend P sized (an_effect (Set wish))
+
+start_may : (P : Id → Type 0) (sized : Bool) → SetMay P sized wishes.ThreadStart
+start_may P sized = record {
+  ids = tt;
+  sized_first = refl;
+  fits = λ used h. (tt, (tt, ((record { count = omega arith; each = tt }, refl), tt)));
+}
+
+death_may : (P : Id → Type 0) (sized : Bool) → SetMay P sized wishes.ThreadDeath
+death_may P sized = record {
+  ids = tt;
+  sized_first = refl;
+  fits = λ used h. (tt, (tt, ((record { count = omega arith; each = tt }, refl), tt)));
+}
+
+wish_may : (P : Id → Type 0) (sized : Bool) (test : Wish → Bool) (wanted : Wanted) → wanted ≡ nothing_wanted
+    → OnSome (SetMay P sized) (find test (wished wanted))
+unfolding wished
+wish_may P sized test wanted is =
+    subst (λ (wanted : Wanted). OnSome (SetMay P sized) (find test (wished wanted))) (sym is)
+    (by_tests (test wishes.ThreadStart) (test wishes.ThreadDeath))
+  where
+    by_tests : (start death : Bool) → OnSome (SetMay P sized)
+        (cond start (Some wishes.ThreadStart) (cond death (Some wishes.ThreadDeath) None))
+    by_tests true death = start_may P sized
+    by_tests false true = death_may P sized
+    by_tests false false = tt
+
+effect_may : (P : Id → Type 0) (sized : Bool) (w : Wishes) (effect : Effect) → w.wanted ≡ nothing_wanted
+    → effect_due w ≡ Some effect → MaySend P sized (an_effect effect)
+unfolding next_change
+effect_may P sized w effect is due =
+    by_found (find (is_surplus (wished w.wanted)) w.installed)
+    (find (is_missing w.installed w.refused) (wished w.wanted)) due
+    (wish_may P sized (is_missing w.installed w.refused) w.wanted is)
+  where
+    by_found : (cleared : Option EventRequest) (set : Option Wish)
+        → option_map effect_of (option_or (option_map clears cleared) (option_map sets set)) ≡ Some effect
+        → OnSome (SetMay P sized) set → MaySend P sized (an_effect effect)
+    by_found (Some one) set due h = let same : Clear one.wish one.request ≡ effect = cc in
+        subst (λ (effect : Effect). MaySend P sized (an_effect effect)) same (clear_may P sized one.wish one.request)
+    by_found None (Some wish) due h = let same : Set wish ≡ effect = cc in
+        subst (λ (effect : Effect). MaySend P sized (an_effect effect)) same h
+    by_found None None due h = cc
+
+question_may : (P : Id → Type 0) (sized : Bool) (question : Question) → IsAskable P sized question
+    → MaySend P sized (a_question question)
+question_may P sized question q = record {
+  ids = q.ids;
+  sized_first = by_sized sized q.first;
+  fits = λ used h. plain_fits used (told_question question) q.plain h;
+}
+  where
+    by_sized : (sized : Bool) → is_sizes question ≡ not sized
+        → cond (is_empty (ids_asked (commands.Question question))) true sized ≡ true
+    by_sized true first = by_empty (is_empty (ids_asked (commands.Question question)))
+      where
+        by_empty : (empty : Bool) → cond empty true true ≡ true
+        by_empty true = refl
+        by_empty false = refl
+    by_sized false first = subst (λ (q : Question). cond (is_empty (ids_asked (commands.Question q))) true false ≡ true)
+        (sym (sizes_is question first)) refl
+
+-- a command that is sent may be sent, and the target isn't gone
+pub sends_may : {P : Id → Type 0} {messages : List Message} {m next : Machine} (command : TargetCommand)
+    → IsKept P messages m
+    → Moves m (Some (Message.sends command)) next → (is_gone m.state.phase ≡ false) × MaySend P
+    (is_some m.state.sizes) command
+sends_may {P} {messages} {m} command k move = by_move command (Some (Message.sends command)) refl move
+  where
+    by_move : {next : Machine} (command : TargetCommand) (said : Option Message) → said ≡ Some (Message.sends command)
+        → Moves m said next → (is_gone m.state.phase ≡ false) × MaySend P (is_some m.state.sizes) command
+    by_move command said is (Moves.sends {deed = deed} free at near) =
+        let same : an_effect (Does deed) ≡ command = cc in (
+          near,
+          subst (λ command. MaySend P (is_some m.state.sizes) command) same (deed_may P
+              (is_some m.state.sizes) deed),
+        )
+    by_move command said is (Moves.updates {effect = effect} free at due near) =
+        let same : an_effect effect ≡ command = cc in (
+          near,
+          subst (λ command. MaySend P (is_some m.state.sizes) command) same
+              (effect_may P (is_some m.state.sizes) m.state.wishes effect (k.near near).wanted due),
+        )
+    by_move command said is (Moves.asks {want = want} {wants} free room held are) =
+        let same : a_question (question_of want) ≡ command = cc in
+        let near = queued_near m free in
+        let queue = subst (λ wants. All (IsWanted P (is_some m.state.sizes)) wants) (ap queue_in held ∙ are)
+        (k.near near).wants in (
+          near,
+          subst (λ command. MaySend P (is_some m.state.sizes) command) same
+              (question_may P (is_some m.state.sizes) (question_of want) queue.0),
+        )
+    by_move command said is (Moves.loses late near Loses.by_end) = cc
+    by_move command said is (Moves.loses late near (Loses.by_question held waits reply last)) = cc
+    by_move command said is (Moves.loses late near (Loses.by_effect held flying reply last)) = cc
+    by_move command said is _ = cc
+
+-- one among these and one more is that one, or among these
+last_or_not : {A : Type 0} (all : List A) (last one : A) (before after : List A)
+    → all ++ last ∷ [] ≡ before ++ one ∷ after
+    → ((all ≡ before) × (last ≡ one)) ⊎ ((rest : List A) × (all ≡ before ++ one ∷ rest))
+last_or_not [] last one [] after is = inl (refl, cc)
+last_or_not [] last one (first ∷ []) after is = cc
+last_or_not [] last one (first ∷ second ∷ before) after is = cc
+last_or_not {A} (first ∷ all) last one [] after is =
+    let same : first ≡ one = cc in inr (all, ap (λ (m : A). m ∷ all) same)
+last_or_not {A} (first ∷ all) last one (other ∷ before) after is =
+    let same : first ≡ other = cc in
+    let rest_is : all ++ last ∷ [] ≡ before ++ one ∷ after = cc in
+    behind same (last_or_not all last one before after rest_is)
+  where
+    behind : first ≡ other → ((all ≡ before) × (last ≡ one)) ⊎ ((rest : List A) × (all ≡ before ++ one ∷ rest))
+        → ((first ∷ all ≡ other ∷ before) × (last ≡ one))
+        ⊎ ((rest : List A) × (first ∷ all ≡ other ∷ (before ++ one ∷ rest)))
+    behind same (inl (all_same, it)) = inl (cc, it)
+    behind same (inr (rest, all_more)) = inr (rest, cc)
+
+-- what holds of each command as it is sent, by the messages before it
+pub record Sends (P : List Message → Id → Type 0) (Good : List Message → TargetCommand → Type 0)
+    (messages : List Message)
+    (m : Machine) : Type 0 where
+  pub kept : IsKept (P messages) messages m
+  pub sent : (before after : List Message) (command : TargetCommand)
+      → messages ≡ before ++ Message.sends command ∷ after → Good before command
+
+pub all_sent : {P : List Message → Id → Type 0} {Good : List Message → TargetCommand → Type 0} → IsIdTest P
+    → ((messages : List Message) (m : Machine) (command : TargetCommand) → IsKept (P messages) messages m
+    → is_gone m.state.phase ≡ false → MaySend (P messages) (is_some m.state.sizes) command → Good messages command)
+    → {messages : List Message} {m : Machine} → Run messages m → Sends P Good messages m
+all_sent {P} {Good} t good r = by_moves {Holds = Sends P Good} (record {
+  starts = record { kept = none_yet (P []); sent = none_sent };
+  moves = λ messages m next said h move. record {
+    kept = kept_next t messages m next said h.kept move;
+    sent = more messages m next said h move;
+  };
+}) r
+  where
+    none_sent : (before after : List Message) (command : TargetCommand)
+        → [] ≡ before ++ Message.sends command ∷ after → Good before command
+    none_sent [] after command is = cc
+    none_sent (first ∷ before) after command is = cc
+
+    more : (messages : List Message) (m next : Machine) (said : Option Message) → Sends P Good messages m
+        → Moves m said next → (before after : List Message) (command : TargetCommand)
+        → with_said messages said ≡ before ++ Message.sends command ∷ after → Good before command
+    more messages m next None h move before after command is = h.sent before after command is
+    more messages m next (Some message) h move before after command is =
+        by_place (last_or_not messages message (Message.sends command) before after is)
+      where
+        by_place : ((messages ≡ before) × (message ≡ Message.sends command))
+            ⊎ ((rest : List Message) × (messages ≡ before ++ Message.sends command ∷ rest)) → Good before command
+        by_place (inl (same, it)) = subst (λ (earlier : List Message). Good earlier command) same
+            (let may = sends_may command h.kept (subst (λ (message : Message). Moves m (Some message) next) it move) in
+            good messages m command h.kept may.0 may.1)
+        by_place (inr (rest, earlier)) = h.sent before rest command earlier
+
+-- Ids were read -------------------------------------------------------------------------------------------------------
+
+reads : IsIdTest WasRead
+reads = record {
+  null = λ messages. inl IsNull.any_class;
+  grows = λ messages message id h. by_case messages message id h;
+  brings = λ messages m next message k move near. brought messages message;
+}
+  where
+    more : (messages : List Message) (message : Message)
+        → ids_read (messages ++ message ∷ []) ≡ ids_read messages ++ ids_given message
+    more messages message = flat_map-append ids_given messages (message ∷ [])
+        ∙ ap (λ (ids : List Id). ids_read messages ++ ids) (append-nil (ids_given message))
+
+    by_case : (messages : List Message) (message : Message) (id : Id) → WasRead messages id
+        → WasRead (messages ++ message ∷ []) id
+    by_case messages message id (inl null) = inl null
+    by_case messages message id (inr among) = inr (subst (λ (ids : List Id). Contains ids id) (sym
+        (more messages message))
+        (Contains-append_left (ids_read messages) (ids_given message) id among))
+
+    brought : (messages : List Message) (message : Message) → All (WasRead (messages ++ message ∷ []))
+        (ids_given message)
+    brought messages message = all_weak (Contains (ids_given message)) (WasRead (messages ++ message ∷ []))
+        (λ id among. inr (subst (λ (ids : List Id). Contains ids id) (sym (more messages message))
+        (Contains-append_right (ids_read messages) (ids_given message) id among))) (ids_given message)
+        (recursion_from_All (Contains (ids_given message)) (ids_given message)
+        (λ place id less. Contains-get_or (ids_given message) place id less))
+
+pub ids_were_read : (messages before after : List Message) (m : Machine) (command : TargetCommand) → Run messages m
+    → messages ≡ before ++ Message.sends command ∷ after → HasReadIds before command
+ids_were_read messages before after m command r is =
+    (all_sent {Good = HasReadIds} reads (λ messages m command k near may. may.ids) r).sent before after command is

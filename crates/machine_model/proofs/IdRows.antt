@@ -1,0 +1,172 @@
+-- Ids in rows: those of what has a spelling fit the sizes, and what has ids and numbers alone has a spelling by its
+-- ids.
+use Rattle.std.proofs.Common.{◌≡◌, ◌<◌, ◌^◌, Bool, true, false, List, [], ◌∷◌, ◌++◌, refl}
+use Rattle.std.specs.List.{AllByRecursion as All, flat_map}
+use Rattle.jdwp_commands.specs.Answers.{told_answer}
+use Rattle.jdwp_commands.specs.Items as items
+use Rattle.jdwp_commands.specs.Items.{FitsItem, FitsListed, FitsSayings, Item, Listed, OfItem, OfListed, Saying, says}
+use Rattle.jdwp_commands.specs.Regions.{FitsBehind}
+use Rattle.jdwp_commands.specs.declared.answer.Answer.{Answer}
+use Rattle.jdwp_commands.specs.declared.answer.Answer.TheVariants as answers
+use Rattle.jdwp_events.specs.Modifiers.{told}
+use Rattle.jdwp_values.specs.Classes.{field_row, method_row}
+use Rattle.jdwp_values.specs.Parts as parts
+use Rattle.jdwp_values.specs.Parts.{Of, OfSimple, Part, Simple}
+use Rattle.jdwp_values.specs.Rows.{FitsRow, FitsTold, Holds, Said, said}
+use Rattle.jdwp_values.specs.Spelling.{FitsPart, FitsSimple, FitsValue}
+use Rattle.jdwp_values.specs.declared.limit.Limit.{Limit}
+use Rattle.jdwp_values.specs.declared.limit.Limit.TheVariants.{Any}
+use Rattle.jdwp_values.specs.declared.sizes.IdSizes.{IdSizes}
+use Rattle.jdwp_values.specs.declared.tag.Tag.{Tag}
+use Rattle.jdwp_values.specs.Tags.{is_reference}
+use Rattle.jdwp_values.specs.declared.value.Value.{Value}
+use Rattle.jdwp_values.specs.declared.value.Value.TheVariants as values
+use Rattle.jdwp_commands.specs.Listed.{class_status_row, frame_row, loaded_class_row}
+use Rattle.machine_model.specs.Ids.{Id, class, field, frame, ids_of_item, ids_of_listed, ids_of_part, ids_of_row}
+use Rattle.machine_model.specs.Ids.{ids_of_said, ids_of_saying, ids_of_simple, ids_of_value, method, object}
+
+-- Lists ---------------------------------------------------------------------------------------------------------------
+
+pub all_joined : {A : Type 0} (P : A → Type 0) (xs ys : List A) → All P xs → All P ys → All P (xs ++ ys)
+all_joined P [] ys h k = k
+all_joined P (x ∷ xs) ys h k = (h.0, all_joined P xs ys h.1 k)
+
+pub all_front : {A : Type 0} (P : A → Type 0) (xs ys : List A) → All P (xs ++ ys) → All P xs
+all_front P [] ys h = tt
+all_front P (x ∷ xs) ys h = (h.0, all_front P xs ys h.1)
+
+pub all_back : {A : Type 0} (P : A → Type 0) (xs ys : List A) → All P (xs ++ ys) → All P ys
+all_back P [] ys h = h
+all_back P (x ∷ xs) ys h = all_back P xs ys h.1
+
+pub all_weak : {A : Type 0} (P Q : A → Type 0) → ((x : A) → P x → Q x) → (xs : List A) → All P xs → All Q xs
+all_weak P Q k [] h = tt
+all_weak P Q k (x ∷ xs) h = (k x h.0, all_weak P Q k xs h.1)
+
+pub all_flat : {A B : Type 0} (F : A → Type 0) (P : B → Type 0) (f : A → List B) → ((x : A) → F x → All P (f x))
+    → (xs : List A) → All F xs → All P (flat_map f xs)
+all_flat F P f k [] h = tt
+all_flat F P f k (x ∷ xs) h = all_joined P (f x) (flat_map f xs) (k x h.0) (all_flat F P f k xs h.1)
+
+pub none_in : {A B : Type 0} (P : B → Type 0) (xs : List A) → All P (flat_map (λ (x : A). []) xs)
+none_in P [] = tt
+none_in P (x ∷ xs) = none_in P xs
+
+-- What has a spelling -------------------------------------------------------------------------------------------------
+
+-- an id fits the bytes that ids of its kind have
+abbrev pub FitsId : IdSizes → Id → Type 0
+FitsId used (object id) = id < 256 ^ used.object
+FitsId used (class id) = id < 256 ^ used.class
+FitsId used (method id) = id < 256 ^ used.method
+FitsId used (field id) = id < 256 ^ used.field
+FitsId used (frame id) = id < 256 ^ used.frame
+
+abbrev Fit : IdSizes → List Id → Type 0
+Fit used ids = All (FitsId used) ids
+
+simple_ids : (used : IdSizes) (s : Simple) (x : OfSimple s) → FitsSimple used s x → Fit used (ids_of_simple s x)
+simple_ids used parts.object_id x h = (h, tt)
+simple_ids used parts.thread_id x h = (h, tt)
+simple_ids used parts.class_id x h = (h, tt)
+simple_ids used parts.method_id x h = (h, tt)
+simple_ids used parts.field_id x h = (h, tt)
+simple_ids used parts.frame_id x h = (h, tt)
+simple_ids used _ x h = tt
+
+value_ids : (used : IdSizes) (v : Value) → FitsValue used v → Fit used (ids_of_value v)
+value_ids used (values.Object x) h = (h, tt)
+value_ids used (values.Array x) h = (h, tt)
+value_ids used (values.String x) h = (h, tt)
+value_ids used (values.Thread x) h = (h, tt)
+value_ids used (values.ThreadGroup x) h = (h, tt)
+value_ids used (values.ClassLoader x) h = (h, tt)
+value_ids used (values.ClassObject x) h = (h, tt)
+value_ids used _ h = tt
+
+part_ids : (used : IdSizes) (p : Part) (x : Of p) → FitsPart used p x → Fit used (ids_of_part p x)
+part_ids used (parts.simple s) x h = simple_ids used s x h
+part_ids used parts.location x h = (h.class, (h.method, tt))
+part_ids used parts.value x h = value_ids used x h
+part_ids used parts.reference x h = value_ids used x h.1
+part_ids used (parts.untagged byte) x h = value_ids used x h.1
+part_ids used _ x h = tt
+
+said_ids : (used : IdSizes) (told : List Said) → FitsTold used told → Fit used (flat_map ids_of_said told)
+said_ids used [] h = tt
+said_ids used (said p x ∷ told) h =
+    all_joined (FitsId used) (ids_of_part p x) (flat_map ids_of_said told) (part_ids used p x h.0)
+    (said_ids used told h.1)
+
+row_ids : (used : IdSizes) (row : List Part) (held : Holds row) → FitsRow used row held → Fit used (ids_of_row row held)
+row_ids used [] held h = tt
+row_ids used (p ∷ row) held h =
+    all_joined (FitsId used) (ids_of_part p held.0) (ids_of_row row held.1) (part_ids used p held.0 h.0)
+    (row_ids used row held.1 h.1)
+
+listed_ids : (used : IdSizes) (l : Listed) (x : OfListed l) → FitsListed l used x → Fit used (ids_of_listed l x)
+listed_ids used items.threads x h = (h, tt)
+listed_ids used items.field_ids x h = (h, tt)
+listed_ids used items.values x h = value_ids used x h
+listed_ids used items.modifiers x h = said_ids used (told x) h
+listed_ids used items.methods x h = row_ids used method_row.parts (method_row.values x) h
+listed_ids used items.fields x h = row_ids used field_row.parts (field_row.values x) h
+listed_ids used items.class_statuses x h = row_ids used class_status_row.parts (class_status_row.values x) h
+listed_ids used items.loaded_classes x h = row_ids used loaded_class_row.parts (loaded_class_row.values x) h
+listed_ids used items.frames x h = row_ids used frame_row.parts (frame_row.values x) h
+listed_ids used _ x h = tt
+
+element_ids : (used : IdSizes) (tagged : Bool) (tag : Tag) (v : Value) → FitsBehind tagged tag used v
+    → Fit used (ids_of_value v)
+element_ids used true tag v h = value_ids used v h.1
+element_ids used false tag v h = value_ids used v h.1
+
+item_ids : (used : IdSizes) (i : Item) (x : OfItem i) → FitsItem used i x → Fit used (ids_of_item i x)
+item_ids used (items.part p) x h = part_ids used p x h
+item_ids used (items.many limit l) xs h =
+    all_flat (FitsListed l used) (FitsId used) (ids_of_listed l) (listed_ids used l) xs h.0.each
+item_ids used (items.region limit) x h =
+    all_flat (FitsBehind (is_reference x.tag) x.tag used) (FitsId used) ids_of_value
+    (element_ids used (is_reference x.tag) x.tag) x.values h.values.each
+item_ids used _ x h = tt
+
+-- the ids of what has a spelling fit the sizes
+pub fitting_ids : (used : IdSizes) (sayings : List Saying) → FitsSayings used sayings
+    → All (FitsId used) (flat_map ids_of_saying sayings)
+fitting_ids used [] h = tt
+fitting_ids used (says i x ∷ sayings) h =
+    all_joined (FitsId used) (ids_of_item i x) (flat_map ids_of_saying sayings) (item_ids used i x h.0)
+    (fitting_ids used sayings h.1)
+
+-- how many items an answer may have is nothing to its ids
+pub same_ids : (limit : Limit) (answer : Answer)
+    → flat_map ids_of_saying (told_answer limit answer) ≡ flat_map ids_of_saying (told_answer Any answer)
+same_ids limit (answers.Frames found) = refl
+same_ids limit _ = refl
+
+-- Ids and numbers alone -----------------------------------------------------------------------------------------------
+
+-- what is said has ids and numbers alone: no text, no list, no value
+abbrev pub are_plain : List Saying → Bool
+are_plain [] = true
+are_plain (says (items.part (parts.simple s)) x ∷ sayings) = are_plain sayings
+are_plain (says i x ∷ sayings) = false
+
+fits_simple : (used : IdSizes) (s : Simple) (x : OfSimple s) → Fit used (ids_of_simple s x) → FitsSimple used s x
+fits_simple used parts.object_id x h = h.0
+fits_simple used parts.thread_id x h = h.0
+fits_simple used parts.class_id x h = h.0
+fits_simple used parts.method_id x h = h.0
+fits_simple used parts.field_id x h = h.0
+fits_simple used parts.frame_id x h = h.0
+fits_simple used _ x h = tt
+
+-- it has a spelling where its ids fit
+pub plain_fits : (used : IdSizes) (sayings : List Saying) → are_plain sayings ≡ true
+    → All (FitsId used) (flat_map ids_of_saying sayings) → FitsSayings used sayings
+plain_fits used [] is h = tt
+plain_fits used (says (items.part (parts.simple s)) x ∷ sayings) is h = (
+  fits_simple used s x (all_front (FitsId used) (ids_of_simple s x) (flat_map ids_of_saying sayings) h),
+  plain_fits used sayings is (all_back (FitsId used) (ids_of_simple s x) (flat_map ids_of_saying sayings) h),
+)
+plain_fits used (says i x ∷ sayings) is h = cc

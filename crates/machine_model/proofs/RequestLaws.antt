@@ -1,0 +1,230 @@
+-- The effect in flight is the one that is due, what stands is tidy, and at rest nothing is to be cleared or set.
+use Rattle.std.proofs.Common.{◌≡◌, ℕ, Bool, true, false, cond, List, [], ◌∷◌, ◌++◌, Option, Some, None, refl}
+use Rattle.std.proofs.Common.{sym, ap, subst, ◌∙◌, inl, inr, arith}
+use Rattle.machine_model.specs.EventRequests.{IsSettled}
+use Rattle.machine_model.specs.Lookups.{finished}
+use Rattle.machine_model.specs.Names.{Attached, Clear, Command, Does, Failure, Effect, Fresh, Initialized, Item}
+use Rattle.machine_model.specs.Names.{Part, Phase, Replied, Set, Terminated}
+use Rattle.machine_model.specs.Names.{a_composite, a_question, a_raw, a_request, an_answer, an_effect, an_error}
+use Rattle.machine_model.specs.Names.{target_end}
+use Rattle.machine_model.specs.Outcomes.{result_of}
+use Rattle.machine_model.specs.Replying.{replied_to}
+use Rattle.machine_model.specs.Requests.{Wishes, effect_due, request_in, set_to, wishes_after}
+use Rattle.machine_model.specs.Rest.{IsAtRest}
+use Rattle.machine_model.specs.Rows.{chosen, failure_of, parts_by, parts_of, row_of, wanting}
+use Rattle.machine_model.specs.Runs.{Message, Run}
+use Rattle.machine_model.specs.State.{Hand, Machine, State, is_attached, is_gone}
+use Rattle.machine_model.proofs.RestLaws.{no_late}
+use Rattle.machine_model.proofs.SizeLaws.{is_idle}
+use Rattle.machine_model.proofs.Stepping.{IsAt, Moves, Skips, by_runs}
+use Rattle.machine_model.proofs.Tables.{are_plain, attaches, chosen_is, finished_is, is_updates}
+use Rattle.machine_model.proofs.Testing.{same_noted, same_numbered, same_replied}
+use Rattle.machine_model.proofs.WishLemmas.{new_set_due, none_due_change}
+use Rattle.wish_sets.proofs.LeftLaws.{at_rest}
+use Rattle.wish_sets.proofs.TidyLaws.{cleared_is_tidy, installed_is_tidy, new_is_tidy, refused_is_tidy}
+use Rattle.wish_sets.specs.Tidy.{IsNewSet, IsTidy}
+use Rattle.machine_model.proofs.RequestSteps.{Step, asked_left, flying_in, flying_of, is_deed, learnt_wishes}
+use Rattle.machine_model.proofs.RequestSteps.{near_before}
+use Rattle.machine_model.proofs.RequestSteps.{noted_wishes, numbered_wishes, parts_left, replied_left, starts_updates}
+use Rattle.machine_model.proofs.RequestSteps.{steps}
+
+-- What is in flight is still due --------------------------------------------------------------------------------------
+
+-- the Set or Clear in flight is the one that is due now, and `updates` is in front
+abbrev pub IsDue : Wishes → List Part → Option Effect → Type 0
+IsDue w parts None = Unit {0}
+IsDue w parts (Some effect) = is_deed effect ≡ false → (effect_due w ≡ Some effect) × (starts_updates parts ≡ true)
+
+abbrev pub IsAwaited : Machine → Type 0
+IsAwaited m = IsDue m.state.wishes (parts_left m.hand) (flying_in m.hand)
+
+pub none_due : (w : Wishes) (parts : List Part) (flying : Option Effect) → flying ≡ None → IsDue w parts flying
+none_due w parts None is = tt
+none_due w parts (Some effect) is = cc
+
+awaited_on : (m next : Machine) (said : Option Message) → IsAwaited m → Step m next said → IsAwaited next
+awaited_on m next said h (Step.aside quiet same flew (inl none)) = none_due _ _ (flying_in next.hand) (flew ∙ none)
+awaited_on m next said h (Step.aside quiet same flew (inr left)) = rw (same, flew, left) h
+awaited_on m next said h (Step.sends {effect} same none flies due) = rw (same, flies) due
+awaited_on m next said h (Step.replies same flew none reply) = none_due _ _ (flying_in next.hand) none
+
+-- the effect that is replied to was due
+pub was_due : (m : Machine) (effect : Effect) → IsAwaited m → flying_in m.hand ≡ Some effect
+    → IsDue m.state.wishes (parts_left m.hand) (Some effect)
+was_due m effect h is = subst (λ (flying : Option Effect). IsDue m.state.wishes (parts_left m.hand) flying) is h
+
+-- What stands is tidy -------------------------------------------------------------------------------------------------
+
+tidy_replied : (w : Wishes) (parts : List Part) (effect : Effect) (replied : Replied) → IsDue w parts (Some effect)
+    → IsTidy w → IsTidy (wishes_after effect replied w)
+tidy_replied w parts (Does deed) replied due tidy = tidy
+tidy_replied w parts (Set wish) replied due tidy = by_id (request_in replied) (new_set_due w wish (due refl).0)
+  where
+    by_id : (found : Option ℕ) → IsNewSet w wish → IsTidy (set_to found wish w)
+    by_id None new = refused_is_tidy wish w tidy new
+    by_id (Some request) new = installed_is_tidy request wish w tidy new
+tidy_replied w parts (Clear wish request) (an_answer answer) due tidy = cleared_is_tidy wish w tidy
+tidy_replied w parts (Clear wish request) (an_error code) due tidy = tidy
+
+tidy_on : (m next : Machine) (said : Option Message) → IsAwaited m → IsTidy m.state.wishes → Step m next said
+    → IsTidy next.state.wishes
+tidy_on m next said h tidy (Step.aside quiet same flew left) = subst (λ (w : Wishes). IsTidy w) (sym same) tidy
+tidy_on m next said h tidy (Step.sends same none flies due) = subst (λ (w : Wishes). IsTidy w) (sym same) tidy
+tidy_on m next said h tidy (Step.replies {effect} {replied} same flew none reply) =
+    subst (λ (w : Wishes). IsTidy w) (sym same)
+    (tidy_replied m.state.wishes (parts_left m.hand) effect replied (was_due m effect h flew) tidy)
+
+-- All that is wished is set -------------------------------------------------------------------------------------------
+
+-- all that is wished has to be set by now: the session is attached, or it is before `updates`
+abbrev needs_set : Bool → List Part → Bool
+needs_set attached [] = attached
+needs_set attached (part ∷ parts) = cond (is_updates part) false (cond (attaches part) true (needs_set attached parts))
+
+abbrev IsSet : Machine → Type 0
+IsSet m = needs_set (is_attached m.state.phase) (parts_left m.hand) ≡ true → effect_due m.state.wishes ≡ None
+
+-- each row that attaches the session updates first
+begun_needs : (attached : Bool) (state : State) (item : Item) → needs_set attached (parts_of state item) ≡ true
+    → attached ≡ true
+begun_needs attached state (a_request request) is =
+    row_needs attached (failure_of (wanting request.command) state) request.command is
+  where
+    row_needs : (attached : Bool) (failure : Option Failure) (command : Command)
+        → needs_set attached (parts_by failure (row_of command)) ≡ true → attached ≡ true
+    row_needs attached failure command is = grind (arith, is)
+begun_needs attached state target_end is = grind (arith, is)
+begun_needs attached state (a_composite at composite) is = is
+begun_needs attached state (a_raw at body) is = is
+
+plain_needs : (attached : Bool) (parts rest : List Part) → are_plain parts ≡ true
+    → needs_set attached (parts ++ rest) ≡ needs_set attached rest
+plain_needs attached [] rest is = refl
+plain_needs attached (part ∷ parts) rest is = grind (arith, is, plain_needs attached parts rest)
+
+-- a part in front that isn't `updates` is done
+front_set : (m : Machine) (hand : Hand) (part : Part) (rest : List Part) → IsSet m → IsAt m hand part rest
+    → cond (is_updates part) false (cond (attaches part) true (needs_set (is_attached m.state.phase) rest)) ≡ true
+    → effect_due m.state.wishes ≡ None
+front_set m hand part rest h at needs =
+    h (ap (needs_set (is_attached m.state.phase)) (ap parts_left at.in_hand ∙ at.parts) ∙ needs)
+
+-- nothing has to be set yet where `updates` is in front
+in_front : (attached : Bool) (parts : List Part) → starts_updates parts ≡ true → ¬ (needs_set attached parts ≡ true)
+in_front attached [] is needs = cc
+in_front attached (part ∷ parts) is needs = let no : needs_set attached (part ∷ parts) ≡ false = rw is refl in cc
+
+replied_set : (m : Machine) (effect : Effect) (replied : Replied) → IsSet m
+    → IsDue m.state.wishes (parts_left m.hand) (Some effect)
+    → needs_set (is_attached m.state.phase) (parts_left m.hand) ≡ true
+    → effect_due (wishes_after effect replied m.state.wishes) ≡ None
+replied_set m (Does deed) replied h due needs = h needs
+replied_set m (Set wish) replied h due needs =
+    absurd (in_front (is_attached m.state.phase) (parts_left m.hand) (due refl).1 needs)
+replied_set m (Clear wish request) replied h due needs =
+    absurd (in_front (is_attached m.state.phase) (parts_left m.hand) (due refl).1 needs)
+
+set_on : (m next : Machine) (said : Option Message) → IsAwaited m → IsSet m → Moves m said next
+    → is_gone next.state.phase ≡ false → IsSet next
+set_on m next said a h (Moves.begins picked free none is) here = λ needs.
+    h (ap (needs_set (is_attached m.state.phase)) (ap parts_left none)
+    ∙ begun_needs (is_attached m.state.phase) m.state picked.item needs)
+set_on m next said a h (Moves.drops {hand} free is none) here = λ needs.
+    h (ap (needs_set (is_attached m.state.phase)) (ap parts_left is ∙ none) ∙ needs)
+set_on m next said a h (Moves.responds {hand} {rest} {outcome = outcome} free at is) here = λ needs.
+    ap effect_due (numbered_wishes outcome m.state)
+    ∙ front_set m hand (Part.Responds outcome) rest h at
+    (ap (λ (phase : Phase). needs_set (is_attached phase) rest) (sym (same_numbered outcome m.state)) ∙ needs)
+set_on m next said a h (Moves.finds {hand} {rest} {lookup} found free at is done_now) here = λ needs.
+    front_set m hand (Part.Looks lookup) rest h at
+    (sym (plain_needs (is_attached m.state.phase) (finished lookup (result_of found) m.state) rest
+    (finished_is lookup (result_of found) m.state).plain) ∙ needs)
+set_on m next said a h (Moves.passes_over {hand} {rest = rest} free at (Skips.by_guard {guard} is)) here = λ needs.
+    front_set m hand (Part.Awaits guard) rest h at needs
+set_on m next said a h (Moves.passes_over free at (Skips.by_wishes is)) here = λ needs. is
+set_on m next said a h (Moves.passes_over {hand} {rest = rest} free at (Skips.no_request {outcome} is)) here = λ needs.
+    front_set m hand (Part.Responds outcome) rest h at needs
+set_on m next said a h (Moves.tells {hand} {rest} {event = Initialized} free at) here = λ needs.
+    front_set m hand (Part.Tells Initialized) rest h at refl
+set_on m next said a h (Moves.tells {event = Terminated} free at) here = cc
+set_on m next said a h (Moves.sends {hand} {rest} {deed} free at is) here = λ needs.
+    front_set m hand (Part.Sends deed) rest h at needs
+set_on m next said a h (Moves.updates free at is away) here = λ needs. cc
+set_on m next said a h (Moves.greets free at is away) here = h
+set_on m next said a h (Moves.notes {hand} {note} {rest} free at) here = λ needs.
+    ap effect_due (noted_wishes note m.state)
+    ∙ front_set m hand (Part.Notes note) rest h at
+    (ap (λ (phase : Phase). needs_set (is_attached phase) rest) (sym (same_noted note m.state)) ∙ needs)
+set_on m next said a h (Moves.unfolds {hand} {choice} {rest} free at) here = λ needs.
+    front_set m hand (Part.Unfolds choice) rest h at
+    (sym (plain_needs (is_attached m.state.phase) (chosen choice m.state hand) rest
+    (chosen_is choice m.state hand).plain) ∙ needs)
+set_on m next said a h (Moves.queues free is) here = λ needs.
+    h (ap (needs_set (is_attached m.state.phase)) (ap parts_left is) ∙ needs)
+set_on m next said a h (Moves.asks {want = want} free room is are) here = λ needs.
+    h (ap (needs_set (is_attached m.state.phase)) (sym (asked_left want m.hand)) ∙ needs)
+set_on m next said a h (Moves.hears read is) here = h
+set_on m next said a h (Moves.greeted read is) here = h
+set_on m next said a h (Moves.answers {question} {replied} is waits reply stays) here = λ needs.
+    ap effect_due (learnt_wishes question replied m.state)
+    ∙ h (ap (λ (phase : Phase). needs_set (is_attached phase) (parts_left m.hand))
+    (sym (same_replied (a_question question) replied m.state))
+    ∙ ap (needs_set (is_attached (replied_to (a_question question) replied m.state).phase))
+    (sym (replied_left (a_question question) replied m.hand)) ∙ needs)
+set_on m next said a h (Moves.replies {effect} {replied} is flying reply stays) here = λ needs.
+    replied_set m effect replied h (was_due m effect a (ap flying_in is ∙ ap flying_of flying))
+    (ap (needs_set (is_attached m.state.phase)) (sym (replied_left (an_effect effect) replied m.hand)) ∙ needs)
+set_on m next said a h (Moves.late before after is reply) here = h
+set_on m next said a h (Moves.ends gone) here = h
+set_on m next said a h (Moves.loses late near why) here = cc
+set_on m next said a h (Moves.comes read sized taken) here = h
+set_on m next said a h (Moves.keeps is) here = h
+set_on m next said a h (Moves.reads before after read is none taken) here = h
+
+-- All of it -----------------------------------------------------------------------------------------------------------
+
+pub record Settling (m : Machine) : Type 0 where
+  pub awaited : IsAwaited m
+  pub tidy : IsTidy m.state.wishes
+  pub set : IsSet m
+
+pub settling_on : (m next : Machine) (said : Option Message) → Settling m → Moves m said next → Step m next said
+    → is_gone next.state.phase ≡ false → Settling next
+settling_on m next said h moved step here = record {
+  awaited = awaited_on m next said h.awaited step;
+  tidy = tidy_on m next said h.awaited h.tidy step;
+  set = set_on m next said h.awaited h.set moved here;
+}
+
+-- each move of a run is a step, while there is a target
+pub step_of : {messages : List Message} {m : Machine} → Run messages m → (next : Machine) (said : Option Message)
+    → Moves m said next → is_gone next.state.phase ≡ false → Step m next said
+step_of {messages} {m} r next said moved here =
+    steps m next said (no_late r) moved (near_before m next said moved here) here
+
+-- while there is a target
+abbrev pub Near : Machine → Type 0
+Near m = is_gone m.state.phase ≡ false → Settling m
+
+pub settling : {messages : List Message} {m : Machine} → Run messages m → Near m
+settling r = by_runs {Holds = λ (messages : List Message) (m : Machine). Near m} (record {
+  starts = λ near. record { awaited = tt; tidy = new_is_tidy; set = λ needs. cc };
+  moves = λ messages m next said r h moved after here.
+      settling_on m next said (h (near_before m next said moved here)) moved (step_of r next said moved here) here;
+}) r
+
+-- The law -------------------------------------------------------------------------------------------------------------
+
+pub settles : (messages : List Message) (m : Machine) → Run messages m → IsAtRest m → m.state.phase ≡ Attached
+    → IsSettled m
+settles messages m r rests attached =
+    let idle = is_idle messages m r rests in
+    let s = settling r (ap is_gone attached) in
+    let none : effect_due m.state.wishes ≡ None =
+    s.set (ap (needs_set (is_attached m.state.phase)) (ap parts_left idle.no_hand) ∙ ap is_attached attached) in
+    record {
+      none_due = none;
+      just_wished = at_rest m.state.wishes s.tidy (none_due_change m.state.wishes none);
+      none_in_hand = idle.no_hand;
+      none_waits = idle.none_later (λ fresh. let no : Attached ≡ Fresh = sym attached ∙ fresh in cc);
+    }

@@ -1,0 +1,198 @@
+-- What each move keeps of the ids that stand in the machine: the parts.
+use Rattle.std.proofs.Common.{◌≡◌, Bool, true, false, cond, List, [], ◌∷◌, ◌++◌, Option}
+use Rattle.std.proofs.Common.{Some, None, refl, sym, ap, subst, ◌∙◌, arith}
+use Rattle.std.specs.List.{AllByRecursion as All}
+use Rattle.machine_model.specs.Ids.{Id}
+use Rattle.machine_model.specs.Lookups.{finished, found_for, sight_of}
+use Rattle.machine_model.specs.Names.{Attached, Capabilities, Choice, Command, Effect, Event, Failed, Failure}
+use Rattle.machine_model.specs.Names.{Finding, Fresh, Gone, Initialized, Item, Leaves, Lookup}
+use Rattle.machine_model.specs.Names.{Note, Nothing, Outcome, Part, Phase, Replied, Success}
+use Rattle.machine_model.specs.Names.{Terminated, ThreadId, NamedThread, a_composite, a_raw, a_request}
+use Rattle.machine_model.specs.Names.{threads_found, all_threads, target_end, thread_list}
+use Rattle.machine_model.specs.Plans.{Need, fails, has, lacks}
+use Rattle.machine_model.specs.Replying.{done_by}
+use Rattle.machine_model.specs.Names.{Sent, TargetCommand, Want}
+use Rattle.machine_model.proofs.Testing.{same_numbered}
+use Rattle.machine_model.specs.Rows.{chosen, failure_of, leaves, noted, parts_by, parts_of, request_parts, row_of}
+use Rattle.machine_model.specs.Rows.{wanting}
+use Rattle.machine_model.specs.Runs.{Message}
+use Rattle.machine_model.specs.State.{Hand, Machine, State, is_attached, is_gone, is_some, left}
+use Rattle.machine_model.specs.Telling.{after_event, is_among, numbered_by, with_thread, with_threads}
+use Rattle.machine_model.proofs.IdRows.{all_joined}
+use Rattle.machine_model.proofs.PlanIds.{IsAsked, IsGood, NeedStands}
+use Rattle.machine_model.proofs.PlanIds.{OfNamed, OfThread, rows_stand}
+use Rattle.machine_model.proofs.Stepping.{IsAt, Skips}
+use Rattle.machine_model.specs.Outcomes.{result_of}
+use Rattle.machine_model.proofs.Standing.{IsKept, Kept, Near, PartStands, Same, at_front, same_state}
+use Rattle.machine_model.proofs.Standing.{in_order}
+use Rattle.machine_model.proofs.Standing.{awaits_sizes, needs_sizes, stays}
+
+-- Tables --------------------------------------------------------------------------------------------------------------
+
+-- a telling, a note and a reply to an effect keep sizes, classes and what is wanted
+pub told_same : (outcome : Outcome) (state : State) → Same (numbered_by outcome state) state
+told_same outcome state = record {
+  sizes = grind arith;
+  classes = grind arith;
+  wanted = grind arith;
+  back = λ near. ap is_gone (sym (same_numbered outcome state)) ∙ near;
+}
+
+pub event_same : (event : Event) (state : State) → Same (after_event event state) state
+event_same event state =
+    record { sizes = grind arith; classes = grind arith; wanted = grind arith; back = λ near. grind (arith, near) }
+
+pub note_same : (note : Note) (state : State) → Same (noted note state) state
+note_same note state =
+    record { sizes = grind arith; classes = grind arith; wanted = grind arith; back = λ near. grind (arith, near) }
+
+pub effect_same : (effect : Effect) (replied : Replied) (state : State) → Same (done_by effect replied state) state
+effect_same effect replied state =
+    record { sizes = refl; classes = refl; wanted = grind arith; back = λ near. near }
+
+pub note_threads : (note : Note) (state : State) → (noted note state).threads ≡ state.threads
+note_threads note state = grind arith
+
+pub event_threads : (event : Event) (state : State) → (after_event event state).threads ≡ state.threads
+event_threads event state = grind arith
+
+-- threads that are told
+thread_told : (P : Id → Type 0) (threads : List ThreadId) (thread : ThreadId) → All (OfThread P) threads
+    → OfThread P thread → All (OfThread P) (with_thread threads thread)
+thread_told P threads thread h k = by_test (is_among threads thread)
+  where
+    by_test : (told : Bool) → All (OfThread P) (cond told threads (threads ++ thread ∷ []))
+    by_test true = h
+    by_test false = all_joined (OfThread P) threads (thread ∷ []) h (k, tt)
+
+threads_told : (P : Id → Type 0) (threads : List ThreadId) (named : List NamedThread) → All (OfThread P) threads
+    → All (OfNamed P) named → All (OfThread P) (with_threads threads named)
+threads_told P threads [] h k = h
+threads_told P threads (one ∷ named) h k =
+    threads_told P (with_thread threads one.thread) named (thread_told P threads one.thread h k.0) k.1
+
+pub told_threads : (P : Id → Type 0) (outcome : Outcome) (state : State) → All (OfThread P) state.threads
+    → PartStands P (Part.Responds outcome) → All (OfThread P) (numbered_by outcome state).threads
+told_threads P (Success (thread_list named)) state h k = threads_told P state.threads named h k
+told_threads P (Success Nothing) state h k = h
+told_threads P (Success Capabilities) state h k = h
+told_threads P (Failed failure) state h k = h
+
+-- rows, results and choices
+row_order : (state : State) (sized : Bool) (command : Command) → in_order sized (is_attached state.phase) [] ≡ true
+    → in_order sized (is_attached state.phase) (request_parts command state) ≡ true
+row_order state sized command h = grind (arith, h)
+
+pub begun_order : (state : State) (sized : Bool) (item : Item) → in_order sized (is_attached state.phase) [] ≡ true
+    → in_order sized (is_attached state.phase) (parts_of state item) ≡ true
+begun_order state sized (a_request request) h = row_order state sized request.command h
+begun_order state sized target_end h = grind (arith, h)
+begun_order state sized (a_composite at composite) h = h
+begun_order state sized (a_raw at body) h = h
+
+row_parts : (P : Id → Type 0) (failure : Option Failure) (command : Command)
+    → All (PartStands P) (parts_by failure (row_of command))
+row_parts P (Some failure) command = (tt, tt)
+row_parts P None command = by_command command
+  where
+    by_command : (command : Command) → All (PartStands P) (row_of command)
+    by_command command = grind arith
+
+pub begun_parts : (P : Id → Type 0) (state : State) (item : Item) → All (PartStands P) (parts_of state item)
+begun_parts P state (a_request request) = row_parts P (failure_of (wanting request.command) state) request.command
+begun_parts P state target_end = by_end state.terminated
+  where
+    by_end : (told : Bool) → All (PartStands P) (parts_of (record state { terminated = told }) target_end)
+    by_end true = tt
+    by_end false = (tt, tt)
+begun_parts P state (a_composite at composite) = tt
+begun_parts P state (a_raw at body) = tt
+
+pub chosen_order : (choice : Choice) (state : State) (hand : Hand) (sized attached : Bool) (rest : List Part)
+    → in_order sized attached rest ≡ true → in_order sized attached (chosen choice state hand ++ rest) ≡ true
+chosen_order choice state hand sized attached rest h = grind (arith, h)
+
+pub chosen_parts : (P : Id → Type 0) (choice : Choice) (state : State) (hand : Hand) (rest : List Part)
+    → All (PartStands P) rest → All (PartStands P) (chosen choice state hand ++ rest)
+chosen_parts P (Leaves exits) state hand rest h = by_phase state.phase
+  where
+    by_phase : (phase : Phase) → All (PartStands P) (leaves phase exits ++ rest)
+    by_phase Fresh = h
+    by_phase Attached = (tt, h)
+    by_phase Gone = h
+
+found_parts : (P : Id → Type 0) (lookup : Lookup) (found : Need Finding) (state : State) → NeedStands P (IsGood P) found
+    → All (PartStands P) (finished lookup (result_of found) state)
+found_parts P all_threads (has (threads_found named)) state h = (h, tt)
+found_parts P all_threads (fails fault) state h = (tt, tt)
+found_parts P all_threads (lacks want others) state h = (tt, tt)
+
+-- Parts that need the sizes -------------------------------------------------------------------------------------------
+
+-- what needs the sizes has them
+pub sized_by : (sized attached : Bool) (part : Part) (rest : List Part) → in_order sized attached (part ∷ rest) ≡ true
+    → awaits_sizes part ≡ false → needs_sizes part ≡ true → sized ≡ true
+sized_by true attached part rest h other needs = refl
+sized_by false true part rest h other needs = cc
+sized_by false false part rest h other needs = grind (arith, h, other, needs)
+
+pub in_any_order : (sized attached : Bool) (parts : List Part) → sized ≡ true → in_order sized attached parts ≡ true
+in_any_order sized attached parts is = rw is refl
+
+pub skipped_order : {m : Machine} {hand : Hand} {part : Part} (rest : List Part) → Skips m hand part
+    → in_order (is_some m.state.sizes) (is_attached m.state.phase) (part ∷ rest) ≡ true
+    → in_order (is_some m.state.sizes) (is_attached m.state.phase) rest ≡ true
+skipped_order rest (Skips.by_guard {guard} is) h = grind (arith, h, is)
+skipped_order {m} rest (Skips.by_wishes is) h =
+    in_any_order _ _ rest (sized_by (is_some m.state.sizes) (is_attached m.state.phase) Part.Updates rest h refl refl)
+skipped_order rest (Skips.no_request is) h = h
+
+pub event_order : (state : State) (event : Event) (rest : List Part) → is_gone (after_event event state).phase ≡ false
+    → in_order (is_some state.sizes) (is_attached state.phase) (Part.Tells event ∷ rest) ≡ true
+    → in_order (is_some state.sizes) (is_attached (after_event event state).phase) rest ≡ true
+event_order state Initialized rest near h = in_any_order _ _ rest
+    (sized_by (is_some state.sizes) (is_attached state.phase) (Part.Tells Initialized) rest h refl refl)
+event_order state Terminated rest near h = cc
+
+-- a look-up that stands in front, where the sizes are known
+pub looks_stand : {P : Id → Type 0} {state : State} {left : List Part} {queue : List Want} (hand : Hand)
+    (lookup : Lookup)
+    → Near P state left queue hand.asked → is_some state.sizes ≡ true
+    → NeedStands P (IsGood P) (found_for lookup state hand)
+looks_stand {P} {state} hand lookup n sized =
+    rows_stand P (sight_of state hand) state.classes n.classes
+    (subst (λ sized. All (IsAsked P sized) hand.asked) sized n.replies) refl lookup state
+
+pub found_kept : {P : Id
+    → Type 0} {messages : List Message} {m : Machine} {hand : Hand} {rest : List Part} {lookup : Lookup}
+    (found : Need Finding) → IsKept P messages m → IsAt m hand (Part.Looks lookup) rest
+    → found_for lookup m.state hand ≡ found
+    → IsKept P messages (left m hand (finished lookup (result_of found) m.state ++ rest))
+found_kept {P} {m = m} {hand} {rest} {lookup} found k at is =
+    stays m.state (finished lookup (result_of found) m.state ++ rest) None (at_front k at) (same_state m.state) refl
+    (λ near n. let sized = sized_by (is_some m.state.sizes) (is_attached m.state.phase) (Part.Looks lookup) rest n.order
+    refl refl in record {
+      threads = n.threads;
+      order = in_any_order _ _ (finished lookup (result_of found) m.state ++ rest) sized;
+      parts = all_joined (PartStands P) (finished lookup (result_of found) m.state) rest
+          (found_parts P lookup found m.state
+          (subst (λ found. NeedStands P (IsGood P) found) is (looks_stand hand lookup n sized))) n.parts.1;
+    })
+
+pub dropped_kept : {P : Id → Type 0} {messages : List Message} {state : State} {left : List Part} {queue : List Want}
+    {asked : List Sent} {late : List TargetCommand} → Kept P messages state left queue asked late
+    → Kept P messages state [] [] [] late
+dropped_kept k = record {
+  once = let old = k.once in omega (arith, old);
+  sizes = k.sizes;
+  none_late = k.none_late;
+  near = λ near. let n = k.near near in record {
+    threads = n.threads;
+    classes = n.classes;
+    wanted = n.wanted;
+    order = grind (arith, n.order);
+    parts = tt;
+    wants = tt;
+    replies = tt;
+  };
+}

@@ -1,0 +1,295 @@
+-- What the tables' lists of parts pass: the one place that a new request, note, choice or look-up is added to.
+use Rattle.std.proofs.Common.{◌≡◌, Bool, true, false, cond, not, ◌||◌, List, [], ◌∷◌, ◌++◌, Option, refl, arith}
+use Rattle.machine_model.specs.Lookups.{finished, lookup_responds}
+use Rattle.machine_model.specs.Names.{Choice, Command, Failure, Finding, Initialized, Item, Leaves}
+use Rattle.machine_model.specs.Names.{Lookup, Part, Terminated, a_composite, a_raw}
+use Rattle.machine_model.specs.Names.{a_request, target_end}
+use Rattle.machine_model.specs.Plans.{Result}
+use Rattle.machine_model.specs.Rows.{choice_responds, chosen, failure_of, gone_parts, has_response}
+use Rattle.machine_model.specs.Rows.{is_response, parts_by, parts_of, request_parts, row_of, wanting}
+use Rattle.machine_model.specs.State.{Hand, State, is_gone}
+use Rattle.machine_model.proofs.Testing.{IsTest, gone_behind}
+
+-- Tests of parts ------------------------------------------------------------------------------------------------------
+
+-- both hold, or neither
+abbrev pub same : Bool → Bool → Bool
+same true other = other
+same false other = not other
+
+-- the part doesn't need the target
+abbrev pub is_free : Part → Bool
+is_free (Part.Responds outcome) = true
+is_free (Part.Tells Terminated) = true
+is_free (Part.Notes note) = true
+is_free (Part.Ends finish) = true
+is_free (Part.Unfolds (Leaves exits)) = true
+is_free _ = false
+
+-- it sets what is wished
+abbrev pub is_updates : Part → Bool
+is_updates Part.Updates = true
+is_updates _ = false
+
+-- it attaches the session
+abbrev pub attaches : Part → Bool
+attaches (Part.Tells Initialized) = true
+attaches _ = false
+
+-- it tells the client that nothing more comes of the target
+abbrev pub is_last : Part → Bool
+is_last (Part.Tells Terminated) = true
+is_last _ = false
+
+-- Tests of lists ------------------------------------------------------------------------------------------------------
+
+-- in a target that is gone, nothing needs the target
+abbrev pub free_once : Bool → List Part → Bool
+free_once gone [] = true
+free_once gone (part ∷ parts) = cond (cond gone (is_free part) true) (free_once (gone_behind part gone) parts) false
+
+-- there is no second response
+abbrev pub once_in : List Part → Bool
+once_in [] = true
+once_in (part ∷ parts) = cond (is_response part) (not (has_response parts)) (once_in parts)
+
+abbrev pub has_updates : List Part → Bool
+has_updates [] = false
+has_updates (part ∷ parts) = is_updates part || has_updates parts
+
+abbrev pub has_attach : List Part → Bool
+has_attach [] = false
+has_attach (part ∷ parts) = attaches part || has_attach parts
+
+-- a request's parts: one response; and attaching stands behind the setting of what is wished
+abbrev pub is_row : List Part → Bool
+is_row parts =
+    cond (has_response parts) (cond (once_in parts) (cond (has_attach parts) (has_updates parts) true) false) false
+
+-- parts that stand in any place: they set nothing, and turn no phase
+abbrev pub is_plain : Part → Bool
+is_plain part = cond (is_updates part) false (cond (attaches part) false (not (is_last part)))
+
+abbrev pub are_plain : List Part → Bool
+are_plain [] = true
+are_plain (part ∷ parts) = cond (is_plain part) (are_plain parts) false
+
+-- what a part becomes: a response where it is to bring one
+abbrev pub is_block : Bool → List Part → Bool
+is_block responds parts =
+    cond (once_in parts) (cond (same (has_response parts) responds) (are_plain parts) false) false
+
+-- The tables ----------------------------------------------------------------------------------------------------------
+
+pub row_sound : (failure : Option Failure) (command : Command) → is_row (parts_by failure (row_of command)) ≡ true
+row_sound failure command = grind arith
+
+pub chosen_block : (choice : Choice) (state : State) (hand : Hand)
+    → is_block (choice_responds choice) (chosen choice state hand) ≡ true
+chosen_block choice state hand = grind arith
+
+pub finished_block : (lookup : Lookup) (result : Result Finding) (state : State)
+    → is_block (lookup_responds lookup) (finished lookup result state) ≡ true
+finished_block lookup result state = grind arith
+
+row_near : (failure : Option Failure) (command : Command) → free_once false (parts_by failure (row_of command)) ≡ true
+row_near failure command = grind arith
+
+row_gone : (state : State) (command : Command) → is_gone state.phase ≡ true
+    → free_once true (request_parts command state) ≡ true
+row_gone state command is = grind (arith, is)
+
+pub row_free : (state : State) (command : Command) (gone : Bool) → is_gone state.phase ≡ gone
+    → free_once gone (request_parts command state) ≡ true
+row_free state command true is = row_gone state command is
+row_free state command false is = row_near (failure_of (wanting command) state) command
+
+pub gone_free : (responds : Bool) (item : Item) → free_once true (gone_parts responds item) ≡ true
+gone_free responds item = grind arith
+
+pub gone_once : (responds : Bool) (item : Item) → once_in (gone_parts responds item) ≡ true
+gone_once responds item = grind arith
+
+-- What the tests say --------------------------------------------------------------------------------------------------
+
+pub record IsBlock (responds : Bool) (parts : List Part) : Type 0 where
+  pub once : once_in parts ≡ true
+  pub is : has_response parts ≡ responds
+  pub plain : are_plain parts ≡ true
+
+block_facts : (responds : Bool) (parts : List Part) → is_block responds parts ≡ true → IsBlock responds parts
+block_facts responds parts h = record { once = grind arith; is = grind arith; plain = grind arith }
+
+pub chosen_is : (choice : Choice) (state : State) (hand : Hand)
+    → IsBlock (choice_responds choice) (chosen choice state hand)
+chosen_is choice state hand =
+    block_facts (choice_responds choice) (chosen choice state hand) (chosen_block choice state hand)
+
+pub finished_is : (lookup : Lookup) (result : Result Finding) (state : State)
+    → IsBlock (lookup_responds lookup) (finished lookup result state)
+finished_is lookup result state =
+    block_facts (lookup_responds lookup) (finished lookup result state) (finished_block lookup result state)
+
+pub record IsRow (parts : List Part) : Type 0 where
+  pub responds : has_response parts ≡ true
+  pub once : once_in parts ≡ true
+  pub attaches : cond (has_attach parts) (has_updates parts) true ≡ true
+
+row_facts : (parts : List Part) → is_row parts ≡ true → IsRow parts
+row_facts parts is = record { responds = grind arith; once = grind arith; attaches = grind arith }
+
+pub row_is : (failure : Option Failure) (command : Command) → IsRow (parts_by failure (row_of command))
+row_is failure command = row_facts (parts_by failure (row_of command)) (row_sound failure command)
+
+-- Lists that are joined -----------------------------------------------------------------------------------------------
+
+pub has_joined : (parts rest : List Part) → has_response (parts ++ rest) ≡ (has_response parts || has_response rest)
+has_joined [] rest = refl
+has_joined (part ∷ parts) rest = grind (arith, has_joined parts rest)
+
+none_is_once : (parts : List Part) → has_response parts ≡ false → once_in parts ≡ true
+none_is_once [] is = refl
+none_is_once (part ∷ parts) is = grind (arith, none_is_once parts)
+
+-- a part that becomes a block
+block_once : (first : Part) (responds : Bool) (parts rest : List Part) → once_in parts ≡ true
+    → has_response parts ≡ responds → is_response first ≡ responds → once_in (first ∷ rest) ≡ true
+    → once_in (parts ++ rest) ≡ true
+block_once first responds [] rest once is was h = grind (arith, none_is_once rest)
+block_once first responds (part ∷ parts) rest once is was h =
+    grind (arith, block_once first responds parts rest, has_joined parts rest, none_is_once rest)
+
+once_tail : (part : Part) (rest : List Part) → once_in (part ∷ rest) ≡ true → once_in rest ≡ true
+once_tail part rest is = grind (arith, none_is_once rest)
+
+free_joined : (gone : Bool) (parts rest : List Part) → are_plain parts ≡ true → free_once gone parts ≡ true
+    → free_once gone rest ≡ true → free_once gone (parts ++ rest) ≡ true
+free_joined gone [] rest is free h = h
+free_joined gone (part ∷ parts) rest is free h = grind (arith, free_joined gone parts rest)
+
+plain_free : (parts : List Part) → are_plain parts ≡ true → free_once false parts ≡ true
+plain_free [] is = refl
+plain_free (part ∷ parts) is = grind (arith, plain_free parts)
+
+pub plain_updates : (parts rest : List Part) → are_plain parts ≡ true
+    → has_updates (parts ++ rest) ≡ has_updates rest
+plain_updates [] rest is = refl
+plain_updates (part ∷ parts) rest is = grind (arith, plain_updates parts rest)
+
+pub plain_attach : (parts rest : List Part) → are_plain parts ≡ true → has_attach (parts ++ rest) ≡ has_attach rest
+plain_attach [] rest is = refl
+plain_attach (part ∷ parts) rest is = grind (arith, plain_attach parts rest)
+
+-- The tests that each law uses ----------------------------------------------------------------------------------------
+
+abbrev pub responds_once : Bool → List Part → Bool
+responds_once gone parts = once_in parts
+
+once_begun : (state : State) (item : Item) → once_in (parts_of state item) ≡ true
+once_begun state (a_request request) = (row_is (failure_of (wanting request.command) state) request.command).once
+once_begun state target_end = grind arith
+once_begun state (a_composite at composite) = refl
+once_begun state (a_raw at body) = refl
+
+pub once : IsTest responds_once
+once = record {
+  none = λ gone. refl;
+  tail = λ gone part rest is. once_tail part rest is;
+  begins = once_begun;
+  unfolds = λ choice state hand rest is. let b = chosen_is choice state hand in
+      block_once (Part.Unfolds choice) (choice_responds choice) (chosen choice state hand) rest b.once b.is refl is;
+  finds = λ lookup result state rest is. let b = finished_is lookup result state in
+      block_once (Part.Looks lookup) (lookup_responds lookup) (finished lookup result state) rest b.once b.is refl is;
+  gives_up = gone_once;
+}
+
+free_begun : (state : State) (item : Item) → free_once (is_gone state.phase) (parts_of state item) ≡ true
+free_begun state (a_request request) = row_free state request.command (is_gone state.phase) refl
+free_begun state target_end = grind arith
+free_begun state (a_composite at composite) = refl
+free_begun state (a_raw at body) = refl
+
+chosen_free : (choice : Choice) (state : State) (hand : Hand) (gone : Bool) → is_gone state.phase ≡ gone
+    → free_once gone (chosen choice state hand) ≡ true
+chosen_free choice state hand true is = grind (arith, is)
+chosen_free choice state hand false is = plain_free (chosen choice state hand) (chosen_is choice state hand).plain
+
+free_tail : (gone : Bool) (part : Part) (rest : List Part) → free_once gone (part ∷ rest) ≡ true
+    → free_once (gone_behind part gone) rest ≡ true
+free_tail gone part rest is = grind (arith, is)
+
+same_gone : (gone : Bool) (choice : Choice) (rest : List Part) → free_once gone (Part.Unfolds choice ∷ rest) ≡ true
+    → free_once gone rest ≡ true
+same_gone gone choice rest is = free_tail gone (Part.Unfolds choice) rest is
+
+-- a look-up stands only where the target isn't gone
+found_free : (gone : Bool) (lookup : Lookup) (parts rest : List Part) → are_plain parts ≡ true
+    → free_once gone (Part.Looks lookup ∷ rest) ≡ true → free_once gone (parts ++ rest) ≡ true
+found_free true lookup parts rest is h = cc
+found_free false lookup parts rest is h =
+    free_joined false parts rest is (plain_free parts is) (free_tail false (Part.Looks lookup) rest h)
+
+pub free : IsTest free_once
+free = record {
+  none = λ gone. refl;
+  tail = free_tail;
+  begins = free_begun;
+  unfolds = λ choice state hand rest is.
+      free_joined (is_gone state.phase) (chosen choice state hand) rest (chosen_is choice state hand).plain
+      (chosen_free choice state hand (is_gone state.phase) refl) (same_gone (is_gone state.phase) choice rest is);
+  finds = λ lookup result state rest is.
+      found_free (is_gone state.phase) lookup (finished lookup result state) rest
+      (finished_is lookup result state).plain is;
+  gives_up = gone_free;
+}
+
+-- behind the word that nothing more comes of the target there is no response
+abbrev pub last_silent : List Part → Bool
+last_silent [] = true
+last_silent (part ∷ parts) = cond (cond (is_last part) (not (has_response parts)) true) (last_silent parts) false
+
+abbrev pub silent_last : Bool → List Part → Bool
+silent_last gone parts = last_silent parts
+
+row_silent : (failure : Option Failure) (command : Command) → last_silent (parts_by failure (row_of command)) ≡ true
+row_silent failure command = grind arith
+
+silent_begun : (state : State) (item : Item) → last_silent (parts_of state item) ≡ true
+silent_begun state (a_request request) = row_silent (failure_of (wanting request.command) state) request.command
+silent_begun state target_end = grind arith
+silent_begun state (a_composite at composite) = refl
+silent_begun state (a_raw at body) = refl
+
+silent_tail : (part : Part) (rest : List Part) → last_silent (part ∷ rest) ≡ true → last_silent rest ≡ true
+silent_tail part rest is = grind (arith, is)
+
+silent_joined : (parts rest : List Part) → are_plain parts ≡ true → last_silent rest ≡ true
+    → last_silent (parts ++ rest) ≡ true
+silent_joined [] rest is h = h
+silent_joined (part ∷ parts) rest is h = grind (arith, silent_joined parts rest, is, h)
+
+gone_silent : (responds : Bool) (item : Item) → last_silent (gone_parts responds item) ≡ true
+gone_silent responds item = grind arith
+
+pub silent_test : IsTest silent_last
+silent_test = record {
+  none = λ gone. refl;
+  tail = λ gone part rest is. silent_tail part rest is;
+  begins = silent_begun;
+  unfolds = λ choice state hand rest is.
+      silent_joined (chosen choice state hand) rest (chosen_is choice state hand).plain (silent_tail
+      (Part.Unfolds choice) rest is);
+  finds = λ lookup result state rest is.
+      silent_joined (finished lookup result state) rest (finished_is lookup result state).plain
+      (silent_tail (Part.Looks lookup) rest is);
+  gives_up = gone_silent;
+}
+
+-- in a target that is gone nothing attaches the session
+pub none_attaches : (parts : List Part) → free_once true parts ≡ true → has_attach parts ≡ false
+none_attaches [] is = refl
+none_attaches (part ∷ parts) is = grind (arith, is, none_attaches parts)
+
+-- what brings the response by a choice needs the target
+pub choice_near : (choice : Choice) → choice_responds choice ≡ true → is_free (Part.Unfolds choice) ≡ false
+choice_near choice is = grind (arith, is)

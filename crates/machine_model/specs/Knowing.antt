@@ -1,0 +1,220 @@
+-- What is known is what the messages say.
+use Rattle.std.specs.Prelude.{ℕ, ◌≡◌, ◌≤◌, ◌<◌, ◌+◌, ◌==◌, ◌∷◌, ◌++◌, Bool, true, false, not, cond, List, [], length}
+use Rattle.std.specs.Prelude.{map}
+use Rattle.std.specs.Prelude.{Option, None, Some}
+use Rattle.std.specs.List.{flat_map}
+use Rattle.class_tables.specs.Facts.{Fact, Known, has_fields, has_lines, has_methods, has_source, has_variables}
+use Rattle.class_tables.specs.Facts.{is_below}
+use Rattle.class_tables.specs.Facts.{nothing, with_fact}
+use Rattle.dap_messages.specs.declared.told.Event.{Event as EventTold}
+use Rattle.dap_messages.specs.declared.told.Event.TheVariants as events
+use Rattle.dap_messages.specs.declared.told.Outcome.{Outcome as OutcomeTold}
+use Rattle.dap_messages.specs.declared.told.Outcome.TheVariants as outcomes
+use Rattle.dap_messages.specs.declared.told.Shape.{Shape}
+use Rattle.dap_messages.specs.declared.told.Shape.TheVariants as shapes
+use Rattle.dap_messages.specs.declared.told.Thread.{Thread}
+use Rattle.jdwp_commands.specs.declared.answer.Answer.TheVariants as answers
+use Rattle.jdwp_commands.specs.declared.question.Question.TheVariants as questions
+use Rattle.machine_model.specs.Facts.{above_in, fields_in, lines_in, methods_in, source_in, variables_in}
+use Rattle.machine_model.specs.Names.{Answer, Attached, Command, Disconnect, Dispose, Does, Exit, Fresh, Gone}
+use Rattle.machine_model.specs.Names.{Phase, Question, Replied, TargetCommand, ThreadId, Told, a_question, a_response}
+use Rattle.machine_model.specs.Names.{an_answer, an_effect, an_error, an_event}
+use Rattle.machine_model.specs.Plans.{answer_in}
+use Rattle.machine_model.specs.Runs.{Message, Run}
+use Rattle.machine_model.specs.State.{Machine, SizesRead, is_gone}
+
+-- what anybody knows who reads the messages
+pub record View : Type 0 where
+  pub phase : Phase
+  pub greeting_sent : Bool
+  pub greeting_heard : Bool
+  pub sizes : Option SizesRead
+  pub classes : Known
+  pub terminated : Bool
+  pub closing : Bool
+
+abbrev pub nothing_said : View
+nothing_said = record {
+  phase = Fresh;
+  greeting_sent = false;
+  greeting_heard = false;
+  sizes = None;
+  classes = nothing;
+  terminated = false;
+  closing = false;
+}
+
+-- Replies -------------------------------------------------------------------------------------------------------------
+
+-- the target is left by it, and any reply will do
+abbrev pub is_farewell : TargetCommand → Bool
+is_farewell (a_question question) = false
+is_farewell (an_effect (Does Dispose)) = true
+is_farewell (an_effect (Does Exit)) = true
+is_farewell (an_effect effect) = false
+
+-- its error is that of a target that has ended (JDWP, Error Constants, VM_DEAD)
+abbrev pub says_dead : Replied → Bool
+says_dead (an_answer answer) = false
+says_dead (an_error code) = code == 112
+
+-- the sizes of ids, once they are answered (JDWP, VirtualMachine command set, IDSizes)
+abbrev pub sizes_said : Replied → Option SizesRead → Option SizesRead
+sizes_said (an_answer (answers.IdSizes field method object class frame)) sizes =
+    Some (record { field = field; method = method; object = object; class = class; frame = frame })
+sizes_said _ sizes = sizes
+
+-- the fact of a class that is replied (JDWP, ReferenceType, ClassType and Method command sets)
+abbrev pub fact_said : Question → Option Answer → Option Fact
+fact_said (questions.SourceFile class) heard = Some (has_source class (source_in heard))
+fact_said (questions.Methods class) heard = Some (has_methods class (methods_in heard))
+fact_said (questions.Fields class) heard = Some (has_fields class (fields_in heard))
+fact_said (questions.Superclass class) heard = Some (is_below class (above_in heard))
+fact_said (questions.LineTable class method) heard = Some (has_lines class method (lines_in heard))
+fact_said (questions.VariableTable class method) heard = Some (has_variables class method (variables_in heard))
+fact_said _ heard = None
+
+abbrev pub with_said_fact : Option Fact → Known → Known
+with_said_fact None known = known
+with_said_fact (Some fact) known = with_fact fact known
+
+abbrev pub learnt_view : TargetCommand → Replied → View → View
+learnt_view (a_question questions.IdSizes) replied view = record view { sizes = sizes_said replied view.sizes }
+learnt_view (a_question question) replied view =
+    record view { classes = with_said_fact (fact_said question (answer_in replied)) view.classes }
+learnt_view (an_effect effect) replied view = view
+
+-- until the target is gone, a reply tells something, or that it is gone
+abbrev pub replied_view : Bool → Bool → TargetCommand → Replied → View → View
+replied_view true ended command replied view = view
+replied_view false true command replied view = record view { phase = Gone }
+replied_view false false command replied view = learnt_view command replied view
+
+-- Messages ------------------------------------------------------------------------------------------------------------
+
+-- `initialized` attaches the session, `terminated` ends it (DAP specification, Events)
+abbrev pub event_view : EventTold → View → View
+event_view events.Initialized view = record view { phase = Attached }
+event_view events.Terminated view = record view { phase = Gone; terminated = true }
+
+abbrev pub told_view : Told → View → View
+told_view (a_response response) view = view
+told_view (an_event event) view = event_view event view
+
+-- the request that ends the session (DAP specification, Disconnect request)
+abbrev pub closes : Command → Bool
+closes (Disconnect arguments) = true
+closes _ = false
+
+-- what a message says
+abbrev pub says : Message → View → View
+says (Message.hears request) view = record view { closing = closes request.command }
+says (Message.tells told) view = told_view told view
+says Message.greets view = record view { greeting_sent = true }
+says Message.greeted view = record view { greeting_heard = true }
+says (Message.answers command replied) view =
+    replied_view (is_gone view.phase) (cond (is_farewell command) false (says_dead replied)) command replied view
+says Message.ends view = record view { phase = Gone }
+says _ view = view
+
+abbrev pub is_fresh : Phase → Bool
+is_fresh Fresh = true
+is_fresh Attached = false
+is_fresh Gone = false
+
+-- the session is attached once, and before its target is gone; that the target is gone is told once, and only then
+abbrev pub may_tell : Told → View → Bool
+may_tell (a_response response) view = true
+may_tell (an_event events.Initialized) view = is_fresh view.phase
+may_tell (an_event events.Terminated) view = cond (is_gone view.phase) (not view.terminated) false
+
+-- When a message may be: nothing is heard behind `disconnect`; each side of the handshake is there once; and nothing
+-- goes
+-- to a target that is gone.
+abbrev pub may_be : View → Message → Bool
+may_be view (Message.hears request) = not view.closing
+may_be view (Message.tells told) = may_tell told view
+may_be view Message.greets = cond view.greeting_sent false (not (is_gone view.phase))
+may_be view Message.greeted = not view.greeting_heard
+may_be view (Message.sends command) = not (is_gone view.phase)
+may_be view _ = true
+
+-- Read in order, the messages say this, each of which may be where it stands.
+pub data AreSaid : List Message → View → Type 0 where
+  none : AreSaid [] nothing_said
+  one_more : {messages : List Message} {view : View} (message : Message) → may_be view message ≡ true
+      → AreSaid messages view → AreSaid (messages ++ message ∷ []) (says message view)
+
+-- what the machine knows of it
+abbrev pub view_of : Machine → View
+view_of m = record {
+  phase = m.state.phase;
+  greeting_sent = m.state.greeting_sent;
+  greeting_heard = m.state.greeting_heard;
+  sizes = m.state.sizes;
+  classes = m.state.classes;
+  terminated = m.state.terminated;
+  closing = m.closing;
+}
+
+-- Numbers of threads --------------------------------------------------------------------------------------------------
+
+-- the thread has this number: threads are numbered from 1, in this order
+pub record HasNumber (threads : List ThreadId) (thread : ThreadId) (number : ℕ) : Type 0 where
+  pub before : List ThreadId
+  pub after : List ThreadId
+  pub threads_are : threads ≡ before ++ thread ∷ after
+  pub number_is : number ≡ length before + 1
+
+-- one thread has one number, and different threads have different numbers
+pub record AreNumberedOnce (threads : List ThreadId) : Type 0 where
+  pub one_number : {one other : ThreadId} {first second : ℕ} → HasNumber threads one first
+      → HasNumber threads other second → one.0 ≡ other.0 → first ≡ second
+  pub one_thread : {one other : ThreadId} {first second : ℕ} → HasNumber threads one first
+      → HasNumber threads other second → first ≡ second → one.0 ≡ other.0
+
+-- These numbers were told in this order, so many different ones. Each is one that was told before, or the next: new
+-- threads are numbered 1, 2, 3, and so on as they are told.
+pub data AreInOrder : List ℕ → ℕ → Type 0 where
+  none : AreInOrder [] 0
+  again : {numbers : List ℕ} {count number : ℕ} → AreInOrder numbers count → 0 < number → number ≤ count
+      → AreInOrder (numbers ++ number ∷ []) count
+  one_new : {numbers : List ℕ} {count : ℕ} → AreInOrder numbers count
+      → AreInOrder (numbers ++ (count + 1) ∷ []) (count + 1)
+
+abbrev pub thread_number : Thread → ℕ
+thread_number thread = thread.id
+
+-- the numbers of threads in a body (DAP specification, Threads request)
+abbrev pub numbers_in_shape : Shape → List ℕ
+numbers_in_shape shapes.Nothing = []
+numbers_in_shape shapes.Capabilities = []
+numbers_in_shape (shapes.Threads threads) = map thread_number threads
+
+abbrev pub numbers_in_outcome : OutcomeTold → List ℕ
+numbers_in_outcome (outcomes.Success shape) = numbers_in_shape shape
+numbers_in_outcome (outcomes.Failure failure) = []
+
+abbrev pub numbers_in : Told → List ℕ
+numbers_in (a_response response) = numbers_in_outcome response.outcome
+numbers_in (an_event event) = []
+
+abbrev pub numbers_by : Message → List ℕ
+numbers_by (Message.tells told) = numbers_in told
+numbers_by _ = []
+
+-- the numbers of threads in all that the client was told, in order
+abbrev pub thread_numbers : List Message → List ℕ
+thread_numbers messages = flat_map numbers_by messages
+
+-- The law -------------------------------------------------------------------------------------------------------------
+
+-- What is known is what the messages say, each of which may be where it stands. Threads are numbered as they are first
+-- told.
+pub record IsKnown (messages : List Message) (m : Machine) : Type 0 where
+  pub said : AreSaid messages (view_of m)
+  pub once : AreNumberedOnce m.state.threads
+  pub in_order : AreInOrder (thread_numbers messages) (length m.state.threads)
+
+abbrev pub Knows : Type 0
+Knows = (messages : List Message) (m : Machine) → Run messages m → IsKnown messages m

@@ -1,0 +1,50 @@
+-- The words of the machine and of what it speaks to, under the names that the definitions use.
+pub use Rattle.dap_messages.specs.declared.requests.Command.{Command}
+pub use Rattle.dap_messages.specs.declared.requests.Command.TheVariants.{Initialize, Attach, Threads, Disconnect}
+pub use Rattle.dap_messages.specs.declared.requests.Command.TheVariants.{Unsupported, BadArguments}
+pub use Rattle.dap_messages.specs.declared.requests.Request.{Request}
+pub use Rattle.dap_messages.specs.declared.told.Failure.{Failure}
+pub use Rattle.dap_messages.specs.declared.told.Told.{Told}
+pub use Rattle.dap_messages.specs.declared.told.Told.TheVariants.{Response as a_response, Event as an_event}
+pub use Rattle.jdwp_commands.specs.declared.answer.Answer.{Answer}
+pub use Rattle.jdwp_commands.specs.declared.asked.Replied.{Replied}
+pub use Rattle.jdwp_commands.specs.declared.asked.Replied.TheVariants.{Answer as an_answer, Error as an_error}
+pub use Rattle.jdwp_commands.specs.declared.question.Question.{Question}
+pub use Rattle.jdwp_events.specs.declared.composite.Composite.{Composite}
+pub use Rattle.jdwp_values.specs.declared.id.ThreadId.{ThreadId}
+pub use Rattle.machine_model.specs.declared.acts.Act.{Act}
+pub use Rattle.machine_model.specs.declared.acts.Doing.{Doing}
+pub use Rattle.machine_model.specs.declared.acts.Effect.{Effect}
+pub use Rattle.machine_model.specs.declared.acts.Effect.TheVariants.{Does, Set, Clear}
+pub use Rattle.machine_model.specs.declared.acts.Sent.{Sent}
+pub use Rattle.machine_model.specs.declared.acts.TargetCommand.{TargetCommand}
+pub use Rattle.machine_model.specs.declared.acts.TargetCommand.TheVariants.{Question as a_question, Effect as an_effect}
+pub use Rattle.machine_model.specs.declared.acts.Want.{Want}
+pub use Rattle.machine_model.specs.declared.items.Item.{Item}
+pub use Rattle.machine_model.specs.declared.items.Item.TheVariants.{Request as a_request, Composite as a_composite}
+pub use Rattle.machine_model.specs.declared.items.Item.TheVariants.{Raw as a_raw, TargetEnd as target_end}
+pub use Rattle.machine_model.specs.declared.items.Phase.{Phase}
+pub use Rattle.machine_model.specs.declared.items.Phase.TheVariants.{Fresh, Attached, Gone}
+pub use Rattle.machine_model.specs.declared.options.ClientOptions.{ClientOptions}
+pub use Rattle.machine_model.specs.declared.parts.Body.{Body}
+pub use Rattle.machine_model.specs.declared.parts.Body.TheVariants.{Nothing, Capabilities, Threads as thread_list}
+pub use Rattle.machine_model.specs.declared.parts.Choice.{Choice}
+pub use Rattle.machine_model.specs.declared.parts.Choice.TheVariants.{Leaves}
+pub use Rattle.machine_model.specs.declared.parts.Deed.{Deed}
+pub use Rattle.machine_model.specs.declared.parts.Deed.TheVariants.{Dispose, Exit}
+pub use Rattle.machine_model.specs.declared.parts.Event.{Event}
+pub use Rattle.machine_model.specs.declared.parts.Event.TheVariants.{Initialized, Terminated}
+pub use Rattle.machine_model.specs.declared.parts.Finding.{Finding}
+pub use Rattle.machine_model.specs.declared.parts.Finding.TheVariants.{Threads as threads_found}
+pub use Rattle.machine_model.specs.declared.parts.Finish.{Finish}
+pub use Rattle.machine_model.specs.declared.parts.Finish.TheVariants.{Done}
+pub use Rattle.machine_model.specs.declared.parts.Guard.{Guard}
+pub use Rattle.machine_model.specs.declared.parts.Guard.TheVariants.{Handshake, IdSizes}
+pub use Rattle.machine_model.specs.declared.parts.Lookup.{Lookup}
+pub use Rattle.machine_model.specs.declared.parts.Lookup.TheVariants.{Threads as all_threads}
+pub use Rattle.machine_model.specs.declared.parts.NamedThread.{NamedThread}
+pub use Rattle.machine_model.specs.declared.parts.Note.{Note}
+pub use Rattle.machine_model.specs.declared.parts.Note.TheVariants.{Options, Roots}
+pub use Rattle.machine_model.specs.declared.parts.Outcome.{Outcome}
+pub use Rattle.machine_model.specs.declared.parts.Outcome.TheVariants.{Success, Failure as Failed}
+pub use Rattle.machine_model.specs.declared.parts.Part.{Part}

@@ -1,0 +1,157 @@
+-- What each item does, part by part (DAP specification, Requests; JDWP, Event command set, Composite).
+use Rattle.std.specs.Prelude.{◌∷◌, ◌||◌, Bool, true, false, List, [], Option, None, Some}
+use Rattle.dap_messages.specs.Telling.{already_attached, bad_arguments, not_attached, target_gone, unsupported}
+use Rattle.dap_messages.specs.declared.requests.InitializeArguments.{InitializeArguments}
+use Rattle.machine_model.specs.Lookups.{lookup_responds}
+use Rattle.machine_model.specs.Names.{Attach, Attached, BadArguments, Capabilities, Choice, ClientOptions, Command}
+use Rattle.machine_model.specs.Names.{Deed, Disconnect, Dispose, Done, Exit, Failed, Failure, Fresh, Gone, Handshake}
+use Rattle.machine_model.specs.Names.{IdSizes, Initialize, Initialized, Item, Leaves, Note, Nothing, Options, Part}
+use Rattle.machine_model.specs.Names.{Phase, Roots, Success, Terminated, Threads, Unsupported, a_composite, a_raw}
+use Rattle.machine_model.specs.Names.{a_request, all_threads, target_end}
+use Rattle.machine_model.specs.State.{Hand, State}
+
+-- Requests ------------------------------------------------------------------------------------------------------------
+
+-- how a client asks to be served (DAP specification, Initialize request, its arguments)
+abbrev pub options_of : InitializeArguments → ClientOptions
+options_of arguments = record {
+  lines_from_one = arguments.lines_start_at1;
+  columns_from_one = arguments.columns_start_at1;
+  shows_types = arguments.supports_variable_type;
+}
+
+-- the table of requests
+abbrev pub row_of : Command → List Part
+row_of (Initialize arguments) = Part.Responds (Success Capabilities) ∷ Part.Notes (Options (options_of arguments)) ∷ []
+row_of (Attach arguments) =
+    Part.Notes (Roots arguments.source_roots) ∷ Part.Awaits Handshake ∷ Part.Awaits IdSizes ∷ Part.Updates
+    ∷ Part.Responds (Success Nothing) ∷ Part.Tells Initialized ∷ []
+row_of Threads = Part.Looks all_threads ∷ []
+row_of (Disconnect arguments) =
+    Part.Unfolds (Leaves arguments.terminate_debuggee) ∷ Part.Responds (Success Nothing) ∷ Part.Ends Done ∷ []
+row_of Unsupported = Part.Responds (Failed unsupported) ∷ []
+row_of (BadArguments name) = Part.Responds (Failed (bad_arguments name)) ∷ []
+
+-- what a request wants of the session before it does anything
+pub data Wanting : Type 0 where
+  wants_nothing : Wanting
+  wants_no_target : Wanting
+  wants_target : Wanting
+
+-- the table of what they want
+abbrev pub wanting : Command → Wanting
+wanting (Initialize arguments) = wants_nothing
+wanting (Attach arguments) = wants_no_target
+wanting Threads = wants_target
+wanting (Disconnect arguments) = wants_nothing
+wanting Unsupported = wants_nothing
+wanting (BadArguments name) = wants_nothing
+
+abbrev pub unless_attached : Phase → Option Failure
+unless_attached Fresh = None
+unless_attached Attached = Some already_attached
+unless_attached Gone = Some target_gone
+
+abbrev pub if_attached : Phase → Option Failure
+if_attached Fresh = Some not_attached
+if_attached Attached = None
+if_attached Gone = Some target_gone
+
+-- the failure that is known before anything is done (DAP specification, Base Protocol, ErrorResponse)
+abbrev pub failure_of : Wanting → State → Option Failure
+failure_of wants_nothing state = None
+failure_of wants_no_target state = unless_attached state.phase
+failure_of wants_target state = if_attached state.phase
+
+-- a request that fails does nothing but tell its failure
+abbrev pub parts_by : Option Failure → List Part → List Part
+parts_by (Some failure) row = Part.Responds (Failed failure) ∷ []
+parts_by None row = row
+
+abbrev pub request_parts : Command → State → List Part
+request_parts command state = parts_by (failure_of (wanting command) state) (row_of command)
+
+-- Choices -------------------------------------------------------------------------------------------------------------
+
+-- how a target is left (JDWP, VirtualMachine command set, Dispose and Exit)
+abbrev pub leaving : Bool → Deed
+leaving true = Exit
+leaving false = Dispose
+
+-- only a target that is attached has to be left
+abbrev pub leaves : Phase → Bool → List Part
+leaves Fresh exits = []
+leaves Attached exits = Part.Sends (leaving exits) ∷ []
+leaves Gone exits = []
+
+-- the table of choices: what a part becomes when its turn comes
+abbrev pub chosen : Choice → State → Hand → List Part
+chosen (Leaves exits) state hand = leaves state.phase exits
+
+-- whether it brings the response
+abbrev pub choice_responds : Choice → Bool
+choice_responds (Leaves exits) = false
+
+-- Notes ---------------------------------------------------------------------------------------------------------------
+
+-- the table of notes: what is known once they are written down
+abbrev pub noted : Note → State → State
+noted (Options options) state = record state { options = options }
+noted (Roots roots) state = record state { roots = roots }
+
+-- Items ---------------------------------------------------------------------------------------------------------------
+
+-- the client is told that nothing more comes of the target, once (DAP specification, Events, Terminated)
+abbrev pub end_parts : Bool → List Part
+end_parts true = []
+end_parts false = Part.Tells Terminated ∷ []
+
+-- What an item does when its turn comes. A composite is not served yet: it comes to its turn only where the target is
+-- gone, and does nothing.
+abbrev pub parts_of : State → Item → List Part
+parts_of state (a_request request) = request_parts request.command state
+parts_of state (a_composite at composite) = []
+parts_of state (a_raw at body) = []
+parts_of state target_end = end_parts state.terminated
+
+-- what is known once an item is taken
+abbrev pub taken : Item → State → State
+taken item state = state
+
+-- Responses -----------------------------------------------------------------------------------------------------------
+
+-- a part that brings the response of its item
+abbrev pub is_response : Part → Bool
+is_response (Part.Responds outcome) = true
+is_response (Part.Looks lookup) = lookup_responds lookup
+is_response (Part.Unfolds choice) = choice_responds choice
+is_response (Part.Tells event) = false
+is_response (Part.Sends deed) = false
+is_response (Part.Awaits guard) = false
+is_response Part.Updates = false
+is_response (Part.Notes note) = false
+is_response (Part.Ends finish) = false
+
+abbrev pub has_response : List Part → Bool
+has_response [] = false
+has_response (part ∷ parts) = is_response part || has_response parts
+
+-- At the target's end -------------------------------------------------------------------------------------------------
+
+-- what is left of a request that has its response, once its target has ended: `disconnect` ends the session
+abbrev pub gone_tail : Command → List Part
+gone_tail (Disconnect arguments) = Part.Ends Done ∷ []
+gone_tail _ = []
+
+-- what is left of one that has none: it fails, but `disconnect` succeeds
+abbrev pub gone_row : Command → List Part
+gone_row (Disconnect arguments) = Part.Responds (Success Nothing) ∷ Part.Ends Done ∷ []
+gone_row _ = Part.Responds (Failed target_gone) ∷ []
+
+-- what is left of an item, which may have its response yet to come
+abbrev pub gone_parts : Bool → Item → List Part
+gone_parts true (a_request request) = gone_row request.command
+gone_parts false (a_request request) = gone_tail request.command
+gone_parts responds (a_composite at composite) = []
+gone_parts responds (a_raw at body) = []
+gone_parts responds target_end = []

@@ -1,0 +1,84 @@
+-- What the client is told, with numbers in place of the target's ids, and what the telling changes.
+use Rattle.std.specs.Prelude.{ℕ, ◌+◌, ◌==◌, ◌∷◌, ◌++◌, Bool, true, false, cond, List, [], map}
+use Rattle.dap_messages.specs.declared.told.Event.{Event as EventTold}
+use Rattle.dap_messages.specs.declared.told.Event.TheVariants as events
+use Rattle.dap_messages.specs.declared.told.Outcome.{Outcome as OutcomeTold}
+use Rattle.dap_messages.specs.declared.told.Outcome.TheVariants as outcomes
+use Rattle.dap_messages.specs.declared.told.Shape.{Shape}
+use Rattle.dap_messages.specs.declared.told.Shape.TheVariants as shapes
+use Rattle.dap_messages.specs.declared.told.Thread.{Thread}
+use Rattle.jdwp_values.specs.Lossy.{lossy}
+use Rattle.machine_model.specs.Names.{Attached, Body, Capabilities, Event, Failed, Fresh, Gone, Initialized}
+use Rattle.machine_model.specs.Names.{NamedThread}
+use Rattle.machine_model.specs.Names.{Nothing, Outcome, Phase, Request, Success, Terminated, ThreadId, Told, a_response}
+use Rattle.machine_model.specs.Names.{thread_list}
+use Rattle.machine_model.specs.State.{State}
+
+-- Numbers of threads --------------------------------------------------------------------------------------------------
+
+-- the thread was told before
+abbrev pub is_among : List ThreadId → ThreadId → Bool
+is_among [] thread = false
+is_among (first ∷ threads) thread = cond (first.0 == thread.0) true (is_among threads thread)
+
+-- a thread is told, behind those that were, once
+abbrev pub with_thread : List ThreadId → ThreadId → List ThreadId
+with_thread threads thread = cond (is_among threads thread) threads (threads ++ thread ∷ [])
+
+abbrev pub with_threads : List ThreadId → List NamedThread → List ThreadId
+with_threads threads [] = threads
+with_threads threads (first ∷ others) = with_threads (with_thread threads first.thread) others
+
+-- threads are numbered from 1 in the order in which they are first told
+abbrev pub number_among : List ThreadId → ThreadId → ℕ
+number_among [] thread = 1
+number_among (first ∷ threads) thread = cond (first.0 == thread.0) 1 (number_among threads thread + 1)
+
+-- Responses (DAP specification, Base Protocol, Response) --------------------------------------------------------------
+
+-- what a body numbers first
+abbrev pub numbered : Body → State → State
+numbered Nothing state = state
+numbered Capabilities state = state
+numbered (thread_list named) state = record state { threads = with_threads state.threads named }
+
+-- a thread as it is told, its name as text (DAP specification, Types, Thread)
+abbrev pub thread_told : List ThreadId → NamedThread → Thread
+thread_told threads named = record { id = number_among threads named.thread; name = lossy named.name }
+
+-- and how it is told then
+abbrev pub body_told : Body → State → Shape
+body_told Nothing state = shapes.Nothing
+body_told Capabilities state = shapes.Capabilities
+body_told (thread_list named) state = shapes.Threads (map (thread_told state.threads) named)
+
+abbrev pub numbered_by : Outcome → State → State
+numbered_by (Success body) state = numbered body state
+numbered_by (Failed failure) state = state
+
+abbrev pub outcome_told : Outcome → State → OutcomeTold
+outcome_told (Success body) state = outcomes.Success (body_told body (numbered body state))
+outcome_told (Failed failure) state = outcomes.Failure failure
+
+-- the response to a request: its sequence number and its command come back
+abbrev pub response_to : Request → OutcomeTold → Told
+response_to request outcome =
+    a_response (record { request_seq = request.seq; command = request.name; outcome = outcome })
+
+-- Events (DAP specification, Events) ----------------------------------------------------------------------------------
+
+-- a target that is gone stays gone
+abbrev pub attached_from : Phase → Phase
+attached_from Fresh = Attached
+attached_from Attached = Attached
+attached_from Gone = Gone
+
+-- what the telling of an event changes: the session is attached, or its target gone, from there on
+abbrev pub after_event : Event → State → State
+after_event Initialized state = record state { phase = attached_from state.phase }
+after_event Terminated state = record state { phase = Gone; terminated = true }
+
+-- and how it is told then
+abbrev pub event_told : Event → State → EventTold
+event_told Initialized state = events.Initialized
+event_told Terminated state = events.Terminated

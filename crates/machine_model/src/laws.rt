@@ -1,0 +1,125 @@
+//! What holds of every run of the machine, and of every look-up. Each law is the contract of a function that does
+//! nothing.
+
+ghost use Rattle.machine_model.specs.EventRequests.{AsReplied, Once, Settles, Stands};
+ghost use Rattle.machine_model.specs.Events.{Events};
+ghost use Rattle.machine_model.specs.Ids.{Ids};
+ghost use Rattle.machine_model.specs.Knowing.{Knows};
+ghost use Rattle.machine_model.specs.Noting.{Notes};
+ghost use Rattle.machine_model.specs.Outcomes.{Outcomes};
+ghost use Rattle.machine_model.specs.Pending.{Pends, Windows};
+ghost use Rattle.machine_model.specs.PlanLaws.{Errors, Wants, Worlds};
+ghost use Rattle.machine_model.specs.Responses.{Responses, Rests};
+ghost use Rattle.machine_model.specs.Spelling.{Spells};
+ghost use Rattle.machine_model.specs.Waiting.{Waits};
+
+/// The responses answer the first of the requests, one each, in order; at rest all requests are answered (DAP
+/// specification, Base Protocol, Response).
+pub fn requests_are_answered_in_order()
+    ensures { Responses }
+{}
+
+/// At rest no item is in hand, and none waits but composites that came before an `attach`.
+pub fn nothing_waits_at_rest()
+    ensures { Rests }
+{}
+
+/// Each response has the outcome that its row leads to: the outcome of the row itself, or what its look-ups and choices
+/// came to by the replies since its turn, each question asked once; or its target ended since then (DAP specification,
+/// Base Protocol, Response; DAP specification, Requests).
+pub fn outcomes_are_what_rows_lead_to()
+    ensures { Outcomes }
+{}
+
+/// `initialized` is told behind the success of an `attach`, and nowhere else; at rest each such success was followed by
+/// it, and `terminated` was told where the target is gone (DAP specification, Events).
+pub fn events_tell_where_a_session_stands()
+    ensures { Events }
+{}
+
+/// At rest, once the session is attached, no event request is to be set or cleared, no item is in hand, and none waits
+/// (JDWP, EventRequest command set).
+pub fn event_requests_are_settled()
+    ensures { Settles }
+{}
+
+/// As long as there is a target, the event requests that are installed and those that were refused are what the
+/// messages say: each installed one under the id that its Set was answered with (JDWP, EventRequest command set, Set and
+/// Clear).
+pub fn event_requests_stand_as_the_messages_say()
+    ensures { Stands }
+{}
+
+/// A Set that is sent is of a wish that is wished, isn't installed and wasn't refused; a Clear is of a request that is
+/// installed and isn't wished. Neither is sent while an effect is in flight (JDWP, EventRequest command set, Set and
+/// Clear).
+pub fn each_event_request_is_set_once()
+    ensures { Once }
+{}
+
+/// At rest, once the session is attached, the Set of each wish was sent once and replied to once, and the wish stands as
+/// the reply says: installed under the id that was answered, or refused (JDWP, EventRequest command set, Set).
+pub fn event_requests_are_as_replied()
+    ensures { AsReplied }
+{}
+
+/// What is pending was sent and has no reply, also what an item that was given up left; each reply is to a command that
+/// is pending then. No question goes beside a command that changes the target, and such a command goes alone. The
+/// handshake goes out once, commands only behind both sides of it, and nothing to a target that is gone (JDWP, JDWP
+/// Start Up; JDWP, JDWP Packets).
+pub fn commands_are_pending_until_they_are_replied_to()
+    ensures { Pends }
+{}
+
+/// At most sixteen commands are pending.
+pub fn at_most_sixteen_commands_are_pending()
+    ensures { Windows }
+{}
+
+/// Where the machine waits and the window has room, each question that the part in front lacks was asked; and it awaits a
+/// reply where anything is lacking.
+pub fn all_that_is_lacking_was_asked()
+    ensures { Waits }
+{}
+
+/// What is known is what the messages say: where the session stands with its target, the two sides of the handshake, the
+/// sizes of ids, the facts of classes, and whether the client was told that the target is gone. `initialized` is told
+/// once, before the target is gone; `terminated` once, behind it. Threads are numbered 1, 2, 3 as they are first told.
+pub fn what_is_known_is_what_messages_say()
+    ensures { Knows }
+{}
+
+/// Until the target is gone, the client is served with the options that the last `initialize` which has its response
+/// asked for; they are written down in the step behind that response (DAP specification, Initialize request).
+pub fn client_options_are_those_of_the_last_initialize()
+    ensures { Notes }
+{}
+
+/// Each id in a command that is sent was read before it, in an answer of the target's or in a composite, as an id of its
+/// kind; only the class 0, which stands for any, needs none (JDWP, Detailed Command Information, common data types).
+pub fn commands_use_ids_that_were_read()
+    ensures { Ids }
+{}
+
+/// The sizes of ids are replied at most once, and a command with ids is sent only after that. Each command that is sent,
+/// or is due, has a spelling with the sizes that were replied by then (JDWP, VirtualMachine command set, IDSizes).
+pub fn commands_have_a_spelling()
+    ensures { Spells }
+{}
+
+/// A look-up that has met an error to what it can't do without fails, and lacks nothing more. The first of such errors
+/// in order of sending decides.
+pub fn the_first_error_decides()
+    ensures { Errors }
+{}
+
+/// A look-up lacks just what it has come to and has not heard of; one that lacks nothing is done.
+pub fn look_ups_lack_what_they_have_come_to()
+    ensures { Wants }
+{}
+
+/// A look-up that is done by a world's replies has the value that it has in that world, in any order of asking; one
+/// that has failed has none there.
+pub fn look_ups_show_the_world()
+    ensures { Worlds }
+{}

@@ -1,0 +1,26 @@
+//! The translation machine: what a session does between its client and its target, message by message, and what holds
+//! of every run of it. It knows no bytes of messages, no log and no ids of commands.
+#![tactic(auto)]
+
+mod acts;
+mod items;
+mod laws;
+mod options;
+mod parts;
+
+pub use acts::{Act, Doing, Effect, Sent, TargetCommand, Want};
+pub use items::{Item, Phase};
+pub use laws::{
+    all_that_is_lacking_was_asked, at_most_sixteen_commands_are_pending,
+    client_options_are_those_of_the_last_initialize,
+    commands_are_pending_until_they_are_replied_to, commands_have_a_spelling,
+    commands_use_ids_that_were_read, each_event_request_is_set_once, event_requests_are_as_replied,
+    event_requests_are_settled, event_requests_stand_as_the_messages_say,
+    events_tell_where_a_session_stands, look_ups_lack_what_they_have_come_to,
+    look_ups_show_the_world, nothing_waits_at_rest, outcomes_are_what_rows_lead_to,
+    requests_are_answered_in_order, the_first_error_decides, what_is_known_is_what_messages_say,
+};
+pub use options::ClientOptions;
+pub use parts::{
+    Body, Choice, Deed, Event, Finding, Finish, Guard, Lookup, NamedThread, Note, Outcome, Part,
+};

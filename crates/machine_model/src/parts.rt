@@ -1,0 +1,110 @@
+//! What an item does, part by part.
+
+use crate::options::ClientOptions;
+use dap_messages::Failure;
+use jdwp_values::ThreadId;
+use wire_core::{Blob, List, Text};
+
+/// A thread, and the name that the target gave it (JDWP, ThreadReference command set, Name).
+#[derive(Debug, Drop)]
+pub struct NamedThread {
+    pub thread: ThreadId,
+    pub name: Blob,
+}
+
+/// What a response that succeeds shows, by the target's ids; its numbers are given when it is told.
+#[derive(Debug, Drop)]
+pub enum Body {
+    Nothing,
+    Capabilities,
+    Threads(List<NamedThread>),
+}
+
+/// What comes of a request (DAP specification, Base Protocol, Response and ErrorResponse).
+#[derive(Debug, Drop)]
+pub enum Outcome {
+    Success(Body),
+    Failure(Failure),
+}
+
+/// What the client is told without asking, by the target's ids (DAP specification, Events).
+#[derive(Clone, Copy, Debug, PartialEq, Eq)]
+pub enum Event {
+    Initialized,
+    Terminated,
+}
+
+/// What an item does to the target, but for event requests (JDWP, VirtualMachine command set).
+#[derive(Clone, Copy, Debug, PartialEq, Eq)]
+pub enum Deed {
+    Dispose,
+    Exit,
+}
+
+/// What is looked up, and for what.
+#[derive(Clone, Copy, Debug, PartialEq, Eq)]
+pub enum Lookup {
+    /// All threads and their names, for the response to `threads` (DAP specification, Threads request).
+    Threads,
+}
+
+/// What a look-up finds.
+#[derive(Debug, Drop)]
+pub enum Finding {
+    Threads(List<NamedThread>),
+}
+
+/// What is waited for.
+#[derive(Clone, Copy, Debug, PartialEq, Eq)]
+pub enum Guard {
+    /// Both sides of the handshake (JDWP, JDWP Start Up).
+    Handshake,
+    /// The sizes of the target's ids (JDWP, VirtualMachine command set, IDSizes).
+    IdSizes,
+}
+
+/// What an item writes down of what the client asked for.
+#[derive(Debug, Drop)]
+pub enum Note {
+    /// How the client wants to be served (DAP specification, Initialize request).
+    Options(ClientOptions),
+    /// The folders that sources stand in (DAP specification, Attach request).
+    Roots(List<Text>),
+}
+
+/// What is decided when its turn comes.
+#[derive(Clone, Copy, Debug, PartialEq, Eq)]
+pub enum Choice {
+    /// A target that is attached is left; it ends where this holds (DAP specification, Disconnect request).
+    Leaves(bool),
+}
+
+/// How an item ends the session.
+#[derive(Clone, Copy, Debug, PartialEq, Eq)]
+pub enum Finish {
+    /// `disconnect` was answered.
+    Done,
+}
+
+/// One part of what an item does. Each is done, and the tail of the list is left.
+#[derive(Debug, Drop)]
+pub enum Part {
+    /// The response to the request.
+    Responds(Outcome),
+    /// An event goes to the client.
+    Tells(Event),
+    /// The target is changed, and the reply is waited for.
+    Sends(Deed),
+    /// The target is asked until the look-up is done; what it found becomes parts.
+    Looks(Lookup),
+    /// Something is waited for.
+    Awaits(Guard),
+    /// The event requests become those that are wished.
+    Updates,
+    /// Something that the client asked for is written down.
+    Notes(Note),
+    /// A decision becomes parts.
+    Unfolds(Choice),
+    /// The session ends.
+    Ends(Finish),
+}
