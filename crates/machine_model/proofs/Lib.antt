@@ -15,6 +15,7 @@ pub mod OutcomeLaws
 pub mod PendingLaws
 pub mod PlanIds
 pub mod PlanLaws
+pub mod QuestionLaws
 pub mod QuietLaws
 pub mod ReplyLaws
 pub mod RequestLaws

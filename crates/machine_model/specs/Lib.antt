@@ -13,6 +13,7 @@ pub mod Outcomes
 pub mod Pending
 pub mod PlanLaws
 pub mod Plans
+pub mod Questions
 pub mod Replying
 pub mod Requests
 pub mod Responses

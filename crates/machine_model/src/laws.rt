@@ -9,6 +9,7 @@ ghost use Rattle.machine_model.specs.Noting.{Notes};
 ghost use Rattle.machine_model.specs.Outcomes.{Outcomes};
 ghost use Rattle.machine_model.specs.Pending.{Pends, Windows};
 ghost use Rattle.machine_model.specs.PlanLaws.{Errors, Wants, Worlds};
+ghost use Rattle.machine_model.specs.Questions.{Questions};
 ghost use Rattle.machine_model.specs.Responses.{Responses, Rests};
 ghost use Rattle.machine_model.specs.Spelling.{Spells};
 ghost use Rattle.machine_model.specs.Waiting.{Waits};
@@ -24,15 +25,15 @@ pub fn nothing_waits_at_rest()
     ensures { Rests }
 {}
 
-/// Each response has the outcome that its row leads to: the outcome of the row itself, or what its look-ups and choices
-/// came to by the replies since its turn, each question asked once; or its target ended since then (DAP specification,
-/// Base Protocol, Response; DAP specification, Requests).
+/// Each response has the outcome that its row leads to: the outcome of the row itself, or what its look-ups and
+/// choices came to by the replies since its turn, each question asked once; or its target ended since then (DAP
+/// specification, Base Protocol, Response; DAP specification, Requests).
 pub fn outcomes_are_what_rows_lead_to()
     ensures { Outcomes }
 {}
 
-/// `initialized` is told behind the success of an `attach`, and nowhere else; at rest each such success was followed by
-/// it, and `terminated` was told where the target is gone (DAP specification, Events).
+/// `initialized` is told behind the success of an `attach`, and nowhere else; at rest each such success was followed
+/// by it, and `terminated` was told where the target is gone (DAP specification, Events).
 pub fn events_tell_where_a_session_stands()
     ensures { Events }
 {}
@@ -44,8 +45,8 @@ pub fn event_requests_are_settled()
 {}
 
 /// As long as there is a target, the event requests that are installed and those that were refused are what the
-/// messages say: each installed one under the id that its Set was answered with (JDWP, EventRequest command set, Set and
-/// Clear).
+/// messages say: each installed one under the id that its Set was answered with (JDWP, EventRequest command set, Set
+/// and Clear).
 pub fn event_requests_stand_as_the_messages_say()
     ensures { Stands }
 {}
@@ -57,14 +58,14 @@ pub fn each_event_request_is_set_once()
     ensures { Once }
 {}
 
-/// At rest, once the session is attached, the Set of each wish was sent once and replied to once, and the wish stands as
-/// the reply says: installed under the id that was answered, or refused (JDWP, EventRequest command set, Set).
+/// At rest, once the session is attached, the Set of each wish was sent once and replied to once, and the wish stands
+/// as the reply says: installed under the id that was answered, or refused (JDWP, EventRequest command set, Set).
 pub fn event_requests_are_as_replied()
     ensures { AsReplied }
 {}
 
-/// What is pending was sent and has no reply, also what an item that was given up left; each reply is to a command that
-/// is pending then. No question goes beside a command that changes the target, and such a command goes alone. The
+/// What is pending was sent and has no reply, also what an item that was given up left; each reply is to a command
+/// that is pending then. No question goes beside a command that changes the target, and such a command goes alone. The
 /// handshake goes out once, commands only behind both sides of it, and nothing to a target that is gone (JDWP, JDWP
 /// Start Up; JDWP, JDWP Packets).
 pub fn commands_are_pending_until_they_are_replied_to()
@@ -76,15 +77,22 @@ pub fn at_most_sixteen_commands_are_pending()
     ensures { Windows }
 {}
 
-/// Where the machine waits and the window has room, each question that the part in front lacks was asked; and it awaits a
-/// reply where anything is lacking.
+/// Nothing is asked but what the part in front of the item in hand lacked by the replies so far (JDWP, Detailed
+/// Command Information).
+pub fn nothing_is_asked_but_what_is_lacking()
+    ensures { Questions }
+{}
+
+/// Where the machine waits and the window has room, each question that the part in front lacks was asked; and it
+/// awaits a reply where anything is lacking.
 pub fn all_that_is_lacking_was_asked()
     ensures { Waits }
 {}
 
-/// What is known is what the messages say: where the session stands with its target, the two sides of the handshake, the
-/// sizes of ids, the facts of classes, and whether the client was told that the target is gone. `initialized` is told
-/// once, before the target is gone; `terminated` once, behind it. Threads are numbered 1, 2, 3 as they are first told.
+/// What is known is what the messages say: where the session stands with its target, the two sides of the handshake,
+/// the sizes of ids, the facts of classes, and whether the client was told that the target is gone. `initialized` is
+/// told once, before the target is gone; `terminated` once, behind it. Threads are numbered 1, 2, 3 as they are first
+/// told.
 pub fn what_is_known_is_what_messages_say()
     ensures { Knows }
 {}
@@ -95,14 +103,16 @@ pub fn client_options_are_those_of_the_last_initialize()
     ensures { Notes }
 {}
 
-/// Each id in a command that is sent was read before it, in an answer of the target's or in a composite, as an id of its
-/// kind; only the class 0, which stands for any, needs none (JDWP, Detailed Command Information, common data types).
+/// Each id in a command that is sent was read before it, in an answer of the target's or in a composite, as an id of
+/// its kind; only the class 0, which stands for any, needs none (JDWP, Detailed Command Information, common data
+/// types).
 pub fn commands_use_ids_that_were_read()
     ensures { Ids }
 {}
 
-/// The sizes of ids are replied at most once, and a command with ids is sent only after that. Each command that is sent,
-/// or is due, has a spelling with the sizes that were replied by then (JDWP, VirtualMachine command set, IDSizes).
+/// The sizes of ids are replied at most once, and a command with ids is sent only after that. Each command that is
+/// sent, or is due, has a spelling with the sizes that were replied by then (JDWP, VirtualMachine command set,
+/// IDSizes).
 pub fn commands_have_a_spelling()
     ensures { Spells }
 {}

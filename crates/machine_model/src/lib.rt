@@ -17,8 +17,9 @@ pub use laws::{
     commands_use_ids_that_were_read, each_event_request_is_set_once, event_requests_are_as_replied,
     event_requests_are_settled, event_requests_stand_as_the_messages_say,
     events_tell_where_a_session_stands, look_ups_lack_what_they_have_come_to,
-    look_ups_show_the_world, nothing_waits_at_rest, outcomes_are_what_rows_lead_to,
-    requests_are_answered_in_order, the_first_error_decides, what_is_known_is_what_messages_say,
+    look_ups_show_the_world, nothing_is_asked_but_what_is_lacking, nothing_waits_at_rest,
+    outcomes_are_what_rows_lead_to, requests_are_answered_in_order, the_first_error_decides,
+    what_is_known_is_what_messages_say,
 };
 pub use options::ClientOptions;
 pub use parts::{
