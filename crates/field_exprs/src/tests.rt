@@ -81,6 +81,21 @@ fn other_texts_are_refused_where_they_go_wrong(rt: HostRuntime) -> Result<(), Fa
         ("a.this.b", 6),
         ("this.this", 9),
         ("a.b ]", 4),
+        ("a[1]b", 4),
+        ("ß ß", 3),
+    ] {
+        assert_eq!(rt;
+            refused_at(rt.alloc(), text.as_bytes())?,
+            Some(place),
+            "of {text:?}"
+        );
+    }
+    Ok(())
+}
+
+#[test]
+fn an_index_that_is_none_is_refused_where_it_goes_wrong(rt: HostRuntime) -> Result<(), Fail> {
+    for (text, place) in [
         ("a[", 2),
         ("a[]", 2),
         ("a[ 1]", 2),
@@ -89,12 +104,10 @@ fn other_texts_are_refused_where_they_go_wrong(rt: HostRuntime) -> Result<(), Fa
         ("a[1", 3),
         ("a[1x]", 3),
         ("a[1 ]", 3),
-        ("a[1]b", 4),
         ("a[2147483648]", 11),
         ("a[3000000000]", 11),
         ("a[00000000012]", 12),
         ("a[12345678901]", 12),
-        ("ß ß", 3),
     ] {
         assert_eq!(rt;
             refused_at(rt.alloc(), text.as_bytes())?,

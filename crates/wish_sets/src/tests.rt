@@ -3,7 +3,7 @@ use jdwp_events::{EventKind, Modifier, Policy};
 use jdwp_values::{ClassId, Location, MethodId, ThreadId, TypeTag};
 use std::alloc::Global;
 use std::test::Fail;
-use wire_core::{List, Text};
+use wire_core::{List, NoMemory, Text};
 
 // A location in a class, in its method 7 at index 8.
 fn at(class: u64) -> Location {
@@ -69,20 +69,19 @@ fn each_wish_has_its_kind_and_policy(rt: HostRuntime) -> Result<(), Fail> {
     Ok(())
 }
 
-// What the modifiers of the table's wishes are (JDWP, EventRequest command set, Set, modifiers).
+// The pattern of each package (JDWP, EventRequest command set, Set, ClassMatch).
 #[test]
-fn each_wish_has_its_modifiers(rt: HostRuntime) -> Result<(), Fail> {
-    let wishes = wishes(rt.alloc())?;
-    let rows = [
-        "List { items: [] }",
-        "List { items: [] }",
-        "List { items: [ClassMatch(List { items: [42] })] }",
-        "List { items: [ClassMatch(List { items: [99, 111, 109, 46, 115, 104, 111, 112, 46, 42] })] }",
-    ];
-    for (wish, row) in wishes.as_slice().iter().zip(rows) {
-        let modifiers = wish.modifiers(rt.alloc())?;
-        let told = format!(in rt.alloc(); "{modifiers:?}")?;
-        assert_eq!(rt; told.as_str(), row);
+fn a_package_is_matched_by_its_pattern(rt: HostRuntime) -> Result<(), Fail> {
+    let alloc = rt.alloc();
+    for (package, pattern) in [("", b"*".as_slice()), ("com.shop", b"com.shop.*")] {
+        let modifiers = Wish::Watch(Text::from_str(alloc, package)?).modifiers(alloc)?;
+        let [Modifier::ClassMatch(found)] = modifiers.as_slice() else {
+            return Err(Fail::from(NoMemory));
+        };
+        assert_eq!(rt; found.as_slice(), pattern);
+    }
+    for wish in [Wish::ThreadStart, Wish::ThreadDeath] {
+        assert!(rt; wish.modifiers(alloc)?.as_slice().is_empty());
     }
     Ok(())
 }
