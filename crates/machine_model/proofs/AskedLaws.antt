@@ -1,7 +1,6 @@
 -- No question is asked twice for an item: what is lacking is new, and stands in the queue once.
-use Rattle.std.proofs.Common.{◌≡◌, ℕ, suc, Bool, true, false, cond, not, ◌||◌, List, [], ◌∷◌, ◌++◌, Option, Some}
-use Rattle.std.proofs.Common.{None, refl}
-use Rattle.std.proofs.Common.{ap, ◌∙◌, arith}
+use Rattle.std.proofs.Common.{◌≡◌, ℕ, suc, Bool, true, false, cond, not, ◌||◌, List, [], ◌∷◌, ◌++◌, Option, Some, None}
+use Rattle.std.proofs.Common.{refl, ap, ◌∙◌, arith}
 use Rattle.machine_model.specs.Asking.{is_new, was_asked}
 use Rattle.machine_model.specs.Due.{is_listed, with_want, with_wants}
 use Rattle.machine_model.specs.Facts.{fact_known}
@@ -9,8 +8,7 @@ use Rattle.machine_model.specs.Keys.{same_question}
 use Rattle.machine_model.specs.Names.{Answer, Question, Replied, Sent, Want, an_answer, an_error}
 use Rattle.machine_model.specs.Plans.{Found, Need, Plan, Sight, after, asks_for, beside, fact_heard, fails, found_at}
 use Rattle.machine_model.specs.Plans.{found_from, gives, has, heard_of, lacking, lacks, may_hear, must_by, must_hear}
-use Rattle.machine_model.specs.Plans.{need}
-use Rattle.machine_model.specs.Plans.{pairs, question_of, wants}
+use Rattle.machine_model.specs.Plans.{need, pairs, question_of, wants}
 use Rattle.machine_model.specs.Replying.{filled, is_waiting, waits_for}
 use Rattle.machine_model.specs.State.{is_none}
 use Rattle.machine_model.proofs.KeyLaws.{same_back}

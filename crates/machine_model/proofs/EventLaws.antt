@@ -1,7 +1,6 @@
 -- `initialized` is told behind the success of an `attach`, and at its end the target's is.
 use Rattle.std.proofs.Common.{◌≡◌, Bool, true, false, cond, not, ◌||◌, List, [], ◌∷◌, ◌++◌, Option, Some, None, refl}
-use Rattle.std.proofs.Common.{sym, ap}
-use Rattle.std.proofs.Common.{subst, ◌∙◌, option_map, arith}
+use Rattle.std.proofs.Common.{sym, ap, subst, ◌∙◌, option_map, arith}
 use Rattle.std.specs.List.{flat_map}
 use Rattle.std.proofs.lemmas.List.Concat.{flat_map-append}
 use Rattle.machine_model.specs.Due.{asked_hand}
@@ -23,8 +22,7 @@ use Rattle.machine_model.proofs.ServedLaws.{IsLeft, aside_left, left_on, loss_si
 use Rattle.machine_model.proofs.ServedLaws.{silent_left}
 use Rattle.machine_model.proofs.Stepping.{IsAt, Loses, Moves, Skips, by_moves, by_runs, with_said}
 use Rattle.machine_model.proofs.Tables.{attaches, chosen_is, finished_is, free as free_test, free_once, has_attach}
-use Rattle.machine_model.proofs.Tables.{has_joined, none_attaches, once, plain_attach, row_is}
-use Rattle.machine_model.proofs.Tables.{responds_once}
+use Rattle.machine_model.proofs.Tables.{has_joined, none_attaches, once, plain_attach, row_is, responds_once}
 use Rattle.machine_model.proofs.Testing.{passed, same_noted, same_numbered, same_replied, tested, whole}
 
 -- What is left of an item: an `attach` tells `initialized` behind its success, and no other item does -----------------

@@ -2,9 +2,8 @@
 use Rattle.std.proofs.Common.{◌≡◌, Bool, true, false, cond, ◌||◌, List, [], ◌∷◌, ◌++◌, Option, Some, None, refl, sym}
 use Rattle.std.proofs.Common.{ap, ◌∙◌, option_map, arith}
 use Rattle.machine_model.specs.Due.{asked_by, greeted_by, lacked_by, newly_lacked, passes, with_wants}
-use Rattle.machine_model.specs.Names.{Choice, Handshake, IdSizes, Initialized, Item, Part}
-use Rattle.machine_model.specs.Names.{Replied, TargetCommand, Want, a_question}
-use Rattle.machine_model.specs.Names.{an_effect}
+use Rattle.machine_model.specs.Names.{Choice, Handshake, IdSizes, Initialized, Item, Part, Replied, TargetCommand, Want}
+use Rattle.machine_model.specs.Names.{a_question, an_effect}
 use Rattle.machine_model.specs.Pending.{has_such, have_handshake, is_greeted, is_greets}
 use Rattle.machine_model.specs.Replying.{given_up, hand_replied, is_failed, replied_machine, replied_to, unless_failed}
 use Rattle.machine_model.specs.Rows.{chosen, gone_parts, has_response, parts_of}

@@ -1,7 +1,6 @@
 -- Each id in a command was read before it: what holds of the ids that stand in the machine holds of those in a command.
 use Rattle.std.proofs.Common.{◌≡◌, ◌⊎◌, inl, inr, ℕ, Bool, true, false, cond, not, List, [], ◌∷◌, ◌++◌, Option, Some}
-use Rattle.std.proofs.Common.{None}
-use Rattle.std.proofs.Common.{refl, sym, ap, subst, ◌∙◌, append-nil, arith, option_map}
+use Rattle.std.proofs.Common.{None, refl, sym, ap, subst, ◌∙◌, append-nil, arith, option_map}
 use Rattle.std.specs.List.{AllByRecursion as All, Contains, find}
 use Rattle.std.specs.Option.{option_or}
 use Rattle.std.proofs.lemmas.List.Concat.{flat_map-append}
@@ -24,8 +23,7 @@ use Rattle.wish_sets.specs.Wishes.{EventRequest, clears, is_missing, is_surplus,
 use Rattle.wish_sets.specs.declared.wish.Wish.{Wish}
 use Rattle.wish_sets.specs.declared.wish.Wish.TheVariants as wishes
 use Rattle.machine_model.proofs.IdRows.{FitsId, all_weak, plain_fits}
-use Rattle.machine_model.proofs.PlanIds.{IsAskable, IsAsked, IsReplied, IsWanted, OfNamed, OfThread, OnSome}
-use Rattle.machine_model.proofs.PlanIds.{is_sizes}
+use Rattle.machine_model.proofs.PlanIds.{IsAskable, IsAsked, IsReplied, IsWanted, OfNamed, OfThread, OnSome, is_sizes}
 use Rattle.machine_model.proofs.Standing.{IsKept, Near, PartStands, asked_in, left_in, queue_in}
 use Rattle.machine_model.proofs.StandingReplies.{queued_near, sizes_is}
 use Rattle.machine_model.proofs.StandingWalk.{kept_on}

@@ -1,19 +1,16 @@
 -- What is to be asked for an item is new: no question is asked twice for one.
 use Rattle.std.proofs.Common.{◌≡◌, Bool, true, false, cond, not, ◌||◌, List, [], ◌∷◌, ◌++◌, Option, Some, None, refl}
-use Rattle.std.proofs.Common.{sym, ap}
-use Rattle.std.proofs.Common.{subst, ◌∙◌, option_map, arith}
+use Rattle.std.proofs.Common.{sym, ap, subst, ◌∙◌, option_map, arith}
 use Rattle.jdwp_commands.specs.declared.question.Question.TheVariants as questions
 use Rattle.machine_model.specs.Asking.{is_new, was_asked}
 use Rattle.machine_model.specs.Due.{asked_by, asked_hand, lacked_by, newly_lacked, sized_by, way}
 use Rattle.machine_model.specs.Keys.{same_question}
 use Rattle.machine_model.specs.Lookups.{plan, sight_of}
 use Rattle.machine_model.specs.Names.{Event, Guard, Handshake, Gone, IdSizes, Note, Outcome, Part, Question, Replied}
-use Rattle.machine_model.specs.Names.{Sent}
-use Rattle.machine_model.specs.Names.{Want, a_question, an_effect}
+use Rattle.machine_model.specs.Names.{Sent, Want, a_question, an_effect}
 use Rattle.machine_model.specs.Plans.{asks_for, question_of}
 use Rattle.machine_model.specs.Replying.{IsReply, filled, given_up, hand_replied, is_end, is_failed, is_waiting}
-use Rattle.machine_model.specs.Replying.{replied_to, shows_end}
-use Rattle.machine_model.specs.Replying.{unless_failed}
+use Rattle.machine_model.specs.Replying.{replied_to, shows_end, unless_failed}
 use Rattle.machine_model.specs.Rows.{noted}
 use Rattle.machine_model.specs.Runs.{Message, Run}
 use Rattle.machine_model.specs.State.{Hand, Machine, SizesRead, State, is_gone, is_none, is_some}

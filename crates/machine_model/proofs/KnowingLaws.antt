@@ -8,11 +8,10 @@ use Rattle.machine_model.specs.Knowing.{may_be, may_tell, numbers_by, numbers_in
 use Rattle.machine_model.specs.Knowing.{thread_numbers, told_view, view_of}
 use Rattle.jdwp_commands.specs.Answers.{kind_of_answer}
 use Rattle.jdwp_commands.specs.Commands.{kind_of}
-use Rattle.machine_model.specs.Names.{Answer, Attached, Clear, Command, Options, Roots, Set, ThreadId}
-use Rattle.machine_model.specs.Names.{Capabilities, Does, Event, Failed, Gone}
-use Rattle.machine_model.specs.Names.{Initialized, Note, Nothing, Outcome, Part, Phase, Question, Replied, Success}
-use Rattle.machine_model.specs.Names.{TargetCommand, Terminated, a_question, an_answer, an_effect, an_event}
-use Rattle.machine_model.specs.Names.{thread_list}
+use Rattle.machine_model.specs.Names.{Answer, Attached, Clear, Command, Options, Roots, Set, ThreadId, Capabilities}
+use Rattle.machine_model.specs.Names.{Does, Event, Failed, Gone, Initialized, Note, Nothing, Outcome, Part, Phase}
+use Rattle.machine_model.specs.Names.{Question, Replied, Success, TargetCommand, Terminated, a_question, an_answer}
+use Rattle.machine_model.specs.Names.{an_effect, an_event, thread_list}
 use Rattle.machine_model.specs.Replying.{IsReply, is_end, replied_machine, replied_to, sizes_in, wire}
 use Rattle.machine_model.specs.Rows.{noted}
 use Rattle.machine_model.specs.Runs.{Message, Run, is_disconnect}

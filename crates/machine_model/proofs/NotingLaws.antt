@@ -1,22 +1,19 @@
 -- How the client is served is what its last `initialize` asked for.
 use Rattle.std.proofs.Common.{◌≡◌, Bool, true, false, cond, not, ◌||◌, List, [], ◌∷◌, ◌++◌, Option, Some, None, refl}
-use Rattle.std.proofs.Common.{sym}
-use Rattle.std.proofs.Common.{ap, subst, ◌∙◌, append-nil, option_map, arith}
+use Rattle.std.proofs.Common.{sym, ap, subst, ◌∙◌, append-nil, option_map, arith}
 use Rattle.machine_model.specs.Lookups.{finished}
 use Rattle.machine_model.specs.Names.{Choice, ClientOptions, Command, Event, Failure, Finding, Initialized, Item}
-use Rattle.machine_model.specs.Names.{Lookup}
-use Rattle.machine_model.specs.Names.{Note, Options, Outcome, Part, Replied, Request, Roots, TargetCommand, Terminated}
-use Rattle.machine_model.specs.Names.{Want, a_composite, a_question, a_raw, a_request, a_response, an_effect}
-use Rattle.machine_model.specs.Names.{target_end}
+use Rattle.machine_model.specs.Names.{Lookup, Note, Options, Outcome, Part, Replied, Request, Roots, TargetCommand}
+use Rattle.machine_model.specs.Names.{Terminated, Want, a_composite, a_question, a_raw, a_request, a_response}
+use Rattle.machine_model.specs.Names.{an_effect, target_end}
 use Rattle.machine_model.specs.Due.{asked_hand}
 use Rattle.machine_model.specs.Noting.{AreOptions, asked_options, options_in, options_noted, part_options}
 use Rattle.machine_model.specs.Outcomes.{result_of}
 use Rattle.machine_model.specs.Plans.{Result}
 use Rattle.machine_model.specs.Replying.{hand_replied, replied_machine, replied_to}
 use Rattle.machine_model.specs.Rest.{request_in, without_response}
-use Rattle.machine_model.specs.Rows.{chosen, failure_of, gone_parts, has_response, is_response, noted}
-use Rattle.machine_model.specs.Rows.{parts_by, parts_of}
-use Rattle.machine_model.specs.Rows.{request_parts, row_of, wanting}
+use Rattle.machine_model.specs.Rows.{chosen, failure_of, gone_parts, has_response, is_response, noted, parts_by}
+use Rattle.machine_model.specs.Rows.{parts_of, request_parts, row_of, wanting}
 use Rattle.machine_model.specs.Runs.{Message, Run}
 use Rattle.machine_model.specs.State.{Hand, Machine, State, is_gone, knowing, left}
 use Rattle.machine_model.specs.Telling.{after_event, numbered_by, outcome_told, response_to}

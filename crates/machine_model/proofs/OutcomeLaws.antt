@@ -1,7 +1,6 @@
 -- Each response has the outcome that its row leads to, by what was asked for it since its turn; or its target ended.
 use Rattle.std.proofs.Common.{◌≡◌, Bool, true, false, cond, ◌||◌, List, [], ◌∷◌, ◌++◌, Option, Some, None, refl, sym}
-use Rattle.std.proofs.Common.{ap}
-use Rattle.std.proofs.Common.{ap₂, subst, ◌∙◌, append_assoc, append-nil, option_map, arith}
+use Rattle.std.proofs.Common.{ap, ap₂, subst, ◌∙◌, append_assoc, append-nil, option_map, arith}
 use Rattle.std.specs.List.{flat_map}
 use Rattle.std.proofs.lemmas.List.Concat.{flat_map-append}
 use Rattle.dap_messages.specs.declared.told.Response.{Response}
@@ -25,8 +24,7 @@ use Rattle.machine_model.proofs.RestLaws.{is_free as is_free_hand, late_gone, ne
 use Rattle.machine_model.proofs.ServedLaws.{loss_silent, owing, picked_requests}
 use Rattle.machine_model.proofs.Stepping.{IsAt, Loses, Moves, Skips, by_runs, with_said}
 use Rattle.machine_model.proofs.Tables.{choice_near, chosen_is, finished_is, free, free_once, has_joined, is_free}
-use Rattle.machine_model.proofs.Tables.{last_silent, once, responds_once}
-use Rattle.machine_model.proofs.Tables.{silent_last, silent_test}
+use Rattle.machine_model.proofs.Tables.{last_silent, once, responds_once, silent_last, silent_test}
 use Rattle.machine_model.proofs.Testing.{same_noted, same_numbered, same_replied, tested, whole}
 
 -- The part that brings the response -----------------------------------------------------------------------------------

@@ -1,7 +1,6 @@
 -- What is pending was sent and has no reply, and it is at most sixteen commands.
-use Rattle.std.proofs.Common.{◌≡◌, ℕ, ◌+◌, ◌≤◌, ◌<◌, Bool, true, false, List, [], ◌∷◌, ◌++◌, length, Option}
-use Rattle.std.proofs.Common.{Some, None, refl, sym, ap, subst, ◌∙◌, length-append}
-use Rattle.std.proofs.Common.{arith}
+use Rattle.std.proofs.Common.{◌≡◌, ℕ, ◌+◌, ◌≤◌, ◌<◌, Bool, true, false, List, [], ◌∷◌, ◌++◌, length, Option, Some, None}
+use Rattle.std.proofs.Common.{refl, sym, ap, subst, ◌∙◌, length-append, arith}
 use Rattle.std.proofs.lemmas.Grind.{flat_map-append}
 use Rattle.machine_model.specs.Names.{TargetCommand, a_question, an_effect}
 use Rattle.machine_model.specs.Pending.{ArePending, IsInWindow, IsPending, commands_replied, commands_sent, count}
@@ -9,8 +8,7 @@ use Rattle.machine_model.specs.Pending.{goes_out, has_such, have_handshake, is_a
 use Rattle.machine_model.specs.Replying.{pending_of}
 use Rattle.machine_model.specs.Runs.{Message, Run}
 use Rattle.machine_model.specs.State.{Machine, is_gone}
-use Rattle.machine_model.proofs.HandshakeLaws.{IsGreeted, behind_on, greeted_on}
-use Rattle.machine_model.proofs.HandshakeLaws.{handshake_said, has_handshake}
+use Rattle.machine_model.proofs.HandshakeLaws.{IsGreeted, behind_on, greeted_on, handshake_said, has_handshake}
 use Rattle.machine_model.proofs.QuietLaws.{quiet_on}
 use Rattle.machine_model.proofs.RestLaws.{near_asks, no_late}
 use Rattle.machine_model.proofs.Stepping.{Moves, by_runs, moved, with_said}

@@ -21,8 +21,7 @@ use Rattle.machine_model.specs.Names.{Answer, Finding, Lookup, NamedThread, Ques
 use Rattle.machine_model.specs.Names.{all_threads, an_answer, an_error, threads_found}
 use Rattle.machine_model.specs.Plans.{Found, Need, Plan, Sight, after, answer_in, asking, asks_for, beside, chained}
 use Rattle.machine_model.specs.Plans.{each, fact_heard, fails, found_at, found_from, gives, has, heard_of, lacks}
-use Rattle.machine_model.specs.Plans.{made_with}
-use Rattle.machine_model.specs.Plans.{may_hear, must_hear, need, pairs, question_of, wants}
+use Rattle.machine_model.specs.Plans.{made_with, may_hear, must_hear, need, pairs, question_of, wants}
 use Rattle.machine_model.specs.State.{State}
 use Rattle.machine_model.proofs.IdRows.{all_joined, are_plain, none_in}
 

@@ -1,7 +1,6 @@
 -- Nothing is asked but what the part in front lacked: what stands in the queue was lacking when it was put there.
 use Rattle.std.proofs.Common.{◌≡◌, Bool, true, false, cond, ◌||◌, List, [], ◌∷◌, ◌++◌, Option, Some, None, refl, sym}
-use Rattle.std.proofs.Common.{ap}
-use Rattle.std.proofs.Common.{subst, ◌∙◌, append_assoc, append-nil, option_map}
+use Rattle.std.proofs.Common.{ap, subst, ◌∙◌, append_assoc, append-nil, option_map}
 use Rattle.machine_model.specs.Due.{asked_hand, behind_first, is_listed, lacked_by, newly_lacked, with_want, with_wants}
 use Rattle.machine_model.specs.Names.{Replied, Sent, TargetCommand, Want, a_question, an_effect}
 use Rattle.machine_model.specs.Plans.{question_of}

@@ -2,8 +2,7 @@
 use Rattle.std.proofs.Common.{◌≡◌, Bool, true, false, cond, not, ◌||◌, List, [], ◌∷◌, ◌++◌, Option, Some, None}
 use Rattle.std.proofs.Common.{refl, sym, ap, subst, ◌∙◌, option_map, arith}
 use Rattle.machine_model.specs.Due.{Load, Picked, busy, can_read, clear, hand_load, lacking_more, load_of, newly_lacked}
-use Rattle.machine_model.specs.Due.{passed_by}
-use Rattle.machine_model.specs.Due.{pick, queued, waiting}
+use Rattle.machine_model.specs.Due.{passed_by, pick, queued, waiting}
 use Rattle.machine_model.specs.Names.{Effect, Event, Initialized, Item, Phase, Question, Sent, Terminated}
 use Rattle.machine_model.specs.Names.{a_composite, a_question, a_raw, a_request, an_effect, target_end}
 use Rattle.machine_model.specs.Replying.{given_up, is_waiting, replied_to}

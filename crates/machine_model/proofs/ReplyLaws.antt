@@ -21,8 +21,7 @@ use Rattle.machine_model.proofs.RequestLaws.{IsDue, Settling, settles, settling,
 use Rattle.machine_model.proofs.RequestSteps.{Step, flying_in, is_deed, near_before, parts_left, says_aside}
 use Rattle.machine_model.proofs.StandLaws.{refused_replied}
 use Rattle.machine_model.proofs.Stepping.{by_runs, with_said}
-use Rattle.machine_model.proofs.WishLemmas.{due_clear, left_inserted, left_same, new_set_due}
-use Rattle.machine_model.proofs.WishLemmas.{none_left}
+use Rattle.machine_model.proofs.WishLemmas.{due_clear, left_inserted, left_same, new_set_due, none_left}
 use Rattle.wish_sets.proofs.NextLaws.{surplus_clear}
 use Rattle.wish_sets.proofs.OrderLaws.{any-insert}
 use Rattle.wish_sets.proofs.WishLaws.{alike, alike_requests, equal_is, filter-insert, is_itself}

@@ -3,10 +3,9 @@ use Rattle.std.proofs.Common.{◌≡◌, ℕ, Bool, true, false, cond, List, [],
 use Rattle.std.proofs.Common.{sym, ap, subst, ◌∙◌, inl, inr, arith}
 use Rattle.machine_model.specs.EventRequests.{IsSettled}
 use Rattle.machine_model.specs.Lookups.{finished}
-use Rattle.machine_model.specs.Names.{Attached, Clear, Command, Does, Failure, Effect, Fresh, Initialized, Item}
-use Rattle.machine_model.specs.Names.{Part, Phase, Replied, Set, Terminated}
-use Rattle.machine_model.specs.Names.{a_composite, a_question, a_raw, a_request, an_answer, an_effect, an_error}
-use Rattle.machine_model.specs.Names.{target_end}
+use Rattle.machine_model.specs.Names.{Attached, Clear, Command, Does, Failure, Effect, Fresh, Initialized, Item, Part}
+use Rattle.machine_model.specs.Names.{Phase, Replied, Set, Terminated, a_composite, a_question, a_raw, a_request}
+use Rattle.machine_model.specs.Names.{an_answer, an_effect, an_error, target_end}
 use Rattle.machine_model.specs.Outcomes.{result_of}
 use Rattle.machine_model.specs.Replying.{replied_to}
 use Rattle.machine_model.specs.Requests.{Wishes, effect_due, request_in, set_to, wishes_after}
@@ -24,9 +23,8 @@ use Rattle.wish_sets.proofs.LeftLaws.{at_rest}
 use Rattle.wish_sets.proofs.TidyLaws.{cleared_is_tidy, installed_is_tidy, new_is_tidy, refused_is_tidy}
 use Rattle.wish_sets.specs.Tidy.{IsNewSet, IsTidy}
 use Rattle.machine_model.proofs.RequestSteps.{Step, asked_left, flying_in, flying_of, is_deed, learnt_wishes}
-use Rattle.machine_model.proofs.RequestSteps.{near_before}
-use Rattle.machine_model.proofs.RequestSteps.{noted_wishes, numbered_wishes, parts_left, replied_left, starts_updates}
-use Rattle.machine_model.proofs.RequestSteps.{steps}
+use Rattle.machine_model.proofs.RequestSteps.{near_before, noted_wishes, numbered_wishes, parts_left, replied_left}
+use Rattle.machine_model.proofs.RequestSteps.{starts_updates, steps}
 
 -- What is in flight is still due --------------------------------------------------------------------------------------
 

@@ -3,9 +3,8 @@ use Rattle.std.proofs.Common.{◌≡◌, Bool, true, false, cond, List, [], ◌�
 use Rattle.std.proofs.Common.{sym, ap, ◌∙◌, ◌⊎◌, inl, inr, option_map, arith}
 use Rattle.machine_model.specs.Due.{asked_hand, clear, load_of}
 use Rattle.machine_model.specs.Lookups.{finished}
-use Rattle.machine_model.specs.Names.{Clear, Does, Doing, Effect, Event, Note}
-use Rattle.machine_model.specs.Names.{Outcome, Part, Phase, Question, Replied, Set, TargetCommand, Want}
-use Rattle.machine_model.specs.Names.{a_question, an_effect}
+use Rattle.machine_model.specs.Names.{Clear, Does, Doing, Effect, Event, Note, Outcome, Part, Phase, Question, Replied}
+use Rattle.machine_model.specs.Names.{Set, TargetCommand, Want, a_question, an_effect}
 use Rattle.machine_model.specs.Outcomes.{result_of}
 use Rattle.machine_model.specs.Replying.{IsReply, hand_replied, told_by}
 use Rattle.machine_model.specs.Requests.{effect_due, wishes_after}

@@ -5,10 +5,8 @@ use Rattle.std.specs.List.{flat_map}
 use Rattle.machine_model.specs.Due.{Due, Load, Picked, asked_first, asked_next, busy, can_read, clear, due, due_by}
 use Rattle.machine_model.specs.Due.{gated, hand_due, hand_load, is_full, lacked_by, lacking_more, lets, load_of}
 use Rattle.machine_model.specs.Due.{newly_lacked, next_item, part_due, pick, queued, queued_next, waiting, wanted}
-use Rattle.machine_model.specs.Due.{wanted_in}
-use Rattle.machine_model.specs.Due.{is_listed, with_wants}
-use Rattle.machine_model.specs.Names.{Act, Event, Item, Part, Phase, Sent, TargetCommand, Want, a_question}
-use Rattle.machine_model.specs.Names.{an_effect}
+use Rattle.machine_model.specs.Due.{wanted_in, is_listed, with_wants}
+use Rattle.machine_model.specs.Names.{Act, Event, Item, Part, Phase, Sent, TargetCommand, Want, a_question, an_effect}
 use Rattle.machine_model.specs.Plans.{question_of}
 use Rattle.machine_model.specs.Replying.{is_waiting, replied_to, unanswered}
 use Rattle.machine_model.specs.Rest.{IsAtRest, awaits_greeting, hand_silent, request_in}

@@ -1,7 +1,6 @@
 -- The responses answer the first of the requests, one each, in order.
 use Rattle.std.proofs.Common.{◌≡◌, Bool, true, false, cond, ◌||◌, List, [], ◌∷◌, ◌++◌, Option, Some, None, refl, sym}
-use Rattle.std.proofs.Common.{ap, ap₂}
-use Rattle.std.proofs.Common.{subst, ◌∙◌, append_assoc, append-nil, option_map, arith}
+use Rattle.std.proofs.Common.{ap, ap₂, subst, ◌∙◌, append_assoc, append-nil, option_map, arith}
 use Rattle.std.specs.List.{flat_map}
 use Rattle.std.proofs.lemmas.List.{flat_map_more}
 use Rattle.std.proofs.lemmas.List.Concat.{flat_map-append}
@@ -10,8 +9,7 @@ use Rattle.dap_messages.specs.declared.told.Response.{Response}
 use Rattle.machine_model.specs.Due.{Picked, asked_hand, passed_by, pick}
 use Rattle.machine_model.specs.Lookups.{finished}
 use Rattle.machine_model.specs.Names.{Item, Outcome, Part, Replied, Request, TargetCommand, Want, a_composite}
-use Rattle.machine_model.specs.Names.{a_question, a_raw}
-use Rattle.machine_model.specs.Names.{a_request, an_effect, target_end}
+use Rattle.machine_model.specs.Names.{a_question, a_raw, a_request, an_effect, target_end}
 use Rattle.machine_model.specs.Replying.{given_up, hand_replied}
 use Rattle.machine_model.specs.Responses.{AreServed}
 use Rattle.machine_model.specs.Rest.{AreAnswered, request_by, request_in, requests_of, response_by, responses_of}

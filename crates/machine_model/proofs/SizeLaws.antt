@@ -1,7 +1,6 @@
 -- Where a session is attached, the sizes of ids are known.
 use Rattle.std.proofs.Common.{◌≡◌, ◌≢◌, Bool, true, false, cond, ◌||◌, List, [], ◌∷◌, ◌++◌, Option, Some, None, refl}
-use Rattle.std.proofs.Common.{sym}
-use Rattle.std.proofs.Common.{subst, option_map, arith}
+use Rattle.std.proofs.Common.{sym, subst, option_map, arith}
 use Rattle.jdwp_commands.specs.Answers.{kind_of_answer}
 use Rattle.jdwp_commands.specs.Commands.{kind_of}
 use Rattle.jdwp_commands.specs.declared.question.Question.TheVariants as questions

@@ -1,7 +1,6 @@
 -- The sizes of ids are replied once, and each command has a spelling with them.
 use Rattle.std.proofs.Common.{◌≡◌, ◌<◌, ◌^◌, ℕ, zero, suc, Bool, true, false, cond, List, [], ◌∷◌, ◌++◌, Option, Some}
-use Rattle.std.proofs.Common.{None, refl}
-use Rattle.std.proofs.Common.{sym, ap, subst, ◌∙◌, arith}
+use Rattle.std.proofs.Common.{None, refl, sym, ap, subst, ◌∙◌, arith}
 use Rattle.std.specs.List.{AllByRecursion as All}
 use Rattle.jdwp_commands.specs.Answers.{kind_of_answer, limit_of, told_answer}
 use Rattle.jdwp_commands.specs.Commands.{kind_of}

@@ -1,15 +1,12 @@
 -- Every id that stands in the machine passes a test that all ids that are read pass, and the sizes are asked once: what
 -- each move keeps.
-use Rattle.std.proofs.Common.{◌≡◌, ◌≤◌, ◌+◌, ℕ, Bool, true, false, cond, List, [], ◌∷◌, ◌++◌, length, Option}
-use Rattle.std.proofs.Common.{Some, None, sym, ap, subst, ◌∙◌, append-nil}
-use Rattle.std.proofs.Common.{refl, option_map}
+use Rattle.std.proofs.Common.{◌≡◌, ◌≤◌, ◌+◌, ℕ, Bool, true, false, cond, List, [], ◌∷◌, ◌++◌, length, Option, Some}
+use Rattle.std.proofs.Common.{None, sym, ap, subst, ◌∙◌, append-nil, refl, option_map}
 use Rattle.std.specs.List.{AllByRecursion as All}
 use Rattle.std.proofs.lemmas.List.Concat.{flat_map-append}
 use Rattle.jdwp_commands.specs.declared.question.Question.TheVariants as questions
 use Rattle.machine_model.specs.Ids.{Id}
-use Rattle.machine_model.specs.Names.{IdSizes, Initialized}
-use Rattle.machine_model.specs.Names.{Part, Sent, Success, TargetCommand}
-use Rattle.machine_model.specs.Names.{Want, a_question}
+use Rattle.machine_model.specs.Names.{IdSizes, Initialized, Part, Sent, Success, TargetCommand, Want, a_question}
 use Rattle.machine_model.specs.Names.{an_effect, thread_list}
 use Rattle.machine_model.specs.Plans.{question_of}
 use Rattle.machine_model.specs.Replying.{waits_for}
@@ -17,8 +14,7 @@ use Rattle.machine_model.specs.Runs.{Message}
 use Rattle.machine_model.specs.Spelling.{all_sizes, first_sizes, sizes_by, sizes_replied}
 use Rattle.machine_model.specs.State.{State, Hand, Machine, SizesRead, is_attached, is_gone, is_some}
 use Rattle.wish_sets.specs.Wanted.{nothing_wanted}
-use Rattle.machine_model.proofs.PlanIds.{AreKnown, IsAsked, IsWanted}
-use Rattle.machine_model.proofs.PlanIds.{OfNamed, OfThread, is_sizes}
+use Rattle.machine_model.proofs.PlanIds.{AreKnown, IsAsked, IsWanted, OfNamed, OfThread, is_sizes}
 use Rattle.machine_model.proofs.Stepping.{IsAt, with_said}
 
 -- The item in hand ----------------------------------------------------------------------------------------------------

@@ -4,11 +4,10 @@ use Rattle.std.proofs.Common.{Some, None, refl, sym, ap, subst, ◌∙◌, arith
 use Rattle.std.specs.List.{AllByRecursion as All}
 use Rattle.machine_model.specs.Ids.{Id}
 use Rattle.machine_model.specs.Lookups.{finished, found_for, sight_of}
-use Rattle.machine_model.specs.Names.{Attached, Capabilities, Choice, Command, Effect, Event, Failed, Failure}
-use Rattle.machine_model.specs.Names.{Finding, Fresh, Gone, Initialized, Item, Leaves, Lookup}
-use Rattle.machine_model.specs.Names.{Note, Nothing, Outcome, Part, Phase, Replied, Success}
-use Rattle.machine_model.specs.Names.{Terminated, ThreadId, NamedThread, a_composite, a_raw, a_request}
-use Rattle.machine_model.specs.Names.{threads_found, all_threads, target_end, thread_list}
+use Rattle.machine_model.specs.Names.{Attached, Capabilities, Choice, Command, Effect, Event, Failed, Failure, Finding}
+use Rattle.machine_model.specs.Names.{Fresh, Gone, Initialized, Item, Leaves, Lookup, Note, Nothing, Outcome, Part}
+use Rattle.machine_model.specs.Names.{Phase, Replied, Success, Terminated, ThreadId, NamedThread, a_composite, a_raw}
+use Rattle.machine_model.specs.Names.{a_request, threads_found, all_threads, target_end, thread_list}
 use Rattle.machine_model.specs.Plans.{Need, fails, has, lacks}
 use Rattle.machine_model.specs.Replying.{done_by}
 use Rattle.machine_model.specs.Names.{Sent, TargetCommand, Want}
@@ -19,12 +18,10 @@ use Rattle.machine_model.specs.Runs.{Message}
 use Rattle.machine_model.specs.State.{Hand, Machine, State, is_attached, is_gone, is_some, left}
 use Rattle.machine_model.specs.Telling.{after_event, is_among, numbered_by, with_thread, with_threads}
 use Rattle.machine_model.proofs.IdRows.{all_joined}
-use Rattle.machine_model.proofs.PlanIds.{IsAsked, IsGood, NeedStands}
-use Rattle.machine_model.proofs.PlanIds.{OfNamed, OfThread, rows_stand}
+use Rattle.machine_model.proofs.PlanIds.{IsAsked, IsGood, NeedStands, OfNamed, OfThread, rows_stand}
 use Rattle.machine_model.proofs.Stepping.{IsAt, Skips}
 use Rattle.machine_model.specs.Outcomes.{result_of}
-use Rattle.machine_model.proofs.Standing.{IsKept, Kept, Near, PartStands, Same, at_front, same_state}
-use Rattle.machine_model.proofs.Standing.{in_order}
+use Rattle.machine_model.proofs.Standing.{IsKept, Kept, Near, PartStands, Same, at_front, same_state, in_order}
 use Rattle.machine_model.proofs.Standing.{awaits_sizes, needs_sizes, stays}
 
 -- Tables --------------------------------------------------------------------------------------------------------------

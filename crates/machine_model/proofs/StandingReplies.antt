@@ -16,16 +16,12 @@ use Rattle.machine_model.specs.Due.{is_listed, way, with_want, with_wants}
 use Rattle.machine_model.specs.Facts.{above_in, fields_in, methods_in}
 use Rattle.machine_model.specs.Ids.{Id, class, ids_of, ids_replied}
 use Rattle.machine_model.specs.Lookups.{found_for}
-use Rattle.machine_model.specs.Names.{Answer}
-use Rattle.machine_model.specs.Names.{Guard, Handshake, IdSizes}
-use Rattle.machine_model.specs.Names.{Part, Phase, Question, Replied, Sent, TargetCommand}
-use Rattle.machine_model.specs.Names.{Want, a_question}
-use Rattle.machine_model.specs.Names.{an_answer, an_effect}
+use Rattle.machine_model.specs.Names.{Answer, Guard, Handshake, IdSizes, Part, Phase, Question, Replied, Sent}
+use Rattle.machine_model.specs.Names.{TargetCommand, Want, a_question, an_answer, an_effect}
 use Rattle.machine_model.specs.Plans.{Need, answer_in, asks_for, fails, has, lacking, lacks, question_of}
 use Rattle.machine_model.specs.Replying.{wire, replied_machine, is_failed, IsReply, ended_with, filled, given_up}
-use Rattle.machine_model.specs.Replying.{hand_replied, is_waiting, learnt}
-use Rattle.machine_model.specs.Replying.{pending_in, shows_end, sizes_in, told_by, unanswered, unless_failed}
-use Rattle.machine_model.specs.Replying.{unanswered_effect, waits_for}
+use Rattle.machine_model.specs.Replying.{hand_replied, is_waiting, learnt, pending_in, shows_end, sizes_in, told_by}
+use Rattle.machine_model.specs.Replying.{unanswered, unless_failed, unanswered_effect, waits_for}
 use Rattle.machine_model.specs.Runs.{Message}
 use Rattle.machine_model.specs.Spelling.{listed, all_sizes, first_sizes, sizes_by, sizes_replied}
 use Rattle.machine_model.specs.State.{Hand, Machine, SizesRead, State, is_attached, is_gone, is_none, is_some}
@@ -37,9 +33,8 @@ use Rattle.machine_model.proofs.Testing.{same_replied}
 use Rattle.machine_model.specs.Keys.{same_question}
 use Rattle.machine_model.specs.Due.{asked_now, behind_first, Load, clear, greeted_by, queueing, sized_by as due_sized}
 use Rattle.machine_model.proofs.StandingMoves.{in_any_order, looks_stand, sized_by}
-use Rattle.machine_model.proofs.Standing.{IsKept, Kept, KeptHand, Near, asked_in, by_command, by_sent, by_want}
-use Rattle.machine_model.proofs.Standing.{one_if, put_back, queue_in, same_sizes, sizes_more, taken_out}
-use Rattle.machine_model.proofs.Standing.{total}
+use Rattle.machine_model.proofs.Standing.{IsKept, Kept, KeptHand, Near, asked_in, by_command, by_sent, by_want, one_if}
+use Rattle.machine_model.proofs.Standing.{put_back, queue_in, same_sizes, sizes_more, taken_out, total}
 
 -- Numbers -------------------------------------------------------------------------------------------------------------
 

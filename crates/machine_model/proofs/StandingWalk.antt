@@ -1,10 +1,8 @@
 -- What each move keeps of the ids that stand in the machine: all moves.
-use Rattle.std.proofs.Common.{◌≡◌, ◌++◌, false, List, [], Option}
-use Rattle.std.proofs.Common.{Some, None, refl, ap, ◌∙◌}
+use Rattle.std.proofs.Common.{◌≡◌, ◌++◌, false, List, [], Option, Some, None, refl, ap, ◌∙◌}
 use Rattle.std.specs.List.{AllByRecursion as All}
 use Rattle.machine_model.specs.Ids.{Id, class, ids_given}
-use Rattle.machine_model.specs.Names.{a_question}
-use Rattle.machine_model.specs.Names.{an_effect}
+use Rattle.machine_model.specs.Names.{a_question, an_effect}
 use Rattle.machine_model.specs.Runs.{Message}
 use Rattle.machine_model.specs.State.{Machine, is_attached, is_gone, is_some}
 use Rattle.machine_model.proofs.Stepping.{Moves, with_said}
@@ -12,8 +10,7 @@ use Rattle.machine_model.proofs.Testing.{same_noted, same_numbered, same_replied
 use Rattle.machine_model.proofs.Standing.{IsKept, at_front, put_back, quiet_kept, same_state, stays, taken_out}
 use Rattle.machine_model.proofs.StandingMoves.{begun_order, begun_parts, chosen_order, chosen_parts, dropped_kept}
 use Rattle.machine_model.proofs.StandingMoves.{effect_same, event_order, event_same, event_threads, found_kept}
-use Rattle.machine_model.proofs.StandingMoves.{note_same}
-use Rattle.machine_model.proofs.StandingMoves.{note_threads, skipped_order, told_same, told_threads}
+use Rattle.machine_model.proofs.StandingMoves.{note_same, note_threads, skipped_order, told_same, told_threads}
 use Rattle.machine_model.proofs.StandingReplies.{answered_kept, asked_kept, late_kept, lost_kept, queued_kept}
 use Rattle.machine_model.specs.Rows.{chosen, noted, parts_of}
 use Rattle.machine_model.specs.Replying.{done_by, hand_replied}

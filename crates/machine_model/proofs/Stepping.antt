@@ -9,9 +9,8 @@ use Rattle.machine_model.specs.Due.Way.{passes, greets as greets_way, holds as h
 use Rattle.machine_model.specs.Lookups.{finished, found_for}
 use Rattle.machine_model.specs.Outcomes.{result_of}
 use Rattle.machine_model.specs.Names.{Act, Composite, Deed, Does, Effect, Event, Finding, Guard, Item, Lookup, Note}
-use Rattle.machine_model.specs.Names.{Choice}
-use Rattle.machine_model.specs.Names.{Outcome, Part, Question, Replied, Request, TargetCommand, Want, a_composite}
-use Rattle.machine_model.specs.Names.{a_question, a_raw, a_request, an_effect, an_event, target_end}
+use Rattle.machine_model.specs.Names.{Choice, Outcome, Part, Question, Replied, Request, TargetCommand, Want}
+use Rattle.machine_model.specs.Names.{a_composite, a_question, a_raw, a_request, an_effect, an_event, target_end}
 use Rattle.machine_model.specs.Plans.{Need, fails, has, is_done, lacks, question_of}
 use Rattle.machine_model.specs.Replying.{IsReply, answered_by, ended, ended_with, hand_replied, is_end}
 use Rattle.machine_model.specs.Replying.{is_waiting, pending_in, replied_machine, shows_end}

@@ -1,9 +1,8 @@
 -- What the tables' lists of parts pass: the one place that a new request, note, choice or look-up is added to.
 use Rattle.std.proofs.Common.{◌≡◌, Bool, true, false, cond, not, ◌||◌, List, [], ◌∷◌, ◌++◌, Option, refl, arith}
 use Rattle.machine_model.specs.Lookups.{finished, lookup_responds}
-use Rattle.machine_model.specs.Names.{Choice, Command, Failure, Finding, Initialized, Item, Leaves}
-use Rattle.machine_model.specs.Names.{Lookup, Part, Terminated, a_composite, a_raw}
-use Rattle.machine_model.specs.Names.{a_request, target_end}
+use Rattle.machine_model.specs.Names.{Choice, Command, Failure, Finding, Initialized, Item, Leaves, Lookup, Part}
+use Rattle.machine_model.specs.Names.{Terminated, a_composite, a_raw, a_request, target_end}
 use Rattle.machine_model.specs.Plans.{Result}
 use Rattle.machine_model.specs.Rows.{choice_responds, chosen, failure_of, gone_parts, has_response}
 use Rattle.machine_model.specs.Rows.{is_response, parts_by, parts_of, request_parts, row_of, wanting}

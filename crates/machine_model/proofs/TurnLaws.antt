@@ -15,8 +15,7 @@ use Rattle.machine_model.specs.Replying.{unanswered, unanswered_effect, waits_fo
 use Rattle.machine_model.specs.Rest.{hand_silent}
 use Rattle.machine_model.specs.Runs.{Message}
 use Rattle.machine_model.specs.State.{Hand, Machine, SizesRead, has_waiting, is_empty, is_flying, is_gone, is_none}
-use Rattle.machine_model.proofs.HandshakeLaws.{IsBehind, both_queued, both_there}
-use Rattle.machine_model.proofs.HandshakeLaws.{has_handshake}
+use Rattle.machine_model.proofs.HandshakeLaws.{IsBehind, both_queued, both_there, has_handshake}
 use Rattle.machine_model.proofs.KeyLaws.{is_one}
 use Rattle.machine_model.proofs.QuietLaws.{IsQuiet, quiet_now}
 use Rattle.machine_model.proofs.RestLaws.{near_asks}

@@ -2,10 +2,9 @@
 use Rattle.std.proofs.Common.{◌≡◌, ℕ, Bool, true, false, cond, not, ◌||◌, List, [], ◌∷◌, ◌++◌, length, Option, Some}
 use Rattle.std.proofs.Common.{refl, sym, ap, subst, ◌∙◌, append-nil, nat_le, arith}
 use Rattle.std.specs.List.{flat_map}
-use Rattle.machine_model.specs.Due.{Load, asked_first, asked_next, clear, due, due_by}
-use Rattle.machine_model.specs.Due.{is_full, is_listed, lacked_by, lacking_more, load_of, newly_lacked, queued}
-use Rattle.machine_model.specs.Due.{queued_next}
-use Rattle.machine_model.specs.Due.{waiting, with_want, with_wants}
+use Rattle.machine_model.specs.Due.{Load, asked_first, asked_next, clear, due, due_by, is_full, is_listed, lacked_by}
+use Rattle.machine_model.specs.Due.{lacking_more, load_of, newly_lacked, queued, queued_next, waiting, with_want}
+use Rattle.machine_model.specs.Due.{with_wants}
 use Rattle.machine_model.specs.Keys.{same_question}
 use Rattle.machine_model.specs.Names.{Act, Question, Sent, Want}
 use Rattle.machine_model.specs.Plans.{question_of}

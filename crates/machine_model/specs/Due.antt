@@ -11,8 +11,7 @@ use Rattle.machine_model.specs.Replying.{is_waiting, pending_of}
 use Rattle.machine_model.specs.Requests.{effect_due}
 use Rattle.machine_model.specs.Rows.{chosen, noted, parts_of, taken}
 use Rattle.machine_model.specs.State.{Hand, Machine, SizesRead, State, has_raw, has_waiting, in_hand, is_flying}
-use Rattle.machine_model.specs.State.{is_gone}
-use Rattle.machine_model.specs.State.{is_empty, is_raw, is_some, knowing, left}
+use Rattle.machine_model.specs.State.{is_gone, is_empty, is_raw, is_some, knowing, left}
 use Rattle.machine_model.specs.Telling.{after_event, event_told, numbered_by, outcome_told, response_to}
 
 -- an act and the machine behind it
@@ -260,7 +259,6 @@ due_by full clear m = gated (lets (is_gone m.state.phase) (wanted m).act) m (wan
 
 -- What is due, where the next id is still pending or not. In this order: a composite that can be read is read, and the
 -- reply to an effect comes, before anything else; what is to be asked goes while there is room; what is lacking is to
--- be
--- asked; then the replies to questions come; then what is wanted goes.
+-- be asked; then the replies to questions come; then what is wanted goes.
 unfoldable pub due : Bool → Machine → Due
 due id_pending m = due_by (is_full id_pending m) (load_of m) m

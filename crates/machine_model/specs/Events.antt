@@ -53,14 +53,14 @@ pub data AreTold : List Message → List Request → Bool → Type 0 where
   terminated : {messages : List Message} {requests : List Request} → AreTold messages requests false
       → AreTold (messages ++ Message.tells (an_event events.Terminated) ∷ []) requests false
 
--- the events up to here; at rest none is owed: `initialized` was told behind each `attach` that succeeded, and
--- `terminated` where the target is gone
+-- the events up to here; at rest none is owed: `initialized` was told behind each `attach` that succeeded, unless the
+-- target ended between the two, and `terminated` where the target is gone
 pub record EventsAre (messages : List Message) (m : Machine) : Type 0 where
   pub owed : Bool
   pub told : AreTold messages (without_response m) owed
   pub none_owed : IsAtRest m → owed ≡ false
   pub terminated : IsAtRest m → is_gone m.state.phase ≡ true → m.state.terminated ≡ true
 
--- `initialized` is told behind the success of an `attach`, and at its end the target's is.
+-- `initialized` is told behind the success of an `attach`, and `terminated` once the target is gone.
 abbrev pub Events : Type 0
 Events = (messages : List Message) (m : Machine) → Run messages m → EventsAre messages m

@@ -1,11 +1,9 @@
 -- What is known is what the messages say.
 use Rattle.std.specs.Prelude.{ℕ, ◌≡◌, ◌≤◌, ◌<◌, ◌+◌, ◌==◌, ◌∷◌, ◌++◌, Bool, true, false, not, cond, List, [], length}
-use Rattle.std.specs.Prelude.{map}
-use Rattle.std.specs.Prelude.{Option, None, Some}
+use Rattle.std.specs.Prelude.{map, Option, None, Some}
 use Rattle.std.specs.List.{flat_map}
 use Rattle.class_tables.specs.Facts.{Fact, Known, has_fields, has_lines, has_methods, has_source, has_variables}
-use Rattle.class_tables.specs.Facts.{is_below}
-use Rattle.class_tables.specs.Facts.{nothing, with_fact}
+use Rattle.class_tables.specs.Facts.{is_below, nothing, with_fact}
 use Rattle.dap_messages.specs.declared.told.Event.{Event as EventTold}
 use Rattle.dap_messages.specs.declared.told.Event.TheVariants as events
 use Rattle.dap_messages.specs.declared.told.Outcome.{Outcome as OutcomeTold}
@@ -129,8 +127,7 @@ may_tell (an_event events.Initialized) view = is_fresh view.phase
 may_tell (an_event events.Terminated) view = cond (is_gone view.phase) (not view.terminated) false
 
 -- When a message may be: nothing is heard behind `disconnect`; each side of the handshake is there once; and nothing
--- goes
--- to a target that is gone.
+-- goes to a target that is gone.
 abbrev pub may_be : View → Message → Bool
 may_be view (Message.hears request) = not view.closing
 may_be view (Message.tells told) = may_tell told view

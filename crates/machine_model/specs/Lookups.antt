@@ -5,8 +5,7 @@ use Rattle.dap_messages.specs.Telling.{target_error, unknown_thread}
 use Rattle.jdwp_commands.specs.declared.answer.Answer.TheVariants as answers
 use Rattle.jdwp_commands.specs.declared.question.Question.TheVariants as questions
 use Rattle.machine_model.specs.Names.{Answer, Body, Failed, Failure, Finding, Lookup, NamedThread, Outcome, Part}
-use Rattle.machine_model.specs.Names.{Success}
-use Rattle.machine_model.specs.Names.{ThreadId, Want, all_threads, thread_list, threads_found}
+use Rattle.machine_model.specs.Names.{Success, ThreadId, Want, all_threads, thread_list, threads_found}
 use Rattle.machine_model.specs.Plans.{Need, Plan, Result, Sight, asking, chained, each, gave, made_with, need, refused}
 use Rattle.machine_model.specs.State.{Hand, State}
 

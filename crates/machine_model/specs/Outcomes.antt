@@ -1,6 +1,5 @@
 -- What comes of each request, in every run: which outcome its response has, and what was asked for it. The law stands
--- at
--- the end, behind what it speaks of.
+-- at the end, behind what it speaks of.
 use Rattle.std.specs.Prelude.{◌≡◌, ◌∷◌, ◌++◌, Bool, true, false, cond, List, [], Option, None, Some}
 use Rattle.machine_model.specs.Asking.{AreAsked}
 use Rattle.machine_model.specs.Lookups.{finished, found_for}

@@ -81,8 +81,7 @@ FailsFirst sight p (fails fault) = IsFirstError sight p fault
 FailsFirst sight p (lacks first others) = (fault : Fault) → HasMet sight p fault → ⊥
 
 -- A look-up that has met an error to what it can't do without fails, and lacks nothing more. The first of such errors
--- in
--- order of sending decides, whichever came first.
+-- in order of sending decides, whichever came first.
 abbrev pub Errors : Type 0
 Errors = (state : State) (hand : Hand) (lookup : Lookup)
     → FailsFirst (sight_of state hand) (plan lookup state) (found_for lookup state hand)
@@ -109,8 +108,7 @@ LacksOpen sight p (fails fault) = Unit {0}
 LacksOpen sight p (lacks first others) = AreOpen sight p (first ∷ others)
 
 -- A look-up lacks just what it has come to and has not heard of. One that lacks nothing has failed, or has the value
--- that
--- its plan gives by all that was heard.
+-- that its plan gives by all that was heard.
 abbrev pub Wants : Type 0
 Wants = (state : State) (hand : Hand) (lookup : Lookup)
     → LacksOpen (sight_of state hand) (plan lookup state) (found_for lookup state hand)
@@ -144,7 +142,6 @@ pub record AreOfWorld (world : Question → Replied) (state : State) : Type 0 wh
       → of_world world (plan all_threads state) ≡ Some (threads_in_world world listed)
 
 -- A look-up that is done by a world's replies has the value that it has in that world, in whatever order they were
--- asked
--- for and came; one that has failed has none there. `threads` has the threads of the world with their names.
+-- asked for and came; one that has failed has none there. `threads` has the threads of the world with their names.
 abbrev pub Worlds : Type 0
 Worlds = (world : Question → Replied) (state : State) → AreOfWorld world state

@@ -1,6 +1,5 @@
 -- Look-ups as plans: what is asked of the target, and how it goes on by what is heard. A plan is data, and knows
--- neither
--- replies nor classes: it is read by the replies so far and the facts that were learnt, or asked of a world.
+-- neither replies nor classes: it is read by the replies so far and the facts that were learnt, or asked of a world.
 use Rattle.std.specs.Prelude.{ℕ, suc, ◌∷◌, ◌++◌, Bool, true, false, cond, List, [], nat_le, Option, None, Some}
 use Rattle.std.specs.Prelude.{option_and_then}
 use Rattle.class_tables.specs.Lookups.{Lookups}
@@ -17,8 +16,7 @@ question_of (Want.May question) = question
 question_of (Want.Fact question) = question
 
 -- A plan gives a value; or wants something and goes on by what it hears, the answer, or nothing for an error; or
--- follows
--- two plans side by side, and goes on by what both give.
+-- follows two plans side by side, and goes on by what both give.
 pub data Plan : Type 0 → Type 1 where
   gives : {A : Type 0} → A → Plan A
   wants : {A : Type 0} → Want → (Option Answer → Plan A) → Plan A

@@ -1,7 +1,6 @@
 -- The target's replies: which are taken, what they tell, and how it ends.
-use Rattle.std.specs.Prelude.{ℕ, ◌≡◌, ◌<◌, ◌==◌, ◌∷◌, ◌++◌, ◌||◌, Bool, true, false, not, cond, List, [], Option}
-use Rattle.std.specs.Prelude.{None, Some}
-use Rattle.std.specs.Prelude.{option_map, pos}
+use Rattle.std.specs.Prelude.{ℕ, ◌≡◌, ◌<◌, ◌==◌, ◌∷◌, ◌++◌, ◌||◌, Bool, true, false, not, cond, List, [], Option, None}
+use Rattle.std.specs.Prelude.{Some, option_map, pos}
 use Rattle.std.specs.List.{flat_map}
 use Rattle.class_tables.specs.Facts.{Known, has_fields, has_lines, has_methods, has_source, has_variables, is_below}
 use Rattle.class_tables.specs.Facts.{with_fact}
@@ -17,8 +16,7 @@ use Rattle.jdwp_values.specs.declared.sizes.IdSizes.{IdSizes}
 use Rattle.machine_model.specs.Facts.{above_in, fields_in, lines_in, methods_in, source_in, variables_in}
 use Rattle.machine_model.specs.Names.{Answer, Clear, Deed, Dispose, Does, Doing, Effect, Exit, Gone, Phase, Question}
 use Rattle.machine_model.specs.Names.{Replied, Sent, Set, TargetCommand, Want, a_question, an_answer, an_effect}
-use Rattle.machine_model.specs.Names.{an_error}
-use Rattle.machine_model.specs.Names.{target_end}
+use Rattle.machine_model.specs.Names.{an_error, target_end}
 use Rattle.machine_model.specs.Plans.{answer_in, asks_for, question_of}
 use Rattle.machine_model.specs.Requests.{clear_of, set_of, wishes_after}
 use Rattle.machine_model.specs.Rows.{gone_parts, has_response}

@@ -63,8 +63,7 @@ abbrev pub takes : Phase → Composite → Bool
 takes phase composite = is_gone phase || is_served composite
 
 -- What may come next. A composite that can be read is read before anything else; nothing else is asked of what comes,
--- so
--- it may come where something is due.
+-- so it may come where something is due.
 pub data Allows (m : Machine) : Message → Machine → Type 0 where
   acts : {message : Message} → said (due false m).act ≡ Some message → Allows m message (due false m).next
   hears : {request : Request} → can_read m ≡ false → m.closing ≡ false

@@ -30,8 +30,7 @@ pub record State : Type 0 where
   pub terminated : Bool
 
 -- The item in hand, what is left of it to do, what is to be asked for it, what was asked for it in order of sending,
--- and
--- the last effect that was sent for it.
+-- and the last effect that was sent for it.
 pub record Hand : Type 0 where
   pub item : Item
   pub parts : List Part

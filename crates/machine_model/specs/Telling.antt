@@ -9,9 +9,8 @@ use Rattle.dap_messages.specs.declared.told.Shape.TheVariants as shapes
 use Rattle.dap_messages.specs.declared.told.Thread.{Thread}
 use Rattle.jdwp_values.specs.Lossy.{lossy}
 use Rattle.machine_model.specs.Names.{Attached, Body, Capabilities, Event, Failed, Fresh, Gone, Initialized}
-use Rattle.machine_model.specs.Names.{NamedThread}
-use Rattle.machine_model.specs.Names.{Nothing, Outcome, Phase, Request, Success, Terminated, ThreadId, Told, a_response}
-use Rattle.machine_model.specs.Names.{thread_list}
+use Rattle.machine_model.specs.Names.{NamedThread, Nothing, Outcome, Phase, Request, Success, Terminated, ThreadId}
+use Rattle.machine_model.specs.Names.{Told, a_response, thread_list}
 use Rattle.machine_model.specs.State.{State}
 
 -- Numbers of threads --------------------------------------------------------------------------------------------------

@@ -1,6 +1,5 @@
 -- Where the machine waits for its target, each question that the part in front lacks was asked.
-use Rattle.std.specs.Prelude.{◌≡◌, ◌∷◌, ◌||◌, Bool, true, false, cond, List, []}
-use Rattle.std.specs.Prelude.{Some}
+use Rattle.std.specs.Prelude.{◌≡◌, ◌∷◌, ◌||◌, Bool, true, false, cond, List, [], Some}
 use Rattle.machine_model.specs.Due.{can_read, due, is_full, lacked_by}
 use Rattle.machine_model.specs.Names.{Act, Sent, Want}
 use Rattle.machine_model.specs.Plans.{question_of}

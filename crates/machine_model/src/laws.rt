@@ -33,7 +33,8 @@ pub fn outcomes_are_what_rows_lead_to()
 {}
 
 /// `initialized` is told behind the success of an `attach`, and nowhere else; at rest each such success was followed
-/// by it, and `terminated` was told where the target is gone (DAP specification, Events).
+/// by it, unless the target ended between the two, and `terminated` was told where the target is gone (DAP
+/// specification, Events).
 pub fn events_tell_where_a_session_stands()
     ensures { Events }
 {}
