@@ -8,6 +8,8 @@ use Rattle.jdwp_commands.specs.Items.{FitsItem, FitsListed, FitsSayings, Item, L
 use Rattle.jdwp_commands.specs.Regions.{FitsBehind}
 use Rattle.jdwp_commands.specs.declared.answer.Answer.{Answer}
 use Rattle.jdwp_commands.specs.declared.answer.Answer.TheVariants as answers
+use Rattle.jdwp_events.specs.Composites.{FitsComposite}
+use Rattle.jdwp_events.specs.Events.{FitsEvent, told as told_event}
 use Rattle.jdwp_events.specs.Modifiers.{told}
 use Rattle.jdwp_values.specs.Classes.{field_row, method_row}
 use Rattle.jdwp_values.specs.Parts as parts
@@ -22,8 +24,10 @@ use Rattle.jdwp_values.specs.Tags.{is_reference}
 use Rattle.jdwp_values.specs.declared.value.Value.{Value}
 use Rattle.jdwp_values.specs.declared.value.Value.TheVariants as values
 use Rattle.jdwp_commands.specs.Listed.{class_status_row, frame_row, loaded_class_row}
-use Rattle.machine_model.specs.Ids.{Id, class, field, frame, ids_of_item, ids_of_listed, ids_of_part, ids_of_row}
+use Rattle.machine_model.specs.Ids.{Id, class, field, frame, ids_of_composite, ids_of_event, ids_of_item}
+use Rattle.machine_model.specs.Ids.{ids_of_listed, ids_of_part, ids_of_row}
 use Rattle.machine_model.specs.Ids.{ids_of_said, ids_of_saying, ids_of_simple, ids_of_value, method, object}
+use Rattle.machine_model.specs.Names.{Composite}
 
 -- Lists ---------------------------------------------------------------------------------------------------------------
 
@@ -137,6 +141,13 @@ fitting_ids used [] h = tt
 fitting_ids used (says i x ∷ sayings) h =
     all_joined (FitsId used) (ids_of_item i x) (flat_map ids_of_saying sayings) (item_ids used i x h.0)
     (fitting_ids used sayings h.1)
+
+-- those of a composite's events do
+pub composite_ids : (used : IdSizes) (composite : Composite) → FitsComposite used composite
+    → All (FitsId used) (ids_of_composite composite)
+composite_ids used composite h =
+    all_flat (FitsEvent used) (FitsId used) ids_of_event (λ event. said_ids used (told_event event)) composite.events
+    h.each
 
 -- how many items an answer may have is nothing to its ids
 pub same_ids : (limit : Limit) (answer : Answer)

@@ -8,18 +8,18 @@ use Rattle.jdwp_commands.specs.declared.kind.CommandKind.TheVariants as kinds
 use Rattle.jdwp_commands.specs.declared.kind.EffectKind.{EffectKind}
 use Rattle.jdwp_commands.specs.declared.question.Question.TheVariants as questions
 use Rattle.jdwp_values.specs.declared.sizes.IdSizes.{IdSizes}
-use Rattle.machine_model.specs.Due.{Load, asked_first, asked_next, busy, clear, due, due_by, is_full, lacking_more}
-use Rattle.machine_model.specs.Due.{load_of, queued, waiting}
+use Rattle.machine_model.specs.Due.{Load, asked_first, asked_next, busy, can_read, clear, due, due_by, is_full}
+use Rattle.machine_model.specs.Due.{lacking_more, load_of, queued, waiting}
 use Rattle.machine_model.specs.Ids.{Id, class, field, frame, ids_answered, ids_given, ids_replied, method}
-use Rattle.machine_model.specs.Ids.{ids_asked, object}
+use Rattle.machine_model.specs.Ids.{ids_asked, ids_of_composite, object}
 use Rattle.machine_model.specs.Names.{Answer, Composite, Effect, Phase, Question, Replied, TargetCommand, Want}
 use Rattle.machine_model.specs.Names.{a_question, an_effect}
 use Rattle.machine_model.specs.Replying.{IsReply, SizesFor, any_sizes, is_waiting, sizes_of, sizes_read, wire}
-use Rattle.machine_model.specs.Runs.{Allows, Message, Run, said, takes}
+use Rattle.machine_model.specs.Runs.{Allows, Message, Run, Takes, said}
 use Rattle.machine_model.specs.Spelling.{AreSpelled, IsSpelled, all_sizes, first_sizes, sizes_replied}
 use Rattle.machine_model.specs.State.{Hand, Machine, SizesRead, is_empty, is_gone, is_some}
 use Rattle.machine_model.proofs.IdLaws.{IsIdTest, MaySend, Sends, all_sent, sends_may}
-use Rattle.machine_model.proofs.IdRows.{FitsId, all_weak, fitting_ids, same_ids}
+use Rattle.machine_model.proofs.IdRows.{FitsId, all_weak, composite_ids, fitting_ids, same_ids}
 use Rattle.machine_model.proofs.PlanIds.{IsAsked}
 use Rattle.machine_model.proofs.Standing.{IsKept, asked_in, sizes_more}
 use Rattle.machine_model.proofs.StandingReplies.{not_empty, only_sizes, sizes_is}
@@ -96,8 +96,20 @@ effect_fits P (IsReply.with_error some tolerated) = tt
 effect_fits P (IsReply.with_answer {answer} used serves answers good) =
     subst (λ ids. All P ids) (sym (effect_ids answer _ answers.row)) tt
 
-not_near : (phase : Phase) (composite : Composite) → takes phase composite ≡ true → is_gone phase ≡ false → true ≡ false
-not_near phase composite taken near = grind (arith, taken, near)
+-- the ids of a composite that is taken fit the sizes that were replied
+taken_fits : {messages : List Message} (m : Machine) (composite : Composite)
+    → IsKept (Fits (sizes_replied messages)) messages m → is_gone m.state.phase ≡ false
+    → is_some m.state.sizes ≡ true → Takes m.state composite
+    → All (Fits (sizes_replied messages)) (ids_of_composite composite)
+taken_fits {messages} m composite k near known taken =
+    all_weak (FitsId taken.used) (Fits (sizes_replied messages))
+    (λ id h. subst (λ sizes. Fits sizes id) (k.sizes near)
+    (fits_read m.state.sizes taken.used taken.serves known id h))
+    (ids_of_composite composite) (composite_ids taken.used composite taken.fits)
+
+-- what can be read is read with sizes
+sized_to_read : (m : Machine) → can_read m ≡ true → is_some m.state.sizes ≡ true
+sized_to_read m read = grind (arith, read)
 
 spelled : IsIdTest (λ (messages : List Message). Fits (sizes_replied messages))
 spelled = record {
@@ -110,6 +122,13 @@ spelled = record {
         → Fits (sizes_replied (messages ++ message ∷ [])) id
     longer messages message id h used serves = h used (first_grows (all_sizes messages) _ used
         (subst (λ all. SizesFor (first_sizes all) used) (sizes_more messages (Some message)) serves))
+
+    given : (messages : List Message) (message : Message) (composite : Composite)
+        → All (Fits (sizes_replied messages)) (ids_of_composite composite)
+        → All (Fits (sizes_replied (messages ++ message ∷ []))) (ids_of_composite composite)
+    given messages message composite h =
+        all_weak (Fits (sizes_replied messages)) (Fits (sizes_replied (messages ++ message ∷ [])))
+        (longer messages message) (ids_of_composite composite) h
 
     brought : (messages : List Message) (m next : Machine) (message : Message)
         → IsKept (Fits (sizes_replied messages)) messages m → Moves m (Some message) next
@@ -125,9 +144,9 @@ spelled = record {
         absurd (not_empty before _ after (sym (k.none_late near) ∙ is))
     brought messages m next message k (Moves.loses late far why) near = let no : true ≡ false = near in cc
     brought messages m next message k (Moves.comes {composite = composite} read sized taken) near =
-        let no = not_near m.state.phase composite taken near in cc
+        given messages message composite (taken_fits m composite k near sized taken)
     brought messages m next message k (Moves.reads {composite = composite} before after read is none taken) near =
-        let no = not_near m.state.phase composite taken near in cc
+        given messages message composite (taken_fits m composite k near (sized_to_read m read) taken)
     brought messages m next message k _ near = tt
 
 -- Commands that are due -----------------------------------------------------------------------------------------------

@@ -17,7 +17,7 @@ use Rattle.machine_model.specs.Replying.{is_waiting, pending_in, replied_machine
 use Rattle.machine_model.specs.Requests.{effect_due}
 use Rattle.machine_model.specs.Rest.{request_in}
 use Rattle.machine_model.specs.Rows.{chosen, noted}
-use Rattle.machine_model.specs.Runs.{Allows, Message, Run, greeting_heard, heard, said, takes, with_item}
+use Rattle.machine_model.specs.Runs.{Allows, Message, Run, Takes, greeting_heard, heard, said, with_item}
 use Rattle.machine_model.specs.State.{Hand, Machine, fresh, has_raw, is_gone, is_some, knowing, left}
 use Rattle.machine_model.specs.Telling.{after_event, event_told, numbered_by, outcome_told, response_to}
 
@@ -104,12 +104,12 @@ pub data Moves (m : Machine) : Option Message → Machine → Type 0 where
   loses : {message : Message} (late : List TargetCommand) → is_gone m.state.phase ≡ false → Loses m message late
       → Moves m (Some message) (ended_with late m)
   comes : {at : ℕ} {composite : Composite} → can_read m ≡ false → is_some m.state.sizes ≡ true
-      → takes m.state.phase composite ≡ true
+      → Takes m.state composite
       → Moves m (Some (Message.comes at composite)) (with_item m (a_composite at composite))
   keeps : {at : ℕ} {body : List ℕ} → is_some m.state.sizes ≡ false
       → Moves m (Some (Message.keeps at body)) (with_item m (a_raw at body))
   reads : {at : ℕ} {body : List ℕ} {composite : Composite} (before after : List Item) → can_read m ≡ true
-      → m.waiting ≡ before ++ a_raw at body ∷ after → has_raw before ≡ false → takes m.state.phase composite ≡ true
+      → m.waiting ≡ before ++ a_raw at body ∷ after → has_raw before ≡ false → Takes m.state composite
       → Moves m (Some (Message.reads at body composite))
       (record m { waiting = before ++ a_composite at composite ∷ after })
 

@@ -1,11 +1,12 @@
 -- The machine's runs: what it says, and what may come.
 use Rattle.std.specs.Prelude.{ℕ, ◌≡◌, ◌∷◌, ◌++◌, ◌||◌, Bool, true, false, List, [], Option, None, Some}
+use Rattle.jdwp_events.specs.Composites.{FitsComposite}
+use Rattle.jdwp_values.specs.declared.sizes.IdSizes.{IdSizes}
 use Rattle.machine_model.specs.Due.{can_read, due}
-use Rattle.machine_model.specs.Names.{Act, Command, Composite, Disconnect, Effect, Item, Phase, Question, Replied}
-use Rattle.machine_model.specs.Names.{Request}
+use Rattle.machine_model.specs.Names.{Act, Command, Composite, Disconnect, Effect, Item, Question, Replied, Request}
 use Rattle.machine_model.specs.Names.{TargetCommand, Told, a_composite, a_question, a_raw, a_request, an_effect}
-use Rattle.machine_model.specs.Replying.{IsReply, answered, ended, is_waiting}
-use Rattle.machine_model.specs.State.{Hand, Machine, fresh, has_raw, is_gone, is_some, knowing}
+use Rattle.machine_model.specs.Replying.{IsReply, SizesFor, answered, ended, is_waiting}
+use Rattle.machine_model.specs.State.{Hand, Machine, State, fresh, has_raw, is_gone, is_some, knowing}
 
 -- Messages ------------------------------------------------------------------------------------------------------------
 
@@ -58,9 +59,13 @@ greeting_heard m = knowing m (record m.state { greeting_heard = true })
 abbrev pub is_served : Composite → Bool
 is_served composite = false
 
--- a composite is taken where it is served, or the target is gone, where it does nothing
-abbrev pub takes : Phase → Composite → Bool
-takes phase composite = is_gone phase || is_served composite
+-- A composite is taken where it has a spelling with the sizes of ids that are known; and where it is served, or the
+-- target is gone, where it does nothing (JDWP, Event command set, Composite).
+pub record Takes (state : State) (composite : Composite) : Type 0 where
+  pub used : IdSizes
+  pub serves : SizesFor state.sizes used
+  pub fits : FitsComposite used composite
+  pub is_wanted : is_gone state.phase || is_served composite ≡ true
 
 -- What may come next. A composite that can be read is read before anything else; nothing else is asked of what comes,
 -- so it may come where something is due.
@@ -81,12 +86,12 @@ pub data Allows (m : Machine) : Message → Machine → Type 0 where
       → Allows m (Message.answers command replied) (record m { late = before ++ after })
   ends : can_read m ≡ false → Allows m Message.ends (ended (is_gone m.state.phase) m)
   comes : {at : ℕ} {composite : Composite} → can_read m ≡ false → is_some m.state.sizes ≡ true
-      → takes m.state.phase composite ≡ true
+      → Takes m.state composite
       → Allows m (Message.comes at composite) (with_item m (a_composite at composite))
   keeps : {at : ℕ} {body : List ℕ} → is_some m.state.sizes ≡ false
       → Allows m (Message.keeps at body) (with_item m (a_raw at body))
   reads : {at : ℕ} {body : List ℕ} {composite : Composite} (before after : List Item) → can_read m ≡ true
-      → m.waiting ≡ before ++ a_raw at body ∷ after → has_raw before ≡ false → takes m.state.phase composite ≡ true
+      → m.waiting ≡ before ++ a_raw at body ∷ after → has_raw before ≡ false → Takes m.state composite
       → Allows m (Message.reads at body composite) (record m { waiting = before ++ a_composite at composite ∷ after })
 
 -- the messages of the machine so far, and where it stands
