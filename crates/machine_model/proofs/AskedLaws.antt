@@ -55,9 +55,6 @@ unheard place (sent ∷ asked) question is = by_test (asks_for sent question) se
 new_or : (waits new : Bool) → (waits || new) ≡ true → cond (waits || new) true false ≡ true
 new_or waits new is = grind (arith, is)
 
-waits_or_not : (waits : Bool) → cond (waits || not waits) true false ≡ true
-waits_or_not waits = grind arith
-
 -- what isn't heard yet is due
 lacks_due : (sight : Sight) (want : Want) → all_due sight.asked (lacking (heard_of sight want)) ≡ true
 lacks_due sight (Want.Must question) = by_found (found_from 0 sight.asked question) refl
@@ -78,11 +75,15 @@ lacks_due sight (Want.May question) = by_found (found_from 0 sight.asked questio
     by_found None is = new_or (is_waiting question sight.asked) (not (was_asked question sight.asked))
         (unheard 0 sight.asked question is)
     by_found (Some found) is = refl
-lacks_due sight (Want.Fact question) = by_known (fact_known sight.classes question)
+lacks_due sight (Want.Fact question) =
+    by_known (fact_known sight.classes question) (found_from 0 sight.asked question) refl
   where
-    by_known : (known : Option (Option Answer)) → all_due sight.asked (lacking (fact_heard question known)) ≡ true
-    by_known None = waits_or_not (is_waiting question sight.asked)
-    by_known (Some answer) = refl
+    by_known : (known : Option (Option Answer)) (found : Option Found) → found_from 0 sight.asked question ≡ found
+        → all_due sight.asked (lacking (fact_heard question known found)) ≡ true
+    by_known None None is = new_or (is_waiting question sight.asked) (not (was_asked question sight.asked))
+        (unheard 0 sight.asked question is)
+    by_known None (Some found) is = refl
+    by_known (Some answer) found is = refl
 
 after_due : {A B : Type 0} (asked : List Sent) (n : Need A) (go : A → Need B) → all_due asked (lacking n) ≡ true
     → ((a : A) → all_due asked (lacking (go a)) ≡ true) → all_due asked (lacking (after n go)) ≡ true
@@ -208,12 +209,8 @@ not_either one other is differ = grind (arith, is, differ)
 new_more : (want other : Want) (asked : List Sent) → is_new other asked ≡ true
     → same_question (question_of want) (question_of other) ≡ false
     → is_new other (asked ++ record { want = want; reply = None } ∷ []) ≡ true
-new_more want (Want.Must question) asked new differ =
-    rw (was_more question want asked) (not_either (was_asked question asked) _ new differ)
-new_more want (Want.May question) asked new differ =
-    rw (was_more question want asked) (not_either (was_asked question asked) _ new differ)
-new_more want (Want.Fact question) asked new differ =
-    rw (waits_more question want asked) (not_either (is_waiting question asked) _ new differ)
+new_more want other asked new differ =
+    rw (was_more (question_of other) want asked) (not_either (was_asked (question_of other) asked) _ new differ)
 
 apart_behind : (want : Want) (asked : List Sent) (queue : List Want) → is_listed (question_of want) queue ≡ false
     → are_apart asked queue ≡ true → are_apart (asked ++ record { want = want; reply = None } ∷ []) queue ≡ true
@@ -267,30 +264,9 @@ was_filled question other replied (sent ∷ asked) = by_test (waits_for sent oth
     by_test true k = refl
     by_test false k = ap (λ (b : Bool). asks_for sent question || b) k
 
-waits_filled : (question other : Question) (replied : Replied) (asked : List Sent) → is_waiting question asked ≡ false
-    → is_waiting question (filled other replied asked) ≡ false
-waits_filled question other replied [] is = refl
-waits_filled question other replied (sent ∷ asked) is =
-    by_test (waits_for sent other) (waits_for sent question) (is_waiting question asked) refl refl is
-    (λ none. waits_filled question other replied asked none)
-  where
-    by_test : (waits here rest : Bool) → waits_for sent question ≡ here → is_waiting question asked ≡ rest
-        → (here || rest) ≡ false
-        → (rest ≡ false → is_waiting question (filled other replied asked) ≡ false)
-        → is_waiting question (cond waits (record sent { reply = Some replied } ∷ asked)
-        (sent ∷ filled other replied asked))
-        ≡ false
-    by_test true false false was none is k = none
-    by_test false false false was none is k = rw was (k refl)
-    by_test waits true rest was none is k = cc
-    by_test waits false true was none is k = cc
-
 new_filled : (want : Want) (other : Question) (replied : Replied) (asked : List Sent) → is_new want asked ≡ true
     → is_new want (filled other replied asked) ≡ true
-new_filled (Want.Must question) other replied asked new = rw (was_filled question other replied asked) new
-new_filled (Want.May question) other replied asked new = rw (was_filled question other replied asked) new
-new_filled (Want.Fact question) other replied asked new =
-    rw (waits_filled question other replied asked (grind (arith, new))) refl
+new_filled want other replied asked new = rw (was_filled (question_of want) other replied asked) new
 
 pub apart_filled : (question : Question) (replied : Replied) (asked : List Sent) (queue : List Want)
     → are_apart asked queue ≡ true → are_apart (filled question replied asked) queue ≡ true

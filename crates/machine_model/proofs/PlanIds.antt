@@ -13,7 +13,7 @@ use Rattle.jdwp_values.specs.Classes.{field_row, method_row}
 use Rattle.jdwp_values.specs.declared.class.Field.{Field}
 use Rattle.jdwp_values.specs.declared.class.Method.{Method}
 use Rattle.jdwp_values.specs.declared.id.ClassId.{ClassId}
-use Rattle.machine_model.specs.Facts.{fact_known}
+use Rattle.machine_model.specs.Facts.{fact_known, fact_of}
 use Rattle.machine_model.specs.Ids.{Id, class, ids_answered, ids_asked, ids_of, ids_replied, object}
 use Rattle.machine_model.specs.Keys.{same_question}
 use Rattle.machine_model.specs.Lookups.{joined, name_plan, named_by, names_plan, plan, threads_in, threads_plan}
@@ -116,6 +116,24 @@ fact_some P known (questions.VariableTable c method) h = mapped Any (IsHeard P) 
     ((found_in known).variables c method) (any _)
 fact_some P known _ h = tt
 
+-- and so has a fact that was replied
+fact_good : (P : Id → Type 0) → P (class 0) → (question : Question) (heard : Option Answer) → IsHeard P heard
+    → IsHeard P (fact_of question heard)
+fact_good P null (questions.Signature c) heard h = tt
+fact_good P null (questions.SourceFile c) (Some (answers.SourceFile file)) h = tt
+fact_good P null (questions.SourceFile c) _ h = tt
+fact_good P null (questions.Methods c) (Some (answers.Methods found)) h = h
+fact_good P null (questions.Methods c) _ h = tt
+fact_good P null (questions.Fields c) (Some (answers.Fields found)) h = h
+fact_good P null (questions.Fields c) _ h = tt
+fact_good P null (questions.Superclass c) (Some (answers.Superclass above)) h = h
+fact_good P null (questions.Superclass c) _ h = (null, tt)
+fact_good P null (questions.LineTable c method) (Some (answers.LineTable table)) h = h
+fact_good P null (questions.LineTable c method) _ h = tt
+fact_good P null (questions.VariableTable c method) (Some (answers.VariableTable count found)) h = h
+fact_good P null (questions.VariableTable c method) _ h = tt
+fact_good P null _ heard h = h
+
 -- what was asked so far, and its reply: before the sizes are known nothing else is asked
 pub record IsAsked (P : Id → Type 0) (sized : Bool) (sent : Sent) : Type 0 where
   pub reply : IsReplied P sent.reply
@@ -213,7 +231,7 @@ OfNamed P named = P (object named.thread.0)
 abbrev pub IsGood : (Id → Type 0) → Finding → Type 0
 IsGood P (threads_found named) = All (OfNamed P) named
 
-module _ (P : Id → Type 0) (sight : Sight) (known : Known) (facts : AreKnown P known)
+module _ (P : Id → Type 0) (null : P (class 0)) (sight : Sight) (known : Known) (facts : AreKnown P known)
     (asked : All (IsAsked P true) sight.asked) (sees : sight.classes ≡ found_in known) where
   -- the plan lacks what may be asked, and its value is good
   abbrev Row : {A : Type 0} → (A → Type 0) → Plan A → Type 0
@@ -238,14 +256,16 @@ module _ (P : Id → Type 0) (sight : Sight) (known : Known) (facts : AreKnown P
       by_found None k = (q, tt)
       by_found (Some found) k = reply_heard P found.replied k
   hears (Want.Fact question) q =
-      by_fact (fact_known sight.classes question)
+      by_fact (fact_known sight.classes question) (found_from 0 sight.asked question)
       (subst (λ classes. OnSome (IsHeard P) (fact_known classes question)) (sym sees)
-      (fact_some P known question facts))
+      (fact_some P known question facts)) (found_some P true 0 sight.asked question asked)
     where
-      by_fact : (fact : Option (Option Answer)) → OnSome (IsHeard P) fact → NeedStands P (IsHeard P)
-          (fact_heard question fact)
-      by_fact None k = (q, tt)
-      by_fact (Some heard) k = k
+      by_fact : (fact : Option (Option Answer)) (found : Option Found) → OnSome (IsHeard P) fact
+          → OnSome (IsFound P) found → NeedStands P (IsHeard P) (fact_heard question fact found)
+      by_fact None None k l = (q, tt)
+      by_fact None (Some found) k l =
+          fact_good P null question (answer_in found.replied) (reply_heard P found.replied l)
+      by_fact (Some heard) found k l = k
 
   chains : {A B : Type 0} (Good : A → Type 0) (Best : B → Type 0) (p : Plan A) (f : A → Plan B) → Row Good p
       → ((a : A) → Good a → Row Best (f a)) → Row Best (chained p f)

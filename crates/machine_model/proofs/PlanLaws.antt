@@ -8,6 +8,7 @@ use Rattle.machine_model.specs.Names.{Answer, Question, Replied, Sent, Want, an_
 use Rattle.machine_model.specs.PlanLaws.{FailsFirst, Gives, HasMet, HasNoReply, Hears, IsMissing, IsOpen, IsRefused}
 use Rattle.machine_model.specs.PlanLaws.{IsUnheard, LacksOpen, Reaches, RepliedAt}
 use Rattle.machine_model.specs.Plans.{Fault, Found, Need, Plan, Sight, after, asks_for, beside, earlier, fact_heard}
+use Rattle.machine_model.specs.Plans.{fact_replied}
 use Rattle.machine_model.specs.Plans.{fails, found_at, found_from, gives, has, heard_of, lacks, may_hear, must_by}
 use Rattle.machine_model.specs.Plans.{must_hear, need, pairs, wants}
 
@@ -66,7 +67,11 @@ hears_has sight (Want.Must question) (Some answer) h =
     ap (must_hear question) (found_there 0 h.place sight.asked question (an_answer answer) h.stands)
 hears_has sight (Want.May question) heard h =
     ap (may_hear question) (found_there 0 h.1.place sight.asked question h.0 h.1.stands) ∙ ap has h.2
-hears_has sight (Want.Fact question) heard h = ap (fact_heard question) h
+hears_has sight (Want.Fact question) heard h =
+    ⊎_elim (λ known. ap (λ fact. fact_heard question fact (found_from 0 sight.asked question)) known)
+    (λ told. ap (λ fact. fact_heard question fact (found_from 0 sight.asked question)) told.0
+    ∙ ap (fact_replied question) (found_there 0 told.2.place sight.asked question told.1 told.2.stands)
+    ∙ ap has told.3) h
 
 refused_fails : (sight : Sight) (fault : Fault) (want : Want) → IsRefused sight fault want
     → heard_of sight want ≡ fails fault
@@ -79,7 +84,9 @@ refused_fails sight fault (Want.Fact question) h = absurd h
 unheard_lacks : (sight : Sight) (want : Want) → IsUnheard sight want → heard_of sight want ≡ lacks want []
 unheard_lacks sight (Want.Must question) h = ap (must_hear question) (no_reply sight.asked question h)
 unheard_lacks sight (Want.May question) h = ap (may_hear question) (no_reply sight.asked question h)
-unheard_lacks sight (Want.Fact question) h = ap (fact_heard question) h
+unheard_lacks sight (Want.Fact question) h =
+    ap (λ fact. fact_heard question fact (found_from 0 sight.asked question)) h.0
+    ∙ ap (fact_replied question) (no_reply sight.asked question h.1)
 
 -- What a plan comes to is so ------------------------------------------------------------------------------------------
 
@@ -145,15 +152,19 @@ heard_so sight want = by_want want
       (found.replied, record { place = found.place; stands = h }, refl),
     )
 
-    by_known : (question : Question) (known : Option (Option Answer)) → fact_known sight.classes question ≡ known
-        → HeardSo sight (Want.Fact question) (fact_heard question known)
-    by_known question None is = (refl, is)
-    by_known question (Some fact) is = is
+    by_known : (question : Question) (known : Option (Option Answer)) (found : Option Found)
+        → fact_known sight.classes question ≡ known → found_from 0 sight.asked question ≡ found
+        → HeardSo sight (Want.Fact question) (fact_heard question known found)
+    by_known question None None is there = (refl, (is, none question there))
+    by_known question None (Some found) is there = inr (is, found.replied,
+        record { place = found.place; stands = replied_at sight.asked question found there }, refl)
+    by_known question (Some fact) found is there = inl is
 
     by_want : (want : Want) → HeardSo sight want (heard_of sight want)
     by_want (Want.Must question) = (by_found question (found_from 0 sight.asked question) refl).0
     by_want (Want.May question) = (by_found question (found_from 0 sight.asked question) refl).1
-    by_want (Want.Fact question) = by_known question (fact_known sight.classes question) refl
+    by_want (Want.Fact question) =
+        by_known question (fact_known sight.classes question) (found_from 0 sight.asked question) refl refl
 
 only_one : (sight : Sight) (want : Want) (ones : List Want) → (ones ≡ want ∷ []) × IsUnheard sight want
     → Each (λ other. IsMissing sight other want) ones

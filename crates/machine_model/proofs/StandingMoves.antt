@@ -2,7 +2,7 @@
 use Rattle.std.proofs.Common.{◌≡◌, Bool, true, false, cond, List, [], ◌∷◌, ◌++◌, Option}
 use Rattle.std.proofs.Common.{Some, None, refl, sym, ap, subst, ◌∙◌, arith}
 use Rattle.std.specs.List.{AllByRecursion as All}
-use Rattle.machine_model.specs.Ids.{Id}
+use Rattle.machine_model.specs.Ids.{Id, class}
 use Rattle.machine_model.specs.Lookups.{finished, found_for, sight_of}
 use Rattle.machine_model.specs.Names.{Attached, Capabilities, Choice, Command, Effect, Event, Failed, Failure, Finding}
 use Rattle.machine_model.specs.Names.{Fresh, Gone, Initialized, Item, Leaves, Lookup, Note, Nothing, Outcome, Part}
@@ -154,18 +154,18 @@ event_order state Terminated rest near h = cc
 -- a look-up that stands in front, where the sizes are known
 pub looks_stand : {P : Id → Type 0} {state : State} {left : List Part} {queue : List Want} (hand : Hand)
     (lookup : Lookup)
-    → Near P state left queue hand.asked → is_some state.sizes ≡ true
+    → P (class 0) → Near P state left queue hand.asked → is_some state.sizes ≡ true
     → NeedStands P (IsGood P) (found_for lookup state hand)
-looks_stand {P} {state} hand lookup n sized =
-    rows_stand P (sight_of state hand) state.classes n.classes
+looks_stand {P} {state} hand lookup null n sized =
+    rows_stand P null (sight_of state hand) state.classes n.classes
     (subst (λ sized. All (IsAsked P sized) hand.asked) sized n.replies) refl lookup state
 
 pub found_kept : {P : Id
     → Type 0} {messages : List Message} {m : Machine} {hand : Hand} {rest : List Part} {lookup : Lookup}
-    (found : Need Finding) → IsKept P messages m → IsAt m hand (Part.Looks lookup) rest
+    (found : Need Finding) → P (class 0) → IsKept P messages m → IsAt m hand (Part.Looks lookup) rest
     → found_for lookup m.state hand ≡ found
     → IsKept P messages (left m hand (finished lookup (result_of found) m.state ++ rest))
-found_kept {P} {m = m} {hand} {rest} {lookup} found k at is =
+found_kept {P} {m = m} {hand} {rest} {lookup} found null k at is =
     stays m.state (finished lookup (result_of found) m.state ++ rest) None (at_front k at) (same_state m.state) refl
     (λ near n. let sized = sized_by (is_some m.state.sizes) (is_attached m.state.phase) (Part.Looks lookup) rest n.order
     refl refl in record {
@@ -173,7 +173,7 @@ found_kept {P} {m = m} {hand} {rest} {lookup} found k at is =
       order = in_any_order _ _ (finished lookup (result_of found) m.state ++ rest) sized;
       parts = all_joined (PartStands P) (finished lookup (result_of found) m.state) rest
           (found_parts P lookup found m.state
-          (subst (λ found. NeedStands P (IsGood P) found) is (looks_stand hand lookup n sized))) n.parts.1;
+          (subst (λ found. NeedStands P (IsGood P) found) is (looks_stand hand lookup null n sized))) n.parts.1;
     })
 
 pub dropped_kept : {P : Id → Type 0} {messages : List Message} {state : State} {left : List Part} {queue : List Want}

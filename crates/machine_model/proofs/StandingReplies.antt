@@ -110,14 +110,15 @@ guard_all P Handshake state = by_tests state.greeting_sent state.greeting_heard
     by_tests true true = tt
 
 lacked_all : {P : Id → Type 0} {state : State} {queue : List Want} (hand : Hand) (left : List Part)
-    → Near P state left queue hand.asked → All (IsWanted P (is_some state.sizes)) (lacked_by state hand left)
-lacked_all hand [] n = tt
-lacked_all {P} {state} hand (Part.Looks lookup ∷ rest) n =
+    → P (class 0) → Near P state left queue hand.asked
+    → All (IsWanted P (is_some state.sizes)) (lacked_by state hand left)
+lacked_all hand [] null n = tt
+lacked_all {P} {state} hand (Part.Looks lookup ∷ rest) null n =
     let sized = sized_by (is_some state.sizes) (is_attached state.phase) (Part.Looks lookup) rest n.order refl refl in
     subst (λ sized. All (IsWanted P sized) (lacking (found_for lookup state hand))) (sym sized)
-    (lacking_all P (IsGood P) (found_for lookup state hand) (looks_stand hand lookup n sized))
-lacked_all {P} {state} hand (Part.Awaits guard ∷ rest) n = guard_all P guard state
-lacked_all hand (_ ∷ rest) n = tt
+    (lacking_all P (IsGood P) (found_for lookup state hand) (looks_stand hand lookup null n sized))
+lacked_all {P} {state} hand (Part.Awaits guard ∷ rest) null n = guard_all P guard state
+lacked_all hand (_ ∷ rest) null n = tt
 
 none_of : (P : Id → Type 0) (queue : List Want) → All (IsWanted P true) queue → total by_want queue ≡ 0
 none_of P [] h = refl
@@ -146,31 +147,31 @@ none_known [] is = refl
 none_known (one ∷ later) is = cc
 
 new_few : {P : Id → Type 0} {messages : List Message} {state : State} (hand : Hand) {late : List TargetCommand}
-    (sized : Bool) → KeptHand P messages state (Some hand) late → is_gone state.phase ≡ false
+    (sized : Bool) → P (class 0) → KeptHand P messages state (Some hand) late → is_gone state.phase ≡ false
     → is_some state.sizes ≡ sized
     → length (all_sizes messages) + total by_want (with_wants hand.asked [] (lacked_by state hand hand.parts))
     + total by_sent hand.asked ≤ 1
-new_few {P} {messages} {state} hand true k near sized =
+new_few {P} {messages} {state} hand true null k near sized =
     let wants = subst (λ sized. All (IsWanted P sized) (lacked_by state hand hand.parts)) sized
-    (lacked_all hand hand.parts (k.near near)) in
+    (lacked_all hand hand.parts null (k.near near)) in
     let zero = none_of P (with_wants hand.asked [] (lacked_by state hand hand.parts))
     (all_taken (IsWanted P true) hand.asked [] (lacked_by state hand hand.parts) tt wants) in
     let old = k.once in omega (arith, zero, old)
-new_few {P} {messages} {state} hand false k near sized =
+new_few {P} {messages} {state} hand false null k near sized =
     let none = none_known (all_sizes messages) (ap is_some (sym (k.sizes near)) ∙ sized) in
     let old = k.once in
     let all = few_all hand.asked [] (lacked_by state hand hand.parts) (omega (arith, old)) in
     omega (arith, none, all)
 
-pub queued_kept : {P : Id → Type 0} {messages : List Message} (m : Machine) {hand : Hand} → IsKept P messages m
-    → load_of m ≡ lacking_more → m.hand ≡ Some hand → IsKept P messages (queueing m hand)
+pub queued_kept : {P : Id → Type 0} {messages : List Message} (m : Machine) {hand : Hand} → P (class 0)
+    → IsKept P messages m → load_of m ≡ lacking_more → m.hand ≡ Some hand → IsKept P messages (queueing m hand)
 unfolding newly_lacked
-queued_kept {P} {messages} m {hand} kept load is =
+queued_kept {P} {messages} m {hand} null kept load is =
     let k = taken_out m kept is in
     let gone = lacking_near m load in
     let n = k.near gone in
     let late : total by_command m.late ≡ 0 = ap (total by_command) (k.none_late gone) in
-    let few = new_few hand (is_some m.state.sizes) k gone refl in
+    let few = new_few hand (is_some m.state.sizes) null k gone refl in
     record {
       once = omega (arith, late, few);
       sizes = k.sizes;
@@ -182,7 +183,7 @@ queued_kept {P} {messages} m {hand} kept load is =
         order = n.order;
         parts = n.parts;
         wants = all_taken (IsWanted P (is_some m.state.sizes)) hand.asked [] (lacked_by m.state hand hand.parts) tt
-            (lacked_all hand hand.parts n);
+            (lacked_all hand hand.parts null n);
         replies = n.replies;
       };
     }

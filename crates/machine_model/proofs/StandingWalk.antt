@@ -36,7 +36,8 @@ kept_on {P} messages m next said null k (Moves.responds {rest = rest} {outcome =
       order = rw (same_numbered outcome m.state) n.order;
       parts = n.parts.1;
     })
-kept_on messages m next said null k (Moves.finds found free at needs done) brought = found_kept found k at needs
+kept_on messages m next said null k (Moves.finds found free at needs done) brought =
+    found_kept found null k at needs
 kept_on messages m next said null k (Moves.passes_over {rest = rest} free at why) brought =
     stays m.state rest said (at_front k at) (same_state m.state) refl
     (λ near n. record { threads = n.threads; order = skipped_order rest why n.order; parts = n.parts.1 })
@@ -67,7 +68,7 @@ kept_on {P} messages m next said null k (Moves.unfolds {hand} {choice} {rest} fr
       order = chosen_order choice m.state hand (is_some m.state.sizes) (is_attached m.state.phase) rest n.order;
       parts = chosen_parts P choice m.state hand rest n.parts.1;
     })
-kept_on messages m next said null k (Moves.queues free is) brought = queued_kept m k free is
+kept_on messages m next said null k (Moves.queues free is) brought = queued_kept m null k free is
 kept_on messages m next said null k (Moves.asks free room is are) brought = asked_kept m k is are
 kept_on messages m next said null k (Moves.hears read is) brought =
     quiet_kept m.state said k (same_state m.state) refl refl refl

@@ -1,7 +1,8 @@
 -- A look-up by a world's replies is the look-up in that world.
-use Rattle.std.proofs.Common.{◌≡◌, List, [], ◌∷◌, map, Option, Some, None, refl, sym, ap, ◌∙◌}
+use Rattle.std.proofs.Common.{◌≡◌, List, [], ◌∷◌, map, Option, Some, None, refl, sym, ap, ◌∙◌, ⊎_elim}
 use Rattle.jdwp_commands.specs.declared.answer.Answer.TheVariants as answers
 use Rattle.jdwp_commands.specs.declared.question.Question.TheVariants as questions
+use Rattle.machine_model.specs.Facts.{fact_of}
 use Rattle.machine_model.specs.Lookups.{name_plan, named_by, names_plan, plan, sight_of, threads_plan}
 use Rattle.machine_model.specs.Names.{Answer, NamedThread, Question, Replied, ThreadId, Want, an_answer, an_error}
 use Rattle.machine_model.specs.PlanLaws.{Agrees, AreOfWorld, Hears, IsOf, IsRefused, IsUnheard, threads_in_world}
@@ -26,7 +27,9 @@ hears_said world sight (Want.Must question) None w h = absurd h
 hears_said world sight (Want.Must question) (Some answer) w h =
     said_alike (an_answer answer) (world question) (w.replies question (an_answer answer) h)
 hears_said world sight (Want.May question) heard w h = ap Some (sym (w.replies question h.0 h.1) ∙ h.2)
-hears_said world sight (Want.Fact question) heard w h = ap Some (sym (w.facts question heard h))
+hears_said world sight (Want.Fact question) heard w h =
+    ⊎_elim (λ known. ap Some (sym (w.facts question heard known)))
+    (λ told. ap Some (ap (fact_of question) (sym (w.replies question told.1 told.2)) ∙ told.3)) h
 
 -- what was refused the world refuses
 refused_said : (world : Question → Replied) (sight : Sight) (fault : Fault) (want : Want) → IsOf world sight

@@ -17,11 +17,9 @@ abbrev pub was_asked : Question → List Sent → Bool
 was_asked question [] = false
 was_asked question (sent ∷ asked) = asks_for sent question || was_asked question asked
 
--- What is wanted wasn't asked here yet; a fact of a class isn't pending, and isn't asked once it is known.
+-- what is wanted wasn't asked here yet
 abbrev pub is_new : Want → List Sent → Bool
-is_new (Want.Must question) asked = not (was_asked question asked)
-is_new (Want.May question) asked = not (was_asked question asked)
-is_new (Want.Fact question) asked = not (is_waiting question asked)
+is_new want asked = not (was_asked (question_of want) asked)
 
 -- Among these messages these questions were asked, in this order, each once, and have these replies; and this was the
 -- last effect, sent with nothing pending; no question was sent while an effect was pending.

@@ -33,20 +33,24 @@ HasNoReply asked question = (place : ℕ) (replied : Replied) → RepliedAt plac
 abbrev pub IsUnheard : Sight → Want → Type 0
 IsUnheard sight (Want.Must question) = HasNoReply sight.asked question
 IsUnheard sight (Want.May question) = HasNoReply sight.asked question
-IsUnheard sight (Want.Fact question) = fact_known sight.classes question ≡ None
+IsUnheard sight (Want.Fact question) =
+    (fact_known sight.classes question ≡ None) × HasNoReply sight.asked question
 
 -- the reply to a question
 pub record IsReply (asked : List Sent) (question : Question) (replied : Replied) : Type 0 where
   pub place : ℕ
   pub stands : RepliedAt place asked question replied
 
--- what was heard of a want: the answer, or nothing for an error where the plan can do without it
+-- what was heard of a want: the answer, or nothing for an error where the plan can do without it; a fact that isn't
+-- known yet is the one that was replied
 abbrev pub Hears : Sight → Want → Option Answer → Type 0
 Hears sight (Want.Must question) None = ⊥
 Hears sight (Want.Must question) (Some answer) = IsReply sight.asked question (an_answer answer)
 Hears sight (Want.May question) heard =
     (replied : Replied) × IsReply sight.asked question replied × (answer_in replied ≡ heard)
-Hears sight (Want.Fact question) heard = fact_known sight.classes question ≡ Some heard
+Hears sight (Want.Fact question) heard =
+    (fact_known sight.classes question ≡ Some heard) ⊎ ((fact_known sight.classes question ≡ None)
+    × (replied : Replied) × IsReply sight.asked question replied × (fact_of question (answer_in replied) ≡ heard))
 
 -- the value that the plan gives by all that was heard
 abbrev pub Gives : {A : Type 0} → Sight → Plan A → A → Type 0

@@ -130,14 +130,20 @@ abbrev pub may_hear : Question → Option Found → Need (Option Answer)
 may_hear question None = lacks (Want.May question) []
 may_hear question (Some found) = has (answer_in found.replied)
 
-abbrev pub fact_heard : Question → Option (Option Answer) → Need (Option Answer)
-fact_heard question None = lacks (Want.Fact question) []
-fact_heard question (Some answer) = has answer
+-- a fact that isn't known yet is the one that was replied
+abbrev pub fact_replied : Question → Option Found → Need (Option Answer)
+fact_replied question None = lacks (Want.Fact question) []
+fact_replied question (Some found) = has (fact_of question (answer_in found.replied))
+
+abbrev pub fact_heard : Question → Option (Option Answer) → Option Found → Need (Option Answer)
+fact_heard question None found = fact_replied question found
+fact_heard question (Some answer) found = has answer
 
 abbrev pub heard_of : Sight → Want → Need (Option Answer)
 heard_of sight (Want.Must question) = must_hear question (found_from 0 sight.asked question)
 heard_of sight (Want.May question) = may_hear question (found_from 0 sight.asked question)
-heard_of sight (Want.Fact question) = fact_heard question (fact_known sight.classes question)
+heard_of sight (Want.Fact question) =
+    fact_heard question (fact_known sight.classes question) (found_from 0 sight.asked question)
 
 -- what a plan comes to
 unfoldable pub need : {A : Type 0} → Sight → Plan A → Need A
