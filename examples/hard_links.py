@@ -1,21 +1,28 @@
 #!/usr/bin/env python3
-"""Two requests over links as they come: each case runs the program, and is said to be kept or broken.
+"""The program over links as they come: each case runs it, and is said to be kept or broken.
 
 - A client that comes 3 s after the program, and a target that dropped its link, on which nothing went, after 2 s.
 - A connection that probes the client's port and closes without a byte, before the client comes.
 - A target that resets its link with bytes under way, which is its end: the client is told so.
 - Requests that come byte by byte.
+- Answers to a client that sent more behind its `disconnect`, and reads late: all of them come.
+- The end of the session at a fault of the target, while the client goes on sending: the client is told.
+- The last command to a target that goes on sending: it comes, and the link ends without a reset.
 
 usage: examples/hard_links.py [PROGRAM]
 """
 import socket
 import struct
+import subprocess
 import sys
+import threading
 import time
 
+from many_threads import ATTACH, HANDSHAKE, receive, reply_to_one
 from over_tcp import INITIALIZED, DISCONNECTED, Bridge, built, dial, request
 
 TERMINATED = b'{"event":"terminated","seq":2,"type":"event"}'
+DISPOSE = struct.pack(">IIBBB", 11, 4, 0, 1, 6)
 
 
 def two_requests(client, by=None):
@@ -29,41 +36,116 @@ def late_client(bridge):
     time.sleep(2)
     bridge.target.close()
     time.sleep(1)
-    return two_requests(bridge.client())
+    return two_requests(bridge.client()) and bridge.status() == 0
 
 
 def probed_port(bridge):
     dial(bridge.port).close()
     time.sleep(0.1)
-    return two_requests(bridge.client())
+    return two_requests(bridge.client()) and bridge.status() == 0
 
 
 def reset_by_target(bridge):
     client = bridge.client()
     client.send(request(1, "initialize", {"adapterID": "jdwp"}))
     first = client.receive()
-    bridge.target.sendall(b"JDWP-Handshake" + b"\0\0")
+    bridge.target.sendall(HANDSHAKE + b"\0\0")
     bridge.target.setsockopt(socket.SOL_SOCKET, socket.SO_LINGER, struct.pack("ii", 1, 0))
     bridge.target.close()
     told = client.receive()
     client.send(request(2, "disconnect"))
-    return [first, told, client.receive()] == [INITIALIZED, TERMINATED, DISCONNECTED.replace(b'"seq":2', b'"seq":3')]
+    wanted = [INITIALIZED, TERMINATED, DISCONNECTED.replace(b'"seq":2', b'"seq":3')]
+    return [first, told, client.receive()] == wanted and bridge.status() == 0
 
 
 def byte_by_byte(bridge):
-    return two_requests(bridge.client(), by=1)
+    return two_requests(bridge.client(), by=1) and bridge.status() == 0
+
+
+def more_behind_disconnect(bridge):
+    client = bridge.client()
+    for seq in range(1, 51):
+        client.send(request(seq, "x" * 4000))
+    client.send(request(51, "disconnect"))
+    client.stream.sendall(b"." * 130000)
+    time.sleep(0.5)
+    answers = [client.receive() for _ in range(51)]
+    return is_ended(client.stream) and b'"request_seq":51' in answers[50] and bridge.status() == 0
+
+
+def end_under_load(bridge):
+    client = bridge.client()
+    client.send(request(1, "initialize", {"adapterID": "jdwp"}))
+    first = client.receive()
+    is_told = threading.Event()
+    load = threading.Thread(target=send_until, args=(client.stream, is_told, b"Content-Length: 16000000\r\n\r\n "))
+    load.start()
+    time.sleep(0.1)
+    bridge.target.sendall(b"no handshake")
+    time.sleep(0.2)
+    told = client.receive()
+    is_told.set()
+    load.join()
+    client.stream.shutdown(socket.SHUT_WR)
+    return [first, told] == [INITIALIZED, TERMINATED] and is_ended(client.stream) and bridge.status() == 4
+
+
+def last_command(bridge):
+    client = attached(bridge)
+    is_gone = threading.Event()
+    load = threading.Thread(target=send_until, args=(bridge.target, is_gone, b"\x03\0\0\0 "))
+    load.start()
+    client.close()
+    time.sleep(0.3)
+    is_gone.set()
+    load.join()
+    bridge.target.shutdown(socket.SHUT_WR)
+    return bridge.heard_by_target() == DISPOSE and bridge.status() == 1
+
+
+def attached(bridge):
+    """A client that has attached to the target."""
+    client = bridge.client()
+    client.send(request(1, "initialize", {"adapterID": "jdwp"}))
+    client.receive()
+    client.send(request(2, "attach", ATTACH))
+    bridge.target.sendall(receive(bridge.target, len(HANDSHAKE)))
+    for _ in range(3):
+        reply_to_one(bridge.target, 1)
+    for _ in range(2):
+        client.receive()
+    return client
+
+
+def send_until(stream, is_over, piece):
+    """Sends the piece, and its last byte again and again, until it is over or the link is gone."""
+    try:
+        stream.sendall(piece)
+        while not is_over.is_set():
+            stream.sendall(piece[-1:] * 10000)
+            time.sleep(0.001)
+    except OSError:
+        pass
+
+
+def is_ended(stream):
+    """Whether a stream ends here, and isn't reset."""
+    return stream.recv(1) == b""
+
+
+CASES = (late_client, probed_port, reset_by_target, byte_by_byte, more_behind_disconnect, end_under_load, last_command)
 
 
 def main():
     program = sys.argv[1] if len(sys.argv) > 1 else built()
     broken = 0
-    for case in (late_client, probed_port, reset_by_target, byte_by_byte):
-        with Bridge(program) as bridge:
-            try:
-                kept = case(bridge) and bridge.status() == 0
-            except (OSError, EOFError) as trouble:
-                print(trouble)
-                kept = False
+    for case in CASES:
+        try:
+            with Bridge(program) as bridge:
+                kept = case(bridge)
+        except (OSError, EOFError, subprocess.SubprocessError) as trouble:
+            print(trouble)
+            kept = False
         print(case.__name__, "kept" if kept else "BROKEN")
         broken += not kept
     return 1 if broken else 0

@@ -47,15 +47,20 @@ def answer(numbers, body, count):
     return b""
 
 
+def reply_to_one(stream, count):
+    """Replies to the next command."""
+    length, number, _, group, command = struct.unpack(">IIBBB", receive(stream, 11))
+    body = answer((group, command), receive(stream, length - 11), count)
+    stream.sendall(struct.pack(">IIBH", 11 + len(body), number, 0x80, 0) + body)
+
+
 def serve_target(stream, count):
     """Answers each command until the link ends."""
     stream.setsockopt(socket.IPPROTO_TCP, socket.TCP_NODELAY, 1)
     try:
         stream.sendall(receive(stream, len(HANDSHAKE)))
         while True:
-            length, number, _, group, command = struct.unpack(">IIBBB", receive(stream, 11))
-            body = answer((group, command), receive(stream, length - 11), count)
-            stream.sendall(struct.pack(">IIBH", 11 + len(body), number, 0x80, 0) + body)
+            reply_to_one(stream, count)
     except (EOFError, OSError):
         pass
 

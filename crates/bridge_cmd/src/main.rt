@@ -44,5 +44,7 @@ fn run_on(rt: HostRuntime, words: &[Word]) -> io::Result<u8>
     let mut wires = TcpWires::new(rt.clone()?);
     let mut files = DiskFiles::new(rt.clone()?);
     let mut out = StdOutput::new(rt.clone()?);
-    Ok(bridge_main(rt.alloc(), words, &mut wires, &mut files, &mut out))
+    let status = bridge_main(rt.alloc(), words, &mut wires, &mut files, &mut out);
+    wires.close();
+    Ok(status)
 }

@@ -1,4 +1,4 @@
 pub mod DiskFiles
-pub mod Polled
 pub mod StdOutput
+pub mod Streams
 pub mod Tally

@@ -1,20 +1,18 @@
 ghost use Rattle.std.specs.Prelude.{◌≡◌, ◌<◌, false, [], length, IfOk, IfSome};
 ghost use Rattle.wire_core.specs.Links.{IsFresh, IsPossible};
-ghost use Rattle.wire_edge.specs.Polled.{IsWithinPoll, heard_of};
+ghost use Rattle.wire_edge.specs.Streams.{heard_of};
 ghost use Rattle.wire_edge.specs.Tally.{told_by};
 
-use std::io::{self, ErrorKind, Read, Write};
-use std::net::{Net, OpenListener, OpenStream, TcpListener, TcpStream};
-use std::thread;
+use crate::awaiting::accept;
+use crate::farewell::part;
+use crate::streams::{Polled, Sent, is_alive, pause, poll, ready, send_all};
+use std::io::{self, ErrorKind};
+use std::net::{Net, TcpListener, TcpStream};
 use std::time::{Clock, Duration, Instant};
 use wire_core::{Happening, Links, Names, OpenFailed, SendFailed, Side, Text, Wires, raise};
 
 // How often both sides are asked again at once, after something came, before a call sleeps.
 const POLLS_AFTER_TRAFFIC: u32 = 20_000;
-
-// How long a call sleeps where both sides are silent, in microseconds. With what the system adds, a wait in vain
-// takes 2 ms.
-const SLEEP_MICROS: u64 = 1900;
 
 // How old a link to the target may be when the first bytes go out on it, in milliseconds: a Java machine drops one
 // that has not shaken hands within two seconds.
@@ -51,23 +49,6 @@ struct Tally {
     asked: Option<Names>,
 }
 
-/// What a side that was asked had: some bytes, its end, a fault, or nothing.
-#[derive(Clone, Copy, Debug, PartialEq, Eq)]
-enum Polled {
-    Bytes(usize),
-    Ended,
-    Broken,
-    Nothing,
-}
-
-/// How a send ended: all bytes went out, the peer has closed the stream, or the stream is broken.
-#[derive(Clone, Copy, Debug, PartialEq, Eq)]
-enum Sent {
-    Whole,
-    Closed,
-    Broken,
-}
-
 impl<R: Net + Clock + Drop> TcpWires<R> {
     /// Wires that are closed until `connect` opens them.
     pub fn new(rt: R) -> TcpWires<R>
@@ -91,6 +72,16 @@ impl<R: Net + Clock + Drop> TcpWires<R> {
         }
     }
 
+    /// Closes both links, so that what was sent arrives. The write side of each is shut, and what its peer still sends is
+    /// read away until the peer closes it too, for at most two seconds and 64 MiB a side.
+    pub fn close(self) {
+        let links = self.tally.links;
+        let is_target_due = links.is_open(Side::Target) && !self.is_fresh;
+        let client = self.client.filter(|_| links.is_open(Side::Client));
+        let target = self.target.filter(|_| is_target_due);
+        part(&self.rt, client, target);
+    }
+
     // Opens both streams, the target's first.
     fn open(&mut self, listen: &Text, target: &Text) -> io::Result<()>
         ensures { self.new.tally ≡ self.old.tally }
@@ -110,7 +101,7 @@ impl<R: Net + Clock + Drop> TcpWires<R> {
         let Ok(age) = dialled.elapsed(&self.rt) else {
             return false;
         };
-        age < Duration::from_millis(FRESH_MILLIS) && is_alive(&self.target)
+        age < Duration::from_millis(FRESH_MILLIS) && self.target.as_ref().is_some_and(is_alive)
     }
 
     // Dials the target again where the link, on which nothing went so far, is gone or old.
@@ -130,6 +121,16 @@ impl<R: Net + Clock + Drop> TcpWires<R> {
         Ok(())
     }
 
+    // Sends to the client.
+    fn send_client(&mut self, bytes: &[u8]) -> bool
+        ensures { self.new.tally ≡ self.old.tally }
+    {
+        let Some(stream) = &mut self.client else {
+            return false;
+        };
+        send_all(&self.rt, stream, bytes) == Sent::Whole
+    }
+
     // Sends to the target, by a new link where nothing was sent yet and the old one is gone.
     fn send_target(&mut self, bytes: &[u8]) -> bool
         ensures { self.new.tally ≡ self.old.tally }
@@ -138,7 +139,10 @@ impl<R: Net + Clock + Drop> TcpWires<R> {
             return false;
         }
         self.is_fresh = false;
-        match send_all(&self.rt, &mut self.target, bytes) {
+        let Some(stream) = &mut self.target else {
+            return false;
+        };
+        match send_all(&self.rt, stream, bytes) {
             // The end of the target's stream is read next.
             Sent::Whole | Sent::Closed => true,
             Sent::Broken => false,
@@ -154,9 +158,9 @@ impl<R: Net + Clock + Drop> TcpWires<R> {
             return None;
         }
         match side {
-            Side::Client => heard(Side::Client, poll(&mut self.client, buffer)),
+            Side::Client => heard(Side::Client, poll(self.client.as_mut()?, buffer)),
             Side::Target => {
-                let polled = poll(&mut self.target, buffer);
+                let polled = poll(self.target.as_mut()?, buffer);
                 if self.is_fresh && matches!(polled, Polled::Ended | Polled::Broken) {
                     self.target = None;
                     return None;
@@ -192,106 +196,15 @@ impl<R: Net + Clock + Drop> TcpWires<R> {
                 return happening;
             }
         }
-        thread::sleep(&self.rt, Duration::from_micros(SLEEP_MICROS));
+        pause(&self.rt);
         self.polls = 1;
         Happening::Quiet
     }
 }
 
-// A stream to this address that answers at once, and sends what it is given at once.
+// A stream to this address.
 fn dial<R: Net>(rt: &R, address: &Text) -> io::Result<R::Stream> {
     ready(TcpStream::connect(rt, address.as_str())?)
-}
-
-fn ready<S: OpenStream + Drop>(stream: S) -> io::Result<S> {
-    stream.set_nodelay(true)?;
-    stream.set_nonblocking(true)?;
-    Ok(stream)
-}
-
-// The first connection that sends a byte. Two may be silent at a time; a third waits at the listener meanwhile.
-fn accept<L: OpenListener>(clock: &impl Clock, listener: &L) -> io::Result<L::Stream>
-where
-    L::Stream: OpenStream,
-{
-    listener.set_nonblocking(true)?;
-    let mut older = None;
-    let mut newer = None;
-    for _ in 0..u64::MAX {
-        if older.is_none() {
-            older = newer.take();
-        }
-        if newer.is_none() {
-            newer = connection(listener)?;
-        }
-        if let Some(stream) = speaker(&mut older) {
-            return Ok(stream);
-        }
-        if let Some(stream) = speaker(&mut newer) {
-            return Ok(stream);
-        }
-        thread::sleep(clock, Duration::from_micros(SLEEP_MICROS));
-    }
-    Err(io::Error::from(ErrorKind::NotConnected))
-}
-
-// A connection that waits at the listener, if there is one.
-fn connection<L: OpenListener>(listener: &L) -> io::Result<Option<L::Stream>>
-where
-    L::Stream: OpenStream,
-{
-    match listener.accept() {
-        Ok((stream, _)) => Ok(ready(stream).ok()),
-        Err(e) => {
-            if is_wait(e.kind()) || is_closed(e.kind()) {
-                Ok(None)
-            } else {
-                Err(e)
-            }
-        }
-    }
-}
-
-// The stream, where it has sent a byte; one that has ended is let go.
-fn speaker<S: OpenStream + Drop>(slot: &mut Option<S>) -> Option<S> {
-    let stream = slot.take()?;
-    match stream.peek(&mut [0]) {
-        Ok(1) => Some(stream),
-        Ok(_) => None,
-        Err(e) => {
-            if is_wait(e.kind()) {
-                *slot = Some(stream);
-            }
-            None
-        }
-    }
-}
-
-// Whether a stream is there that has not ended.
-fn is_alive<S: OpenStream>(stream: &Option<S>) -> bool {
-    let Some(stream) = stream else {
-        return false;
-    };
-    match stream.peek(&mut [0]) {
-        Ok(n) => n > 0,
-        Err(e) => is_wait(e.kind()),
-    }
-}
-
-// Whether an error says that a call would have to wait, or was disturbed.
-fn is_wait(kind: ErrorKind) -> bool {
-    matches!(
-        kind,
-        ErrorKind::WouldBlock | ErrorKind::TimedOut | ErrorKind::Interrupted
-    )
-}
-
-// Whether an error says that the peer closed the stream.
-fn is_closed(kind: ErrorKind) -> bool {
-    matches!(
-        kind,
-        ErrorKind::ConnectionReset | ErrorKind::ConnectionAborted | ErrorKind::BrokenPipe
-    )
 }
 
 // What comes of a side that was asked.
@@ -304,55 +217,6 @@ fn heard(side: Side, polled: Polled) -> Option<Happening>
         Polled::Broken => Some(Happening::Failed(side)),
         Polled::Nothing => None,
     }
-}
-
-// Asks a stream for bytes.
-fn poll<S: Read>(stream: &mut Option<S>, buffer: &mut [u8]) -> Polled
-    ensures { IsWithinPoll (length buffer.old) result }
-{
-    let Some(stream) = stream else {
-        return Polled::Nothing;
-    };
-    match stream.read(buffer) {
-        Ok(0) => Polled::Ended,
-        Ok(n) => Polled::Bytes(n),
-        Err(e) => {
-            if is_wait(e.kind()) {
-                Polled::Nothing
-            } else if is_closed(e.kind()) {
-                Polled::Ended
-            } else {
-                Polled::Broken
-            }
-        }
-    }
-}
-
-// Sends all bytes, in one write where the system takes them.
-fn send_all<S: Write>(clock: &impl Clock, stream: &mut Option<S>, bytes: &[u8]) -> Sent {
-    let Some(stream) = stream else {
-        return Sent::Broken;
-    };
-    let mut rest = bytes;
-    for _ in 0..u64::MAX {
-        match stream.write(rest) {
-            Ok(0) => return Sent::Broken,
-            Ok(n) => rest = &rest[n..],
-            Err(e) => {
-                if is_closed(e.kind()) {
-                    return Sent::Closed;
-                }
-                if !is_wait(e.kind()) {
-                    return Sent::Broken;
-                }
-                thread::sleep(clock, Duration::from_micros(SLEEP_MICROS));
-            }
-        }
-        if rest.is_empty() {
-            return Sent::Whole;
-        }
-    }
-    Sent::Broken
 }
 
 impl<R: Net + Clock + Drop> Wires for TcpWires<R> {
@@ -381,7 +245,7 @@ impl<R: Net + Clock + Drop> Wires for TcpWires<R> {
 
     fn send(&mut self, side: Side, bytes: &[u8]) -> Result<(), SendFailed> {
         let sent = match side {
-            Side::Client => send_all(&self.rt, &mut self.client, bytes) == Sent::Whole,
+            Side::Client => self.send_client(bytes),
             Side::Target => self.send_target(bytes),
         };
         if sent {
@@ -396,7 +260,8 @@ impl<R: Net + Clock + Drop> Wires for TcpWires<R> {
 mod tests {
     use super::*;
     use std::alloc::{AllocError, Global};
-    use std::net::SocketAddr;
+    use std::io::{Read, Write};
+    use std::net::{Shutdown, SocketAddr};
     use std::process::Abort;
     use std::test::Fail;
 
@@ -524,6 +389,21 @@ mod tests {
             hear(&rt, &mut wires, &mut buffer),
             Happening::Shut(Side::Client)
         );
+        Ok(())
+    }
+
+    #[test]
+    fn what_was_sent_arrives(rt: HostRuntime) -> Result<(), Fail> {
+        let listener = TcpListener::bind(&rt, "127.0.0.1:0")?;
+        let (mut wires, mut editor) = wired(&rt, &listener)?;
+        send(&rt, &mut wires, Side::Client, b"answer");
+
+        // Three bytes of the editor are not read before the end, and the link isn't reset for that.
+        editor.shutdown(Shutdown::Write)?;
+        wires.close();
+        let mut heard = Vec::new(rt.alloc());
+        editor.read_to_end(&mut heard)?;
+        assert_eq!(rt; heard.as_slice(), b"answer".as_slice());
         Ok(())
     }
 

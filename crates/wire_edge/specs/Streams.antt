@@ -1,0 +1,29 @@
+-- What one call makes of the bytes that a stream has left, or holds, where these are known.
+use Rattle.std.specs.Prelude.{ℕ, ◌≡◌, ◌<◌, ◌≤◌, ◌+◌, List, length, take, Option, Some, None}
+use Rattle.std.specs.Io.KnownBytes.{Consumes, Keeps}
+use Rattle.wire_core.specs.declared.outside.Side.{Side}
+use Rattle.wire_core.specs.declared.outside.Happening.{Happening}
+use Rattle.wire_core.specs.declared.outside.Happening.TheVariants.{Bytes as came, Shut, Failed}
+use Rattle.wire_edge.specs.declared.streams.Polled.{Polled}
+use Rattle.wire_edge.specs.declared.streams.Polled.TheVariants.{Bytes, Ended, Broken, Nothing}
+
+-- what asking makes of the bytes that are left: those at the front of the buffer are all that were read
+abbrev pub Polls : Option (List ℕ) → Option (List ℕ) → List ℕ → Polled → Type 0
+Polls old new buffer (Bytes n) = (0 < n) × (n ≤ length buffer) × Consumes old new (take n buffer)
+Polls old new buffer Ended = Keeps old new
+Polls old new buffer Broken = Keeps old new
+Polls old new buffer Nothing = Keeps old new
+
+-- what comes of a side that was asked, where it had something
+abbrev pub heard_of : Side → Polled → Option Happening
+heard_of side (Bytes n) = Some (came side n)
+heard_of side Ended = Some (Shut side)
+heard_of side Broken = Some (Failed side)
+heard_of side Nothing = None
+
+-- the bytes that came took their room
+abbrev pub TakesRoom : ℕ → ℕ → Polled → Type 0
+TakesRoom old new (Bytes n) = new + n ≡ old
+TakesRoom old new Ended = new ≡ old
+TakesRoom old new Broken = new ≡ old
+TakesRoom old new Nothing = new ≡ old
