@@ -1,5 +1,5 @@
 #!/usr/bin/env python3
-"""The program over links as they come: each case runs it, and is said to be kept or broken.
+"""The program over links as they come, and on words that aren't its own: each case runs it, and is kept or broken.
 
 - A client that comes 3 s after the program, and a target that dropped its link, on which nothing went, after 2 s.
 - A connection that probes the client's port and closes without a byte, before the client comes.
@@ -8,6 +8,7 @@
 - Answers to a client that sent more behind its `disconnect`, and reads late: all of them come.
 - The end of the session at a fault of the target, while the client goes on sending: the client is told.
 - The last command to a target that goes on sending: it comes, and the link ends without a reset.
+- Words that aren't UTF-8, and a word too many: the usage line.
 
 usage: examples/hard_links.py [PROGRAM]
 """
@@ -18,6 +19,7 @@ import sys
 import threading
 import time
 
+from building import PATIENCE, USAGE
 from many_threads import ATTACH, HANDSHAKE, receive, reply_to_one
 from over_tcp import INITIALIZED, DISCONNECTED, Bridge, built, dial, request
 
@@ -133,16 +135,36 @@ def is_ended(stream):
     return stream.recv(1) == b""
 
 
-CASES = (late_client, probed_port, reset_by_target, byte_by_byte, more_behind_disconnect, end_under_load, last_command)
+def words_of_other_bytes(program):
+    return is_usage([program, b"serve", b"--listen", b"127.0.0.1:\xff", b"--target", b"127.0.0.1:1"])
+
+
+def one_word_more(program):
+    return is_usage([program, "serve", "--listen", "127.0.0.1:0", "--target", "127.0.0.1:1", "more"])
+
+
+def is_usage(command):
+    ran = subprocess.run(command, stdin=subprocess.DEVNULL, stdout=subprocess.PIPE, stderr=subprocess.STDOUT,
+                         timeout=PATIENCE, check=False)
+    return ran.returncode == 2 and ran.stdout == USAGE.encode()
+
+
+LINKS = (late_client, probed_port, reset_by_target, byte_by_byte, more_behind_disconnect, end_under_load, last_command)
+WORDS = (words_of_other_bytes, one_word_more)
+
+
+def over_links(case, program):
+    with Bridge(program) as bridge:
+        return case(bridge)
 
 
 def main():
     program = sys.argv[1] if len(sys.argv) > 1 else built()
     broken = 0
-    for case in CASES:
+    runs = [(case, over_links, (case, program)) for case in LINKS] + [(case, case, (program,)) for case in WORDS]
+    for case, run, given in runs:
         try:
-            with Bridge(program) as bridge:
-                kept = case(bridge)
+            kept = run(*given)
         except (OSError, EOFError, subprocess.SubprocessError) as trouble:
             print(trouble)
             kept = False

@@ -12,6 +12,7 @@ mod tests;
 mod words;
 
 use command::bridge_main;
+use std::io::ErrorKind;
 use std::process::ExitCode;
 use std::{env, io};
 use wire_core::{List, Text, Word};
@@ -27,11 +28,21 @@ fn main(rt: HostRuntime) -> ExitCode {
     }
 }
 
+// Words that are not all UTF-8 are none of the program's, and are refused as no words are.
 fn run(rt: HostRuntime) -> io::Result<u8> {
     let mut words = List::new(rt.alloc());
-    for word in env::args(&rt)?.skip(1) {
-        if words.push(Text::from_string(word)).is_err() {
-            return Ok(OUT_OF_MEMORY);
+    match env::args(&rt) {
+        Ok(texts) => {
+            for word in texts.skip(1) {
+                if words.push(Text::from_string(word)).is_err() {
+                    return Ok(OUT_OF_MEMORY);
+                }
+            }
+        }
+        Err(e) => {
+            if e.kind() != ErrorKind::InvalidData {
+                return Err(e);
+            }
         }
     }
     run_on(rt, words.as_slice())
