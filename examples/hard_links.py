@@ -9,9 +9,14 @@
 - The end of the session at a fault of the target, while the client goes on sending: the client is told.
 - The last command to a target that goes on sending: it comes, and the link ends without a reset.
 - Words that aren't UTF-8, and a word too many: the usage line.
+- A standard stream that is closed: nothing is opened.
+- The program in the background of a terminal: it isn't stopped.
 
 usage: examples/hard_links.py [PROGRAM]
 """
+import os
+import pty
+import signal
 import socket
 import struct
 import subprocess
@@ -143,6 +148,58 @@ def one_word_more(program):
     return is_usage([program, "serve", "--listen", "127.0.0.1:0", "--target", "127.0.0.1:1", "more"])
 
 
+def closed_input(program):
+    return opens_nothing(program, 0)
+
+
+def closed_output(program):
+    return opens_nothing(program, 1)
+
+
+def closed_error(program):
+    return opens_nothing(program, 2)
+
+
+def opens_nothing(program, closed):
+    """Whether the program ends with status 9, and no link, where this descriptor is closed."""
+    with socket.create_server(("127.0.0.1", 0)) as target:
+        command = 'exec "$0" serve --listen 127.0.0.1:0 --target 127.0.0.1:%d %d>&-' % (target.getsockname()[1], closed)
+        ran = subprocess.run(["sh", "-c", command, program], stdin=subprocess.DEVNULL, stdout=subprocess.DEVNULL,
+                             timeout=PATIENCE, check=False)
+        target.settimeout(0)
+        try:
+            target.accept()
+        except BlockingIOError:
+            return ran.returncode == 9
+    return False
+
+
+def in_the_background(program):
+    leader, terminal = pty.fork()
+    if leader == 0:
+        lead(program)
+    heard = b""
+    try:
+        while piece := os.read(terminal, 1000):
+            heard += piece
+    except OSError:
+        pass
+    os.waitpid(leader, 0)
+    return heard == b"ended 7 not opened\r\n"
+
+
+def lead(program):
+    """Runs the program as a shell does in the background, and ends this process when it has ended or was stopped."""
+    job = os.fork()
+    if job == 0:
+        os.setpgid(0, 0)
+        os.execv(program, [program, "serve", "--listen", "127.0.0.1:0", "--target", "127.0.0.1:1"])
+    _, status = os.waitpid(job, os.WUNTRACED)
+    if os.WIFSTOPPED(status):
+        os.kill(job, signal.SIGKILL)
+    os._exit(0)
+
+
 def is_usage(command):
     ran = subprocess.run(command, stdin=subprocess.DEVNULL, stdout=subprocess.PIPE, stderr=subprocess.STDOUT,
                          timeout=PATIENCE, check=False)
@@ -150,7 +207,8 @@ def is_usage(command):
 
 
 LINKS = (late_client, probed_port, reset_by_target, byte_by_byte, more_behind_disconnect, end_under_load, last_command)
-WORDS = (words_of_other_bytes, one_word_more)
+ALONE = (words_of_other_bytes, one_word_more, closed_input, closed_output, closed_error,
+         in_the_background)
 
 
 def over_links(case, program):
@@ -161,7 +219,7 @@ def over_links(case, program):
 def main():
     program = sys.argv[1] if len(sys.argv) > 1 else built()
     broken = 0
-    runs = [(case, over_links, (case, program)) for case in LINKS] + [(case, case, (program,)) for case in WORDS]
+    runs = [(case, over_links, (case, program)) for case in LINKS] + [(case, case, (program,)) for case in ALONE]
     for case, run, given in runs:
         try:
             kept = run(*given)

@@ -7,7 +7,7 @@ use Rattle.bridge_cmd.specs.declared.printing.Outcome.TheVariants.{Misused, NotO
 use Rattle.bridge_cmd.specs.declared.words.Addresses.{Addresses}
 use Rattle.bridge_serve.specs.Serving.{Keeps, Blames}
 use Rattle.wire_core.specs.Output.{Printed}
-use Rattle.wire_core.specs.Outside.{Outside, Connects, FailsToConnect}
+use Rattle.wire_core.specs.Outside.{Outside, Connects, FailsToConnect, Rose}
 use Rattle.world_model.specs.Session.{IsSession}
 use Rattle.world_model.specs.declared.ending.Ending.{Ending}
 use Rattle.world_model.specs.declared.ending.Ending.TheVariants.{NoMemory}
@@ -41,11 +41,9 @@ pub record Runs (words : List (List ℕ)) (old new : Outside) (before after : Pr
   pub does : Does words old new outcome
   pub prints : Prints before after (line_of outcome) (status_of outcome) status
 
--- the status of a run on these words, over wires that were not used before
-pub record IsRun (words : List (List ℕ)) (status : ℕ) : Type 0 where
-  pub old : Outside
-  pub new : Outside
-  pub before : Printed
-  pub after : Printed
-  pub unused : old.asked ≡ []
-  pub runs : Runs words old new before after status
+-- The status of a run on these words: over wires that were not used before; or not begun, since a standard stream was
+-- found closed, which counts as a fault.
+pub data IsRun : List (List ℕ) → ℕ → Type 0 where
+  begun : {words : List (List ℕ)} {old new : Outside} {before after : Printed} {status : ℕ} → old.asked ≡ []
+      → Runs words old new before after status → IsRun words status
+  not_begun : {words : List (List ℕ)} {before after : ℕ} → Rose before after → IsRun words 9

@@ -16,9 +16,11 @@ use std::io::ErrorKind;
 use std::process::ExitCode;
 use std::{env, io};
 use wire_core::{List, Text, Word};
-use wire_edge::{DiskFiles, StdOutput, TcpWires};
+use wire_edge::{DiskFiles, StdOutput, StdStreams, TcpWires};
 
-// The status where memory runs out before the words are there.
+// The status where nothing can be printed, and the one where memory runs out before the words are there.
+const NOT_PRINTED: u8 = 9;
+
 const OUT_OF_MEMORY: u8 = 70;
 
 fn main(rt: HostRuntime) -> ExitCode {
@@ -48,10 +50,15 @@ fn run(rt: HostRuntime) -> io::Result<u8> {
     run_on(rt, words.as_slice())
 }
 
-// Runs the program on these words over the network, the disk and the standard output.
+// Runs the program on these words over the network, the disk and the standard output. Where a standard stream is closed
+// nothing is done: what is opened first would take its number, and be written to in its place.
 fn run_on(rt: HostRuntime, words: &[Word]) -> io::Result<u8>
     ensures { IfOk result (IsRun words.now) }
 {
+    let mut streams = StdStreams::new(rt.stdin(), rt.stdout(), rt.stderr());
+    if streams.try_all().is_err() {
+        return Ok(NOT_PRINTED);
+    }
     let mut wires = TcpWires::new(rt.clone()?);
     let mut files = DiskFiles::new(rt.clone()?);
     let mut out = StdOutput::new(rt.clone()?);

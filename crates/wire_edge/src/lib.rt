@@ -5,9 +5,11 @@ mod awaiting;
 mod disk_files;
 mod farewell;
 mod std_output;
+mod std_streams;
 mod streams;
 mod tcp_wires;
 
 pub use disk_files::DiskFiles;
-pub use std_output::StdOutput;
+pub use std_output::{StdOutput, StdWriter, WriterOutput};
+pub use std_streams::{StdStreams, StreamClosed};
 pub use tcp_wires::TcpWires;
