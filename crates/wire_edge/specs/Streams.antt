@@ -3,7 +3,8 @@ use Rattle.std.specs.Prelude.{ℕ, ◌≡◌, ◌<◌, ◌≤◌, ◌+◌, List,
 use Rattle.std.specs.Io.KnownBytes.{Consumes, Keeps}
 use Rattle.wire_core.specs.declared.outside.Side.{Side}
 use Rattle.wire_core.specs.declared.outside.Happening.{Happening}
-use Rattle.wire_core.specs.declared.outside.Happening.TheVariants.{Bytes as came, Shut, Failed}
+use Rattle.wire_core.specs.declared.outside.Happening.TheVariants.{Bytes as came, Shut, Failed, Quiet}
+use Rattle.wire_core.specs.Outside.{other_side}
 use Rattle.wire_edge.specs.declared.streams.Polled.{Polled}
 use Rattle.wire_edge.specs.declared.streams.Polled.TheVariants.{Bytes, Ended, Broken, Nothing}
 
@@ -20,6 +21,20 @@ heard_of side (Bytes n) = Some (came side n)
 heard_of side Ended = Some (Shut side)
 heard_of side Broken = Some (Failed side)
 heard_of side Nothing = None
+
+-- something came of this side
+abbrev pub IsOf : Side → Happening → Type 0
+IsOf side (came s n) = s ≡ side
+IsOf side (Shut s) = s ≡ side
+IsOf side (Failed s) = s ≡ side
+IsOf side Quiet = ⊥
+
+-- this side is asked next: the one that something did not come from
+abbrev pub GivesTurn : Side → Happening → Type 0
+GivesTurn turn (came s n) = s ≡ other_side turn
+GivesTurn turn (Shut s) = s ≡ other_side turn
+GivesTurn turn (Failed s) = s ≡ other_side turn
+GivesTurn turn Quiet = Unit {0}
 
 -- the bytes that came took their room
 abbrev pub TakesRoom : ℕ → ℕ → Polled → Type 0

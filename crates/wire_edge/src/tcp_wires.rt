@@ -1,18 +1,16 @@
 ghost use Rattle.std.specs.Prelude.{◌≡◌, ◌<◌, false, [], length, IfOk, IfSome};
 ghost use Rattle.wire_core.specs.Links.{IsFresh, IsPossible};
-ghost use Rattle.wire_edge.specs.Streams.{heard_of};
+ghost use Rattle.wire_core.specs.Outside.{other_side};
+ghost use Rattle.wire_edge.specs.Streams.{GivesTurn, IsOf, heard_of};
 ghost use Rattle.wire_edge.specs.Tally.{told_by};
 
 use crate::awaiting::accept;
 use crate::farewell::part;
 use crate::streams::{Polled, Sent, is_alive, pause, poll, ready, send_all};
 use std::io::{self, ErrorKind};
-use std::net::{Net, TcpListener, TcpStream};
+use std::net::{Net, OpenStream, TcpListener, TcpStream};
 use std::time::{Clock, Duration, Instant};
 use wire_core::{Happening, Links, Names, OpenFailed, SendFailed, Side, Text, Wires, raise};
-
-// How often both sides are asked again at once, after something came, before a call sleeps.
-const POLLS_AFTER_TRAFFIC: u32 = 20_000;
 
 // How old a link to the target may be when the first bytes go out on it, in milliseconds: a Java machine drops one
 // that has not shaken hands within two seconds.
@@ -20,7 +18,9 @@ const FRESH_MILLIS: u64 = 1500;
 
 /// Wires over two TCP streams of the system. They tell no log, and a count stands still at its last value.
 ///
-/// - `next` asks both sides without blocking, and sleeps only where both are silent.
+/// - `next` asks both sides without blocking, the one first from which nothing came last. Where both are silent it waits
+///   for a moment at the side from which something is due: at the target's while something was sent to it last, else at
+///   the client's.
 /// - A reset by the peer is the end of its stream. What is sent to a target that has ended counts as sent.
 /// - A link to the target on which nothing went yet doesn't end: where the target dropped it, or it is older than
 ///   1.5 seconds, the first send dials again.
@@ -35,10 +35,10 @@ pub struct TcpWires<R: Net> {
     dialled: Option<Instant>,
     // nothing went to the target or came from it
     is_fresh: bool,
-    // the side that is asked first
+    // the side that is asked next
     turn: Side,
-    // how often both sides are asked before a call sleeps
-    polls: u32,
+    // the side from which something is due
+    due: Side,
 }
 
 /// What the wires tell of themselves.
@@ -68,7 +68,7 @@ impl<R: Net + Clock + Drop> TcpWires<R> {
             dialled: None,
             is_fresh: true,
             turn: Side::Client,
-            polls: 1,
+            due: Side::Client,
         }
     }
 
@@ -153,6 +153,8 @@ impl<R: Net + Clock + Drop> TcpWires<R> {
     fn ask(&mut self, side: Side, buffer: &mut [u8]) -> Option<Happening>
         ensures tally { self.new.tally ≡ self.old.tally }
         ensures possible { IfSome result (IsPossible self.old.tally.links (length buffer.old)) }
+        ensures side { IfSome result (IsOf side) }
+        ensures turn { self.new.turn ≡ self.old.turn }
     {
         if !self.tally.links.is_open(side) {
             return None;
@@ -171,34 +173,82 @@ impl<R: Net + Clock + Drop> TcpWires<R> {
         }
     }
 
-    // Asks both sides once.
+    // Asks the side whose turn it is, and gives the turn to the other.
+    fn ask_next(&mut self, buffer: &mut [u8]) -> Option<Happening>
+        ensures tally { self.new.tally ≡ self.old.tally }
+        ensures possible { IfSome result (IsPossible self.old.tally.links (length buffer.old)) }
+        ensures side { IfSome result (IsOf self.old.turn) }
+        ensures turn { self.new.turn ≡ other_side self.old.turn }
+    {
+        let side = self.turn;
+        self.turn = side.other();
+        self.ask(side, buffer)
+    }
+
+    // Asks both sides, each in its turn.
     fn ask_both(&mut self, buffer: &mut [u8]) -> Option<Happening>
         ensures tally { self.new.tally ≡ self.old.tally }
         ensures possible { IfSome result (IsPossible self.old.tally.links (length buffer.old)) }
+        ensures turn { IfSome result (IsOf (other_side self.new.turn)) }
     {
-        let first = self.turn;
-        let second = first.other();
-        self.turn = second;
-        match self.ask(first, buffer) {
+        match self.ask_next(buffer) {
             Some(happening) => Some(happening),
-            None => self.ask(second, buffer),
+            None => self.ask_next(buffer),
         }
     }
 
-    // What comes next; after a while of silence, nothing.
+    // The open side from which something is due.
+    fn due_side(&self) -> Side {
+        let links = self.tally.links;
+        if links.is_open(self.due) {
+            self.due
+        } else {
+            self.due.other()
+        }
+    }
+
+    // Lets reads of a side wait for a moment, or answer at once; false where this can't be had.
+    fn let_wait(&self, side: Side, waits: bool) -> bool {
+        let stream = match side {
+            Side::Client => &self.client,
+            Side::Target => &self.target,
+        };
+        match stream {
+            Some(stream) => stream.set_nonblocking(!waits).is_ok(),
+            None => false,
+        }
+    }
+
+    // Waits for a moment at the side from which something is due. The other side has the turn then.
+    fn ask_due(&mut self, buffer: &mut [u8]) -> Option<Happening>
+        ensures tally { self.new.tally ≡ self.old.tally }
+        ensures possible { IfSome result (IsPossible self.old.tally.links (length buffer.old)) }
+        ensures turn { IfSome result (IsOf (other_side self.new.turn)) }
+    {
+        let side = self.due_side();
+        self.turn = side.other();
+        if !self.let_wait(side, true) {
+            pause(&self.rt);
+            return None;
+        }
+        let heard = self.ask(side, buffer);
+        self.let_wait(side, false);
+        heard
+    }
+
+    // What comes next; after a moment of silence, nothing. The side that it doesn't come from is asked first afterwards.
     fn wait(&mut self, buffer: &mut [u8]) -> Happening
         ensures tally { self.new.tally ≡ self.old.tally }
         ensures possible { IsPossible self.old.tally.links (length buffer.old) result }
+        ensures turn { GivesTurn self.new.turn result }
     {
-        for _ in 0..self.polls {
-            if let Some(happening) = self.ask_both(buffer) {
-                self.polls = POLLS_AFTER_TRAFFIC;
-                return happening;
-            }
+        if let Some(happening) = self.ask_both(buffer) {
+            return happening;
         }
-        pause(&self.rt);
-        self.polls = 1;
-        Happening::Quiet
+        match self.ask_due(buffer) {
+            Some(happening) => happening,
+            None => Happening::Quiet,
+        }
     }
 }
 
@@ -249,6 +299,7 @@ impl<R: Net + Clock + Drop> Wires for TcpWires<R> {
             Side::Target => self.send_target(bytes),
         };
         if sent {
+            self.due = side;
             return Ok(());
         }
         self.tally.links = self.tally.links.after(Happening::Failed(side));
