@@ -3,6 +3,8 @@
 
 - A client that comes 3 s after the program, and a target that dropped its link, on which nothing went, after 2 s.
 - A connection that probes the client's port and closes without a byte, before the client comes.
+- Twenty connections that stay open and say nothing, before the client comes; and a client that speaks late, with
+  fifteen silent ones behind it.
 - A target that resets its link with bytes under way, which is its end: the client is told so.
 - Requests that come byte by byte.
 - Answers to a client that sent more behind its `disconnect`, and reads late: all of them come.
@@ -26,7 +28,7 @@ import time
 
 from building import PATIENCE, USAGE
 from many_threads import ATTACH, HANDSHAKE, receive, reply_to_one
-from over_tcp import INITIALIZED, DISCONNECTED, Bridge, built, dial, request
+from over_tcp import INITIALIZED, DISCONNECTED, Bridge, Client, built, dial, request
 
 TERMINATED = b'{"event":"terminated","seq":2,"type":"event"}'
 DISPOSE = struct.pack(">IIBBB", 11, 4, 0, 1, 6)
@@ -50,6 +52,24 @@ def probed_port(bridge):
     dial(bridge.port).close()
     time.sleep(0.1)
     return two_requests(bridge.client()) and bridge.status() == 0
+
+
+def silent_connections(bridge):
+    silent = dialled(bridge.port, 20)
+    time.sleep(0.1)
+    kept = two_requests(bridge.client()) and bridge.status() == 0
+    return kept and len(silent) == 20
+
+
+def late_speaker(bridge):
+    client, *silent = dialled(bridge.port, 16)
+    time.sleep(0.1)
+    return two_requests(Client(client)) and bridge.status() == 0 and len(silent) == 15
+
+
+def dialled(port, count):
+    """So many connections, one after the other."""
+    return [dial(port) for _ in range(count)]
 
 
 def reset_by_target(bridge):
@@ -206,7 +226,8 @@ def is_usage(command):
     return ran.returncode == 2 and ran.stdout == USAGE.encode()
 
 
-LINKS = (late_client, probed_port, reset_by_target, byte_by_byte, more_behind_disconnect, end_under_load, last_command)
+LINKS = (late_client, probed_port, silent_connections, late_speaker, reset_by_target, byte_by_byte,
+         more_behind_disconnect, end_under_load, last_command)
 ALONE = (words_of_other_bytes, one_word_more, closed_input, closed_output, closed_error,
          in_the_background)
 

@@ -49,7 +49,7 @@ struct Tally {
     asked: Option<Names>,
 }
 
-impl<R: Net + Clock + Drop> TcpWires<R> {
+impl<R: Net + Clock + Alloc + Drop> TcpWires<R> {
     /// Wires that are closed until `connect` opens them.
     pub fn new(rt: R) -> TcpWires<R>
         ensures links { IsFresh result.tally.links false }
@@ -89,7 +89,7 @@ impl<R: Net + Clock + Drop> TcpWires<R> {
         self.dialled = Instant::now(&self.rt).ok();
         self.target = Some(dial(&self.rt, target)?);
         let listener = TcpListener::bind(&self.rt, listen.as_str())?;
-        self.client = Some(accept(&self.rt, &listener)?);
+        self.client = Some(accept(self.rt.alloc(), &self.rt, &listener)?);
         Ok(())
     }
 
@@ -269,7 +269,7 @@ fn heard(side: Side, polled: Polled) -> Option<Happening>
     }
 }
 
-impl<R: Net + Clock + Drop> Wires for TcpWires<R> {
+impl<R: Net + Clock + Alloc + Drop> Wires for TcpWires<R> {
     ghost outside = { λ w. told_by w.tally };
 
     fn connect(&mut self, listen: Text, target: Text) -> Result<(), OpenFailed> {
@@ -319,7 +319,7 @@ mod tests {
     type Wired<'a> = TcpWires<&'a HostRuntime>;
 
     // Wires over these streams, opened just now.
-    fn over<R: Net + Clock + Drop>(
+    fn over<R: Net + Clock + Alloc + Drop>(
         rt: R,
         names: Names,
         client: R::Stream,
@@ -349,7 +349,7 @@ mod tests {
         let _silent = TcpStream::connect(rt, address)?;
         let mut editor = TcpStream::connect(rt, address)?;
         editor.write_all(b"abc")?;
-        let stream = accept(rt, listener)?;
+        let stream = accept(rt.alloc(), rt, listener)?;
         listener.set_nonblocking(false)?;
         Ok((stream, editor))
     }
@@ -478,6 +478,14 @@ mod tests {
 
         fn connect(&self, address: SocketAddr) -> io::Result<TcpStream> {
             TcpStream::connect(self.rt, address)
+        }
+    }
+
+    impl Alloc for Awaited<'_> {
+        type A = Global;
+
+        fn alloc(&self) -> Global {
+            self.rt.alloc()
         }
     }
 
