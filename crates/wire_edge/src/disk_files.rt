@@ -1,5 +1,5 @@
-ghost use Rattle.std.specs.Prelude.{◌≡◌, []};
-ghost use Rattle.wire_edge.specs.DiskFiles.{untold};
+ghost use Rattle.std.specs.Prelude.{◌≡◌, [], IfOk};
+ghost use Rattle.wire_edge.specs.DiskFiles.{IsContent, untold};
 
 use std::alloc::Global;
 use std::fs::{self, File};
@@ -33,34 +33,44 @@ impl<R: rt::Files + Drop> DiskFiles<R> {
     }
 }
 
-// The first bytes of a file, one more than the limit at most.
-fn read_front<R: rt::Files>(
-    rt: &R,
-    alloc: Global,
-    name: &Word,
-    limit: usize,
-) -> io::Result<Vec<u8>> {
+// What was read of a file: all of it, or so many bytes, which are more than the limit.
+#[derive(Drop)]
+enum Content {
+    Whole(Vec<u8>),
+    Longer(usize),
+}
+
+// Reads a file to its end, and not further than one byte past the limit.
+fn read_content<F: Read + Drop>(alloc: Global, file: F, limit: usize) -> io::Result<Content>
+    ensures { IfOk result (IsContent (F.remaining file) limit) }
+{
     let mut bytes = Vec::new(alloc);
     let front = (limit as u64).saturating_add(1);
-    File::open(rt, name.as_str())?
-        .take(front)
-        .read_to_end(&mut bytes)?;
-    Ok(bytes)
+    file.take(front).read_to_end(&mut bytes)?;
+    if bytes.len() > limit {
+        Ok(Content::Longer(bytes.len()))
+    } else {
+        Ok(Content::Whole(bytes))
+    }
 }
 
 impl<R: rt::Files + Drop> Files for DiskFiles<R> {
     ghost store = { λ f. untold f.faults f.asked f.taken };
 
     fn read(&mut self, alloc: Global, name: Word, limit: usize) -> Result<Blob, FileRefusal> {
-        let front = read_front(&self.rt, alloc, &name, limit);
+        let content = match File::open(&self.rt, name.as_str()) {
+            Ok(file) => read_content(alloc, file, limit),
+            Err(e) => Err(e),
+        };
         self.asked = Some(name);
-        match front {
-            Ok(bytes) => {
+        match content {
+            Ok(Content::Whole(bytes)) => {
                 self.taken = bytes.len();
-                if bytes.len() > limit {
-                    return Err(FileRefusal::TooLong);
-                }
                 Ok(Blob::from_vec(bytes))
+            }
+            Ok(Content::Longer(taken)) => {
+                self.taken = taken;
+                Err(FileRefusal::TooLong)
             }
             Err(e) => {
                 if e.kind() == ErrorKind::OutOfMemory {

@@ -1,4 +1,5 @@
-ghost use Rattle.std.specs.Prelude.{◌≡◌};
+ghost use Rattle.std.specs.Prelude.{◌≤◌, length, take, IfOk, OnOk};
+ghost use Rattle.std.specs.Io.KnownBytes.{Appends};
 ghost use Rattle.wire_edge.specs.Streams.{Polls};
 
 use std::io::{self, ErrorKind, Read, Write};
@@ -21,10 +22,9 @@ pub(crate) enum Polled {
     Nothing,
 }
 
-/// How a send ended: all bytes went out, the peer has closed the stream, or the stream is broken.
+/// Why not all bytes went out: the peer has closed the stream, or it is broken.
 #[derive(Clone, Copy, Debug, PartialEq, Eq)]
-pub(crate) enum Sent {
-    Whole,
+pub(crate) enum Unsent {
     Closed,
     Broken,
 }
@@ -86,26 +86,42 @@ pub(crate) fn poll<S: Read>(stream: &mut S, buffer: &mut [u8]) -> Polled
     }
 }
 
-/// Sends all bytes, in one write where the system takes them.
-pub(crate) fn send_all<S: Write>(clock: &impl Clock, stream: &mut S, bytes: &[u8]) -> Sent {
+/// Sends all bytes, in one write where the system takes them, and waits for a peer that doesn't read.
+pub(crate) fn send_all<S: Write>(
+    clock: &impl Clock,
+    stream: &mut S,
+    bytes: &[u8],
+) -> Result<(), Unsent>
+    ensures { OnOk result (Appends (S.contents stream.old) (S.contents stream.new) bytes.now) }
+{
     let mut rest = bytes;
     for _ in 0..u64::MAX {
-        match stream.write(rest) {
-            Ok(0) => return Sent::Broken,
-            Ok(n) => rest = &rest[n..],
-            Err(e) => {
-                if is_closed(e.kind()) {
-                    return Sent::Closed;
-                }
-                if !is_wait(e.kind()) {
-                    return Sent::Broken;
-                }
+        if rest.is_empty() {
+            return Ok(());
+        }
+        let taken = send_some(clock, stream, rest)?;
+        rest = &rest[taken..];
+    }
+    Err(Unsent::Broken)
+}
+
+// Sends the front of the bytes, as many as the system takes; where that is none, it waits for a moment.
+fn send_some<S: Write>(clock: &impl Clock, stream: &mut S, bytes: &[u8]) -> Result<usize, Unsent>
+    ensures bound { IfOk result (λ n. n ≤ length bytes.now) }
+    ensures front { IfOk result (λ n. Appends (S.contents stream.old) (S.contents stream.new) (take n bytes.now)) }
+{
+    match stream.write(bytes) {
+        Ok(0) => Err(Unsent::Broken),
+        Ok(n) => Ok(n),
+        Err(e) => {
+            if is_closed(e.kind()) {
+                Err(Unsent::Closed)
+            } else if is_wait(e.kind()) {
                 pause(clock);
+                Ok(0)
+            } else {
+                Err(Unsent::Broken)
             }
         }
-        if rest.is_empty() {
-            return Sent::Whole;
-        }
     }
-    Sent::Broken
 }

@@ -6,7 +6,7 @@ ghost use Rattle.wire_edge.specs.Tally.{told_by};
 
 use crate::awaiting::accept;
 use crate::farewell::part;
-use crate::streams::{Polled, Sent, is_alive, pause, poll, ready, send_all};
+use crate::streams::{Polled, Unsent, is_alive, pause, poll, ready, send_all};
 use std::io::{self, ErrorKind};
 use std::net::{Net, OpenStream, TcpListener, TcpStream};
 use std::time::{Clock, Duration, Instant};
@@ -128,7 +128,7 @@ impl<R: Net + Clock + Alloc + Drop> TcpWires<R> {
         let Some(stream) = &mut self.client else {
             return false;
         };
-        send_all(&self.rt, stream, bytes) == Sent::Whole
+        send_all(&self.rt, stream, bytes).is_ok()
     }
 
     // Sends to the target, by a new link where nothing was sent yet and the old one is gone.
@@ -144,8 +144,8 @@ impl<R: Net + Clock + Alloc + Drop> TcpWires<R> {
         };
         match send_all(&self.rt, stream, bytes) {
             // The end of the target's stream is read next.
-            Sent::Whole | Sent::Closed => true,
-            Sent::Broken => false,
+            Ok(()) | Err(Unsent::Closed) => true,
+            Err(Unsent::Broken) => false,
         }
     }
 
