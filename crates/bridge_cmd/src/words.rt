@@ -2,7 +2,7 @@ ghost use Rattle.std.specs.Prelude.{◌≡◌, ℕ, List, true, is_some, map, co
 ghost use Rattle.clap.specs.Words.{FailsBy, first_value, found_of, kind_of};
 ghost use Rattle.clap.specs.declared.error.kind.ErrorKind.TheVariants.{OutOfMemory};
 ghost use Rattle.bridge_cmd.specs.Words.{Reads, ReadsServe, serve_fault, serve_value};
-ghost use Rattle.bridge_cmd.specs.declared.words.WordsFault.TheVariants.{Refused};
+ghost use Rattle.bridge_cmd.specs.declared.words.WordsFault.TheVariants.{NoMemory as out_of_memory, Refused};
 
 use clap::error::ErrorKind;
 use clap::{Arg, ArgAction, ArgMatches, Command, Error};
@@ -119,7 +119,8 @@ fn value_of(alloc: Global, matches: &ArgMatches, option: &str) -> Result<Text, N
 }
 
 fn fault_of(error: &Error) -> WordsFault
-    ensures { result ≡ Refused → ¬ (kind_of error.now ≡ OutOfMemory) }
+    ensures refused { result ≡ Refused → ¬ (kind_of error.now ≡ OutOfMemory) }
+    ensures no_memory { result ≡ out_of_memory → kind_of error.now ≡ OutOfMemory }
 {
     match error.kind() {
         ErrorKind::OutOfMemory => WordsFault::NoMemory,
