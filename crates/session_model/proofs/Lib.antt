@@ -1,0 +1,12 @@
+pub mod EndLaws
+mod Examples
+pub mod GreetLaws
+pub mod HearLaws
+pub mod PendingLaws
+pub mod QuietLaws
+pub mod ReplyLaws
+pub mod RunLaws
+pub mod SendLaws
+pub mod SentLaws
+pub mod Steps
+pub mod TurnLaws

@@ -1,0 +1,5 @@
+use Rattle.session_model.proofs.GreetLaws.{are_replied}
+use Rattle.session_model.proofs.laws.replies_are_what_the_target_says.Goals as goal
+
+pub returns : goal.returns
+returns c = λ limits log messages turns s going. are_replied going

@@ -1,0 +1,37 @@
+-- What an ending says of the log. The causes that stand in the bytes, in the machine or in a limit are said where a
+-- session ends; here is what they leave to be seen.
+use Rattle.std.specs.Prelude.{ℕ, ◌≡◌, ◌∷◌, ◌++◌, Bool, true, false, List, [], replicate}
+use Rattle.std.specs.List.{AllByRecursion}
+use Rattle.session_model.specs.Names.{BadClient, BadTarget, Client, ClientLink, Done, Ending, Entry, Failed, Flood}
+use Rattle.session_model.specs.Names.{Idle, In, Left, Limits, NoMemory, Out, Quiet, Shut, Spent, Target, TargetLink}
+use Rattle.session_model.specs.Names.{TargetRefused}
+
+-- what is sent, or is left of a send that failed
+abbrev pub is_sending : Entry → Bool
+is_sending (In side bytes) = false
+is_sending (Out side bytes) = true
+is_sending (Shut side) = false
+is_sending (Failed side) = true
+is_sending Quiet = false
+
+-- these stand in the log, side by side, and after them nothing but last words
+pub record AreLast (log last : List Entry) : Type 0 where
+  pub before : List Entry
+  pub after : List Entry
+  pub log_is : log ≡ before ++ last ++ after
+  pub only_words : AllByRecursion (λ (entry : Entry). is_sending entry ≡ true) after
+
+-- What came last is the end of the client's stream, or the failure of a link, or as many waits in vain as the limit
+-- says, side by side; or as many turns were taken as the limit says. Want of memory is no cause.
+abbrev pub Shows : Limits → List Entry → ℕ → Ending → Type 0
+Shows limits log turns Left = AreLast log (Shut Client ∷ [])
+Shows limits log turns ClientLink = AreLast log (Failed Client ∷ [])
+Shows limits log turns TargetLink = AreLast log (Failed Target ∷ [])
+Shows limits log turns Idle = AreLast log (replicate limits.quiet Quiet)
+Shows limits log turns Spent = turns ≡ limits.turns
+Shows limits log turns NoMemory = ⊥
+Shows limits log turns Done = Unit {0}
+Shows limits log turns (BadClient fault at) = Unit {0}
+Shows limits log turns (BadTarget fault at id) = Unit {0}
+Shows limits log turns (TargetRefused set command code) = Unit {0}
+Shows limits log turns Flood = Unit {0}

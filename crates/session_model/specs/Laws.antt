@@ -1,0 +1,52 @@
+-- What holds of every session, while it goes on and once it has ended. The laws stand here, each over words of a file
+-- of its own.
+use Rattle.std.specs.Prelude.{ℕ, List}
+use Rattle.machine_model.specs.Runs.{Message, Run}
+use Rattle.session_model.specs.Names.{Entry, Limits, Side}
+use Rattle.session_model.specs.Endings.{Shows}
+use Rattle.session_model.specs.Hearing.{AreHeard}
+use Rattle.session_model.specs.Replies.{AreReplied}
+use Rattle.session_model.specs.Sending.{IsSent, IsSentInAll}
+use Rattle.session_model.specs.Session.{Ended, EndedState, Going}
+use Rattle.session_model.specs.States.{SessionState}
+use Rattle.session_model.specs.Turns.{AreTurns, AreTurnsThen, SaysLast}
+
+-- this holds of every session that goes on
+abbrev pub WhileGoing : (Limits → List Entry → List Message → ℕ → SessionState → Type 0) → Type 0
+WhileGoing holds = (limits : Limits) (log : List Entry) (messages : List Message) (turns : ℕ) (s : SessionState)
+    → Going limits log messages turns s → holds limits log messages turns s
+
+-- this holds of every session that has ended
+abbrev pub OnceEnded : (Limits → List Entry → List Message → ℕ → EndedState → Type 0) → Type 0
+OnceEnded holds = (limits : Limits) (log : List Entry) (messages : List Message) (turns : ℕ) (e : EndedState)
+    → Ended limits log messages turns e → holds limits log messages turns e
+
+-- The messages of a session are a run of the machine.
+abbrev pub Runs : Type 0
+Runs = WhileGoing (λ limits log messages turns s. Run messages s.machine)
+
+-- A turn is a wait that gave something: each entry but those of sends.
+abbrev pub Turns : Type 0
+Turns = WhileGoing (λ limits log messages turns s. AreTurns limits log turns)
+    × OnceEnded (λ limits log messages turns e. AreTurnsThen limits log turns)
+
+-- After an ending nothing is said but its last words, in their order, up to the first that can't be sent.
+abbrev pub LastWordsSaid : Type 0
+LastWordsSaid = OnceEnded (λ limits log messages turns e. SaysLast log e)
+
+-- What a side is sent are the messages that go to it, numbered 1, 2, 3, and so on, and last words behind them.
+abbrev pub Sends : Type 0
+Sends = (side : Side) → WhileGoing (λ limits log messages turns s. IsSent side log messages s)
+    × OnceEnded (λ limits log messages turns e. IsSentInAll side log messages e)
+
+-- The requests are what the client's bytes say.
+abbrev pub Requests : Type 0
+Requests = WhileGoing (λ limits log messages turns s. AreHeard log messages s)
+
+-- What the target's bytes say are its handshake and its replies, one each to a command with its id, and its composites.
+abbrev pub Replies : Type 0
+Replies = WhileGoing (λ limits log messages turns s. AreReplied log messages s)
+
+-- What the log shows of an ending's cause is there. Want of memory is no cause.
+abbrev pub Endings : Type 0
+Endings = OnceEnded (λ limits log messages turns e. Shows limits log turns e.ending)

@@ -1,0 +1,14 @@
+pub mod Bytes
+pub mod Causes
+pub mod Endings
+pub mod Faults
+pub mod Hearing
+pub mod LastWords
+pub mod Laws
+pub mod Names
+pub mod Replies
+pub mod Saying
+pub mod Sending
+pub mod Session
+pub mod States
+pub mod Turns
