@@ -56,27 +56,7 @@ closing_by (Moves.hears {request} read is_open) = Closing.by_request request is_
 closing_by (Moves.loses late near Loses.by_end) = Closing.as_before refl
 closing_by (Moves.loses late near (Loses.by_question is waits reply last)) = Closing.as_before refl
 closing_by (Moves.loses late near (Loses.by_effect is flying reply last)) = Closing.as_before refl
-closing_by (Moves.begins picked free none is) = Closing.as_before refl
-closing_by (Moves.drops free held none) = Closing.as_before refl
-closing_by (Moves.responds free at is) = Closing.as_before refl
-closing_by (Moves.finds found free at is finished) = Closing.as_before refl
-closing_by (Moves.passes_over free at skips) = Closing.as_before refl
-closing_by (Moves.tells free at) = Closing.as_before refl
-closing_by (Moves.sends free at near) = Closing.as_before refl
-closing_by (Moves.updates free at due near) = Closing.as_before refl
-closing_by (Moves.greets free at by near) = Closing.as_before refl
-closing_by (Moves.notes free at) = Closing.as_before refl
-closing_by (Moves.unfolds free at) = Closing.as_before refl
-closing_by (Moves.queues lacking held) = Closing.as_before refl
-closing_by (Moves.asks queued room held are) = Closing.as_before refl
-closing_by (Moves.greeted read first) = Closing.as_before refl
-closing_by (Moves.answers is waits reply stays) = Closing.as_before refl
-closing_by (Moves.replies is flying reply stays) = Closing.as_before refl
-closing_by (Moves.late before after is reply) = Closing.as_before refl
-closing_by (Moves.ends gone) = Closing.as_before refl
-closing_by (Moves.comes read sized taken) = Closing.as_before refl
-closing_by (Moves.keeps unsized) = Closing.as_before refl
-closing_by (Moves.reads before after read is none taken) = Closing.as_before refl
+closing_by _ = Closing.as_before refl
 
 closes_on : (messages : List Message) (m next : Machine) (said : Option Message) → Closes messages m
     → Moves m said next → Closes (with_said messages said) next
@@ -176,8 +156,8 @@ says_beside Speaks.greets = record { no_request = refl; client = refl }
 says_beside (Speaks.sends apart serves) = record { no_request = refl; client = refl }
 
 heard_brings : {log : List Entry} {messages : List Message} {s : SessionState} {message : Message}
-    {streams : StreamState} {next : Machine} → Run messages s.machine → Run (messages ++ message ∷ []) next → Allows s.machine message next
-    → Brings s message streams → AreHeard log messages s
+    {streams : StreamState} {next : Machine} → Run messages s.machine → Run (messages ++ message ∷ []) next
+    → Allows s.machine message next → Brings s message streams → AreHeard log messages s
     → AreHeard log (messages ++ message ∷ []) (record s { machine = next; streams = streams })
 heard_brings {messages} {s} {next} before after allows (Brings.hears {request} {frame} whole reading) h =
     one_more_frame messages _ s _ whole refl h

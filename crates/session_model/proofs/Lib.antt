@@ -1,7 +1,11 @@
+pub mod DoneLaws
+pub mod DueLaws
 pub mod EndLaws
 mod Examples
 pub mod GreetLaws
 pub mod HearLaws
+pub mod OverLaws
+pub mod PartLaws
 pub mod PendingLaws
 pub mod QuietLaws
 pub mod ReplyLaws

@@ -102,13 +102,13 @@ speaking Target {s} next run (Speaks.sends {command} {used} apart serves) h =
     (ap (λ n. (n + 1) % turn) h.counted ∙ next_goes_on h.count)
 
 -- what comes in is not sent
-record IsQuiet (s : SessionState) (message : Message) (streams : StreamState) : Type 0 where
+pub record IsQuiet (s : SessionState) (message : Message) (streams : StreamState) : Type 0 where
   pub not_told : is_told message ≡ false
   pub not_out : goes_out message ≡ false
   pub told : streams.told ≡ s.streams.told
   pub commands : streams.commands.next ≡ s.streams.commands.next
 
-comes_quiet : {s : SessionState} {message : Message} {streams : StreamState} → Brings s message streams
+pub comes_quiet : {s : SessionState} {message : Message} {streams : StreamState} → Brings s message streams
     → IsQuiet s message streams
 comes_quiet (Brings.hears whole reading) = record { not_told = refl; not_out = refl; told = refl; commands = refl }
 comes_quiet (Brings.greeted came) = record { not_told = refl; not_out = refl; told = refl; commands = refl }

@@ -2,6 +2,12 @@
 -- session ends; here is what they leave to be seen.
 use Rattle.std.specs.Prelude.{ℕ, ◌≡◌, ◌∷◌, ◌++◌, Bool, true, false, List, [], replicate}
 use Rattle.std.specs.List.{AllByRecursion}
+use Rattle.dap_messages.specs.declared.told.Outcome.TheVariants as outcomes
+use Rattle.dap_messages.specs.declared.told.Shape.TheVariants as shapes
+use Rattle.machine_model.specs.Rest.{AreAnswered, requests_of, responses_of}
+use Rattle.machine_model.specs.Runs.{Message, is_disconnect}
+use Rattle.machine_model.specs.Telling.{response_to}
+use Rattle.session_model.specs.Names.{Request}
 use Rattle.session_model.specs.Names.{BadClient, BadTarget, Client, ClientLink, Done, Ending, Entry, Failed, Flood}
 use Rattle.session_model.specs.Names.{Idle, In, Left, Limits, NoMemory, Out, Quiet, Shut, Spent, Target, TargetLink}
 use Rattle.session_model.specs.Names.{TargetRefused}
@@ -35,3 +41,14 @@ Shows limits log turns (BadClient fault at) = Unit {0}
 Shows limits log turns (BadTarget fault at id) = Unit {0}
 Shows limits log turns (TargetRefused set command code) = Unit {0}
 Shows limits log turns Flood = Unit {0}
+
+-- The last message is the success of a `disconnect`, which is the last request; and all requests are answered, one by
+-- one, in order (DAP specification, Disconnect request).
+pub record IsDone (messages : List Message) : Type 0 where
+  pub before : List Message
+  pub earlier : List Request
+  pub request : Request
+  pub disconnects : is_disconnect request.command ≡ true
+  pub heard : requests_of messages ≡ earlier ++ request ∷ []
+  pub last : messages ≡ before ++ Message.tells (response_to request (outcomes.Success shapes.Nothing)) ∷ []
+  pub answered : AreAnswered (requests_of messages) (responses_of messages)

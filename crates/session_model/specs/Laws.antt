@@ -1,9 +1,9 @@
 -- What holds of every session, while it goes on and once it has ended. The laws stand here, each over words of a file
 -- of its own.
-use Rattle.std.specs.Prelude.{ℕ, List}
+use Rattle.std.specs.Prelude.{ℕ, ◌≡◌, List}
 use Rattle.machine_model.specs.Runs.{Message, Run}
-use Rattle.session_model.specs.Names.{Entry, Limits, Side}
-use Rattle.session_model.specs.Endings.{Shows}
+use Rattle.session_model.specs.Names.{Done, Entry, Limits, Side}
+use Rattle.session_model.specs.Endings.{IsDone, Shows}
 use Rattle.session_model.specs.Hearing.{AreHeard}
 use Rattle.session_model.specs.Replies.{AreReplied}
 use Rattle.session_model.specs.Sending.{IsSent, IsSentInAll}
@@ -42,11 +42,17 @@ Sends = (side : Side) → WhileGoing (λ limits log messages turns s. IsSent sid
 -- The requests are what the client's bytes say.
 abbrev pub Requests : Type 0
 Requests = WhileGoing (λ limits log messages turns s. AreHeard log messages s)
+    × OnceEnded (λ limits log messages turns e. AreHeard log messages e.last)
 
 -- What the target's bytes say are its handshake and its replies, one each to a command with its id, and its composites.
 abbrev pub Replies : Type 0
 Replies = WhileGoing (λ limits log messages turns s. AreReplied log messages s)
+    × OnceEnded (λ limits log messages turns e. AreReplied log messages e.last)
 
 -- What the log shows of an ending's cause is there. Want of memory is no cause.
 abbrev pub Endings : Type 0
 Endings = OnceEnded (λ limits log messages turns e. Shows limits log turns e.ending)
+
+-- A session that is done has answered all requests, its last with a success.
+abbrev pub Dones : Type 0
+Dones = OnceEnded (λ limits log messages turns e. e.ending ≡ Done → IsDone messages)

@@ -9,6 +9,7 @@ pub use Rattle.jdwp_commands.specs.declared.asked.Replied.TheVariants.{Answer as
 pub use Rattle.jdwp_commands.specs.declared.question.Question.{Question}
 pub use Rattle.jdwp_events.specs.declared.composite.Composite.{Composite}
 pub use Rattle.machine_model.specs.declared.acts.Act.{Act}
+pub use Rattle.machine_model.specs.declared.acts.Effect.{Effect}
 pub use Rattle.machine_model.specs.declared.acts.Effect.TheVariants.{Does, Set}
 pub use Rattle.machine_model.specs.declared.acts.TargetCommand.{TargetCommand}
 pub use Rattle.machine_model.specs.declared.acts.TargetCommand.TheVariants.{Effect as an_effect, Question as a_question}

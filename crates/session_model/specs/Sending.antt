@@ -1,5 +1,7 @@
 -- What each side is sent, by its bytes. The laws stand at the end, behind what they speak of.
 use Rattle.std.specs.Prelude.{ℕ, ◌≡◌, ◌<◌, ◌+◌, ◌%◌, ◌∷◌, ◌++◌, Bool, true, false, List, [], length, take}
+use Rattle.dap_frames.specs.Frames.{frame_bytes}
+use Rattle.dap_messages.specs.Telling.{told_text}
 use Rattle.jdwp_packets.specs.Packets.{handshake}
 use Rattle.jdwp_values.specs.declared.sizes.IdSizes.{IdSizes}
 use Rattle.machine_model.specs.Pending.{goes_out}
@@ -30,7 +32,8 @@ goes_to Target message = goes_out message
 -- command is one packet, with the next id, spelled with the sizes of ids that serve where it is sent (JDWP, JDWP
 -- Packets, command packet); the handshake has no number (JDWP, JDWP Start Up).
 pub data GoesAs (messages : List Message) : Side → ℕ → Message → List ℕ → ℕ → Type 0 where
-  tells : {n : ℕ} (told : Told) → GoesAs messages Client n (Message.tells told) (told_bytes n told) (n + 1)
+  tells : {n : ℕ} (told : Told)
+      → GoesAs messages Client n (Message.tells told) (frame_bytes (told_text (n + 1) told)) (n + 1)
   greets : {n : ℕ} → GoesAs messages Target n Message.greets handshake n
   sends : {n : ℕ} {m : Machine} {used : IdSizes} (command : TargetCommand) → Run messages m
       → SizesFor m.state.sizes used

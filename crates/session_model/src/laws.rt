@@ -1,7 +1,7 @@
 //! What holds of every session, by the bytes of its two sides. Each law is the contract of a function that does
 //! nothing.
 
-ghost use Rattle.session_model.specs.Laws.{Endings, LastWordsSaid, Replies, Requests, Runs, Sends, Turns};
+ghost use Rattle.session_model.specs.Laws.{Dones, Endings, LastWordsSaid, Replies, Requests, Runs, Sends, Turns};
 
 /// The messages of a session are a run of the translation machine, which knows no bytes.
 pub fn messages_are_a_run()
@@ -50,4 +50,10 @@ pub fn replies_are_what_the_target_says()
 /// turns took as many as the limit says. Want of memory is no cause.
 pub fn endings_show_in_the_log()
     ensures { Endings }
+{}
+
+/// A session that is done has told the success of a `disconnect` last. That is the last request, and all requests are
+/// answered, one by one, in order (DAP specification, Disconnect request).
+pub fn done_is_a_disconnect_that_succeeded()
+    ensures { Dones }
 {}

@@ -1,0 +1,266 @@
+-- A `disconnect` goes on to its success and ends directly behind it; nothing else ends a session.
+use Rattle.std.proofs.Common.{◌≡◌, Bool, true, false, cond, not, List, [], ◌∷◌, ◌++◌, Option, Some, None, refl}
+use Rattle.std.proofs.Common.{sym, ap, subst, ◌∙◌, option_map, arith}
+use Rattle.machine_model.specs.Due.{asked_hand, clear, load_of}
+use Rattle.machine_model.specs.Lookups.{finished}
+use Rattle.machine_model.specs.Outcomes.{result_of}
+use Rattle.machine_model.specs.Plans.{Result}
+use Rattle.machine_model.specs.Replying.{given_up, hand_replied}
+use Rattle.machine_model.specs.Rest.{request_in}
+use Rattle.machine_model.specs.Rows.{chosen, gone_parts, has_response, is_response, parts_of}
+use Rattle.machine_model.specs.Runs.{Message, is_disconnect}
+use Rattle.machine_model.specs.State.{Hand, Machine, State, is_empty, knowing, left}
+use Rattle.machine_model.specs.Telling.{numbered_by, outcome_told, response_to}
+use Rattle.machine_model.proofs.Stepping.{IsAt, Moves, Skips}
+use Rattle.session_model.specs.Names.{a_composite, a_question, a_raw, a_request, an_effect, Choice, Finding, Item, Lookup}
+use Rattle.session_model.specs.Names.{Nothing, Outcome, Part, Replied, Request, Success, target_end, TargetCommand, Want}
+
+-- Lists of parts ------------------------------------------------------------------------------------------------------
+
+abbrev pub is_ends : Part → Bool
+is_ends (Part.Ends finish) = true
+is_ends _ = false
+
+-- the end is in front
+abbrev pub ends_first : List Part → Bool
+ends_first [] = false
+ends_first (part ∷ parts) = is_ends part
+
+-- nothing but the end is there
+abbrev pub only_end : List Part → Bool
+only_end [] = false
+only_end (part ∷ parts) = cond (is_ends part) (is_empty parts) false
+
+-- a success with nothing in it
+abbrev pub is_thanks : Part → Bool
+is_thanks (Part.Responds (Success Nothing)) = true
+is_thanks _ = false
+
+-- a `disconnect` goes on to its success, and ends directly behind it
+abbrev pub to_end : List Part → Bool
+to_end [] = false
+to_end (part ∷ parts) =
+    cond (is_ends part) (is_empty parts) (cond (is_thanks part) (only_end parts)
+    (cond (is_response part) false (cond (ends_first parts) false (to_end parts))))
+
+-- nothing else ends
+abbrev pub no_end : List Part → Bool
+no_end [] = true
+no_end (part ∷ parts) = cond (is_ends part) false (no_end parts)
+
+abbrev pub leaves_by : Item → Bool
+leaves_by (a_request request) = is_disconnect request.command
+leaves_by (a_composite at composite) = false
+leaves_by (a_raw at body) = false
+leaves_by target_end = false
+
+abbrev pub is_fit : Bool → List Part → Bool
+is_fit leaves parts = cond leaves (to_end parts) (no_end parts)
+
+-- it fits, and the end isn't in front
+abbrev pub goes_on : Bool → List Part → Bool
+goes_on leaves parts = cond (is_fit leaves parts) (not (ends_first parts)) false
+
+begun_on : (state : State) (item : Item) → goes_on (leaves_by item) (parts_of state item) ≡ true
+begun_on state item = grind arith
+
+finished_none : (lookup : Lookup) (result : Result Finding) (state : State)
+    → no_end (finished lookup result state) ≡ true
+finished_none lookup result state = grind arith
+
+none_joined : (parts rest : List Part) → no_end parts ≡ true → no_end rest ≡ true → no_end (parts ++ rest) ≡ true
+none_joined [] rest none is = is
+none_joined (part ∷ parts) rest none is = grind (arith, none, none_joined parts rest)
+
+none_on : (parts : List Part) → no_end parts ≡ true → goes_on false parts ≡ true
+none_on [] none = refl
+none_on (part ∷ parts) none = grind (arith, none)
+
+looks_none : (lookup : Lookup) (rest : List Part) → to_end (Part.Looks lookup ∷ rest) ≡ false
+looks_none lookup rest = grind arith
+
+found_on : (leaves : Bool) (lookup : Lookup) (result : Result Finding) (state : State) (rest : List Part)
+    → is_fit leaves (Part.Looks lookup ∷ rest) ≡ true → goes_on leaves (finished lookup result state ++ rest) ≡ true
+found_on true lookup result state rest is = let no = looks_none lookup rest in cc
+found_on false lookup result state rest is =
+    none_on (finished lookup result state ++ rest)
+    (none_joined (finished lookup result state) rest (finished_none lookup result state) is)
+
+-- what is left behind a part that isn't the success
+tail_on : (leaves : Bool) (part : Part) (rest : List Part) → is_ends part ≡ false → cond leaves (is_thanks part) false
+    ≡ false → is_fit leaves (part ∷ rest) ≡ true → goes_on leaves rest ≡ true
+tail_on true part rest other silent is = grind (arith, other, silent, is)
+tail_on false part rest other silent is = none_on rest (grind (arith, other, is))
+
+-- parts that neither respond nor end
+abbrev are_silent : List Part → Bool
+are_silent [] = true
+are_silent (part ∷ parts) = cond (is_ends part) false (cond (is_response part) false (are_silent parts))
+
+chosen_silent : (choice : Choice) (state : State) (hand : Hand) → are_silent (chosen choice state hand) ≡ true
+chosen_silent choice state hand = grind arith
+
+-- a response that is a success is a response
+thanks_respond : (part : Part) → is_response part ≡ false → is_thanks part ≡ false
+thanks_respond part is = grind (arith, is)
+
+silent_first : (leaves : Bool) (part : Part) (rest : List Part) → is_ends part ≡ false → is_response part ≡ false
+    → goes_on leaves rest ≡ true → goes_on leaves (part ∷ rest) ≡ true
+silent_first true part rest other silent is =
+    rw (other, thanks_respond part silent, silent) (by_tests (ends_first rest) (to_end rest) is)
+  where
+    by_tests : (ends fit : Bool) → cond fit (not ends) false ≡ true → cond (cond ends false fit) true false ≡ true
+    by_tests true true is = cc
+    by_tests true false is = cc
+    by_tests false true is = refl
+    by_tests false false is = cc
+silent_first false part rest other silent is = rw other (by_tests (ends_first rest) (no_end rest) is)
+  where
+    by_tests : (ends fit : Bool) → cond fit (not ends) false ≡ true → cond fit true false ≡ true
+    by_tests ends true is = refl
+    by_tests ends false is = cc
+
+silent_joined : (leaves : Bool) (parts rest : List Part) → are_silent parts ≡ true → goes_on leaves rest ≡ true
+    → goes_on leaves (parts ++ rest) ≡ true
+silent_joined leaves [] rest silent is = is
+silent_joined leaves (part ∷ parts) rest silent is =
+    let (other, responds, more) = by_tests (is_ends part) (is_response part) (are_silent parts) silent in
+    silent_first leaves part (parts ++ rest) other responds (silent_joined leaves parts rest more is)
+  where
+    by_tests : (ends responds more : Bool) → cond ends false (cond responds false more) ≡ true
+        → (ends ≡ false) × (responds ≡ false) × (more ≡ true)
+    by_tests true responds more is = cc
+    by_tests false true more is = cc
+    by_tests false false more is = (refl, refl, is)
+
+chosen_on : (leaves : Bool) (choice : Choice) (state : State) (hand : Hand) (rest : List Part)
+    → goes_on leaves rest ≡ true → goes_on leaves (chosen choice state hand ++ rest) ≡ true
+chosen_on leaves choice state hand rest is =
+    silent_joined leaves (chosen choice state hand) rest (chosen_silent choice state hand) is
+
+-- a success of a `disconnect` has the end behind it
+success_behind : (outcome : Outcome) (rest : List Part) → to_end (Part.Responds outcome ∷ rest) ≡ true
+    → (outcome ≡ Success Nothing) × (only_end rest ≡ true)
+success_behind outcome rest is = grind (arith, is)
+
+-- before its end a `disconnect` has its response to come
+response_yet : (parts : List Part) → to_end parts ≡ true → ends_first parts ≡ false → has_response parts ≡ true
+response_yet [] is later = cc
+response_yet (part ∷ parts) is later = grind (arith, is, later, response_yet parts)
+
+gone_on : (responds : Bool) (item : Item) → cond (leaves_by item) responds true ≡ true
+    → goes_on (leaves_by item) (gone_parts responds item) ≡ true
+gone_on responds item is = grind (arith, is)
+
+-- The item in hand ----------------------------------------------------------------------------------------------------
+
+-- the item in hand goes on
+abbrev pub hand_on : Option Hand → Bool
+hand_on None = true
+hand_on (Some hand) = goes_on (leaves_by hand.item) hand.parts
+
+fit_of : (leaves : Bool) (parts : List Part) → goes_on leaves parts ≡ true → is_fit leaves parts ≡ true
+fit_of leaves parts is = by_tests (is_fit leaves parts) (not (ends_first parts)) is
+  where
+    by_tests : (fit later : Bool) → cond fit later false ≡ true → fit ≡ true
+    by_tests true later is = refl
+    by_tests false later is = cc
+
+fit_at : {m : Machine} {hand : Hand} {part : Part} {rest : List Part} → hand_on m.hand ≡ true → IsAt m hand part rest
+    → is_fit (leaves_by hand.item) (part ∷ rest) ≡ true
+fit_at {hand = hand} h at =
+    ap (is_fit (leaves_by hand.item)) (sym at.parts)
+    ∙ fit_of (leaves_by hand.item) hand.parts (ap hand_on (sym at.in_hand) ∙ h)
+
+no_leave : (item : Item) → request_in item ≡ [] → leaves_by item ≡ false
+no_leave item none = grind (arith, none)
+
+never : (b : Bool) → cond b false false ≡ false
+never true = refl
+never false = refl
+
+skipped_on : (m : Machine) (hand : Hand) (part : Part) (rest : List Part) → Skips m hand part
+    → is_fit (leaves_by hand.item) (part ∷ rest) ≡ true → goes_on (leaves_by hand.item) rest ≡ true
+skipped_on m hand part rest (Skips.by_guard passes) is =
+    tail_on (leaves_by hand.item) part rest refl (never (leaves_by hand.item)) is
+skipped_on m hand part rest (Skips.by_wishes none) is =
+    tail_on (leaves_by hand.item) part rest refl (never (leaves_by hand.item)) is
+skipped_on m hand part rest (Skips.no_request none) is =
+    let stays = no_leave hand.item none in
+    tail_on (leaves_by hand.item) part rest refl (rw stays refl) is
+
+given_up_on : (hand : Option Hand) → hand_on hand ≡ true → hand_on (option_map given_up hand) ≡ true
+given_up_on None h = refl
+given_up_on (Some hand) h = gone_on (has_response hand.parts) hand.item (by_item (leaves_by hand.item) h)
+  where
+    by_item : (leaves : Bool) → goes_on leaves hand.parts ≡ true → cond leaves (has_response hand.parts) true ≡ true
+    by_item true is =
+        response_yet hand.parts (fit_of true hand.parts is) (grind (arith, is))
+    by_item false is = refl
+
+replied_on : (command : TargetCommand) (replied : Replied) (hand : Option Hand)
+    → hand_on (option_map (hand_replied command replied) hand) ≡ hand_on hand
+replied_on command replied None = refl
+replied_on (a_question question) replied (Some hand) = refl
+replied_on (an_effect effect) replied (Some hand) = refl
+
+asked_on : (want : Want) (hand : Option Hand) → hand_on (option_map (asked_hand want) hand) ≡ hand_on hand
+asked_on want None = refl
+asked_on want (Some hand) = refl
+
+-- Steps ---------------------------------------------------------------------------------------------------------------
+
+-- a step goes on; or it tells the success of a `disconnect`, behind which there is the end alone
+pub data Steps (m next : Machine) (said : Option Message) : Type 0 where
+  on : hand_on next.hand ≡ true → Steps m next said
+  last : (hand : Hand) (request : Request) (rest : List Part) → load_of m ≡ clear
+      → IsAt m hand (Part.Responds (Success Nothing)) rest → hand.item ≡ a_request request
+      → is_disconnect request.command ≡ true → only_end rest ≡ true
+      → said ≡ Some (Message.tells (response_to request (outcome_told (Success Nothing) m.state)))
+      → next ≡ left (knowing m (numbered_by (Success Nothing) m.state)) hand rest → Steps m next said
+
+responds_on : {m next : Machine} {said : Option Message} {hand : Hand} {rest : List Part} {request : Request}
+    {outcome : Outcome} (leaves : Bool) → is_disconnect request.command ≡ leaves → load_of m ≡ clear
+    → IsAt m hand (Part.Responds outcome) rest → hand.item ≡ a_request request
+    → is_fit leaves (Part.Responds outcome ∷ rest) ≡ true
+    → said ≡ Some (Message.tells (response_to request (outcome_told outcome m.state)))
+    → next ≡ left (knowing m (numbered_by outcome m.state)) hand rest → Steps m next said
+responds_on {m} {next} {said} {hand} {rest} {request} {outcome} true is free at item fit says becomes =
+    let (same, only) = success_behind outcome rest fit in
+    Steps.last hand request rest free (subst (λ o. IsAt m hand (Part.Responds o) rest) same at) item is only
+    (subst (λ o. said ≡ Some (Message.tells (response_to request (outcome_told o m.state)))) same says)
+    (subst (λ o. next ≡ left (knowing m (numbered_by o m.state)) hand rest) same becomes)
+responds_on {hand} {rest} {outcome} false is free at item fit says becomes =
+    Steps.on (ap (λ n. hand_on n.hand) becomes ∙ ap (λ l. goes_on l rest) (ap leaves_by item ∙ is)
+    ∙ tail_on false (Part.Responds outcome) rest refl refl fit)
+
+pub step_on : (m next : Machine) (said : Option Message) → hand_on m.hand ≡ true → Moves m said next
+    → Steps m next said
+step_on m next said h (Moves.begins picked free none is) = Steps.on (begun_on m.state picked.item)
+step_on m next said h (Moves.drops free is none) = Steps.on refl
+step_on m next said h (Moves.responds {hand} {rest} {request} {outcome} free at is) =
+    responds_on (is_disconnect request.command) refl free at is
+    (ap (λ l. is_fit l (Part.Responds outcome ∷ rest)) (ap leaves_by (sym is)) ∙ fit_at h at) refl refl
+step_on m next said h (Moves.finds {hand} {rest} {lookup} found free at needs done) =
+    Steps.on (found_on (leaves_by hand.item) lookup (result_of found) m.state rest (fit_at h at))
+step_on m next said h (Moves.passes_over {hand} {part} {rest} free at why) =
+    Steps.on (skipped_on m hand part rest why (fit_at h at))
+step_on m next said h (Moves.tells {hand} {rest} {event} free at) =
+    Steps.on (tail_on (leaves_by hand.item) (Part.Tells event) rest refl (never (leaves_by hand.item)) (fit_at h at))
+step_on m next said h (Moves.sends {hand} {rest} {deed} free at near) =
+    Steps.on (tail_on (leaves_by hand.item) (Part.Sends deed) rest refl (never (leaves_by hand.item)) (fit_at h at))
+step_on m next said h (Moves.notes {hand} {note} {rest} free at) =
+    Steps.on (tail_on (leaves_by hand.item) (Part.Notes note) rest refl (never (leaves_by hand.item)) (fit_at h at))
+step_on m next said h (Moves.updates {hand} {rest = rest} free at due near) =
+    Steps.on (rw (fit_at h at) refl)
+step_on m next said h (Moves.unfolds {hand} {choice} {rest} free at) =
+    Steps.on (chosen_on (leaves_by hand.item) choice m.state hand rest
+    (tail_on (leaves_by hand.item) (Part.Unfolds choice) rest refl (never (leaves_by hand.item)) (fit_at h at)))
+step_on m next said h (Moves.queues {hand} lacking held) = Steps.on (ap hand_on (sym held) ∙ h)
+step_on m next said h (Moves.asks {want = want} queued room held are) = Steps.on (asked_on want m.hand ∙ h)
+step_on m next said h (Moves.answers {question} {replied} held waits reply stays) =
+    Steps.on (replied_on (a_question question) replied m.hand ∙ h)
+step_on m next said h (Moves.replies {effect} {replied} held flying reply stays) =
+    Steps.on (replied_on (an_effect effect) replied m.hand ∙ h)
+step_on m next said h (Moves.loses late near why) = Steps.on (given_up_on m.hand h)
+step_on m next said h _ = Steps.on h
