@@ -210,11 +210,11 @@ begins_so : (bytes : List ℕ) (packets : List (ℕ × Packet)) (greeted : Bool)
 begins_so bytes packets true stream (more, parts, hands) is = (more, parts)
 begins_so bytes packets false stream (none, same) is = cc
 
-sent_all : (sent : List (ℕ × Asked)) → count_sent (λ asked. true) sent ≡ length sent
+pub sent_all : (sent : List (ℕ × Asked)) → count_sent (λ asked. true) sent ≡ length sent
 sent_all [] = refl
 sent_all (one ∷ sent) = let more = sent_all sent in omega arith
 
-pending_all : (commands : List TargetCommand) → count_of (λ command. true) commands ≡ length commands
+pub pending_all : (commands : List TargetCommand) → count_of (λ command. true) commands ≡ length commands
 pending_all [] = refl
 pending_all (command ∷ commands) = let more = pending_all commands in omega arith
 

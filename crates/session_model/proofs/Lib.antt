@@ -12,5 +12,7 @@ pub mod ReplyLaws
 pub mod RunLaws
 pub mod SendLaws
 pub mod SentLaws
+pub mod ServeLaws
 pub mod Steps
 pub mod TurnLaws
+pub mod WaitLaws

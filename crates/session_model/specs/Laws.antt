@@ -1,11 +1,15 @@
 -- What holds of every session, while it goes on and once it has ended. The laws stand here, each over words of a file
 -- of its own.
-use Rattle.std.specs.Prelude.{ℕ, ◌≡◌, List}
+use Rattle.std.specs.Prelude.{ℕ, ◌≡◌, true, false, List}
+use Rattle.machine_model.specs.Rest.{awaits_greeting, is_silent}
 use Rattle.machine_model.specs.Runs.{Message, Run}
 use Rattle.session_model.specs.Names.{Done, Entry, Limits, Side}
+use Rattle.session_model.specs.Causes.{Waits}
 use Rattle.session_model.specs.Endings.{IsDone, Shows}
 use Rattle.session_model.specs.Hearing.{AreHeard}
 use Rattle.session_model.specs.Replies.{AreReplied}
+use Rattle.session_model.specs.Responses.{AreServedInAll}
+use Rattle.session_model.specs.Resting.{IsAnswered}
 use Rattle.session_model.specs.Sending.{IsSent, IsSentInAll}
 use Rattle.session_model.specs.Session.{Ended, EndedState, Going}
 use Rattle.session_model.specs.States.{SessionState}
@@ -44,6 +48,10 @@ abbrev pub Requests : Type 0
 Requests = WhileGoing (λ limits log messages turns s. AreHeard log messages s)
     × OnceEnded (λ limits log messages turns e. AreHeard log messages e.last)
 
+-- All responses, those among the last words included, answer the requests, one by one, in order.
+abbrev pub Responses : Type 0
+Responses = OnceEnded (λ limits log messages turns e. AreServedInAll log messages e)
+
 -- What the target's bytes say are its handshake and its replies, one each to a command with its id, and its composites.
 abbrev pub Replies : Type 0
 Replies = WhileGoing (λ limits log messages turns s. AreReplied log messages s)
@@ -56,3 +64,8 @@ Endings = OnceEnded (λ limits log messages turns e. Shows limits log turns e.en
 -- A session that is done has answered all requests, its last with a success.
 abbrev pub Dones : Type 0
 Dones = OnceEnded (λ limits log messages turns e. e.ending ≡ Done → IsDone messages)
+
+-- At each wait, also inside a session, all requests are answered where nothing is pending.
+abbrev pub Waitings : Type 0
+Waitings = WhileGoing (λ limits log messages turns s. Waits limits s → is_silent s.machine ≡ true
+    → awaits_greeting s.machine.state ≡ false → IsAnswered messages s.machine)

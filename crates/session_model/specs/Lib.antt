@@ -7,6 +7,8 @@ pub mod LastWords
 pub mod Laws
 pub mod Names
 pub mod Replies
+pub mod Responses
+pub mod Resting
 pub mod Saying
 pub mod Sending
 pub mod Session

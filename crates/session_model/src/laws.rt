@@ -1,7 +1,7 @@
 //! What holds of every session, by the bytes of its two sides. Each law is the contract of a function that does
 //! nothing.
 
-ghost use Rattle.session_model.specs.Laws.{Dones, Endings, LastWordsSaid, Replies, Requests, Runs, Sends, Turns};
+ghost use Rattle.session_model.specs.Laws.{Dones, Endings, LastWordsSaid, Replies, Requests, Responses, Runs, Sends, Turns, Waitings};
 
 /// The messages of a session are a run of the translation machine, which knows no bytes.
 pub fn messages_are_a_run()
@@ -56,4 +56,18 @@ pub fn endings_show_in_the_log()
 /// answered, one by one, in order (DAP specification, Disconnect request).
 pub fn done_is_a_disconnect_that_succeeded()
     ensures { Dones }
+{}
+
+/// All responses, those among the last words included, answer the first of the requests that were heard, one each, in
+/// order, each with its request's `seq` and command. Where an ending is told to the client, all requests are answered
+/// once no last word is left, unless the client's link has failed (DAP specification, Base Protocol, Response).
+pub fn responses_answer_the_requests_to_the_end()
+    ensures { Responses }
+{}
+
+/// At each wait of a session, also inside it, nothing is due; and where nothing is pending, no command and no
+/// handshake, all requests that were heard are answered, one by one, in order (DAP specification, Base Protocol,
+/// Response).
+pub fn requests_are_answered_where_a_session_waits()
+    ensures { Waitings }
 {}
