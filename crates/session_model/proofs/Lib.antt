@@ -1,5 +1,6 @@
 pub mod DoneLaws
 pub mod DueLaws
+pub mod EndedRules
 pub mod EndLaws
 mod Examples
 pub mod GreetLaws

@@ -12,8 +12,9 @@ use Rattle.machine_model.specs.Runs.{Message, is_disconnect}
 use Rattle.machine_model.specs.State.{Hand, Machine, State, is_empty, knowing, left}
 use Rattle.machine_model.specs.Telling.{numbered_by, outcome_told, response_to}
 use Rattle.machine_model.proofs.Stepping.{IsAt, Moves, Skips}
-use Rattle.session_model.specs.Names.{a_composite, a_question, a_raw, a_request, an_effect, Choice, Finding, Item, Lookup}
-use Rattle.session_model.specs.Names.{Nothing, Outcome, Part, Replied, Request, Success, target_end, TargetCommand, Want}
+use Rattle.session_model.specs.Names.{a_composite, a_question, a_raw, a_request, an_effect, Choice, Finding, Item}
+use Rattle.session_model.specs.Names.{Lookup, Nothing, Outcome, Part, Replied, Request, Success, target_end}
+use Rattle.session_model.specs.Names.{TargetCommand, Want}
 
 -- Lists of parts ------------------------------------------------------------------------------------------------------
 

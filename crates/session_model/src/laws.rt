@@ -1,7 +1,8 @@
 //! What holds of every session, by the bytes of its two sides. Each law is the contract of a function that does
 //! nothing.
 
-ghost use Rattle.session_model.specs.Laws.{Dones, Endings, LastWordsSaid, Replies, Requests, Responses, Runs, Sends, Turns, Waitings};
+ghost use Rattle.session_model.specs.Laws.{Dones, Endings, LastWordsSaid, Replies, Requests, Responses};
+ghost use Rattle.session_model.specs.Laws.{Runs, Sends, Turns, Waitings};
 
 /// The messages of a session are a run of the translation machine, which knows no bytes.
 pub fn messages_are_a_run()
