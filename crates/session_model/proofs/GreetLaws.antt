@@ -19,6 +19,7 @@ use Rattle.session_model.specs.Replies.{AreReplied, count_sent, is_end_come, is_
 use Rattle.session_model.specs.Saying.{Brings, PacketSays, Speaks}
 use Rattle.session_model.specs.Session.{Going, Happens}
 use Rattle.session_model.specs.States.{SessionState, StreamState}
+use Rattle.session_model.proofs.DeferredLaws.{are_kept}
 use Rattle.session_model.proofs.PendingLaws.{same_pending}
 use Rattle.session_model.proofs.ReplyLaws.{IsSaid, is_said, left_from}
 use Rattle.session_model.proofs.RunLaws.{is_run}
@@ -245,6 +246,7 @@ are_replied {log} {messages} {s} g =
       apart = h.held.apart;
       same = λ test. same_pending test run h;
       few = few s run (same_pending (λ asked. true) run h);
+      kept = are_kept run;
       begun = λ is. is_cut_off g is;
       greeted = λ is. begins_so (heard Target log) h.packets target.greeted target.stream h.cut
           (t.came ((all_open run).greeted.heard ∙ is));

@@ -1,3 +1,4 @@
+pub mod DeferredLaws
 pub mod DoneLaws
 pub mod DueLaws
 pub mod EndedRules

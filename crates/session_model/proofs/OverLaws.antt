@@ -106,6 +106,7 @@ are_replied_then h =
       apart = k.apart;
       same = k.same;
       few = k.few;
+      kept = k.kept;
       begun = rw same k.begun;
       greeted = rw same k.greeted;
       ended = k.ended ∙ sym (same_so h).ends;

@@ -1,5 +1,6 @@
 -- What the target's bytes say: its handshake, its replies to commands, and its composites.
 use Rattle.std.specs.Prelude.{ℕ, ◌≡◌, ◌≤◌, ◌+◌, ◌∷◌, ◌++◌, Bool, true, false, List, [], Ok, count_by, drop, length, map}
+use Rattle.std.specs.List.{flat_map}
 use Rattle.jdwp_commands.specs.declared.asked.Asked.{Asked}
 use Rattle.jdwp_events.specs.Composites.{composite_at}
 use Rattle.jdwp_packets.specs.Packets.{IsGreeted, Packet, command_packet, reply_packet}
@@ -9,10 +10,10 @@ use Rattle.machine_model.specs.Pending.{bit}
 use Rattle.machine_model.specs.Pending.{count as count_of}
 use Rattle.machine_model.specs.Replying.{SizesFor, pending_of, wire}
 use Rattle.machine_model.specs.Runs.{Message, Run}
-use Rattle.machine_model.specs.State.{Machine}
+use Rattle.machine_model.specs.State.{Machine, is_gone}
 use Rattle.pending_table.specs.Places.{AreApart}
 use Rattle.pending_table.specs.Windows.{id_of}
-use Rattle.session_model.specs.Names.{Client, Composite, Entry, Failed, In, Out, Quiet, Replied, Shut, Side, Target}
+use Rattle.session_model.specs.Names.{a_composite, a_raw, a_request, Client, Composite, Entry, Failed, In, Out, Quiet, Replied, Shut, Side, Target, Item, target_end}
 use Rattle.session_model.specs.Names.{TargetCommand}
 use Rattle.session_model.specs.Bytes.{heard}
 use Rattle.session_model.specs.Saying.{SaysReply, is_composite}
@@ -79,6 +80,32 @@ abbrev pub count_sent : (Asked → Bool) → List (ℕ × Asked) → ℕ
 count_sent test [] = 0
 count_sent test (sent ∷ others) = bit (test sent.1) + count_sent test others
 
+-- Composites that wait -------------------------------------------------------------------------------------------------
+
+-- a composite that was kept, by the offset of its packet and its body
+abbrev pub kept_by : Message → List (ℕ × List ℕ)
+kept_by (Message.keeps at body) = (at, body) ∷ []
+kept_by _ = []
+
+-- and one that was read
+abbrev pub read_by : Message → List (ℕ × List ℕ)
+read_by (Message.reads at body composite) = (at, body) ∷ []
+read_by _ = []
+
+-- and one that waits to be read
+abbrev pub raw_in : Item → List (ℕ × List ℕ)
+raw_in (a_raw at body) = (at, body) ∷ []
+raw_in (a_request request) = []
+raw_in (a_composite at composite) = []
+raw_in target_end = []
+
+-- Those that were kept are, in order, those that were read since and those that wait; but some may be dropped once the
+-- target is gone.
+pub record AreKept (messages : List Message) (m : Machine) : Type 0 where
+  pub dropped : List (ℕ × List ℕ)
+  pub kept : flat_map kept_by messages ≡ (flat_map read_by messages ++ dropped) ++ flat_map raw_in m.waiting
+  pub of_gone : is_gone m.state.phase ≡ false → dropped ≡ []
+
 -- The handshake and the end ------------------------------------------------------------------------------------------
 
 -- the end of the target's stream is taken up
@@ -109,7 +136,7 @@ one_if true = 1
 -- The target's bytes are its handshake, once it came, and packets (JDWP, JDWP Start Up; JDWP, JDWP Packets), which say
 -- what the messages say of it; what is not cut are the bytes from its offset on. Commands without a reply are pending,
 -- each under its id, no two under one; they are as many as the machine has pending, of each kind, and no more than
--- sixteen. The handshake is cut off where the bytes begin with it, and taken up only there; and each end of the
+-- sixteen. Composites that were kept are read in order, or wait. The handshake is cut off where the bytes begin with it, and taken up only there; and each end of the
 -- target's stream is taken up, but one that has just come.
 pub record AreReplied (log : List Entry) (messages : List Message) (s : SessionState) : Type 0 where
   pub packets : List (ℕ × Packet)
@@ -123,6 +150,7 @@ pub record AreReplied (log : List Entry) (messages : List Message) (s : SessionS
   pub same : (test : Asked → Bool)
       → count_sent test s.streams.commands.sent ≡ count_of (λ command. test (wire command)) (pending_of s.machine)
   pub few : length s.streams.commands.sent ≤ 16
+  pub kept : AreKept messages s.machine
   pub begun : IsGreeted (heard Target log) → s.streams.target.greeted ≡ true
   pub greeted : s.machine.state.greeting_heard ≡ true → IsGreeted (heard Target log)
   pub ended : count_by is_end_taken messages + one_if s.streams.ended ≡ count_by is_end_come log

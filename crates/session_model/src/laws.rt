@@ -39,8 +39,8 @@ pub fn requests_are_what_the_client_says()
 /// What came from the target are its handshake, once it came, and packets, with nothing between them, up to the bytes
 /// that aren't cut. In order they are the replies that are heard, and the composites that come or are kept. Each reply
 /// is to the command with its id, which had none yet, and is the answer or the error that its body and error say. The
-/// commands without a reply are those that the machine has pending, no two under one id, and sixteen at most. The
-/// handshake is taken up only where the bytes begin with it; each end of the target's stream is taken up, but one that
+/// commands without a reply are those that the machine has pending, no two under one id, and sixteen at most. What was
+/// kept is read later, in order, or still waits; it is dropped only where the target has gone. The handshake is taken up only where the bytes begin with it; each end of the target's stream is taken up, but one that
 /// has just come (JDWP, JDWP Start Up; JDWP, JDWP Packets, reply packet; JDWP, Event command set, Composite).
 pub fn replies_are_what_the_target_says()
     ensures { Replies }
