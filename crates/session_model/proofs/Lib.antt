@@ -15,6 +15,7 @@ pub mod RunLaws
 pub mod SendLaws
 pub mod SentLaws
 pub mod ServeLaws
+pub mod SizeLaws
 pub mod Steps
 pub mod TurnLaws
 pub mod WaitLaws

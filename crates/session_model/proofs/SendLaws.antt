@@ -7,7 +7,7 @@ use Rattle.jdwp_packets.specs.Packets.{command_packet, packet_bytes}
 use Rattle.jdwp_values.specs.declared.sizes.IdSizes.{IdSizes}
 use Rattle.machine_model.specs.Pending.{goes_out}
 use Rattle.machine_model.specs.Replying.{wire}
-use Rattle.machine_model.specs.Runs.{Message, Run}
+use Rattle.machine_model.specs.Runs.{Allows, Message, Run}
 use Rattle.machine_model.specs.State.{Machine}
 use Rattle.pending_table.proofs.WindowLaws.{next_goes_on}
 use Rattle.pending_table.specs.Windows.{id_of, turn}
@@ -20,6 +20,7 @@ use Rattle.session_model.specs.Sending.{is_told}
 use Rattle.session_model.specs.Session.{Going, Happens}
 use Rattle.session_model.specs.States.{SessionState, StreamState}
 use Rattle.session_model.proofs.RunLaws.{is_run}
+use Rattle.session_model.proofs.SizeLaws.{spelled_alike}
 use Rattle.session_model.proofs.Steps.{flat_map_one_more, flat_map_same}
 
 -- Going on ------------------------------------------------------------------------------------------------------------
@@ -81,24 +82,26 @@ packet_under used asked id =
 -- what goes out
 speaking : (side : Side) {log : List Entry} {messages : List Message} {s : SessionState} {message : Message}
     {to : Side} {bytes : List ℕ} {streams : StreamState} (next : Machine) → Run messages s.machine
-    → Speaks s message to bytes streams → IsSent side log messages s
+    → Allows s.machine message next → Speaks s message to bytes streams → IsSent side log messages s
     → IsSent side (log ++ Out to bytes ∷ []) (messages ++ message ∷ []) (record s { machine = next; streams = streams })
-speaking Client {s} next run (Speaks.tells {told}) h =
+speaking Client {s} next run allows (Speaks.tells {told}) h =
     more_goes Client _ (Message.tells told) (told_bytes s.streams.told told) (told_bytes h.count told) (h.count + 1) h
     refl (ap (λ n. told_bytes n told) h.counted) (GoesAs.tells told) (ap (λ n. n + 1) h.counted)
-speaking Client {log} {message} next run Speaks.greets h =
+speaking Client {log} {message} next run allows Speaks.greets h =
     aside Client _ message refl (flat_map_same (given_by Client) log _ refl) (λ n is. is) h
-speaking Client {log} {message} next run (Speaks.sends apart serves) h =
+speaking Client {log} {message} next run allows (Speaks.sends apart serves) h =
     aside Client _ message refl (flat_map_same (given_by Client) log _ refl) (λ n is. is) h
-speaking Target {log} {message} next run Speaks.tells h =
+speaking Target {log} {message} next run allows Speaks.tells h =
     aside Target _ message refl (flat_map_same (given_by Target) log _ refl) (λ n is. is) h
-speaking Target {message} {bytes} next run Speaks.greets h =
+speaking Target {message} {bytes} next run allows Speaks.greets h =
     more_goes Target _ message bytes bytes h.count h refl refl GoesAs.greets h.counted
-speaking Target {s} next run (Speaks.sends {command} {used} apart serves) h =
+speaking Target {s} next run allows (Speaks.sends {command} {used} apart serves) h =
     more_goes Target _ (Message.sends command) (nth_command s.streams.commands.next used (wire command))
     (nth_command h.count used (wire command)) (h.count + 1) h refl
     (same_command (packet_under used (wire command)) s.streams.commands.next h.count h.counted)
-    (GoesAs.sends command run serves)
+    (GoesAs.sends command run serves (λ other served.
+    ap (λ body. packet_bytes (command_packet (id_of h.count) (number_of (wire command)).0
+    (number_of (wire command)).1 body)) (spelled_alike run allows other used served serves)))
     (ap (λ n. (n + 1) % turn) h.counted ∙ next_goes_on h.count)
 
 -- what comes in is not sent
@@ -140,7 +143,7 @@ pub is_sent : (side : Side) {limits : Limits} {log : List Entry} {messages : Lis
 is_sent Client Going.begins = record { count = 0; spelled = AreSentAs.none; counted = refl }
 is_sent Target Going.begins = record { count = 0; spelled = AreSentAs.none; counted = refl }
 is_sent side (Going.goes g on is) = stays side _ refl refl refl (is_sent side g)
-is_sent side (Going.speaks {next} g on allows speaks) = speaking side next (is_run g) speaks (is_sent side g)
+is_sent side (Going.speaks {next} g on allows speaks) = speaking side next (is_run g) allows speaks (is_sent side g)
 is_sent side (Going.hears {s} {message} {streams} g reads allows brings) =
     let q = comes_quiet brings in
     aside side _ message (not_to side message q.not_told q.not_out) refl

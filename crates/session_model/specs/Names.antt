@@ -10,7 +10,7 @@ pub use Rattle.jdwp_commands.specs.declared.question.Question.{Question}
 pub use Rattle.jdwp_events.specs.declared.composite.Composite.{Composite}
 pub use Rattle.machine_model.specs.declared.acts.Act.{Act}
 pub use Rattle.machine_model.specs.declared.acts.Effect.{Effect}
-pub use Rattle.machine_model.specs.declared.acts.Effect.TheVariants.{Does, Set}
+pub use Rattle.machine_model.specs.declared.acts.Effect.TheVariants.{Clear, Does, Set}
 pub use Rattle.machine_model.specs.declared.acts.TargetCommand.{TargetCommand}
 pub use Rattle.machine_model.specs.declared.acts.TargetCommand.TheVariants.{Effect as an_effect, Question as a_question}
 pub use Rattle.machine_model.specs.declared.acts.Want.{Want}
@@ -21,7 +21,7 @@ pub use Rattle.machine_model.specs.declared.items.Phase.{Phase}
 pub use Rattle.machine_model.specs.declared.items.Phase.TheVariants.{Attached, Fresh, Gone}
 pub use Rattle.machine_model.specs.declared.parts.Body.TheVariants.{Nothing}
 pub use Rattle.machine_model.specs.declared.parts.Choice.{Choice}
-pub use Rattle.machine_model.specs.declared.parts.Deed.TheVariants.{Dispose}
+pub use Rattle.machine_model.specs.declared.parts.Deed.TheVariants.{Dispose, Exit}
 pub use Rattle.machine_model.specs.declared.parts.Event.{Event}
 pub use Rattle.machine_model.specs.declared.parts.Finding.{Finding}
 pub use Rattle.machine_model.specs.declared.parts.Finish.{Finish}

@@ -13,7 +13,8 @@ use Rattle.machine_model.specs.Runs.{Message, Run}
 use Rattle.machine_model.specs.State.{Machine, is_gone}
 use Rattle.pending_table.specs.Places.{AreApart}
 use Rattle.pending_table.specs.Windows.{id_of}
-use Rattle.session_model.specs.Names.{a_composite, a_raw, a_request, Client, Composite, Entry, Failed, In, Out, Quiet, Replied, Shut, Side, Target, Item, target_end}
+use Rattle.session_model.specs.Names.{a_composite, a_raw, a_request, Client, Composite, Entry, Failed, In, Item, Out}
+use Rattle.session_model.specs.Names.{Quiet, Replied, Shut, Side, Target, target_end, TargetCommand}
 use Rattle.session_model.specs.Names.{TargetCommand}
 use Rattle.session_model.specs.Bytes.{heard}
 use Rattle.session_model.specs.Saying.{SaysReply, is_composite}
@@ -80,7 +81,7 @@ abbrev pub count_sent : (Asked → Bool) → List (ℕ × Asked) → ℕ
 count_sent test [] = 0
 count_sent test (sent ∷ others) = bit (test sent.1) + count_sent test others
 
--- Composites that wait -------------------------------------------------------------------------------------------------
+-- Composites that wait -----------------------------------------------------------------------------------------------
 
 -- a composite that was kept, by the offset of its packet and its body
 abbrev pub kept_by : Message → List (ℕ × List ℕ)
@@ -136,8 +137,8 @@ one_if true = 1
 -- The target's bytes are its handshake, once it came, and packets (JDWP, JDWP Start Up; JDWP, JDWP Packets), which say
 -- what the messages say of it; what is not cut are the bytes from its offset on. Commands without a reply are pending,
 -- each under its id, no two under one; they are as many as the machine has pending, of each kind, and no more than
--- sixteen. Composites that were kept are read in order, or wait. The handshake is cut off where the bytes begin with it, and taken up only there; and each end of the
--- target's stream is taken up, but one that has just come.
+-- sixteen. Composites that were kept are read in order, or wait. The handshake is cut off where the bytes begin with
+-- it, and taken up only there; and each end of the target's stream is taken up, but one that has just come.
 pub record AreReplied (log : List Entry) (messages : List Message) (s : SessionState) : Type 0 where
   pub packets : List (ℕ × Packet)
   pub count : ℕ

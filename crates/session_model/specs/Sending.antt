@@ -29,14 +29,16 @@ goes_to Target message = goes_out message
 
 -- A message goes to this side as these bytes, with so many numbered ones before it, and so many behind it: what is told
 -- is one frame, numbered on (DAP overview, Base protocol; DAP specification, Base Protocol, ProtocolMessage, `seq`); a
--- command is one packet, with the next id, spelled with the sizes of ids that serve where it is sent (JDWP, JDWP
--- Packets, command packet); the handshake has no number (JDWP, JDWP Start Up).
+-- command is one packet, with the next id, spelled with the sizes of ids that serve where it is sent, all of which give
+-- the same (JDWP, JDWP Packets, command packet); the handshake has no number (JDWP, JDWP Start Up).
 pub data GoesAs (messages : List Message) : Side → ℕ → Message → List ℕ → ℕ → Type 0 where
   tells : {n : ℕ} (told : Told)
       → GoesAs messages Client n (Message.tells told) (frame_bytes (told_text (n + 1) told)) (n + 1)
   greets : {n : ℕ} → GoesAs messages Target n Message.greets handshake n
   sends : {n : ℕ} {m : Machine} {used : IdSizes} (command : TargetCommand) → Run messages m
       → SizesFor m.state.sizes used
+      → ((other : IdSizes) → SizesFor m.state.sizes other
+      → nth_command n other (wire command) ≡ nth_command n used (wire command))
       → GoesAs messages Target n (Message.sends command) (nth_command n used (wire command)) (n + 1)
 
 -- Those of these messages that go to a side are sent to it as these bytes, in order, so many of them numbered: from 1

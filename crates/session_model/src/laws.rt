@@ -22,7 +22,8 @@ pub fn last_words_are_those_of_the_ending()
 
 /// What the client is sent are the frames of what it is told, numbered 1, 2, 3, and so on; what the target is sent are
 /// its handshake, and the packets of the commands, with the ids 1, 2, 3, and so on; in order, with nothing between
-/// them, and then the last words to that side. A body is spelled with sizes of ids that serve where it is sent. Behind
+/// them, and then the last words to that side. A body is spelled with sizes of ids that serve where it is sent, all of
+/// which give the same. Behind
 /// them stands less than the whole of one more only where that side's link failed (DAP overview, Base protocol; DAP
 /// specification, Base Protocol, ProtocolMessage, `seq`; JDWP, JDWP Start Up; JDWP, JDWP Packets, command packet).
 pub fn each_side_is_sent_its_messages()
@@ -40,8 +41,9 @@ pub fn requests_are_what_the_client_says()
 /// that aren't cut. In order they are the replies that are heard, and the composites that come or are kept. Each reply
 /// is to the command with its id, which had none yet, and is the answer or the error that its body and error say. The
 /// commands without a reply are those that the machine has pending, no two under one id, and sixteen at most. What was
-/// kept is read later, in order, or still waits; it is dropped only where the target has gone. The handshake is taken up only where the bytes begin with it; each end of the target's stream is taken up, but one that
-/// has just come (JDWP, JDWP Start Up; JDWP, JDWP Packets, reply packet; JDWP, Event command set, Composite).
+/// kept is read later, in order, or still waits; it is dropped only where the target has gone. The handshake is taken
+/// up only where the bytes begin with it; each end of the target's stream is taken up, but one that has just come
+/// (JDWP, JDWP Start Up; JDWP, JDWP Packets, reply packet; JDWP, Event command set, Composite).
 pub fn replies_are_what_the_target_says()
     ensures { Replies }
 {}
