@@ -1,6 +1,8 @@
+pub mod AlikeLaws
 pub mod DeferredLaws
 pub mod DoneLaws
 pub mod DueLaws
+pub mod EarlyLaws
 pub mod EndedRules
 pub mod EndLaws
 mod Examples

@@ -59,6 +59,18 @@ record Fails (requests : List Request) (said rest : List LastWord) : Type 0 wher
   pub responses : responses_said said ≡ map gone_response done
   pub all : tells_first rest ≡ false → left ≡ []
 
+one_more : {requests : List Request} {rest : List LastWord} (request : Request) (word : LastWord)
+    (said : List LastWord) → word ≡ fails_gone request → Fails requests said rest
+    → Fails (request ∷ requests) (word ∷ said) rest
+one_more request word said first h = record {
+  done = request ∷ h.done;
+  left = h.left;
+  requests_are = ap (λ all. request ∷ all) h.requests_are;
+  responses = ap (λ w. response_by_word w ++ responses_said said) first
+      ∙ ap (λ others. gone_response request ∷ others) h.responses;
+  all = h.all;
+}
+
 fail : (requests : List Request) (more said rest : List LastWord) → AnswerNone more
     → said ++ rest ≡ map fails_gone requests ++ more → Fails requests said rest
 fail [] more said rest none is = record {
@@ -78,15 +90,7 @@ fail (request ∷ requests) more [] rest none is = record {
 fail (request ∷ requests) more (word ∷ said) rest none is =
     let first : word ≡ fails_gone request = cc in
     let others : said ++ rest ≡ map fails_gone requests ++ more = cc in
-    let h = fail requests more said rest none others in
-    record {
-      done = request ∷ h.done;
-      left = h.left;
-      requests_are = ap (λ all. request ∷ all) h.requests_are;
-      responses = ap (λ w. response_by_word w ++ responses_said said) first
-          ∙ ap (λ others. gone_response request ∷ others) h.responses;
-      all = h.all;
-    }
+    one_more request word said first (fail requests more said rest none others)
 
 -- they are answered behind those that were
 answer_on : (answered done : List Request) (responses : List Response) → AreAnswered answered responses

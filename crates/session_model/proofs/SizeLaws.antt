@@ -71,7 +71,7 @@ is_read : (sizes : Option SizesRead) (used : IdSizes) → SizesFor sizes used �
 is_read None used any_sizes is = cc
 is_read (Some sizes) used sizes_read is = refl
 
-one_read : (sizes : Option SizesRead) (a b : IdSizes) → SizesFor sizes a → SizesFor sizes b → is_some sizes ≡ true
+pub one_read : (sizes : Option SizesRead) (a b : IdSizes) → SizesFor sizes a → SizesFor sizes b → is_some sizes ≡ true
     → a ≡ b
 one_read sizes a b first second is =
     let both : Some (sizes_of a) ≡ Some (sizes_of b) =
@@ -81,7 +81,7 @@ one_read sizes a b first second is =
 -- Commands before the sizes are known ---------------------------------------------------------------------------------
 
 -- such as may be sent before: they have no ids
-abbrev is_early : TargetCommand → Bool
+abbrev pub is_early : TargetCommand → Bool
 is_early (a_question question) = is_sizes question
 is_early (an_effect (Does deed)) = true
 is_early (an_effect (Set wish)) = false
@@ -103,14 +103,14 @@ early_alike (an_effect (Does Exit)) is a b = refl
 early_alike (an_effect (Set wish)) is a b = cc
 early_alike (an_effect (Clear wish request)) is a b = cc
 
-abbrev Any : List Message → Id → Type 0
+abbrev pub Any : List Message → Id → Type 0
 Any messages id = Unit {0}
 
 all_any : (ids : List Id) → All (λ (id : Id). Unit {0}) ids
 all_any [] = tt
 all_any (id ∷ ids) = (tt, all_any ids)
 
-any_id : IsIdTest Any
+pub any_id : IsIdTest Any
 any_id = record {
   null = λ messages. tt;
   grows = λ messages message id h. tt;
@@ -122,7 +122,7 @@ not_behind : (sized attached : Bool) (rest : List Part) → sized ≡ false
 not_behind sized true rest none is = let no : in_order sized true (Part.Updates ∷ rest) ≡ false = rw none refl in cc
 not_behind sized false rest none is = let no : in_order sized false (Part.Updates ∷ rest) ≡ false = rw none refl in cc
 
-early_sent : {messages : List Message} {m next : Machine} (command : TargetCommand) (said : Option Message)
+pub early_sent : {messages : List Message} {m next : Machine} (command : TargetCommand) (said : Option Message)
     → IsKept (Any messages) messages m → is_some m.state.sizes ≡ false → said ≡ Some (Message.sends command)
     → Moves m said next → is_early command ≡ true
 early_sent command said k none is (Moves.sends {deed = deed} free at near) =

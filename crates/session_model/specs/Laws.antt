@@ -7,7 +7,7 @@ use Rattle.session_model.specs.Names.{Done, Entry, Limits, Side}
 use Rattle.session_model.specs.Causes.{Waits}
 use Rattle.session_model.specs.Endings.{IsDone, Shows}
 use Rattle.session_model.specs.Hearing.{AreHeard}
-use Rattle.session_model.specs.Replies.{AreReplied}
+use Rattle.session_model.specs.Replies.{AreReadAlike, AreReplied}
 use Rattle.session_model.specs.Responses.{AreServedInAll}
 use Rattle.session_model.specs.Resting.{IsAnswered}
 use Rattle.session_model.specs.Sending.{IsSent, IsSentInAll}
@@ -69,3 +69,7 @@ Dones = OnceEnded (λ limits log messages turns e. e.ending ≡ Done → IsDone 
 abbrev pub Waitings : Type 0
 Waitings = WhileGoing (λ limits log messages turns s. Waits limits s → is_silent s.machine ≡ true
     → awaits_greeting s.machine.state ≡ false → IsAnswered messages s.machine)
+
+-- Before the sizes of ids are known, all sizes read the same of what is pending; and then the target's do.
+abbrev pub Alike : Type 0
+Alike = WhileGoing (λ limits log messages turns s. AreReadAlike s)

@@ -1,6 +1,8 @@
 -- What the target's bytes say: its handshake, its replies to commands, and its composites.
-use Rattle.std.specs.Prelude.{ℕ, ◌≡◌, ◌≤◌, ◌+◌, ◌∷◌, ◌++◌, Bool, true, false, List, [], Ok, count_by, drop, length, map}
+use Rattle.std.specs.Prelude.{ℕ, ◌≡◌, ◌≤◌, ◌+◌, ◌∷◌, ◌++◌, Bool, true, false, List, [], Ok, Some, count_by, drop}
+use Rattle.std.specs.Prelude.{length, map}
 use Rattle.std.specs.List.{flat_map}
+use Rattle.jdwp_commands.specs.Answers.{answer_at}
 use Rattle.jdwp_commands.specs.declared.asked.Asked.{Asked}
 use Rattle.jdwp_events.specs.Composites.{composite_at}
 use Rattle.jdwp_packets.specs.Packets.{IsGreeted, Packet, command_packet, reply_packet}
@@ -12,10 +14,9 @@ use Rattle.machine_model.specs.Replying.{SizesFor, pending_of, wire}
 use Rattle.machine_model.specs.Runs.{Message, Run}
 use Rattle.machine_model.specs.State.{Machine, is_gone}
 use Rattle.pending_table.specs.Places.{AreApart}
-use Rattle.pending_table.specs.Windows.{id_of}
+use Rattle.pending_table.specs.Windows.{id_of, pending_under}
 use Rattle.session_model.specs.Names.{a_composite, a_raw, a_request, Client, Composite, Entry, Failed, In, Item, Out}
 use Rattle.session_model.specs.Names.{Quiet, Replied, Shut, Side, Target, target_end, TargetCommand}
-use Rattle.session_model.specs.Names.{TargetCommand}
 use Rattle.session_model.specs.Bytes.{heard}
 use Rattle.session_model.specs.Saying.{SaysReply, is_composite}
 use Rattle.session_model.specs.States.{SessionState}
@@ -155,3 +156,9 @@ pub record AreReplied (log : List Entry) (messages : List Message) (s : SessionS
   pub begun : IsGreeted (heard Target log) → s.streams.target.greeted ≡ true
   pub greeted : s.machine.state.greeting_heard ≡ true → IsGreeted (heard Target log)
   pub ended : count_by is_end_taken messages + one_if s.streams.ended ≡ count_by is_end_come log
+
+-- Whichever sizes of ids serve, the body of an answer to a pending command reads the same.
+abbrev pub AreReadAlike : SessionState → Type 0
+AreReadAlike s = (id : ℕ) (command : TargetCommand) (body : List ℕ) (used other : IdSizes)
+    → pending_under id s.streams.commands.sent ≡ Some (wire command) → SizesFor s.machine.state.sizes used
+    → SizesFor s.machine.state.sizes other → answer_at used (wire command) body ≡ answer_at other (wire command) body

@@ -1,7 +1,7 @@
 //! What holds of every session, by the bytes of its two sides. Each law is the contract of a function that does
 //! nothing.
 
-ghost use Rattle.session_model.specs.Laws.{Dones, Endings, LastWordsSaid, Replies, Requests, Responses};
+ghost use Rattle.session_model.specs.Laws.{Alike, Dones, Endings, LastWordsSaid, Replies, Requests, Responses};
 ghost use Rattle.session_model.specs.Laws.{Runs, Sends, Turns, Waitings};
 
 /// The messages of a session are a run of the translation machine, which knows no bytes.
@@ -73,4 +73,10 @@ pub fn responses_answer_the_requests_to_the_end()
 /// Response).
 pub fn requests_are_answered_where_a_session_waits()
     ensures { Waitings }
+{}
+
+/// The body of an answer to a pending command reads the same with all sizes of ids that serve: the target's, once it
+/// has replied them, and any before (JDWP, VirtualMachine command set, IDSizes).
+pub fn answers_read_alike_with_sizes_that_serve()
+    ensures { Alike }
 {}
