@@ -21,7 +21,7 @@ use Rattle.machine_model.proofs.Stepping.{Moves, by_runs, with_said}
 use Rattle.machine_model.proofs.TurnLaws.{Turns, turned}
 use Rattle.session_model.specs.Names.{a_question, an_answer, an_effect, an_error, Clear, Dispose, Does, Exit, Replied}
 use Rattle.session_model.specs.Names.{Question, Set, TargetCommand, Told}
-use Rattle.session_model.specs.Replies.{count_sent}
+use Rattle.session_model.specs.Replies.{count_under}
 use Rattle.session_model.proofs.SizeLaws.{any_id, early_sent, is_early}
 use Rattle.pending_table.specs.Windows.{pending_under}
 
@@ -158,11 +158,11 @@ none_late (command ∷ commands) all =
     ap (λ late. bit late + count_of (λ command. is_late (wire command)) commands) here ∙ omega (arith, others)
 
 pub early_under : (id : ℕ) (asked : Asked) (sent : List (ℕ × Asked)) → pending_under id sent ≡ Some asked
-    → count_sent is_late sent ≡ 0 → early_asked asked ≡ true
+    → count_under is_late sent ≡ 0 → early_asked asked ≡ true
 early_under id asked [] is none = cc
 early_under id asked (first ∷ sent) is none =
     by_id (first.0 == id) (early_under id asked sent) is
-    (by_first (is_late first.1) (count_sent is_late sent) none)
+    (by_first (is_late first.1) (count_under is_late sent) none)
   where
     by_first : (late : Bool) (others : ℕ) → bit late + others ≡ 0 → (late ≡ false) × (others ≡ 0)
     by_first true others is = absurd (omega (arith, is))
@@ -173,9 +173,9 @@ early_under id asked (first ∷ sent) is none =
     not_late false is = cc
 
     by_id : (same : Bool)
-        → (pending_under id sent ≡ Some asked → count_sent is_late sent ≡ 0 → early_asked asked ≡ true)
+        → (pending_under id sent ≡ Some asked → count_under is_late sent ≡ 0 → early_asked asked ≡ true)
         → cond same (Some first.1) (pending_under id sent) ≡ Some asked
-        → (is_late first.1 ≡ false) × (count_sent is_late sent ≡ 0) → early_asked asked ≡ true
+        → (is_late first.1 ≡ false) × (count_under is_late sent ≡ 0) → early_asked asked ≡ true
     by_id true rest found none =
         let one : first.1 ≡ asked = cc in ap early_asked (sym one) ∙ not_late (early_asked first.1) none.0
     by_id false rest found none = rest found none.1

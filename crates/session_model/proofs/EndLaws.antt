@@ -6,8 +6,8 @@ use Rattle.std.specs.Prelude.{replicate}
 use Rattle.machine_model.specs.Runs.{Message}
 use Rattle.session_model.specs.Names.{Client, Ending, Entry, Failed, Limits, Out, Quiet, Side, Target}
 use Rattle.session_model.specs.Causes.{Cause, link_ending}
-use Rattle.session_model.specs.Endings.{AreLast, Shows, is_sending}
-use Rattle.session_model.specs.LastWords.{AreSaid, LastWord}
+use Rattle.session_model.specs.Endings.{AreLast, ShowsInLog, is_sending}
+use Rattle.session_model.specs.LastWords.{AreSpoken, LastWord}
 use Rattle.session_model.specs.Session.{Ended, EndedState}
 use Rattle.session_model.specs.States.{StreamState}
 use Rattle.session_model.proofs.QuietLaws.{quiet_so}
@@ -27,10 +27,10 @@ broken_sends side [] = (refl, tt)
 broken_sends side (b ∷ bytes) = (refl, (refl, tt))
 
 words_send : {begin : StreamState} {words said left : List LastWord} {entries : List Entry} {now : StreamState}
-    → AreSaid begin words said left entries now → AreSends entries
-words_send AreSaid.none = tt
-words_send (AreSaid.one_more {entries} h) = more_sends entries _ (words_send h) (refl, tt)
-words_send (AreSaid.cut_short {entries} h proper) = more_sends entries _ (words_send h) (broken_sends _ _)
+    → AreSpoken begin words said left entries now → AreSends entries
+words_send AreSpoken.none = tt
+words_send (AreSpoken.one_more {entries} h) = more_sends entries _ (words_send h) (refl, tt)
+words_send (AreSpoken.cut_short {entries} h proper) = more_sends entries _ (words_send h) (broken_sends _ _)
 
 -- What came last ------------------------------------------------------------------------------------------------------
 
@@ -59,12 +59,12 @@ module _ {limits : Limits} {log : List Entry} {messages : List Message} {turns :
     entries_are = ap (λ more. h.before ++ more) l.entries_are ∙ sym (append_assoc h.before l.first last);
   }
 
-  link_lost : (side : Side) → Leaves h.by_cause (Failed side ∷ []) → Shows limits log turns (link_ending side)
+  link_lost : (side : Side) → Leaves h.by_cause (Failed side ∷ []) → ShowsInLog limits log turns (link_ending side)
   link_lost Client l = are_last (by_cause l)
   link_lost Target l = are_last (by_cause l)
 
   shows_by : {ending : Ending} {entries : List Entry} {taken : ℕ} → h.by_cause ≡ entries → h.taken ≡ taken
-      → Cause limits h.earlier e.last ending entries taken → Shows limits log turns ending
+      → Cause limits h.earlier e.last ending entries taken → ShowsInLog limits log turns ending
   shows_by is took (Cause.shut listens) =
       are_last (by_cause (record { first = []; entries_are = is }))
   shows_by is took (Cause.lost side listens) = link_lost side (record { first = []; entries_are = is })
@@ -86,5 +86,5 @@ module _ {limits : Limits} {log : List Entry} {messages : List Message} {turns :
   shows_by is took (Cause.refused reads reply some intolerable) = tt
   shows_by is took (Cause.flood many) = tt
 
-  pub shows : Shows limits log turns e.ending
+  pub shows : ShowsInLog limits log turns e.ending
   shows = shows_by refl refl h.cause

@@ -3,7 +3,7 @@ use Rattle.std.proofs.Common.{◌≡◌, ℕ, ◌+◌, ◌<◌, List, [], ◌∷
 use Rattle.std.proofs.Common.{append_assoc, append-nil}
 use Rattle.machine_model.specs.Runs.{Message}
 use Rattle.session_model.specs.Causes.{Cause}
-use Rattle.session_model.specs.LastWords.{AreSaid, LastWord, last_word_said, last_words, word_bytes, word_side}
+use Rattle.session_model.specs.LastWords.{AreSpoken, LastWord, last_word_said, last_words, word_bytes, word_side}
 use Rattle.session_model.specs.Names.{Ending, Entry, Limits, Out}
 use Rattle.session_model.specs.Session.{Ended, EndedState, Going}
 use Rattle.session_model.specs.States.{SessionState, StreamState}
@@ -28,13 +28,13 @@ ends_by {log} {turns} {entries} {taken} g cause = record {
   turns_are = refl;
   going = g;
   cause = cause;
-  words = AreSaid.none;
+  words = AreSpoken.none;
 }
 
 -- more words, as these entries
 more_words : {limits : Limits} {log : List Entry} {messages : List Message} {turns : ℕ} {e : EndedState}
     (more : List Entry) (said left : List LastWord) (streams : StreamState) (h : Ended limits log messages turns e)
-    → AreSaid e.last.streams (last_words e.ending e.last.machine) said left (h.by_words ++ more) streams
+    → AreSpoken e.last.streams (last_words e.ending e.last.machine) said left (h.by_words ++ more) streams
     → Ended limits (log ++ more) messages turns (record e { said = said; left = left; streams = streams })
 more_words more said left streams h words = record {
   before = h.before;
@@ -55,8 +55,8 @@ pub says_next : {limits : Limits} {log : List Entry} {messages : List Message} {
     → Ended limits (log ++ Out (word_side word) (word_bytes e.streams word) ∷ []) messages turns
     (record e { said = e.said ++ word ∷ []; left = left; streams = last_word_said e.streams word })
 says_next {e = e} {word} {left} h is =
-    more_words _ (e.said ++ word ∷ []) left (last_word_said e.streams word) h (AreSaid.one_more
-    (subst (λ left. AreSaid e.last.streams (last_words e.ending e.last.machine) e.said left h.by_words e.streams) is
+    more_words _ (e.said ++ word ∷ []) left (last_word_said e.streams word) h (AreSpoken.one_more
+    (subst (λ left. AreSpoken e.last.streams (last_words e.ending e.last.machine) e.said left h.by_words e.streams) is
     h.words))
 
 -- it can't be said, and no other is
@@ -66,6 +66,6 @@ pub breaks_off : {limits : Limits} {log : List Entry} {messages : List Message} 
     → Ended limits (log ++ broken_send (word_side word) (take kept (word_bytes e.streams word))) messages turns
     (record e { left = [] })
 breaks_off {e = e} h is proper =
-    more_words _ e.said [] e.streams h (AreSaid.cut_short
-    (subst (λ left. AreSaid e.last.streams (last_words e.ending e.last.machine) e.said left h.by_words e.streams) is
+    more_words _ e.said [] e.streams h (AreSpoken.cut_short
+    (subst (λ left. AreSpoken e.last.streams (last_words e.ending e.last.machine) e.said left h.by_words e.streams) is
     h.words) proper)

@@ -10,10 +10,10 @@ use Rattle.machine_model.specs.Replying.{wire}
 use Rattle.machine_model.specs.State.{Machine, fresh}
 use Rattle.session_model.specs.Names.{a_question, an_effect, an_event, Attached, Client, Dispose, Does, Idle, Left}
 use Rattle.session_model.specs.Names.{Limits, Out, Quiet, Set, Shut, Told}
-use Rattle.session_model.specs.Causes.{Cause, Waits}
-use Rattle.session_model.specs.LastWords.{AreSaid, LastWord, dispose_packet, last_words}
+use Rattle.session_model.specs.Causes.{Cause, IsWaiting}
+use Rattle.session_model.specs.LastWords.{AreSpoken, LastWord, dispose_packet, last_words}
 use Rattle.session_model.specs.Saying.{nth_command, told_bytes}
-use Rattle.session_model.specs.Session.{Going, Happens, IsLeft}
+use Rattle.session_model.specs.Session.{Going, Comes, IsLeft}
 use Rattle.session_model.specs.States.{SessionState, no_bytes}
 use Rattle.wish_sets.specs.declared.wish.Wish.TheVariants as wishes
 
@@ -26,7 +26,7 @@ abbrev quiet_for : ℕ → SessionState
 quiet_for n = record { machine = fresh; streams = no_bytes; quiets = n }
 
 -- a session in which nothing came waits
-waits : (n : ℕ) → Waits limits (quiet_for n)
+waits : (n : ℕ) → IsWaiting limits (quiet_for n)
 unfolding due wanted load_of newly_lacked frame_front
 waits n = record {
   reads = record {
@@ -51,7 +51,7 @@ left_at_once = IsLeft.ended (record {
   turns_are = refl;
   going = Going.begins;
   cause = Cause.shut (record { waits = waits 0; more_turns = omega arith; patient = omega arith });
-  words = AreSaid.none;
+  words = AreSpoken.none;
 }) refl
 
 -- three waits in vain, one after the other, where three may be: the client is told that nothing more comes
@@ -68,11 +68,11 @@ idle = IsLeft.ended (record {
   log_is = refl;
   turns_are = refl;
   going = Going.happens (Going.happens (Going.happens Going.begins
-      (record { waits = waits 0; more_turns = omega arith; patient = omega arith }) Happens.passes_quiet)
-      (record { waits = waits 1; more_turns = omega arith; patient = omega arith }) Happens.passes_quiet)
-      (record { waits = waits 2; more_turns = omega arith; patient = omega arith }) Happens.passes_quiet;
+      (record { waits = waits 0; more_turns = omega arith; patient = omega arith }) Comes.passes_quiet)
+      (record { waits = waits 1; more_turns = omega arith; patient = omega arith }) Comes.passes_quiet)
+      (record { waits = waits 2; more_turns = omega arith; patient = omega arith }) Comes.passes_quiet;
   cause = Cause.idle (waits 3) (omega arith) refl;
-  words = AreSaid.one_more AreSaid.none;
+  words = AreSpoken.one_more AreSpoken.none;
 }) refl
 
 -- Commands ------------------------------------------------------------------------------------------------------------

@@ -14,10 +14,10 @@ use Rattle.machine_model.specs.Replying.{pending_of}
 use Rattle.machine_model.specs.Runs.{Message, Run}
 use Rattle.machine_model.proofs.PendingLaws.{all_open, in_window}
 use Rattle.session_model.specs.Names.{Entry, In, Limits, Out, Side, Target, TargetCommand}
-use Rattle.session_model.specs.Bytes.{heard, heard_by}
-use Rattle.session_model.specs.Replies.{AreReplied, count_sent, is_end_come, is_end_taken, one_if}
+use Rattle.session_model.specs.Bytes.{came_by, came_from}
+use Rattle.session_model.specs.Replies.{AreReplied, count_under, is_end_come, is_end_taken, one_if}
 use Rattle.session_model.specs.Saying.{Brings, PacketSays, Speaks}
-use Rattle.session_model.specs.Session.{Going, Happens}
+use Rattle.session_model.specs.Session.{Going, Comes}
 use Rattle.session_model.specs.States.{SessionState, StreamState}
 use Rattle.session_model.proofs.DeferredLaws.{are_kept}
 use Rattle.session_model.proofs.PendingLaws.{same_pending}
@@ -127,19 +127,19 @@ still_received : (target : Received) (bytes : List ℕ) → target.greeted ≡ t
 still_received target bytes is = rw is refl
 
 taken_then : {log : List Entry} {messages : List Message} {s : SessionState} {entry : Entry} {streams : StreamState}
-    (n : ℕ) → s.streams.ended ≡ false → Happens s.streams entry streams → AreTaken log messages s
+    (n : ℕ) → s.streams.ended ≡ false → Comes s.streams entry streams → AreTaken log messages s
     → AreTaken (log ++ entry ∷ []) messages (record s { streams = streams; quiets = n })
-taken_then {log} n none Happens.piece h = stays _ (count_none is_end_come log _ refl) refl refl h
-taken_then {log} {s} n none (Happens.packets {bytes}) h = record {
+taken_then {log} n none Comes.piece h = stays _ (count_none is_end_come log _ refl) refl refl h
+taken_then {log} {s} n none (Comes.packets {bytes}) h = record {
   came = λ is. still_received s.streams.target bytes (h.came is);
   ends = h.ends ∙ sym (count_none is_end_come log (In Target bytes) refl);
 }
-taken_then {log} {entry} n none Happens.ends h =
+taken_then {log} {entry} n none Comes.ends h =
     let before = ap one_if none in
     let more = count_one is_end_come log entry refl in
     let ends = h.ends in
     record { came = h.came; ends = omega arith }
-taken_then {log} n none Happens.passes_quiet h = stays _ (count_none is_end_come log _ refl) refl refl h
+taken_then {log} n none Comes.passes_quiet h = stays _ (count_none is_end_come log _ refl) refl refl h
 
 are_taken : {limits : Limits} {log : List Entry} {messages : List Message} {turns : ℕ} {s : SessionState}
     → Going limits log messages turns s → AreTaken log messages s
@@ -182,23 +182,23 @@ brings_target (Brings.ends came) = refl
 brings_target (Brings.reads serves reads) = refl
 
 cut_then : {log : List Entry} {messages : List Message} {s : SessionState} {entry : Entry} {streams : StreamState}
-    → IsSaid log messages s → Happens s.streams entry streams
-    → (IsGreeted (heard Target log) → s.streams.target.greeted ≡ true)
-    → IsGreeted (heard Target (log ++ entry ∷ [])) → streams.target.greeted ≡ true
-cut_then {log} {entry} said Happens.piece h = still_cut (flat_map_same (heard_by Target) log entry refl) refl h
-cut_then {log} {s} said (Happens.packets {bytes}) h = λ is.
+    → IsSaid log messages s → Comes s.streams entry streams
+    → (IsGreeted (came_from Target log) → s.streams.target.greeted ≡ true)
+    → IsGreeted (came_from Target (log ++ entry ∷ [])) → streams.target.greeted ≡ true
+cut_then {log} {entry} said Comes.piece h = still_cut (flat_map_same (came_by Target) log entry refl) refl h
+cut_then {log} {s} said (Comes.packets {bytes}) h = λ is.
     let target : Received = s.streams.target in
-    cut_off (heard Target log) said.packets target.greeted target.stream bytes said.cut
-    (subst (λ (all : List ℕ). IsGreeted all) (flat_map_one_more (heard_by Target) log (In Target bytes)) is)
-cut_then {log} {entry} said Happens.ends h = still_cut (flat_map_same (heard_by Target) log entry refl) refl h
-cut_then {log} {entry} said Happens.passes_quiet h = still_cut (flat_map_same (heard_by Target) log entry refl) refl h
+    cut_off (came_from Target log) said.packets target.greeted target.stream bytes said.cut
+    (subst (λ (all : List ℕ). IsGreeted all) (flat_map_one_more (came_by Target) log (In Target bytes)) is)
+cut_then {log} {entry} said Comes.ends h = still_cut (flat_map_same (came_by Target) log entry refl) refl h
+cut_then {log} {entry} said Comes.passes_quiet h = still_cut (flat_map_same (came_by Target) log entry refl) refl h
 
 is_cut_off : {limits : Limits} {log : List Entry} {messages : List Message} {turns : ℕ} {s : SessionState}
-    → Going limits log messages turns s → IsGreeted (heard Target log) → s.streams.target.greeted ≡ true
+    → Going limits log messages turns s → IsGreeted (came_from Target log) → s.streams.target.greeted ≡ true
 is_cut_off Going.begins (more, parts) = cc
 is_cut_off (Going.goes g on is) begun = is_cut_off g begun
 is_cut_off (Going.speaks {log} {side} {bytes} g on allows speaks) begun =
-    still_cut (flat_map_same (heard_by Target) log (Out side bytes) refl) (says_target speaks) (is_cut_off g) begun
+    still_cut (flat_map_same (came_by Target) log (Out side bytes) refl) (says_target speaks) (is_cut_off g) begun
 is_cut_off (Going.hears g reads allows brings) begun = brings_target brings ∙ is_cut_off g begun
 is_cut_off (Going.ignores g reads whole reading) begun = is_cut_off g begun
 is_cut_off (Going.happens g listens comes) begun = cut_then (is_said g) comes (is_cut_off g) begun
@@ -211,7 +211,7 @@ begins_so : (bytes : List ℕ) (packets : List (ℕ × Packet)) (greeted : Bool)
 begins_so bytes packets true stream (more, parts, hands) is = (more, parts)
 begins_so bytes packets false stream (none, same) is = cc
 
-pub sent_all : (sent : List (ℕ × Asked)) → count_sent (λ asked. true) sent ≡ length sent
+pub sent_all : (sent : List (ℕ × Asked)) → count_under (λ asked. true) sent ≡ length sent
 sent_all [] = refl
 sent_all (one ∷ sent) = let more = sent_all sent in omega arith
 
@@ -220,7 +220,7 @@ pending_all [] = refl
 pending_all (command ∷ commands) = let more = pending_all commands in omega arith
 
 few : {messages : List Message} (s : SessionState) → Run messages s.machine
-    → count_sent (λ asked. true) s.streams.commands.sent ≡ count_of (λ command. true) (pending_of s.machine)
+    → count_under (λ asked. true) s.streams.commands.sent ≡ count_of (λ command. true) (pending_of s.machine)
     → length s.streams.commands.sent ≤ 16
 few {messages} s run same =
     let mine = sent_all s.streams.commands.sent in
@@ -240,7 +240,7 @@ are_replied {log} {messages} {s} g =
       count = h.count;
       unreplied = h.unreplied;
       cut = h.cut;
-      uncut_bytes = left_from (heard Target log) h.packets target.greeted target.stream h.cut;
+      uncut_bytes = left_from (came_from Target log) h.packets target.greeted target.stream h.cut;
       said = h.said;
       pending = h.held.pending;
       apart = h.held.apart;
@@ -248,7 +248,7 @@ are_replied {log} {messages} {s} g =
       few = few s run (same_pending (λ asked. true) run h);
       kept = are_kept run;
       begun = λ is. is_cut_off g is;
-      greeted = λ is. begins_so (heard Target log) h.packets target.greeted target.stream h.cut
+      greeted = λ is. begins_so (came_from Target log) h.packets target.greeted target.stream h.cut
           (t.came ((all_open run).greeted.heard ∙ is));
       ended = t.ends;
     }

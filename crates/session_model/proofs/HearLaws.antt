@@ -10,10 +10,10 @@ use Rattle.machine_model.specs.Runs.{Allows, Message, Run, is_disconnect}
 use Rattle.machine_model.specs.State.{Machine}
 use Rattle.machine_model.proofs.Stepping.{Loses, Moves, by_moves, moved, with_said}
 use Rattle.session_model.specs.Names.{Client, Entry, Limits, Request, Side}
-use Rattle.session_model.specs.Bytes.{heard, heard_by}
+use Rattle.session_model.specs.Bytes.{came_by, came_from}
 use Rattle.session_model.specs.Hearing.{AreHeard, AreRead}
 use Rattle.session_model.specs.Saying.{Brings, PacketSays, Speaks}
-use Rattle.session_model.specs.Session.{Going, Happens}
+use Rattle.session_model.specs.Session.{Going, Comes}
 use Rattle.session_model.specs.States.{SessionState, StreamState, start}
 use Rattle.session_model.proofs.RunLaws.{is_run}
 use Rattle.session_model.proofs.Steps.{flat_map_one_more, flat_map_same}
@@ -96,16 +96,16 @@ Hands-rest front old (m ∷ messages) new (n, here, offset, rest) =
 
 -- the client's bytes are cut so, and read so
 heard_as : (log : List Entry) (messages : List Message) (s : SessionState) (frames : List (ℕ × Frame))
-    → Hands frame_front (fed uncut (heard Client log)) frames s.streams.client
+    → Hands frame_front (fed uncut (came_from Client log)) frames s.streams.client
     → AreRead frames (requests_of messages) s.machine.closing → AreHeard log messages s
 heard_as log messages s frames cut read =
-    let (n, offset, pending) = Hands-rest frame_front (fed uncut (heard Client log)) frames s.streams.client cut in
+    let (n, offset, pending) = Hands-rest frame_front (fed uncut (came_from Client log)) frames s.streams.client cut in
     let same : s.streams.client.at ≡ n = omega arith in
     record { frames = frames; cut = cut; read = read; uncut_bytes = rw same pending }
 
 -- what is heard stays heard where no bytes and no requests come to it
 still_heard : {log later : List Entry} {messages others : List Message} {s : SessionState} (next : SessionState)
-    → heard Client later ≡ heard Client log → requests_of others ≡ requests_of messages
+    → came_from Client later ≡ came_from Client log → requests_of others ≡ requests_of messages
     → next.streams.client ≡ s.streams.client → next.machine.closing ≡ s.machine.closing → AreHeard log messages s
     → AreHeard later others next
 still_heard {later} {others} next bytes requests client closing h =
@@ -122,7 +122,8 @@ one_more_frame : {log : List Entry} (messages others : List Message) (s : Sessio
 one_more_frame {log} messages others s {frame} {n} next whole client h reads =
     let last : List (ℕ × Frame) = (s.streams.client.at, frame) ∷ [] in
     heard_as log others next (h.frames ++ last)
-    (Hands-append frame_front (fed uncut (heard Client log)) h.frames s.streams.client last next.streams.client h.cut
+    (Hands-append frame_front (fed uncut (came_from Client log)) h.frames s.streams.client last next.streams.client
+    h.cut
     (n, whole, refl, client))
     (reads h.frames h.read)
 
@@ -186,18 +187,18 @@ heard_brings {messages} {message} before after allows (Brings.reads serves reads
     still_heard _ refl same refl (same_closing before after same) h
 
 heard_happens : IsSteady frame_front → {log : List Entry} {messages : List Message} {s : SessionState} {entry : Entry}
-    {streams : StreamState} (n : ℕ) → Happens s.streams entry streams → AreHeard log messages s
+    {streams : StreamState} (n : ℕ) → Comes s.streams entry streams → AreHeard log messages s
     → AreHeard (log ++ entry ∷ []) messages (record s { streams = streams; quiets = n })
-heard_happens steady {log} {messages} {s} {entry} n (Happens.piece {bytes}) h =
+heard_happens steady {log} {messages} {s} {entry} n (Comes.piece {bytes}) h =
     heard_as (log ++ entry ∷ []) messages _ h.frames
-    (rw (flat_map_one_more (heard_by Client) log entry)
-    (Hands-fed frame_front steady (fed uncut (heard Client log)) h.frames s.streams.client bytes h.cut)) h.read
-heard_happens steady {log} n Happens.packets h =
-    still_heard _ (flat_map_same (heard_by Client) log _ refl) refl refl refl h
-heard_happens steady {log} n Happens.ends h =
-    still_heard _ (flat_map_same (heard_by Client) log _ refl) refl refl refl h
-heard_happens steady {log} n Happens.passes_quiet h =
-    still_heard _ (flat_map_same (heard_by Client) log _ refl) refl refl refl h
+    (rw (flat_map_one_more (came_by Client) log entry)
+    (Hands-fed frame_front steady (fed uncut (came_from Client log)) h.frames s.streams.client bytes h.cut)) h.read
+heard_happens steady {log} n Comes.packets h =
+    still_heard _ (flat_map_same (came_by Client) log _ refl) refl refl refl h
+heard_happens steady {log} n Comes.ends h =
+    still_heard _ (flat_map_same (came_by Client) log _ refl) refl refl refl h
+heard_happens steady {log} n Comes.passes_quiet h =
+    still_heard _ (flat_map_same (came_by Client) log _ refl) refl refl refl h
 
 pub are_heard : IsSteady frame_front → {limits : Limits} {log : List Entry} {messages : List Message} {turns : ℕ}
     {s : SessionState} → Going limits log messages turns s → AreHeard log messages s
@@ -207,7 +208,7 @@ are_heard steady (Going.goes g on is) =
 are_heard steady (Going.speaks {log} {messages} {message} g on allows speaks) =
     let b = says_beside speaks in
     let same = flat_map_same request_by messages message b.no_request in
-    still_heard _ (flat_map_same (heard_by Client) log _ refl) same b.client
+    still_heard _ (flat_map_same (came_by Client) log _ refl) same b.client
     (same_closing (is_run g) (is_run (Going.speaks g on allows speaks)) same) (are_heard steady g)
 are_heard steady (Going.hears g reads allows brings) =
     heard_brings (is_run g) (is_run (Going.hears g reads allows brings)) allows brings (are_heard steady g)

@@ -5,28 +5,28 @@ use Rattle.std.proofs.lemmas.List.Sums.{sum_by-append}
 use Rattle.std.specs.List.{count_by}
 use Rattle.dap_frames.specs.Frames.{frame_front}
 use Rattle.machine_model.specs.Runs.{Message}
-use Rattle.session_model.specs.Bytes.{heard, heard_by}
+use Rattle.session_model.specs.Bytes.{came_by, came_from}
 use Rattle.session_model.specs.Causes.{Cause}
 use Rattle.session_model.specs.Hearing.{AreHeard}
-use Rattle.session_model.specs.LastWords.{AreSaid, LastWord, word_bytes, word_side}
+use Rattle.session_model.specs.LastWords.{AreSpoken, LastWord, word_bytes, word_side}
 use Rattle.session_model.specs.Names.{Ending, Entry, Limits, Out, Side, Client, Target}
 use Rattle.session_model.specs.Replies.{AreReplied, is_end_come}
 use Rattle.session_model.specs.Session.{Ended, EndedState}
 use Rattle.session_model.specs.States.{SessionState, StreamState}
 use Rattle.session_model.proofs.GreetLaws.{are_replied}
 use Rattle.session_model.proofs.HearLaws.{are_heard}
-use Rattle.session_model.proofs.Steps.{heard-broken}
+use Rattle.session_model.proofs.Steps.{came-broken}
 use Rattle.wire_core.specs.Outside.{broken_send}
 use Rattle.wire_core.specs.Streams.{IsSteady}
 
 -- nothing of a side, and no end of the target's stream
 record IsDeaf (entries : List Entry) : Type 0 where
-  pub none : (side : Side) → heard side entries ≡ []
+  pub none : (side : Side) → came_from side entries ≡ []
   pub no_end : count_by is_end_come entries ≡ 0
 
 joined : {entries : List Entry} (more : List Entry) → IsDeaf entries → IsDeaf more → IsDeaf (entries ++ more)
 joined {entries} more h k = record {
-  none = λ side. flat_map-append (heard_by side) entries more ∙ ap (λ all. all ++ heard side more) (h.none side)
+  none = λ side. flat_map-append (came_by side) entries more ∙ ap (λ all. all ++ came_from side more) (h.none side)
       ∙ k.none side;
   no_end = let first = h.no_end in let then_none = k.no_end in
       omega (arith, sum_by-append (λ (entry : Entry). cond (is_end_come entry) 1 0) entries more);
@@ -39,17 +39,17 @@ out : (side : Side) (bytes : List ℕ) → IsDeaf (Out side bytes ∷ [])
 out side bytes = record { none = λ from. refl; no_end = refl }
 
 cut : (side : Side) (bytes : List ℕ) → IsDeaf (broken_send side bytes)
-cut side bytes = record { none = λ from. heard-broken from side bytes; no_end = no_end bytes }
+cut side bytes = record { none = λ from. came-broken from side bytes; no_end = no_end bytes }
   where
     no_end : (bytes : List ℕ) → count_by is_end_come (broken_send side bytes) ≡ 0
     no_end [] = refl
     no_end (b ∷ bytes) = refl
 
 by_words : {begin : StreamState} {words said left : List LastWord} {entries : List Entry} {now : StreamState}
-    → AreSaid begin words said left entries now → IsDeaf entries
-by_words AreSaid.none = nothing
-by_words (AreSaid.one_more {now} {word} h) = joined _ (by_words h) (out (word_side word) (word_bytes now word))
-by_words (AreSaid.cut_short h proper) = joined _ (by_words h) (cut _ _)
+    → AreSpoken begin words said left entries now → IsDeaf entries
+by_words AreSpoken.none = nothing
+by_words (AreSpoken.one_more {now} {word} h) = joined _ (by_words h) (out (word_side word) (word_bytes now word))
+by_words (AreSpoken.cut_short h proper) = joined _ (by_words h) (cut _ _)
 
 by_cause : {limits : Limits} {turns : ℕ} {s : SessionState} {ending : Ending} {entries : List Entry} {taken : ℕ}
     → Cause limits turns s ending entries taken → IsDeaf entries
@@ -60,7 +60,7 @@ by_cause _ = nothing
 
 -- the whole log says no more than what was before
 record IsSame (log before : List Entry) : Type 0 where
-  pub bytes : (side : Side) → heard side log ≡ heard side before
+  pub bytes : (side : Side) → came_from side log ≡ came_from side before
   pub ends : count_by is_end_come log ≡ count_by is_end_come before
 
 same_so : {limits : Limits} {log : List Entry} {messages : List Message} {turns : ℕ} {e : EndedState}
@@ -69,9 +69,9 @@ same_so h =
     let deaf : IsDeaf (h.by_cause ++ h.by_words) = joined h.by_words (by_cause h.cause) (by_words h.words) in
     let parts = h.log_is ∙ append_assoc h.before h.by_cause h.by_words in
     record {
-      bytes = λ side. ap (λ l. heard side l) parts
-          ∙ flat_map-append (heard_by side) h.before (h.by_cause ++ h.by_words)
-          ∙ ap (λ more. heard side h.before ++ more) (deaf.none side) ∙ append-nil (heard side h.before);
+      bytes = λ side. ap (λ l. came_from side l) parts
+          ∙ flat_map-append (came_by side) h.before (h.by_cause ++ h.by_words)
+          ∙ ap (λ more. came_from side h.before ++ more) (deaf.none side) ∙ append-nil (came_from side h.before);
       ends = let all = ap (λ l. count_by is_end_come l) parts in
           let none = deaf.no_end in
           omega (

@@ -9,7 +9,7 @@ use Rattle.machine_model.specs.Replying.{pending_of, wire}
 use Rattle.machine_model.specs.Runs.{Message, Run}
 use Rattle.machine_model.proofs.PendingLaws.{pending_is}
 use Rattle.session_model.specs.Names.{Entry, TargetCommand}
-use Rattle.session_model.specs.Replies.{ArePackets, count_sent, is_beside, under_id}
+use Rattle.session_model.specs.Replies.{ArePackets, count_under, is_beside, under_id}
 use Rattle.session_model.specs.States.{SessionState}
 use Rattle.session_model.proofs.Steps.{flat_map_one_more}
 use Rattle.session_model.proofs.ReplyLaws.{IsSaid}
@@ -21,7 +21,7 @@ module _ (test : Asked → Bool) where
   of_command command = test (wire command)
 
   held_append : (some others : List (ℕ × Asked))
-      → count_sent test (some ++ others) ≡ count_sent test some + count_sent test others
+      → count_under test (some ++ others) ≡ count_under test some + count_under test others
   held_append [] others = omega arith
   held_append (sent ∷ some) others = let more = held_append some others in omega arith
 
@@ -32,13 +32,13 @@ module _ (test : Asked → Bool) where
 
   abbrev IsCounted : List (ℕ × Asked) → List Message → Type 0
   IsCounted unreplied messages =
-      count_sent test unreplied + count_of of_command (commands_replied messages)
+      count_under test unreplied + count_of of_command (commands_replied messages)
       ≡ count_of of_command (commands_sent messages)
 
   counted_more : (messages : List Message) (message : Message) (unreplied now : List (ℕ × Asked))
       → IsCounted unreplied messages
-      → count_sent test now + count_of of_command (replied_by message)
-      ≡ count_sent test unreplied + count_of of_command (sent_by message)
+      → count_under test now + count_of of_command (replied_by message)
+      ≡ count_under test unreplied + count_of of_command (sent_by message)
       → IsCounted now (messages ++ message ∷ [])
   counted_more messages message unreplied now h is =
       rw (
@@ -55,8 +55,8 @@ module _ (test : Asked → Bool) where
       counted_more messages message unreplied unreplied (counted h) (none message is)
     where
       none : (message : Message) → is_beside message ≡ true
-          → count_sent test unreplied + count_of of_command (replied_by message)
-          ≡ count_sent test unreplied + count_of of_command (sent_by message)
+          → count_under test unreplied + count_of of_command (replied_by message)
+          ≡ count_under test unreplied + count_of of_command (sent_by message)
       none message is = grind (arith, is)
   counted (ArePackets.sends {messages} {count} {unreplied} command h) =
       counted_more messages (Message.sends command) unreplied (unreplied ++ (count, wire command) ∷ []) (counted h)
@@ -73,14 +73,14 @@ module _ (test : Asked → Bool) where
   counted (ArePackets.reads {messages} {unreplied} offset body composite run serves reads h) =
       counted_more messages _ unreplied unreplied (counted h) refl
 
-  under_ids : (unreplied : List (ℕ × Asked)) → count_sent test (map under_id unreplied) ≡ count_sent test unreplied
+  under_ids : (unreplied : List (ℕ × Asked)) → count_under test (map under_id unreplied) ≡ count_under test unreplied
   under_ids [] = refl
   under_ids (one ∷ unreplied) = ap (λ n. bit (test one.1) + n) (under_ids unreplied)
 
   pub same_pending : {log : List Entry} {messages : List Message} {s : SessionState} → Run messages s.machine
       → IsSaid log messages s
-      → count_sent test s.streams.commands.sent ≡ count_of of_command (pending_of s.machine)
+      → count_under test s.streams.commands.sent ≡ count_of of_command (pending_of s.machine)
   same_pending {messages} {s} run h =
       let machine = (pending_is messages s.machine run).counted of_command in
       let mine = counted h.said in
-      ap (λ sent. count_sent test sent) h.held.pending ∙ under_ids h.unreplied ∙ omega (arith, machine, mine)
+      ap (λ sent. count_under test sent) h.held.pending ∙ under_ids h.unreplied ∙ omega (arith, machine, mine)

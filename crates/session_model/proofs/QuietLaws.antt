@@ -1,4 +1,4 @@
--- Waits in vain stand side by side in the log: where the session waits nothing else goes on.
+-- IsWaiting in vain stand side by side in the log: where the session waits nothing else goes on.
 use Rattle.std.proofs.Common.{◌≡◌, ◌⊎◌, inl, inr, ℕ, ◌+◌, Bool, true, false, List, [], ◌∷◌, ◌++◌, Option, Some, None}
 use Rattle.std.proofs.Common.{refl, sym, ap, ◌∙◌, append_assoc, append-nil}
 use Rattle.std.specs.Prelude.{replicate}
@@ -11,9 +11,9 @@ use Rattle.machine_model.specs.Runs.{Allows, Message, said}
 use Rattle.machine_model.specs.State.{Hand, Machine}
 use Rattle.machine_model.proofs.Stepping.{Loses, Moves, moved}
 use Rattle.session_model.specs.Names.{a_question, Act, Composite, Entry, Limits, Question, Quiet, Side, Want}
-use Rattle.session_model.specs.Causes.{Waits}
+use Rattle.session_model.specs.Causes.{IsWaiting}
 use Rattle.session_model.specs.Saying.{Brings, Speaks}
-use Rattle.session_model.specs.Session.{Going, Happens, quiets_after}
+use Rattle.session_model.specs.Session.{Going, Comes, quiets_after}
 use Rattle.session_model.specs.States.{SessionState, StreamState, due_now, id_pending}
 use Rattle.session_model.proofs.HearLaws.{closing_by, was_open}
 use Rattle.wire_core.specs.Streams.{Front}
@@ -82,7 +82,8 @@ not_framed s is_open whole (inl closing) = cc
 not_framed s is_open whole (inr waits) = cc
 
 not_speaking : {limits : Limits} {s : SessionState} {message : Message} {next : Machine} {side : Side} {bytes : List ℕ}
-    {streams : StreamState} → Speaks s message side bytes streams → Allows s.machine message next → Waits limits s → ⊥
+    {streams : StreamState} → Speaks s message side bytes streams → Allows s.machine message next
+    → IsWaiting limits s → ⊥
 not_speaking {s} {message} Speaks.tells (Allows.acts is) w =
     no_message message refl (due_same (id_pending s.streams.commands) s.machine) w.reads.reads.nothing_due is
 not_speaking {s} {message} Speaks.greets (Allows.acts is) w =
@@ -108,7 +109,7 @@ can_be_read at body composite is (Moves.loses late near (Loses.by_effect held fl
 can_be_read at body composite is _ = cc
 
 not_hearing : {limits : Limits} {s : SessionState} {message : Message} {next : Machine} {streams : StreamState}
-    → Brings s message streams → Allows s.machine message next → Waits limits s → ⊥
+    → Brings s message streams → Allows s.machine message next → IsWaiting limits s → ⊥
 not_hearing {s} (Brings.hears {request} whole reading) allows w =
     not_framed s (was_open (request ∷ []) refl (closing_by (moved allows))) whole w.no_frame
 not_hearing (Brings.greeted came) allows w =
@@ -130,10 +131,10 @@ pub record EndsQuiet (log : List Entry) (count : ℕ) : Type 0 where
 -- the last thing that came was something, or the session waits and its last waits were in vain
 data Counts (limits : Limits) (log : List Entry) (s : SessionState) : Type 0 where
   nothing : s.quiets ≡ 0 → Counts limits log s
-  in_a_row : Waits limits s → EndsQuiet log s.quiets → Counts limits log s
+  in_a_row : IsWaiting limits s → EndsQuiet log s.quiets → Counts limits log s
 
 -- a rule that goes on only where the session doesn't wait
-loud : {limits : Limits} {log more : List Entry} {s : SessionState} (next : SessionState) → (Waits limits s → ⊥)
+loud : {limits : Limits} {log more : List Entry} {s : SessionState} (next : SessionState) → (IsWaiting limits s → ⊥)
     → next.quiets ≡ s.quiets → Counts limits log s → Counts limits more next
 loud next goes_on same (Counts.nothing none) = Counts.nothing (same ∙ none)
 loud next goes_on same (Counts.in_a_row waits quiet) = absurd (goes_on waits)
@@ -150,7 +151,8 @@ one_more {log} {s} (Counts.in_a_row waits quiet) = record {
       ∙ ap (λ (last : List Entry). quiet.before ++ last) (replicate_more s.quiets Quiet);
 }
 
-still_waits : {limits : Limits} {s : SessionState} (n : ℕ) → Waits limits s → Waits limits (record s { quiets = n })
+still_waits : {limits : Limits} {s : SessionState} (n : ℕ) → IsWaiting limits s
+    → IsWaiting limits (record s { quiets = n })
 still_waits n w = record {
   reads = record {
     reads = record {
@@ -166,12 +168,12 @@ still_waits n w = record {
 }
 
 counts_then : {limits : Limits} {log : List Entry} {s : SessionState} {entry : Entry} {streams : StreamState}
-    → Waits limits s → Happens s.streams entry streams → Counts limits log s
+    → IsWaiting limits s → Comes s.streams entry streams → Counts limits log s
     → Counts limits (log ++ entry ∷ []) (record s { streams = streams; quiets = quiets_after entry s.quiets })
-counts_then waits Happens.piece h = Counts.nothing refl
-counts_then waits Happens.packets h = Counts.nothing refl
-counts_then waits Happens.ends h = Counts.nothing refl
-counts_then waits Happens.passes_quiet h = Counts.in_a_row (still_waits _ waits) (one_more h)
+counts_then waits Comes.piece h = Counts.nothing refl
+counts_then waits Comes.packets h = Counts.nothing refl
+counts_then waits Comes.ends h = Counts.nothing refl
+counts_then waits Comes.passes_quiet h = Counts.in_a_row (still_waits _ waits) (one_more h)
 
 counts : {limits : Limits} {log : List Entry} {messages : List Message} {turns : ℕ} {s : SessionState}
     → Going limits log messages turns s → Counts limits log s

@@ -15,10 +15,10 @@ use Rattle.pending_table.proofs.WindowLaws.{apart_more, apart_without, just_one_
 use Rattle.pending_table.specs.Places.{AreApart}
 use Rattle.pending_table.specs.Windows.{Window, id_of, pending_under, settled, turn, with_sent, without}
 use Rattle.session_model.specs.Names.{Entry, In, Limits, Out, Replied, Side, Target, TargetCommand}
-use Rattle.session_model.specs.Bytes.{heard, heard_by}
+use Rattle.session_model.specs.Bytes.{came_by, came_from}
 use Rattle.session_model.specs.Replies.{ArePackets, under_id}
 use Rattle.session_model.specs.Saying.{Brings, PacketSays, SaysReply, Speaks}
-use Rattle.session_model.specs.Session.{Going, Happens}
+use Rattle.session_model.specs.Session.{Going, Comes}
 use Rattle.session_model.specs.States.{SessionState, StreamState, past_packet, target_front}
 use Rattle.session_model.proofs.HearLaws.{Hands-rest}
 use Rattle.session_model.proofs.RunLaws.{is_run}
@@ -121,13 +121,13 @@ pub record IsSaid (log : List Entry) (messages : List Message) (s : SessionState
   pub packets : List (ℕ × Packet)
   pub count : ℕ
   pub unreplied : List (ℕ × Asked)
-  pub cut : HandsOut (heard Target log) packets s.streams.target.greeted s.streams.target.stream
+  pub cut : HandsOut (came_from Target log) packets s.streams.target.greeted s.streams.target.stream
   pub said : ArePackets packets messages count unreplied
   pub held : IsHeld s.streams.commands count unreplied
 
 -- nothing comes of the target, and nothing goes to it
 stays : {log later : List Entry} {messages : List Message} {s : SessionState} (next : SessionState)
-    → heard Target later ≡ heard Target log → next.streams.target ≡ s.streams.target
+    → came_from Target later ≡ came_from Target log → next.streams.target ≡ s.streams.target
     → next.streams.commands ≡ s.streams.commands → IsSaid log messages s → IsSaid later messages next
 stays next bytes target commands h = record {
   packets = h.packets;
@@ -140,7 +140,7 @@ stays next bytes target commands h = record {
 
 -- one more message, of which the target's bytes say nothing
 beside : {log later : List Entry} {messages : List Message} {s : SessionState} (next : SessionState) (message : Message)
-    → heard Target later ≡ heard Target log → next.streams.target ≡ s.streams.target
+    → came_from Target later ≡ came_from Target log → next.streams.target ≡ s.streams.target
     → next.streams.commands ≡ s.streams.commands
     → ((packets : List (ℕ × Packet)) (count : ℕ) (unreplied : List (ℕ × Asked))
     → ArePackets packets messages count unreplied → ArePackets packets (messages ++ message ∷ []) count unreplied)
@@ -166,7 +166,7 @@ one_more {log} {s} next message {packet} whole streams more h = record {
   packets = h.packets ++ (s.streams.target.stream.at, packet) ∷ [];
   count = h.count;
   unreplied = h.unreplied;
-  cut = rw streams (one_packet (heard Target log) h.packets s.streams.target whole h.cut);
+  cut = rw streams (one_packet (came_from Target log) h.packets s.streams.target whole h.cut);
   said = more h.packets h.count h.unreplied h.said;
   held = rw streams h.held;
 }
@@ -188,7 +188,7 @@ answering {log} {messages} {s} {id} {error} {body} {command} {replied} next whol
       packets = h.packets ++ (offset, reply_packet id error body) ∷ [];
       count = h.count;
       unreplied = a.before ++ a.after;
-      cut = one_packet (heard Target log) h.packets s.streams.target whole h.cut;
+      cut = one_packet (came_from Target log) h.packets s.streams.target whole h.cut;
       said = subst (λ (i : ℕ). ArePackets (h.packets ++ (offset, reply_packet i error body) ∷ [])
           (messages ++ Message.answers command replied ∷ []) h.count (a.before ++ a.after)) a.id_is
           (ArePackets.answers offset a.number a.before a.after run says
@@ -232,38 +232,38 @@ speaks : {log : List Entry} {messages : List Message} {s : SessionState} {messag
     → IsSaid log messages s
     → IsSaid (log ++ Out side bytes ∷ []) (messages ++ message ∷ []) (record s { machine = next; streams = streams })
 speaks {log} {message} next Speaks.tells h =
-    beside _ message (flat_map_same (heard_by Target) log _ refl) refl refl
+    beside _ message (flat_map_same (came_by Target) log _ refl) refl refl
     (λ packets count unreplied said. ArePackets.beside message refl said) h
 speaks {log} {message} next Speaks.greets h =
-    beside _ message (flat_map_same (heard_by Target) log _ refl) refl refl
+    beside _ message (flat_map_same (came_by Target) log _ refl) refl refl
     (λ packets count unreplied said. ArePackets.beside message refl said) h
 speaks {log} next (Speaks.sends {command} apart serves) h = record {
   packets = h.packets;
   count = h.count + 1;
   unreplied = h.unreplied ++ (h.count, wire command) ∷ [];
-  cut = rw (flat_map_same (heard_by Target) log (Out Target _) refl) h.cut;
+  cut = rw (flat_map_same (came_by Target) log (Out Target _) refl) h.cut;
   said = ArePackets.sends command h.said;
   held = one_held (wire command) (none_under _ apart) h.held;
 }
 
 -- what comes from the outside
 happens : {log : List Entry} {messages : List Message} {s : SessionState} {entry : Entry} {streams : StreamState}
-    (n : ℕ) → Happens s.streams entry streams → IsSaid log messages s
+    (n : ℕ) → Comes s.streams entry streams → IsSaid log messages s
     → IsSaid (log ++ entry ∷ []) messages (record s { streams = streams; quiets = n })
-happens {log} n Happens.piece h = stays _ (flat_map_same (heard_by Target) log _ refl) refl refl h
-happens {log} {s} n (Happens.packets {bytes}) h =
+happens {log} n Comes.piece h = stays _ (flat_map_same (came_by Target) log _ refl) refl refl h
+happens {log} {s} n (Comes.packets {bytes}) h =
     let target : Received = s.streams.target in
     record {
       packets = h.packets;
       count = h.count;
       unreplied = h.unreplied;
-      cut = rw (flat_map_one_more (heard_by Target) log (In Target bytes))
-          (received-kept (heard Target log) h.packets target.greeted target.stream bytes h.cut);
+      cut = rw (flat_map_one_more (came_by Target) log (In Target bytes))
+          (received-kept (came_from Target log) h.packets target.greeted target.stream bytes h.cut);
       said = h.said;
       held = h.held;
     }
-happens {log} n Happens.ends h = stays _ (flat_map_same (heard_by Target) log _ refl) refl refl h
-happens {log} n Happens.passes_quiet h = stays _ (flat_map_same (heard_by Target) log _ refl) refl refl h
+happens {log} n Comes.ends h = stays _ (flat_map_same (came_by Target) log _ refl) refl refl h
+happens {log} n Comes.passes_quiet h = stays _ (flat_map_same (came_by Target) log _ refl) refl refl h
 
 pub is_said : {limits : Limits} {log : List Entry} {messages : List Message} {turns : ℕ} {s : SessionState}
     → Going limits log messages turns s → IsSaid log messages s

@@ -13,11 +13,11 @@ use Rattle.pending_table.proofs.WindowLaws.{next_goes_on}
 use Rattle.pending_table.specs.Windows.{id_of, turn}
 use Rattle.session_model.specs.Names.{Client, Entry, Limits, Out}
 use Rattle.session_model.specs.Names.{Side, Target}
-use Rattle.session_model.specs.Bytes.{given, given_by}
+use Rattle.session_model.specs.Bytes.{went_by, went_to}
 use Rattle.session_model.specs.Saying.{Brings, PacketSays, Speaks, nth_command, told_bytes}
 use Rattle.session_model.specs.Sending.{AreSentAs, GoesAs, IsCounted, IsSent, goes_to}
 use Rattle.session_model.specs.Sending.{is_told}
-use Rattle.session_model.specs.Session.{Going, Happens}
+use Rattle.session_model.specs.Session.{Going, Comes}
 use Rattle.session_model.specs.States.{SessionState, StreamState}
 use Rattle.session_model.proofs.RunLaws.{is_run}
 use Rattle.session_model.proofs.SizeLaws.{spelled_alike}
@@ -33,7 +33,7 @@ same_count Target now next n told commands h = commands ∙ h
 
 -- nothing is sent to this side
 stays : (side : Side) {log later : List Entry} {messages : List Message} {s : SessionState} (next : SessionState)
-    → given side later ≡ given side log → next.streams.told ≡ s.streams.told
+    → went_to side later ≡ went_to side log → next.streams.told ≡ s.streams.told
     → next.streams.commands.next ≡ s.streams.commands.next → IsSent side log messages s
     → IsSent side later messages next
 stays side {s} next bytes told commands h = record {
@@ -44,7 +44,7 @@ stays side {s} next bytes told commands h = record {
 
 -- one message more, which doesn't go to this side
 aside : (side : Side) {log later : List Entry} {messages : List Message} {s : SessionState} (next : SessionState)
-    (message : Message) → goes_to side message ≡ false → given side later ≡ given side log
+    (message : Message) → goes_to side message ≡ false → went_to side later ≡ went_to side log
     → ((n : ℕ) → IsCounted side s.streams n → IsCounted side next.streams n)
     → IsSent side log messages s → IsSent side later (messages ++ message ∷ []) next
 aside side next message is bytes counted h = record {
@@ -56,12 +56,12 @@ aside side next message is bytes counted h = record {
 -- one message more, which goes to it
 more_goes : (side : Side) {log : List Entry} {messages : List Message} {s : SessionState} (next : SessionState)
     (message : Message) (bytes more : List ℕ) (number : ℕ) (h : IsSent side log messages s)
-    → given_by side (Out side bytes) ≡ bytes → bytes ≡ more → GoesAs messages side h.count message more number
+    → went_by side (Out side bytes) ≡ bytes → bytes ≡ more → GoesAs messages side h.count message more number
     → IsCounted side next.streams number → IsSent side (log ++ Out side bytes ∷ []) (messages ++ message ∷ []) next
 more_goes side {log} {messages} next message bytes more number h own same goes counted = record {
   count = number;
   spelled = subst (λ all. AreSentAs side (messages ++ message ∷ []) number all)
-      (sym (flat_map_one_more (given_by side) log (Out side bytes) ∙ ap (λ b. given side log ++ b) (own ∙ same)))
+      (sym (flat_map_one_more (went_by side) log (Out side bytes) ∙ ap (λ b. went_to side log ++ b) (own ∙ same)))
       (AreSentAs.goes message goes h.spelled);
   counted = counted;
 }
@@ -88,11 +88,11 @@ speaking Client {s} next run allows (Speaks.tells {told}) h =
     more_goes Client _ (Message.tells told) (told_bytes s.streams.told told) (told_bytes h.count told) (h.count + 1) h
     refl (ap (λ n. told_bytes n told) h.counted) (GoesAs.tells told) (ap (λ n. n + 1) h.counted)
 speaking Client {log} {message} next run allows Speaks.greets h =
-    aside Client _ message refl (flat_map_same (given_by Client) log _ refl) (λ n is. is) h
+    aside Client _ message refl (flat_map_same (went_by Client) log _ refl) (λ n is. is) h
 speaking Client {log} {message} next run allows (Speaks.sends apart serves) h =
-    aside Client _ message refl (flat_map_same (given_by Client) log _ refl) (λ n is. is) h
+    aside Client _ message refl (flat_map_same (went_by Client) log _ refl) (λ n is. is) h
 speaking Target {log} {message} next run allows Speaks.tells h =
-    aside Target _ message refl (flat_map_same (given_by Target) log _ refl) (λ n is. is) h
+    aside Target _ message refl (flat_map_same (went_by Target) log _ refl) (λ n is. is) h
 speaking Target {message} {bytes} next run allows Speaks.greets h =
     more_goes Target _ message bytes bytes h.count h refl refl GoesAs.greets h.counted
 speaking Target {s} next run allows (Speaks.sends {command} {used} apart serves) h =
@@ -131,12 +131,12 @@ not_to Target message told out = out
 
 -- what comes from the outside
 happening : (side : Side) {log : List Entry} {messages : List Message} {s : SessionState} {entry : Entry}
-    {streams : StreamState} (n : ℕ) → Happens s.streams entry streams → IsSent side log messages s
+    {streams : StreamState} (n : ℕ) → Comes s.streams entry streams → IsSent side log messages s
     → IsSent side (log ++ entry ∷ []) messages (record s { streams = streams; quiets = n })
-happening side {log} n Happens.piece h = stays side _ (flat_map_same (given_by side) log _ refl) refl refl h
-happening side {log} n Happens.packets h = stays side _ (flat_map_same (given_by side) log _ refl) refl refl h
-happening side {log} n Happens.ends h = stays side _ (flat_map_same (given_by side) log _ refl) refl refl h
-happening side {log} n Happens.passes_quiet h = stays side _ (flat_map_same (given_by side) log _ refl) refl refl h
+happening side {log} n Comes.piece h = stays side _ (flat_map_same (went_by side) log _ refl) refl refl h
+happening side {log} n Comes.packets h = stays side _ (flat_map_same (went_by side) log _ refl) refl refl h
+happening side {log} n Comes.ends h = stays side _ (flat_map_same (went_by side) log _ refl) refl refl h
+happening side {log} n Comes.passes_quiet h = stays side _ (flat_map_same (went_by side) log _ refl) refl refl h
 
 pub is_sent : (side : Side) {limits : Limits} {log : List Entry} {messages : List Message} {turns : ℕ}
     {s : SessionState} → Going limits log messages turns s → IsSent side log messages s

@@ -8,16 +8,16 @@ use Rattle.machine_model.specs.Runs.{Allows, Message}
 use Rattle.machine_model.specs.State.{Machine}
 use Rattle.session_model.specs.Names.{Attached, Client, Ending, Entry, Fresh, Gone, Limits, Out, Phase, Request}
 use Rattle.session_model.specs.Names.{Side, Target}
-use Rattle.session_model.specs.Bytes.{HasLost, given, given_by, of_side}
+use Rattle.session_model.specs.Bytes.{HasLost, of_side, went_by, went_to}
 use Rattle.session_model.specs.Causes.{Cause, link_ending}
-use Rattle.session_model.specs.LastWords.{AreSaid, LastWord, end_word, fails_gone}
+use Rattle.session_model.specs.LastWords.{AreSpoken, LastWord, end_word, fails_gone}
 use Rattle.session_model.specs.LastWords.{last_word_said, last_words, target_words, word_bytes, word_side}
 use Rattle.session_model.specs.Saying.{Speaks, told_bytes}
 use Rattle.session_model.specs.Sending.{IsBehind, IsCounted, IsNext, IsSent, IsSentInAll}
 use Rattle.session_model.specs.Sending.{number_behind, word_given, words_given}
 use Rattle.session_model.specs.Session.{Ended, EndedState}
 use Rattle.session_model.specs.States.{SessionState, StreamState}
-use Rattle.session_model.proofs.Steps.{flat_map_one_more, given-broken, lost_behind, lost_by, still_lost}
+use Rattle.session_model.proofs.Steps.{flat_map_one_more, went-broken, lost_behind, lost_by, still_lost}
 use Rattle.session_model.proofs.TurnLaws.{Said, are_said}
 use Rattle.wire_core.specs.Outside.{broken_send}
 use Rattle.session_model.proofs.SendLaws.{is_sent, same_command}
@@ -60,10 +60,10 @@ word_to Target now n LastWord.disposes is =
 -- what the words that were said give a side: all of them, whole; or less than the whole of one more
 data Gives (side : Side) (n : ℕ) (words said left : List LastWord) (entries : List Entry) (now : StreamState)
     : Type 0 where
-  whole : given side entries ≡ words_given side n said → Gives side n words said left entries now
+  whole : went_to side entries ≡ words_given side n said → Gives side n words said left entries now
   cut : {kept : ℕ} (word : LastWord) (unsaid : List LastWord) → said ++ word ∷ unsaid ≡ words → left ≡ []
       → word_side word ≡ side → kept < length (word_bytes now word)
-      → given side entries ≡ words_given side n said ++ take kept (word_bytes now word) → HasLost side entries
+      → went_to side entries ≡ words_given side n said ++ take kept (word_bytes now word) → HasLost side entries
       → Gives side n words said left entries now
 
 record AreGiven (side : Side) (n : ℕ) (words said left : List LastWord) (entries : List Entry) (now : StreamState)
@@ -75,7 +75,7 @@ record AreGiven (side : Side) (n : ℕ) (words said left : List LastWord) (entri
 gives_cut : (side to : Side) (n : ℕ) {words said : List LastWord} {now : StreamState} (left : List LastWord)
     (entries : List Entry) (kept : ℕ) (word : LastWord) → word_side word ≡ to → said ++ word ∷ left ≡ words
     → kept < length (word_bytes now word)
-    → given side (entries ++ broken_send to (take kept (word_bytes now word)))
+    → went_to side (entries ++ broken_send to (take kept (word_bytes now word)))
     ≡ words_given side n said ++ of_side side to (take kept (word_bytes now word))
     → Gives side n words said [] (entries ++ broken_send to (take kept (word_bytes now word))) now
 gives_cut Client Client n left entries kept word own all proper is =
@@ -90,7 +90,7 @@ gives_cut Target Target n left entries kept word own all proper is =
 -- while a word is left, those before it were said whole
 are_whole : (side : Side) (n : ℕ) {words said left : List LastWord} {entries : List Entry} {now : StreamState}
     {word : LastWord} → Gives side n words said (word ∷ left) entries now
-    → given side entries ≡ words_given side n said
+    → went_to side entries ≡ words_given side n said
 are_whole side n (Gives.whole is) = is
 are_whole side n (Gives.cut word unsaid all none own proper is lost) = cc
 
@@ -101,29 +101,29 @@ all_said (Said.broken before word unsaid all none proper is) = cc
 
 are_given : (side : Side) {begin : StreamState} {words said left : List LastWord} {entries : List Entry}
     {now : StreamState} (n : ℕ)
-    → IsCounted side begin n → AreSaid begin words said left entries now
+    → IsCounted side begin n → AreSpoken begin words said left entries now
     → AreGiven side n words said left entries now
-are_given side n counted AreSaid.none = record { counted = counted; gives = Gives.whole refl }
-are_given side n counted (AreSaid.one_more {said} {entries} {now} {word} h) =
+are_given side n counted AreSpoken.none = record { counted = counted; gives = Gives.whole refl }
+are_given side n counted (AreSpoken.one_more {said} {entries} {now} {word} h) =
     let before = are_given side n counted h in
     record {
       counted = subst (λ k. IsCounted side (last_word_said now word) k) (sym (number_one_more side n said word))
           (counted_word side now (number_after side n said) word before.counted);
-      gives = Gives.whole (flat_map_one_more (given_by side) entries (Out (word_side word) (word_bytes now word))
+      gives = Gives.whole (flat_map_one_more (went_by side) entries (Out (word_side word) (word_bytes now word))
           ∙ ap (λ all. all ++ of_side side (word_side word) (word_bytes now word)) (are_whole side n before.gives)
           ∙ ap (λ more. words_given side n said ++ more)
           (word_to side now (number_after side n said) word before.counted)
           ∙ sym (words_one_more side n said word));
     }
-are_given side n counted (AreSaid.cut_short {said} {left} {entries} {now} {word} {kept} h proper) =
+are_given side n counted (AreSpoken.cut_short {said} {left} {entries} {now} {word} {kept} h proper) =
     let before = are_given side n counted h in
     let cut : List ℕ = take kept (word_bytes now word) in
     record {
       counted = before.counted;
       gives = gives_cut side (word_side word) n left entries kept word refl (all_said (are_said h)) proper
-          (flat_map-append (given_by side) entries (broken_send (word_side word) cut)
-          ∙ ap (λ all. all ++ given side (broken_send (word_side word) cut)) (are_whole side n before.gives)
-          ∙ ap (λ more. words_given side n said ++ more) (given-broken side (word_side word) cut));
+          (flat_map-append (went_by side) entries (broken_send (word_side word) cut)
+          ∙ ap (λ all. all ++ went_to side (broken_send (word_side word) cut)) (are_whole side n before.gives)
+          ∙ ap (λ more. words_given side n said ++ more) (went-broken side (word_side word) cut));
     }
 
 -- The side whose link failed is told no last word ---------------------------------------------------------------------
@@ -184,24 +184,24 @@ last_other side (first ∷ said) word unsaid h = last_other side said word unsai
 
 -- what a cause gives a side: nothing, or less than the whole of a message that was due
 data CauseGives (side : Side) (s : SessionState) (ending : Ending) (entries : List Entry) : Type 0 where
-  nothing : given side entries ≡ [] → CauseGives side s ending entries
+  nothing : went_to side entries ≡ [] → CauseGives side s ending entries
   cut : {message : Message} {next : Machine} {bytes : List ℕ} {streams : StreamState} {kept : ℕ}
       → Allows s.machine message next → Speaks s message side bytes streams → kept < length bytes
-      → ending ≡ link_ending side → given side entries ≡ take kept bytes → HasLost side entries
+      → ending ≡ link_ending side → went_to side entries ≡ take kept bytes → HasLost side entries
       → CauseGives side s ending entries
 
 cut_by : (side to : Side) {s : SessionState} {message : Message} {next : Machine} {bytes : List ℕ}
     {streams : StreamState} (kept : ℕ) → Allows s.machine message next → Speaks s message to bytes streams
     → kept < length bytes → CauseGives side s (link_ending to) (broken_send to (take kept bytes))
 cut_by Client Client {bytes} kept allows speaks proper =
-    CauseGives.cut allows speaks proper refl (given-broken Client Client (take kept bytes))
+    CauseGives.cut allows speaks proper refl (went-broken Client Client (take kept bytes))
     (lost_by [] Client (take kept bytes))
 cut_by Client Target {bytes} kept allows speaks proper =
-    CauseGives.nothing (given-broken Client Target (take kept bytes))
+    CauseGives.nothing (went-broken Client Target (take kept bytes))
 cut_by Target Client {bytes} kept allows speaks proper =
-    CauseGives.nothing (given-broken Target Client (take kept bytes))
+    CauseGives.nothing (went-broken Target Client (take kept bytes))
 cut_by Target Target {bytes} kept allows speaks proper =
-    CauseGives.cut allows speaks proper refl (given-broken Target Target (take kept bytes))
+    CauseGives.cut allows speaks proper refl (went-broken Target Target (take kept bytes))
     (lost_by [] Target (take kept bytes))
 
 cause_gives : (side : Side) {limits : Limits} {turns : ℕ} {s : SessionState} {ending : Ending} {entries : List Entry}
@@ -220,9 +220,9 @@ cause_gives side (Cause.spent waits all) = CauseGives.nothing refl
 
 module _ (side : Side) {limits : Limits} {log : List Entry} {messages : List Message} {turns : ℕ} {e : EndedState}
     (h : Ended limits log messages turns e) (base : IsSent side h.before messages e.last) where
-  joined : given side log ≡ (given side h.before ++ given side h.by_cause) ++ given side h.by_words
-  joined = ap (λ l. given side l) h.log_is ∙ flat_map-append (given_by side) (h.before ++ h.by_cause) h.by_words
-      ∙ ap (λ all. all ++ given side h.by_words) (flat_map-append (given_by side) h.before h.by_cause)
+  joined : went_to side log ≡ (went_to side h.before ++ went_to side h.by_cause) ++ went_to side h.by_words
+  joined = ap (λ l. went_to side l) h.log_is ∙ flat_map-append (went_by side) (h.before ++ h.by_cause) h.by_words
+      ∙ ap (λ all. all ++ went_to side h.by_words) (flat_map-append (went_by side) h.before h.by_cause)
 
   lost_in_words : HasLost side h.by_words → HasLost side log
   lost_in_words lost =
@@ -233,29 +233,29 @@ module _ (side : Side) {limits : Limits} {log : List Entry} {messages : List Mes
       subst (λ l. HasLost side l) (sym h.log_is) (still_lost h.by_words (lost_behind h.before lost))
 
   -- the cause gave nothing
-  by_words : given side h.by_cause ≡ []
+  by_words : went_to side h.by_cause ≡ []
       → Gives side base.count (last_words e.ending e.last.machine) e.said e.left h.by_words e.streams
       → IsSentInAll side log messages e
   by_words none (Gives.whole is) = record {
     count = base.count;
-    bytes = given side h.before;
+    bytes = went_to side h.before;
     rest = [];
     spelled = base.spelled;
-    sent_are = joined ∙ ap (λ more. (given side h.before ++ more) ++ given side h.by_words) none
-        ∙ ap (λ all. all ++ given side h.by_words) (append-nil (given side h.before))
-        ∙ ap (λ more. given side h.before ++ more) is
-        ∙ sym (append-nil (given side h.before ++ words_given side base.count e.said));
+    sent_are = joined ∙ ap (λ more. (went_to side h.before ++ more) ++ went_to side h.by_words) none
+        ∙ ap (λ all. all ++ went_to side h.by_words) (append-nil (went_to side h.before))
+        ∙ ap (λ more. went_to side h.before ++ more) is
+        ∙ sym (append-nil (went_to side h.before ++ words_given side base.count e.said));
     behind = IsBehind.nothing;
   }
   by_words none (Gives.cut {kept} word unsaid all none_left own proper is lost) = record {
     count = base.count;
-    bytes = given side h.before;
+    bytes = went_to side h.before;
     rest = take kept (word_bytes e.streams word);
     spelled = base.spelled;
-    sent_are = joined ∙ ap (λ more. (given side h.before ++ more) ++ given side h.by_words) none
-        ∙ ap (λ all. all ++ given side h.by_words) (append-nil (given side h.before))
-        ∙ ap (λ more. given side h.before ++ more) is
-        ∙ sym (append_assoc (given side h.before) (words_given side base.count e.said)
+    sent_are = joined ∙ ap (λ more. (went_to side h.before ++ more) ++ went_to side h.by_words) none
+        ∙ ap (λ all. all ++ went_to side h.by_words) (append-nil (went_to side h.before))
+        ∙ ap (λ more. went_to side h.before ++ more) is
+        ∙ sym (append_assoc (went_to side h.before) (words_given side base.count e.said)
         (take kept (word_bytes e.streams word)));
     behind = IsBehind.broken (lost_in_words lost) (IsNext.of_words word unsaid own (sym all)) proper;
   }
@@ -263,7 +263,7 @@ module _ (side : Side) {limits : Limits} {log : List Entry} {messages : List Mes
   -- the cause cut a message short, and no word went to this side
   by_message : {message : Message} {next : Machine} {bytes : List ℕ} {streams : StreamState} {kept : ℕ}
       → Allows e.last.machine message next → Speaks e.last message side bytes streams → kept < length bytes
-      → given side h.by_cause ≡ take kept bytes → HasLost side h.by_cause
+      → went_to side h.by_cause ≡ take kept bytes → HasLost side h.by_cause
       → AreOther side (last_words e.ending e.last.machine)
       → Gives side base.count (last_words e.ending e.last.machine) e.said e.left h.by_words e.streams
       → (rest : List LastWord) → e.said ++ rest ≡ last_words e.ending e.last.machine
@@ -272,14 +272,14 @@ module _ (side : Side) {limits : Limits} {log : List Entry} {messages : List Mes
       let none = none_given side base.count e.said rest (subst (λ w. AreOther side w) (sym all) others) in
       record {
         count = base.count;
-        bytes = given side h.before;
+        bytes = went_to side h.before;
         rest = take kept bytes;
         spelled = base.spelled;
-        sent_are = joined ∙ ap (λ more. (given side h.before ++ more) ++ given side h.by_words) is
-            ∙ ap (λ more. (given side h.before ++ take kept bytes) ++ more) (words ∙ none)
-            ∙ append-nil (given side h.before ++ take kept bytes)
-            ∙ ap (λ all. all ++ take kept bytes) (sym (append-nil (given side h.before))
-            ∙ ap (λ more. given side h.before ++ more) (sym none));
+        sent_are = joined ∙ ap (λ more. (went_to side h.before ++ more) ++ went_to side h.by_words) is
+            ∙ ap (λ more. (went_to side h.before ++ take kept bytes) ++ more) (words ∙ none)
+            ∙ append-nil (went_to side h.before ++ take kept bytes)
+            ∙ ap (λ all. all ++ take kept bytes) (sym (append-nil (went_to side h.before))
+            ∙ ap (λ more. went_to side h.before ++ more) (sym none));
         behind = IsBehind.broken (lost_in_cause lost) (IsNext.of_machine allows speaks) proper;
       }
   by_message allows speaks proper is lost others (Gives.cut word unsaid all none_left own less words also) rest same =

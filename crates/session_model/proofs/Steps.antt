@@ -4,7 +4,7 @@ use Rattle.std.proofs.lemmas.List.Concat.{flat_map-append}
 use Rattle.std.proofs.lemmas.List.Sums.{sum_by-append}
 use Rattle.std.specs.List.{count_by, flat_map}
 use Rattle.session_model.specs.Names.{Client, Entry, Failed, Out, Side, Target}
-use Rattle.session_model.specs.Bytes.{HasLost, given, heard, of_side}
+use Rattle.session_model.specs.Bytes.{came_from, HasLost, of_side, went_to}
 use Rattle.session_model.specs.Turns.{comes}
 use Rattle.wire_core.specs.Outside.{broken_send}
 
@@ -22,17 +22,17 @@ flat_map_same f xs x none =
 -- Broken sends --------------------------------------------------------------------------------------------------------
 
 -- what a broken send gives
-pub given-broken : (side to : Side) (bytes : List ℕ) → given side (broken_send to bytes) ≡ of_side side to bytes
-given-broken Client Client [] = refl
-given-broken Client Target [] = refl
-given-broken Target Client [] = refl
-given-broken Target Target [] = refl
-given-broken side to (b ∷ bytes) = append-nil (of_side side to (b ∷ bytes))
+pub went-broken : (side to : Side) (bytes : List ℕ) → went_to side (broken_send to bytes) ≡ of_side side to bytes
+went-broken Client Client [] = refl
+went-broken Client Target [] = refl
+went-broken Target Client [] = refl
+went-broken Target Target [] = refl
+went-broken side to (b ∷ bytes) = append-nil (of_side side to (b ∷ bytes))
 
 -- it hears nothing
-pub heard-broken : (side to : Side) (bytes : List ℕ) → heard side (broken_send to bytes) ≡ []
-heard-broken side to [] = refl
-heard-broken side to (b ∷ bytes) = refl
+pub came-broken : (side to : Side) (bytes : List ℕ) → came_from side (broken_send to bytes) ≡ []
+came-broken side to [] = refl
+came-broken side to (b ∷ bytes) = refl
 
 -- its link is lost behind it
 pub lost_by : (log : List Entry) (side : Side) (bytes : List ℕ) → HasLost side (log ++ broken_send side bytes)

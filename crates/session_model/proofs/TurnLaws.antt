@@ -4,19 +4,19 @@ use Rattle.std.proofs.Common.{◌<◌, length, take, arith}
 use Rattle.machine_model.specs.Runs.{Message}
 use Rattle.session_model.specs.Names.{Ending, Entry, Limits, Out}
 use Rattle.session_model.specs.Causes.{Cause}
-use Rattle.session_model.specs.LastWords.{AreSaid, LastWord, last_words, word_bytes, word_side}
-use Rattle.session_model.specs.Session.{Ended, EndedState, Going, Happens}
+use Rattle.session_model.specs.LastWords.{AreSpoken, LastWord, last_words, word_bytes, word_side}
+use Rattle.session_model.specs.Session.{Ended, EndedState, Going, Comes}
 use Rattle.session_model.specs.States.{SessionState, StreamState}
 use Rattle.session_model.specs.Turns.{AreTurns, AreTurnsThen, SaysLast}
 use Rattle.session_model.proofs.Steps.{waited, waited-append, waited-broken}
 use Rattle.wire_core.specs.Outside.{broken_send}
 
 -- what comes is one thing that was waited for
-one_waited : {streams next : StreamState} {entry : Entry} → Happens streams entry next → waited (entry ∷ []) ≡ 1
-one_waited Happens.piece = refl
-one_waited Happens.packets = refl
-one_waited Happens.ends = refl
-one_waited Happens.passes_quiet = refl
+one_waited : {streams next : StreamState} {entry : Entry} → Comes streams entry next → waited (entry ∷ []) ≡ 1
+one_waited Comes.piece = refl
+one_waited Comes.packets = refl
+one_waited Comes.ends = refl
+one_waited Comes.passes_quiet = refl
 
 are_waited : {limits : Limits} {log : List Entry} {messages : List Message} {turns : ℕ} {s : SessionState}
     → Going limits log messages turns s → waited log ≡ turns
@@ -71,13 +71,13 @@ may_fail [] = 0
 may_fail (word ∷ left) = 1
 
 by_words : {begin : StreamState} {words said left : List LastWord} {entries : List Entry} {now : StreamState}
-    → AreSaid begin words said left entries now → waited entries + may_fail left ≤ 1
-by_words {words} AreSaid.none = omega (arith, at_most_one words)
+    → AreSpoken begin words said left entries now → waited entries + may_fail left ≤ 1
+by_words {words} AreSpoken.none = omega (arith, at_most_one words)
   where
     at_most_one : (words : List LastWord) → may_fail words ≤ 1
     at_most_one [] = omega arith
     at_most_one (word ∷ left) = omega arith
-by_words (AreSaid.one_more {left} {entries} {now} {word} h) =
+by_words (AreSpoken.one_more {left} {entries} {now} {word} h) =
     let before = by_words h in
     let more = waited-append entries (Out (word_side word) (word_bytes now word) ∷ []) in
     by_left left (omega arith)
@@ -85,7 +85,7 @@ by_words (AreSaid.one_more {left} {entries} {now} {word} h) =
     by_left : {n : ℕ} (left : List LastWord) → n ≡ 0 → n + may_fail left ≤ 1
     by_left [] is = omega arith
     by_left (word ∷ left) is = omega arith
-by_words (AreSaid.cut_short {entries} {now} {word} {kept} h proper) =
+by_words (AreSpoken.cut_short {entries} {now} {word} {kept} h proper) =
     let cut = take kept (word_bytes now word) in
     let more = waited-append entries (broken_send (word_side word) cut) in
     omega (arith, by_words h, more, waited-broken (word_side word) cut)
@@ -133,10 +133,10 @@ said_cut {left} {entries} {word} proper (Said.whole all) = Said.broken entries w
 said_cut proper (Said.broken before word unsaid all none less is) = cc
 
 pub are_said : {begin : StreamState} {words said left : List LastWord} {entries : List Entry} {now : StreamState}
-    → AreSaid begin words said left entries now → Said words said left entries now
-are_said AreSaid.none = Said.whole refl
-are_said (AreSaid.one_more {said} {left} {word} h) = said_more (are_said h)
-are_said (AreSaid.cut_short h proper) = said_cut proper (are_said h)
+    → AreSpoken begin words said left entries now → Said words said left entries now
+are_said AreSpoken.none = Said.whole refl
+are_said (AreSpoken.one_more {said} {left} {word} h) = said_more (are_said h)
+are_said (AreSpoken.cut_short h proper) = said_cut proper (are_said h)
 
 pub says_last : {limits : Limits} {log : List Entry} {messages : List Message} {turns : ℕ} {e : EndedState}
     → Ended limits log messages turns e → SaysLast log e

@@ -10,7 +10,7 @@ use Rattle.machine_model.specs.State.{Hand, has_waiting, is_flying, is_gone}
 use Rattle.machine_model.proofs.PendingLaws.{pending_is}
 use Rattle.machine_model.proofs.ServedLaws.{are_served}
 use Rattle.machine_model.proofs.TurnLaws.{none_flies, none_out}
-use Rattle.session_model.specs.Causes.{Waits}
+use Rattle.session_model.specs.Causes.{IsWaiting}
 use Rattle.session_model.specs.Names.{a_question, Act, Entry, Limits, Question}
 use Rattle.session_model.specs.Resting.{IsAnswered}
 use Rattle.session_model.specs.Session.{Going}
@@ -52,7 +52,7 @@ no_asking : {act : Act} (question : Question) → act ≡ Act.Asks question → 
 no_asking question asks waits = let no : Act.Asks question ≡ Act.Waits = sym asks ∙ waits in cc
 
 module _ {limits : Limits} {log : List Entry} {messages : List Message} {turns : ℕ} {s : SessionState}
-    (g : Going limits log messages turns s) (w : Waits limits s) (silent : is_silent s.machine ≡ true) where
+    (g : Going limits log messages turns s) (w : IsWaiting limits s) (silent : is_silent s.machine ≡ true) where
   none_pending : is_gone s.machine.state.phase ≡ false → pending_of s.machine ≡ []
   none_pending near =
       rw ((pending_is messages s.machine (is_run g)).in_hand near)

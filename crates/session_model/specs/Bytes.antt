@@ -11,28 +11,28 @@ of_side Target Client bytes = []
 of_side Target Target bytes = bytes
 
 -- the bytes that come from a side by an entry
-abbrev pub heard_by : Side → Entry → List ℕ
-heard_by side (In from bytes) = of_side side from bytes
-heard_by side (Out to bytes) = []
-heard_by side (Shut closed) = []
-heard_by side (Failed lost) = []
-heard_by side Quiet = []
+abbrev pub came_by : Side → Entry → List ℕ
+came_by side (In from bytes) = of_side side from bytes
+came_by side (Out to bytes) = []
+came_by side (Shut closed) = []
+came_by side (Failed lost) = []
+came_by side Quiet = []
 
 -- all bytes that came from a side, joined
-abbrev pub heard : Side → List Entry → List ℕ
-heard side log = flat_map (heard_by side) log
+abbrev pub came_from : Side → List Entry → List ℕ
+came_from side log = flat_map (came_by side) log
 
 -- the bytes that go to a side by an entry
-abbrev pub given_by : Side → Entry → List ℕ
-given_by side (In from bytes) = []
-given_by side (Out to bytes) = of_side side to bytes
-given_by side (Shut closed) = []
-given_by side (Failed lost) = []
-given_by side Quiet = []
+abbrev pub went_by : Side → Entry → List ℕ
+went_by side (In from bytes) = []
+went_by side (Out to bytes) = of_side side to bytes
+went_by side (Shut closed) = []
+went_by side (Failed lost) = []
+went_by side Quiet = []
 
 -- all bytes that went to a side, joined
-abbrev pub given : Side → List Entry → List ℕ
-given side log = flat_map (given_by side) log
+abbrev pub went_to : Side → List Entry → List ℕ
+went_to side log = flat_map (went_by side) log
 
 -- the side's link failed
 abbrev pub HasLost : Side → List Entry → Type 0

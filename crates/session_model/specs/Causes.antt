@@ -25,26 +25,26 @@ pub record IsOn (limits : Limits) (s : SessionState) : Type 0 where
   pub no_flood : length s.machine.waiting ≤ limits.waiting
 
 -- What came is read on: nothing is due.
-pub record Reads (limits : Limits) (s : SessionState) : Type 0 where
+pub record ReadsOn (limits : Limits) (s : SessionState) : Type 0 where
   pub nothing_due : (due_now s).act ≡ Act.Waits
   pub on : IsOn limits s
 
 -- The client's bytes are cut on: nothing is due, no composite can be read, and no `disconnect` was heard.
 pub record ReadsClient (limits : Limits) (s : SessionState) : Type 0 where
-  pub reads : Reads limits s
+  pub reads : ReadsOn limits s
   pub none_to_read : can_read s.machine ≡ false
   pub is_open : s.machine.closing ≡ false
 
 -- The target's bytes are cut on: nothing is due, no composite can be read, and a handshake that came was taken up.
 pub record ReadsTarget (limits : Limits) (s : SessionState) : Type 0 where
-  pub reads : Reads limits s
+  pub reads : ReadsOn limits s
   pub none_to_read : can_read s.machine ≡ false
   pub greeted : s.machine.state.greeting_heard ≡ s.streams.target.greeted
 
 -- The session waits: nothing is due, and no composite can be read; no whole frame and no refused byte stands at the
 -- front of the client's uncut bytes, or a `disconnect` was heard, so that nothing more is cut; the same of the target's
 -- packets; and what came of the target was taken up.
-pub record Waits (limits : Limits) (s : SessionState) : Type 0 where
+pub record IsWaiting (limits : Limits) (s : SessionState) : Type 0 where
   pub reads : ReadsTarget limits s
   pub no_frame : (s.machine.closing ≡ true) ⊎ (frame_front s.streams.client.pending ≡ Front.waits)
   pub no_packet : target_front s.streams ≡ Front.waits
@@ -52,7 +52,7 @@ pub record Waits (limits : Limits) (s : SessionState) : Type 0 where
 
 -- It waits, and neither limit is reached: the next happening may come.
 pub record Listens (limits : Limits) (turns : ℕ) (s : SessionState) : Type 0 where
-  pub waits : Waits limits s
+  pub waits : IsWaiting limits s
   pub more_turns : turns < limits.turns
   pub patient : s.quiets < limits.quiet
 
@@ -80,11 +80,11 @@ pub data Cause (limits : Limits) (turns : ℕ) (s : SessionState) : Ending → L
       → Cause limits turns s (BadClient fault offset) [] 0
   misheard : {fault : TargetFault} {offset id : ℕ} → ReadsTarget limits s → IsTargetFault s fault offset id
       → Cause limits turns s (BadTarget fault offset id) [] 0
-  misheard_kept : {fault : TargetFault} {offset : ℕ} → Reads limits s → IsKeptFault s.machine fault offset
+  misheard_kept : {fault : TargetFault} {offset : ℕ} → ReadsOn limits s → IsKeptFault s.machine fault offset
       → Cause limits turns s (BadTarget fault offset 0) [] 0
   refused : {command : TargetCommand} {error : ℕ} {body : List ℕ} → ReadsTarget limits s
       → HasReply s command error body → 0 < error → is_tolerated command error ≡ false
       → Cause limits turns s (TargetRefused (number_of (wire command)).0 (number_of (wire command)).1 error) [] 0
   flood : limits.waiting < length s.machine.waiting → Cause limits turns s Flood [] 0
-  idle : Waits limits s → turns < limits.turns → s.quiets ≡ limits.quiet → Cause limits turns s Idle [] 0
-  spent : Waits limits s → turns ≡ limits.turns → Cause limits turns s Spent [] 0
+  idle : IsWaiting limits s → turns < limits.turns → s.quiets ≡ limits.quiet → Cause limits turns s Idle [] 0
+  spent : IsWaiting limits s → turns ≡ limits.turns → Cause limits turns s Spent [] 0

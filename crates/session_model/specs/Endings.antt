@@ -29,18 +29,18 @@ pub record AreLast (log last : List Entry) : Type 0 where
 
 -- What came last is the end of the client's stream, or the failure of a link, or as many waits in vain as the limit
 -- says, side by side; or as many turns were taken as the limit says. Want of memory is no cause.
-abbrev pub Shows : Limits → List Entry → ℕ → Ending → Type 0
-Shows limits log turns Left = AreLast log (Shut Client ∷ [])
-Shows limits log turns ClientLink = AreLast log (Failed Client ∷ [])
-Shows limits log turns TargetLink = AreLast log (Failed Target ∷ [])
-Shows limits log turns Idle = AreLast log (replicate limits.quiet Quiet)
-Shows limits log turns Spent = turns ≡ limits.turns
-Shows limits log turns NoMemory = ⊥
-Shows limits log turns Done = Unit {0}
-Shows limits log turns (BadClient fault at) = Unit {0}
-Shows limits log turns (BadTarget fault at id) = Unit {0}
-Shows limits log turns (TargetRefused set command code) = Unit {0}
-Shows limits log turns Flood = Unit {0}
+abbrev pub ShowsInLog : Limits → List Entry → ℕ → Ending → Type 0
+ShowsInLog limits log turns Left = AreLast log (Shut Client ∷ [])
+ShowsInLog limits log turns ClientLink = AreLast log (Failed Client ∷ [])
+ShowsInLog limits log turns TargetLink = AreLast log (Failed Target ∷ [])
+ShowsInLog limits log turns Idle = AreLast log (replicate limits.quiet Quiet)
+ShowsInLog limits log turns Spent = turns ≡ limits.turns
+ShowsInLog limits log turns NoMemory = ⊥
+ShowsInLog limits log turns Done = Unit {0}
+ShowsInLog limits log turns (BadClient fault at) = Unit {0}
+ShowsInLog limits log turns (BadTarget fault at id) = Unit {0}
+ShowsInLog limits log turns (TargetRefused set command code) = Unit {0}
+ShowsInLog limits log turns Flood = Unit {0}
 
 -- The last message is the success of a `disconnect`, which is the last request; and all requests are answered, one by
 -- one, in order (DAP specification, Disconnect request).

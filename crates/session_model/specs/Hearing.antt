@@ -6,7 +6,7 @@ use Rattle.dap_messages.specs.declared.requests.Incoming.TheVariants.{Ignored as
 use Rattle.machine_model.specs.Rest.{requests_of}
 use Rattle.machine_model.specs.Runs.{Message, is_disconnect}
 use Rattle.session_model.specs.Names.{Client, Entry, Request}
-use Rattle.session_model.specs.Bytes.{heard}
+use Rattle.session_model.specs.Bytes.{came_from}
 use Rattle.session_model.specs.States.{SessionState}
 use Rattle.wire_core.specs.Streams.{Hands, fed, uncut}
 
@@ -25,6 +25,6 @@ pub data AreRead : List (ℕ × Frame) → List Request → Bool → Type 0 wher
 -- from its offset on.
 pub record AreHeard (log : List Entry) (messages : List Message) (s : SessionState) : Type 0 where
   pub frames : List (ℕ × Frame)
-  pub cut : Hands frame_front (fed uncut (heard Client log)) frames s.streams.client
+  pub cut : Hands frame_front (fed uncut (came_from Client log)) frames s.streams.client
   pub read : AreRead frames (requests_of messages) s.machine.closing
-  pub uncut_bytes : s.streams.client.pending ≡ drop s.streams.client.at (heard Client log)
+  pub uncut_bytes : s.streams.client.pending ≡ drop s.streams.client.at (came_from Client log)

@@ -80,14 +80,14 @@ last_word_said streams LastWord.disposes = streams
 
 -- Of these words some were said, whole, as these entries, and some are left, from one place in the bytes to another.
 -- The first send that fails leaves a proper part of its word, and then none is left.
-pub data AreSaid (begin : StreamState) (words : List LastWord) :
+pub data AreSpoken (begin : StreamState) (words : List LastWord) :
     List LastWord → List LastWord → List Entry → StreamState → Type 0 where
-  none : AreSaid begin words [] words [] begin
+  none : AreSpoken begin words [] words [] begin
   one_more : {said left : List LastWord} {entries : List Entry} {now : StreamState} {word : LastWord}
-      → AreSaid begin words said (word ∷ left) entries now
-      → AreSaid begin words (said ++ word ∷ []) left
+      → AreSpoken begin words said (word ∷ left) entries now
+      → AreSpoken begin words (said ++ word ∷ []) left
       (entries ++ Out (word_side word) (word_bytes now word) ∷ []) (last_word_said now word)
   cut_short : {said left : List LastWord} {entries : List Entry} {now : StreamState} {word : LastWord} {kept : ℕ}
-      → AreSaid begin words said (word ∷ left) entries now → kept < length (word_bytes now word)
-      → AreSaid begin words said []
+      → AreSpoken begin words said (word ∷ left) entries now → kept < length (word_bytes now word)
+      → AreSpoken begin words said []
       (entries ++ broken_send (word_side word) (take kept (word_bytes now word))) now

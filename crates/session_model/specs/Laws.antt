@@ -4,8 +4,8 @@ use Rattle.std.specs.Prelude.{ℕ, ◌≡◌, true, false, List}
 use Rattle.machine_model.specs.Rest.{awaits_greeting, is_silent}
 use Rattle.machine_model.specs.Runs.{Message, Run}
 use Rattle.session_model.specs.Names.{Done, Entry, Limits, Side}
-use Rattle.session_model.specs.Causes.{Waits}
-use Rattle.session_model.specs.Endings.{IsDone, Shows}
+use Rattle.session_model.specs.Causes.{IsWaiting}
+use Rattle.session_model.specs.Endings.{IsDone, ShowsInLog}
 use Rattle.session_model.specs.Hearing.{AreHeard}
 use Rattle.session_model.specs.Replies.{AreReadAlike, AreReplied}
 use Rattle.session_model.specs.Responses.{AreServedInAll}
@@ -26,8 +26,8 @@ OnceEnded holds = (limits : Limits) (log : List Entry) (messages : List Message)
     → Ended limits log messages turns e → holds limits log messages turns e
 
 -- The messages of a session are a run of the machine.
-abbrev pub Runs : Type 0
-Runs = WhileGoing (λ limits log messages turns s. Run messages s.machine)
+abbrev pub AreRuns : Type 0
+AreRuns = WhileGoing (λ limits log messages turns s. Run messages s.machine)
 
 -- A turn is a wait that gave something: each entry but those of sends.
 abbrev pub Turns : Type 0
@@ -39,8 +39,8 @@ abbrev pub LastWordsSaid : Type 0
 LastWordsSaid = OnceEnded (λ limits log messages turns e. SaysLast log e)
 
 -- What a side is sent are the messages that go to it, numbered 1, 2, 3, and so on, and last words behind them.
-abbrev pub Sends : Type 0
-Sends = (side : Side) → WhileGoing (λ limits log messages turns s. IsSent side log messages s)
+abbrev pub SidesAreSent : Type 0
+SidesAreSent = (side : Side) → WhileGoing (λ limits log messages turns s. IsSent side log messages s)
     × OnceEnded (λ limits log messages turns e. IsSentInAll side log messages e)
 
 -- The requests are what the client's bytes say.
@@ -49,8 +49,8 @@ Requests = WhileGoing (λ limits log messages turns s. AreHeard log messages s)
     × OnceEnded (λ limits log messages turns e. AreHeard log messages e.last)
 
 -- All responses, those among the last words included, answer the requests, one by one, in order.
-abbrev pub Responses : Type 0
-Responses = OnceEnded (λ limits log messages turns e. AreServedInAll log messages e)
+abbrev pub ResponsesToTheEnd : Type 0
+ResponsesToTheEnd = OnceEnded (λ limits log messages turns e. AreServedInAll log messages e)
 
 -- What the target's bytes say are its handshake and its replies, one each to a command with its id, and its composites.
 abbrev pub Replies : Type 0
@@ -59,7 +59,7 @@ Replies = WhileGoing (λ limits log messages turns s. AreReplied log messages s)
 
 -- What the log shows of an ending's cause is there. Want of memory is no cause.
 abbrev pub Endings : Type 0
-Endings = OnceEnded (λ limits log messages turns e. Shows limits log turns e.ending)
+Endings = OnceEnded (λ limits log messages turns e. ShowsInLog limits log turns e.ending)
 
 -- A session that is done has answered all requests, its last with a success.
 abbrev pub Dones : Type 0
@@ -67,7 +67,7 @@ Dones = OnceEnded (λ limits log messages turns e. e.ending ≡ Done → IsDone 
 
 -- At each wait, also inside a session, all requests are answered where nothing is pending.
 abbrev pub Waitings : Type 0
-Waitings = WhileGoing (λ limits log messages turns s. Waits limits s → is_silent s.machine ≡ true
+Waitings = WhileGoing (λ limits log messages turns s. IsWaiting limits s → is_silent s.machine ≡ true
     → awaits_greeting s.machine.state ≡ false → IsAnswered messages s.machine)
 
 -- Before the sizes of ids are known, all sizes read the same of what is pending; and then the target's do.

@@ -17,7 +17,7 @@ use Rattle.pending_table.specs.Places.{AreApart}
 use Rattle.pending_table.specs.Windows.{id_of, pending_under}
 use Rattle.session_model.specs.Names.{a_composite, a_raw, a_request, Client, Composite, Entry, Failed, In, Item, Out}
 use Rattle.session_model.specs.Names.{Quiet, Replied, Shut, Side, Target, target_end, TargetCommand}
-use Rattle.session_model.specs.Bytes.{heard}
+use Rattle.session_model.specs.Bytes.{came_from}
 use Rattle.session_model.specs.Saying.{SaysReply, is_composite}
 use Rattle.session_model.specs.States.{SessionState}
 
@@ -78,9 +78,9 @@ abbrev pub under_id : ℕ × Asked → ℕ × Asked
 under_id command = (id_of command.0, command.1)
 
 -- how many of the commands that were sent pass a test
-abbrev pub count_sent : (Asked → Bool) → List (ℕ × Asked) → ℕ
-count_sent test [] = 0
-count_sent test (sent ∷ others) = bit (test sent.1) + count_sent test others
+abbrev pub count_under : (Asked → Bool) → List (ℕ × Asked) → ℕ
+count_under test [] = 0
+count_under test (sent ∷ others) = bit (test sent.1) + count_under test others
 
 -- Composites that wait -----------------------------------------------------------------------------------------------
 
@@ -144,17 +144,17 @@ pub record AreReplied (log : List Entry) (messages : List Message) (s : SessionS
   pub packets : List (ℕ × Packet)
   pub count : ℕ
   pub unreplied : List (ℕ × Asked)
-  pub cut : HandsOut (heard Target log) packets s.streams.target.greeted s.streams.target.stream
-  pub uncut_bytes : s.streams.target.stream.pending ≡ drop s.streams.target.stream.at (heard Target log)
+  pub cut : HandsOut (came_from Target log) packets s.streams.target.greeted s.streams.target.stream
+  pub uncut_bytes : s.streams.target.stream.pending ≡ drop s.streams.target.stream.at (came_from Target log)
   pub said : ArePackets packets messages count unreplied
   pub pending : s.streams.commands.sent ≡ map under_id unreplied
   pub apart : AreApart s.streams.commands.sent
   pub same : (test : Asked → Bool)
-      → count_sent test s.streams.commands.sent ≡ count_of (λ command. test (wire command)) (pending_of s.machine)
+      → count_under test s.streams.commands.sent ≡ count_of (λ command. test (wire command)) (pending_of s.machine)
   pub few : length s.streams.commands.sent ≤ 16
   pub kept : AreKept messages s.machine
-  pub begun : IsGreeted (heard Target log) → s.streams.target.greeted ≡ true
-  pub greeted : s.machine.state.greeting_heard ≡ true → IsGreeted (heard Target log)
+  pub begun : IsGreeted (came_from Target log) → s.streams.target.greeted ≡ true
+  pub greeted : s.machine.state.greeting_heard ≡ true → IsGreeted (came_from Target log)
   pub ended : count_by is_end_taken messages + one_if s.streams.ended ≡ count_by is_end_come log
 
 -- Whichever sizes of ids serve, the body of an answer to a pending command reads the same.

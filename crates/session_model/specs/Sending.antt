@@ -10,7 +10,7 @@ use Rattle.machine_model.specs.Runs.{Allows, Message, Run}
 use Rattle.machine_model.specs.State.{Machine}
 use Rattle.pending_table.specs.Windows.{turn}
 use Rattle.session_model.specs.Names.{Client, Entry, Side, Target, TargetCommand, Told}
-use Rattle.session_model.specs.Bytes.{HasLost, given}
+use Rattle.session_model.specs.Bytes.{HasLost, went_to}
 use Rattle.session_model.specs.LastWords.{LastWord, dispose_packet, last_words, word_bytes, word_side}
 use Rattle.session_model.specs.Saying.{Speaks, nth_command, told_bytes}
 use Rattle.session_model.specs.Session.{EndedState}
@@ -60,7 +60,7 @@ IsCounted Target streams n = streams.commands.next ≡ n % turn
 -- What a side is sent are the bytes of the messages that go to it, and nothing else.
 pub record IsSent (side : Side) (log : List Entry) (messages : List Message) (s : SessionState) : Type 0 where
   pub count : ℕ
-  pub spelled : AreSentAs side messages count (given side log)
+  pub spelled : AreSentAs side messages count (went_to side log)
   pub counted : IsCounted side s.streams count
 
 -- Last words ----------------------------------------------------------------------------------------------------------
@@ -104,5 +104,5 @@ pub record IsSentInAll (side : Side) (log : List Entry) (messages : List Message
   pub bytes : List ℕ
   pub rest : List ℕ
   pub spelled : AreSentAs side messages count bytes
-  pub sent_are : given side log ≡ (bytes ++ words_given side count e.said) ++ rest
+  pub sent_are : went_to side log ≡ (bytes ++ words_given side count e.said) ++ rest
   pub behind : IsBehind side log e rest

@@ -1,5 +1,5 @@
--- A session: what the log of a run of the bridge may be, from its first entry to its last. The whole is said first, and
--- then what it speaks of.
+-- A session: what the log of a run of the bridge may be, from its first entry to its last. The whole stands at the end,
+-- behind what it speaks of.
 use Rattle.std.specs.Prelude.{ℕ, ◌≡◌, ◌+◌, ◌∷◌, ◌++◌, true, false, List, [], Ok}
 use Rattle.dap_frames.specs.Frames.{Frame, frame_front}
 use Rattle.dap_messages.specs.Reading.{reading_of}
@@ -10,8 +10,8 @@ use Rattle.machine_model.specs.Runs.{Allows, Message}
 use Rattle.machine_model.specs.State.{Machine}
 use Rattle.session_model.specs.Names.{Act, Client, Ending, Entry, Failed, In, Limits, NoMemory, Out, Quiet, Shut}
 use Rattle.session_model.specs.Names.{Side, Target}
-use Rattle.session_model.specs.Causes.{Cause, IsOn, Listens, Reads, ReadsClient}
-use Rattle.session_model.specs.LastWords.{AreSaid, LastWord, last_words}
+use Rattle.session_model.specs.Causes.{Cause, IsOn, Listens, ReadsOn, ReadsClient}
+use Rattle.session_model.specs.LastWords.{AreSpoken, LastWord, last_words}
 use Rattle.session_model.specs.Saying.{Brings, Speaks}
 use Rattle.session_model.specs.States.{SessionState, StreamState, start}
 use Rattle.wire_core.specs.Outside.{Adds, Outside}
@@ -20,13 +20,13 @@ use Rattle.wire_core.specs.Streams.{Front, fed, past}
 -- Going on ------------------------------------------------------------------------------------------------------------
 
 -- What may come from the outside where a session waits, but for what ends it.
-pub data Happens (streams : StreamState) : Entry → StreamState → Type 0 where
+pub data Comes (streams : StreamState) : Entry → StreamState → Type 0 where
   piece : {bytes : List ℕ}
-      → Happens streams (In Client bytes) (record streams { client = fed streams.client bytes })
+      → Comes streams (In Client bytes) (record streams { client = fed streams.client bytes })
   packets : {bytes : List ℕ}
-      → Happens streams (In Target bytes) (record streams { target = received streams.target bytes })
-  ends : Happens streams (Shut Target) (record streams { ended = true })
-  passes_quiet : Happens streams Quiet streams
+      → Comes streams (In Target bytes) (record streams { target = received streams.target bytes })
+  ends : Comes streams (Shut Target) (record streams { ended = true })
+  passes_quiet : Comes streams Quiet streams
 
 -- how many waits in a row were in vain
 abbrev pub quiets_after : Entry → ℕ → ℕ
@@ -54,7 +54,7 @@ pub data Going (limits : Limits) : List Entry → List Message → ℕ → Sessi
   -- nothing is due, and a message that the machine allows is read from what came
   hears : {log : List Entry} {messages : List Message} {turns : ℕ} {s : SessionState} {message : Message}
       {next : Machine} {streams : StreamState}
-      → Going limits log messages turns s → Reads limits s → Allows s.machine message next → Brings s message streams
+      → Going limits log messages turns s → ReadsOn limits s → Allows s.machine message next → Brings s message streams
       → Going limits log (messages ++ message ∷ []) turns (record s { machine = next; streams = streams })
   -- a response or an event of the client is passed over
   ignores : {log : List Entry} {messages : List Message} {turns : ℕ} {s : SessionState} {frame : Frame} {n : ℕ}
@@ -65,7 +65,7 @@ pub data Going (limits : Limits) : List Entry → List Message → ℕ → Sessi
   -- something comes where the session waits, and a turn is taken
   happens : {log : List Entry} {messages : List Message} {turns : ℕ} {s : SessionState} {entry : Entry}
       {streams : StreamState}
-      → Going limits log messages turns s → Listens limits turns s → Happens s.streams entry streams
+      → Going limits log messages turns s → Listens limits turns s → Comes s.streams entry streams
       → Going limits (log ++ entry ∷ []) messages (turns + 1)
       (record s { streams = streams; quiets = quiets_after entry s.quiets })
 
@@ -92,7 +92,7 @@ pub record Ended (limits : Limits) (log : List Entry) (messages : List Message) 
   pub turns_are : turns ≡ earlier + taken
   pub going : Going limits before messages earlier e.last
   pub cause : Cause limits earlier e.last e.ending by_cause taken
-  pub words : AreSaid e.last.streams (last_words e.ending e.last.machine) e.said e.left by_words e.streams
+  pub words : AreSpoken e.last.streams (last_words e.ending e.last.machine) e.said e.left by_words e.streams
 
 -- Why a session is left: its cause has come, and all last words were said, up to the first that can't be; or memory ran
 -- out, which may be at any time.

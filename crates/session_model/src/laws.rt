@@ -1,12 +1,12 @@
 //! What holds of every session, by the bytes of its two sides. Each law is the contract of a function that does
 //! nothing.
 
-ghost use Rattle.session_model.specs.Laws.{Alike, Dones, Endings, LastWordsSaid, Replies, Requests, Responses};
-ghost use Rattle.session_model.specs.Laws.{Runs, Sends, Turns, Waitings};
+ghost use Rattle.session_model.specs.Laws.{Alike, Dones, Endings, LastWordsSaid, Replies, Requests, ResponsesToTheEnd};
+ghost use Rattle.session_model.specs.Laws.{AreRuns, SidesAreSent, Turns, Waitings};
 
 /// The messages of a session are a run of the translation machine, which knows no bytes.
 pub fn messages_are_a_run()
-    ensures { Runs }
+    ensures { AreRuns }
 {}
 
 /// Each turn of a session is one entry of its log that was waited for, and no more are taken than may be. Once a
@@ -27,7 +27,7 @@ pub fn last_words_are_those_of_the_ending()
 /// them stands less than the whole of one more only where that side's link failed (DAP overview, Base protocol; DAP
 /// specification, Base Protocol, ProtocolMessage, `seq`; JDWP, JDWP Start Up; JDWP, JDWP Packets, command packet).
 pub fn each_side_is_sent_its_messages()
-    ensures { Sends }
+    ensures { SidesAreSent }
 {}
 
 /// The requests that are heard are those of the client's bytes, frame by frame; what a client's frame says that is no
@@ -65,7 +65,7 @@ pub fn done_is_a_disconnect_that_succeeded()
 /// order, each with its request's `seq` and command. Where an ending is told to the client, all requests are answered
 /// once no last word is left, unless the client's link has failed (DAP specification, Base Protocol, Response).
 pub fn responses_answer_the_requests_to_the_end()
-    ensures { Responses }
+    ensures { ResponsesToTheEnd }
 {}
 
 /// At each wait of a session, also inside it, nothing is due; and where nothing is pending, no command and no
