@@ -6,6 +6,7 @@ pub mod EarlyLaws
 pub mod EndedRules
 pub mod EndLaws
 mod Examples
+mod FaultExamples
 pub mod GreetLaws
 pub mod HearLaws
 pub mod OverLaws

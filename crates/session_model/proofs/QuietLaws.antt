@@ -1,4 +1,4 @@
--- IsWaiting in vain stand side by side in the log: where the session waits nothing else goes on.
+-- Waits in vain stand side by side in the log: where the session waits nothing else goes on.
 use Rattle.std.proofs.Common.{◌≡◌, ◌⊎◌, inl, inr, ℕ, ◌+◌, Bool, true, false, List, [], ◌∷◌, ◌++◌, Option, Some, None}
 use Rattle.std.proofs.Common.{refl, sym, ap, ◌∙◌, append_assoc, append-nil}
 use Rattle.std.specs.Prelude.{replicate}
