@@ -19,6 +19,7 @@ pub mod SendLaws
 pub mod SentLaws
 pub mod ServeLaws
 pub mod SizeLaws
+pub mod SpokenLaws
 pub mod Steps
 pub mod TurnLaws
 pub mod WaitLaws
