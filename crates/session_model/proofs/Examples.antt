@@ -3,19 +3,24 @@ use Rattle.std.proofs.Common.{◌≡◌, ℕ, inr, [], ◌∷◌, refl, arith}
 use Rattle.dap_frames.specs.Frames.{frame_front}
 use Rattle.dap_messages.specs.declared.told.Event.TheVariants as events
 use Rattle.jdwp_commands.specs.Commands.{spell_command}
+use Rattle.jdwp_commands.specs.declared.asked.Asked.{Asked}
+use Rattle.jdwp_commands.specs.declared.asked.Asked.TheVariants as commands
+use Rattle.jdwp_commands.specs.declared.effect.Effect.TheVariants as effects
 use Rattle.jdwp_commands.specs.declared.question.Question.TheVariants as questions
+use Rattle.jdwp_events.specs.declared.kind.EventKind.{EventKind}
+use Rattle.jdwp_events.specs.declared.kind.EventKind.TheVariants as kinds
+use Rattle.jdwp_events.specs.declared.kind.Policy.TheVariants.{NoThread}
 use Rattle.jdwp_values.specs.declared.sizes.IdSizes.{IdSizes}
 use Rattle.machine_model.specs.Due.{due, load_of, newly_lacked, wanted}
 use Rattle.machine_model.specs.Replying.{wire}
 use Rattle.machine_model.specs.State.{Machine, fresh}
 use Rattle.session_model.specs.Names.{a_question, an_effect, an_event, Attached, Client, Dispose, Does, Idle, Left}
-use Rattle.session_model.specs.Names.{Limits, Out, Quiet, Set, Shut, Told}
+use Rattle.session_model.specs.Names.{Limits, Out, Quiet, Shut, Told}
 use Rattle.session_model.specs.Causes.{Cause, IsWaiting}
 use Rattle.session_model.specs.LastWords.{AreSpoken, LastWord, dispose_packet, last_words}
 use Rattle.session_model.specs.Saying.{nth_command, told_bytes}
 use Rattle.session_model.specs.Session.{Going, Comes, IsLeft}
 use Rattle.session_model.specs.States.{SessionState, no_bytes}
-use Rattle.wish_sets.specs.declared.wish.Wish.TheVariants as wishes
 
 abbrev limits : Limits
 limits = record { turns = 9; quiet = 3; waiting = 2 }
@@ -84,12 +89,15 @@ unfolding spell_command
 first_command used = refl
 
 -- then the two event requests for threads
-second_command : (used : IdSizes) → nth_command 1 used (wire (an_effect (Set wishes.ThreadStart)))
+abbrev sets : EventKind → Asked
+sets kind = commands.Effect (effects.Set kind NoThread [])
+
+second_command : (used : IdSizes) → nth_command 1 used (sets kinds.ThreadStart)
     ≡ 0 ∷ 0 ∷ 0 ∷ 17 ∷ 0 ∷ 0 ∷ 0 ∷ 2 ∷ 0 ∷ 15 ∷ 1 ∷ 6 ∷ 0 ∷ 0 ∷ 0 ∷ 0 ∷ 0 ∷ []
 unfolding spell_command
 second_command used = refl
 
-third_command : (used : IdSizes) → nth_command 2 used (wire (an_effect (Set wishes.ThreadDeath)))
+third_command : (used : IdSizes) → nth_command 2 used (sets kinds.ThreadDeath)
     ≡ 0 ∷ 0 ∷ 0 ∷ 17 ∷ 0 ∷ 0 ∷ 0 ∷ 3 ∷ 0 ∷ 15 ∷ 1 ∷ 7 ∷ 0 ∷ 0 ∷ 0 ∷ 0 ∷ 0 ∷ []
 unfolding spell_command
 third_command used = refl
