@@ -1,1 +1,3 @@
 pub mod NamePairs
+pub mod Hexadecimals
+pub mod CharLaws

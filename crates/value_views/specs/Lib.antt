@@ -1,1 +1,4 @@
 pub mod Names
+pub mod Quotes
+pub mod Chars
+pub mod Reads

@@ -1,6 +1,14 @@
-//! Texts of the target's types, as a client is shown them.
+//! Texts of the target's types and values, as a client is shown them and writes them.
 #![tactic(auto)]
 
+mod chars;
+mod fault;
 mod names;
+mod reading;
 
+pub use fault::WriteFault;
 pub use names::class_name;
+pub use reading::write_value;
+
+#[cfg(test)]
+mod tests;

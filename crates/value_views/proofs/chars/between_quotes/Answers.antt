@@ -1,0 +1,20 @@
+use Rattle.std.proofs.Common.{◌≡◌, ◌≢◌, ◌++◌, [], ◌∷◌, List, ℕ, Option, Some, None, MatchOption, arith, ap, ◌∙◌}
+use Rattle.std.specs.Borrow.{Bor}
+use Rattle.std.proofs.lemmas.Str.Pattern.{strip_prefix_char, strip_suffix_char}
+use Rattle.value_views.proofs.chars.between_quotes.Goals as goal
+
+behind_first : (text rest : List ℕ) (o : Option (Bor (List ℕ))) → text ≡ 39 ∷ rest
+    → MatchOption o ((front : List ℕ) → rest ≢ front ++ (39 ∷ [])) (λ x. rest ≡ x.now ++ (39 ∷ []))
+    → MatchOption o ((inside : List ℕ) → text ≢ 39 ∷ (inside ++ 39 ∷ [])) (λ x. text ≡ 39 ∷ (x.now ++ 39 ∷ []))
+behind_first text rest None e h = λ inside same. h inside (cc)
+behind_first text rest (Some x) e h = e ∙ ap (λ l. 39 ∷ l) h
+
+pub returns-in_default : goal.returns-in_default
+returns-in_default c =
+    λ inside same. strip_prefix_char 39 c.args.text.now None c.in_default.ensures.cases (omega arith) (inside ++ 39 ∷ []) same
+
+pub returns : goal.returns
+returns c =
+    let first = strip_prefix_char 39 c.args.text.now (Some c.in-Some.rest) c.in-Some.ensures.cases (omega arith) in
+    behind_first c.args.text.now c.in-Some.rest.now c.strip_suffix.result first
+    (strip_suffix_char 39 c.in-Some.rest.now c.strip_suffix.result c.strip_suffix.ensures.cases (omega arith))

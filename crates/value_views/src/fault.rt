@@ -1,0 +1,8 @@
+/// Why no value is read from a text.
+#[derive(Clone, Copy, Debug, PartialEq, Eq)]
+pub enum WriteFault {
+    /// Values of this kind are not written.
+    NotWritable,
+    /// The text is no value of this kind.
+    BadText,
+}
