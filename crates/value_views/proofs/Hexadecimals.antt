@@ -1,10 +1,10 @@
 -- Four digits in hexadecimal, and the number that they write.
 use Rattle.std.proofs.Common.{◌≡◌, ℕ, ◌+◌, ◌-◌, ◌*◌, ◌/◌, ◌%◌, ◌<◌, false, cond, eqb, List, [], ◌∷◌, ◌++◌}
-use Rattle.std.proofs.Common.{length, replicate, Some, refl, ap, ◌∙◌, arith, option_and_then}
+use Rattle.std.proofs.Common.{◌^◌, append-nil, length, replicate, Some, refl, ap, ◌∙◌, arith, option_and_then}
 use Rattle.std.proofs.lemmas.Bool.{cond-true, cond_both, eqb-true, eq-eqb}
 use Rattle.std.proofs.lemmas.Bool.Decides.{nat_tests}
 use Rattle.std.proofs.lemmas.Option.{option_and_then_some, same_Some}
-use Rattle.std.specs.Fmt.{digits, digits_onto, digit_glyph}
+use Rattle.std.specs.Fmt.{digits, digits_onto, digit_glyph, padded_integral, char_count, format_spec}
 use Rattle.value_views.specs.Quotes.{hexadecimal}
 use Rattle.value_views.specs.Chars.{hex_value, hex_after}
 
@@ -103,3 +103,12 @@ four_of_number a b c d m e =
       omega arith,
       four_digits m x.0 y.0 z.0 w.0 sum hx hy hz hw ∙ rw (x.2, y.2, z.2, w.2) refl,
     )
+
+-- what is written with zeros up to a width
+pub padded_hexadecimal : (width n : ℕ)
+    → padded_integral (format_spec 32 0 4 width (2 ^ 64 - 1)) false [] (digits 16 false n) ≡ hexadecimal width n
+unfolding padded_integral char_count
+padded_hexadecimal width n =
+    let ds = digits 16 false n in
+    let room : width - length ds - 0 - 0 ≡ width - length ds = omega arith in
+    rw (room) (ap (λ l. replicate (width - length ds) 48 ++ l) (append-nil ds))

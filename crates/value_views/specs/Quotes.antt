@@ -1,9 +1,12 @@
--- Characters as they are shown in quotes (Java Language Specification, Lexical Structure, Character Literals and
--- Escape Sequences).
-use Rattle.std.specs.Prelude.{ℕ, List, [], ◌∷◌, ◌++◌, ◌==◌, ◌-◌, length, replicate, codes, if◌then◌else◌}
+-- Texts and chars as they are shown in quotes (Java Language Specification, Lexical Structure, Character Literals,
+-- String Literals and Escape Sequences).
+use Rattle.std.specs.Prelude.{ℕ, List, [], ◌∷◌, ◌++◌, ◌==◌, ◌-◌, length, replicate, take, flat_map, codes, nat_lt}
+use Rattle.std.specs.Prelude.{false, if◌then◌else◌}
+use Rattle.std.specs.Char.{encode_utf8, is_ascii_control}
 use Rattle.std.specs.Fmt.{digits}
-use Rattle.std.specs.Prelude.{false}
 use Rattle.std.specs.Int.{is_in_range}
+use Rattle.std.specs.Str.{chars}
+use Rattle.jdwp_values.specs.Lossy.{lossy}
 
 -- a number in lower-case hexadecimal, with so many digits at least
 abbrev pub hexadecimal : ℕ → ℕ → List ℕ
@@ -23,3 +26,24 @@ char_inside n =
 -- a char of the target
 abbrev pub char_text : ℕ → List ℕ
 char_text n = codes "'" ++ char_inside n ++ codes "'"
+
+-- A character of a string, in the string's quotes: `"` and `\` behind `\`, the ends of lines and the tab by a letter,
+-- another control character of ASCII by its number, any other as itself.
+abbrev pub quoted_char : ℕ → List ℕ
+quoted_char c =
+    if c == 34 then codes "\\\"" else (if c == 92 then codes "\\\\" else (if c == 10 then codes "\\n" else
+    (if c == 13 then codes "\\r" else (if c == 9 then codes "\\t" else
+    (if is_ascii_control c then escaped c else encode_utf8 c)))))
+
+-- how many characters of a string are shown
+abbrev pub shown_chars : ℕ
+shown_chars = 1000
+
+-- characters in quotes, and dots where more of them follow
+abbrev pub quoted : List ℕ → List ℕ
+quoted cs = codes "\"" ++ flat_map quoted_char (take shown_chars cs) ++ codes "\""
+    ++ (if nat_lt shown_chars (length cs) then codes "..." else [])
+
+-- a string of the target, by its bytes, in quotes
+unfoldable pub quote : List ℕ → List ℕ
+quote bytes = quoted (chars (lossy bytes))

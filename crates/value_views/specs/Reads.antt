@@ -1,6 +1,7 @@
 -- Which value a text is, by its kind (JDWP, Constants, Tag; Java Language Specification, Lexical Structure, Literals).
 use Rattle.std.specs.Prelude.{ℕ, ℤ, pos, neg_ℤ, List, ◌^◌, ◌&&◌, drop, length, nat_le, nat_lt, find, codes}
-use Rattle.std.specs.Prelude.{Bool, true, false, if◌then◌else◌, Option, Some, None, option_map, option_and_then, Result, Err}
+use Rattle.std.specs.Prelude.{Bool, true, false, if◌then◌else◌, Option, Some, None, option_map, option_and_then}
+use Rattle.std.specs.Prelude.{Result, Err}
 use Rattle.std.specs.Char.{is_ascii_digit}
 use Rattle.std.specs.List.{list_all, range_with_len}
 use Rattle.std.specs.Option.{ok_or}

@@ -4,10 +4,12 @@
 mod chars;
 mod fault;
 mod names;
+mod quotes;
 mod reading;
 
 pub use fault::WriteFault;
 pub use names::class_name;
+pub use quotes::quote;
 pub use reading::write_value;
 
 #[cfg(test)]

@@ -104,8 +104,8 @@ fn innermost(signature: &[u8]) -> (&[u8], usize)
 }
 
 /// The name of a type by its signature: a primitive type's, a class's with `.` between the parts of its path, an
-/// array's with `[]` behind that of its elements; another signature's own text. Bytes that begin no character are shown as
-/// U+FFFD. `NoMemory` comes where memory is refused (JNI specification, Types and Data Structures, Type Signatures).
+/// array's with `[]` behind that of its elements; another signature's own text. Bytes that begin no character are shown
+/// as U+FFFD. `NoMemory` comes where memory is refused (JNI specification, Types and Data Structures, Type Signatures).
 pub fn class_name(alloc: Global, signature: &[u8]) -> Result<Text, NoMemory>
     ensures { IfOk result (λ name. name ≡ class_name signature.now) }
 {

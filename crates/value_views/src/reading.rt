@@ -149,9 +149,9 @@ fn is_writable(tag: Tag) -> bool
 }
 
 /// The value that a text is, by the byte of its kind: of `B`, `S`, `I` and `J` 1 to 20 decimal digits in the kind's
-/// range, with `-` before them where it is negative; of `Z` `true` or `false`; of `C` what `value_text` shows of a char;
-/// of a reference `null`. `NotWritable` comes exactly where the byte is `F`, `D`, `V` or no tag, `BadText` exactly where
-/// the text is no such value of another kind (JDWP, Constants, Tag).
+/// range, with `-` before them where it is negative; of `Z` `true` or `false`; of `C` what `value_text` shows of the
+/// char; of a reference `null`. `NotWritable` comes exactly where the byte is `F`, `D`, `V` or no tag, `BadText`
+/// exactly where the text is no such value of another kind (JDWP, Constants, Tag).
 #[tactic(auto, unfolding(crate::specs::Reads::write_value))]
 pub fn write_value(kind: u8, text: &Text) -> Result<Value, WriteFault>
     ensures { result ≡ write_value kind text.now }

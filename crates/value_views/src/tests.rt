@@ -197,3 +197,78 @@ fn values_of_other_kinds_are_not_written(rt: HostRuntime) -> Result<(), Fail> {
     }
     Ok(())
 }
+
+#[test]
+fn strings_are_quoted_with_escapes(rt: HostRuntime) -> Result<(), Fail> {
+    for (bytes, want) in [
+        (b"".as_slice(), r#""""#),
+        (b"plain", r#""plain""#),
+        (b"a\"b", r#""a\"b""#),
+        (b"a\\b", r#""a\\b""#),
+        (b"it's", r#""it's""#),
+        (b"\n\r\t", r#""\n\r\t""#),
+        (b"\\n", r#""\\n""#),
+        (
+            b"\x00\x01\x08\x0b\x0c\x1b\x1f ",
+            r#""\u0000\u0001\u0008\u000b\u000c\u001b\u001f ""#,
+        ),
+        (b"~\x7f", r#""~\u007f""#),
+        // characters outside ASCII stand for themselves, the control characters among them too
+        (b"\xc2\x80\xc2\xa0\xe2\x80\xa8", "\"\u{80}\u{a0}\u{2028}\""),
+        (b"gr\xc3\xb6\xe2\x82\xac\xf0\x9f\x98\x80", "\"grö€😀\""),
+        // a stray byte, a surrogate, a character cut short, and ill-formed bytes next to what is escaped
+        (b"a\xffb", "\"a\u{fffd}b\""),
+        (b"\xed\xa0\x80", "\"\u{fffd}\u{fffd}\u{fffd}\""),
+        (b"\xe2\x82", "\"\u{fffd}\u{fffd}\""),
+        (b"\xc0\"\x80\n", "\"\u{fffd}\\\"\u{fffd}\\n\""),
+    ] {
+        assert_eq!(rt; quote(rt.alloc(), bytes)?.as_str(), want, "of {bytes:?}");
+    }
+    Ok(())
+}
+
+// A front so many times, and a tail.
+fn repeated(alloc: Global, front: &[u8], times: usize, tail: &[u8]) -> Result<Vec<u8>, NoMemory> {
+    let mut bytes = Vec::new(alloc);
+    for _turn in 0..times {
+        bytes.extend_from_slice(front)?;
+    }
+    bytes.extend_from_slice(tail)?;
+    Ok(bytes)
+}
+
+#[test]
+fn a_thousand_characters_of_a_string_are_shown(rt: HostRuntime) -> Result<(), Fail> {
+    let alloc = rt.alloc();
+    for (front, times, tail, shown, shown_times, end) in [
+        (b"a".as_slice(), 999, b"".as_slice(), "a", 999, "\""),
+        (b"a", 1000, b"", "a", 1000, "\""),
+        (b"a", 1001, b"", "a", 1000, "\"..."),
+        (b"a", 5000, b"", "a", 1000, "\"..."),
+        // a character of three bytes at the cut, before it and behind it
+        (b"a", 999, b"\xe2\x82\xac", "a", 999, "€\""),
+        (b"a", 999, b"\xe2\x82\xacb", "a", 999, "€\"..."),
+        (b"a", 1000, b"\xe2\x82\xac", "a", 1000, "\"..."),
+        (b"\xf0\x9f\x98\x80", 1000, b"", "😀", 1000, "\""),
+        (b"\xf0\x9f\x98\x80", 1001, b"", "😀", 1000, "\"..."),
+        // each byte that begins no character counts as one
+        (b"a", 999, b"\xff", "a", 999, "\u{fffd}\""),
+        (b"a", 998, b"\xe2\x82", "a", 998, "\u{fffd}\u{fffd}\""),
+        (b"a", 999, b"\xe2\x82", "a", 999, "\u{fffd}\"..."),
+        (b"\xff", 1000, b"", "\u{fffd}", 1000, "\""),
+        (b"\xff", 1001, b"", "\u{fffd}", 1000, "\"..."),
+        // an escape is one character
+        (b"\"", 1000, b"", "\\\"", 1000, "\""),
+        (b"\x01", 1001, b"", "\\u0001", 1000, "\"..."),
+        (b"a", 999, b"\n\n", "a", 999, "\\n\"..."),
+    ] {
+        let bytes = repeated(alloc, front, times, tail)?;
+        let inside = repeated(alloc, shown.as_bytes(), shown_times, end.as_bytes())?;
+        let text = quote(alloc, bytes.as_slice())?;
+        let [b'"', rest @ ..] = text.as_bytes() else {
+            return Err(Fail::from(NoMemory));
+        };
+        assert_eq!(rt; rest, inside.as_slice(), "of {times} and {tail:?}");
+    }
+    Ok(())
+}

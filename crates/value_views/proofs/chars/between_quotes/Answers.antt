@@ -11,7 +11,8 @@ behind_first text rest (Some x) e h = e ∙ ap (λ l. 39 ∷ l) h
 
 pub returns-in_default : goal.returns-in_default
 returns-in_default c =
-    λ inside same. strip_prefix_char 39 c.args.text.now None c.in_default.ensures.cases (omega arith) (inside ++ 39 ∷ []) same
+    let none = strip_prefix_char 39 c.args.text.now None c.in_default.ensures.cases (omega arith) in
+    λ inside same. none (inside ++ 39 ∷ []) same
 
 pub returns : goal.returns
 returns c =
