@@ -1,3 +1,4 @@
 pub mod NamePairs
 pub mod Hexadecimals
 pub mod CharLaws
+pub mod Lengths

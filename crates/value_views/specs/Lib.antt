@@ -2,3 +2,4 @@ pub mod Names
 pub mod Quotes
 pub mod Chars
 pub mod Reads
+pub mod Texts

@@ -3,14 +3,18 @@
 
 mod chars;
 mod fault;
+mod known;
 mod names;
 mod quotes;
 mod reading;
+mod showing;
 
 pub use fault::WriteFault;
+pub use known::Known;
 pub use names::class_name;
 pub use quotes::quote;
 pub use reading::write_value;
+pub use showing::value_text;
 
 #[cfg(test)]
 mod tests;

@@ -2,7 +2,7 @@ use super::*;
 use jdwp_values::{ObjectId, Value};
 use std::alloc::Global;
 use std::test::Fail;
-use wire_core::{NoMemory, Text};
+use wire_core::{Blob, NoMemory, Text};
 
 // What is read from a text, by the byte of the kind.
 fn read(alloc: Global, kind: u8, text: &str) -> Result<Result<Value, WriteFault>, NoMemory> {
@@ -269,6 +269,200 @@ fn a_thousand_characters_of_a_string_are_shown(rt: HostRuntime) -> Result<(), Fa
             return Err(Fail::from(NoMemory));
         };
         assert_eq!(rt; rest, inside.as_slice(), "of {times} and {tail:?}");
+    }
+    Ok(())
+}
+
+#[test]
+fn numbers_are_shown_in_decimal(rt: HostRuntime) -> Result<(), Fail> {
+    for (value, want) in [
+        (Value::Byte(-128), "-128"),
+        (Value::Byte(127), "127"),
+        (Value::Short(-32768), "-32768"),
+        (Value::Short(32767), "32767"),
+        (Value::Int(0), "0"),
+        (Value::Int(-5), "-5"),
+        (Value::Int(-2147483648), "-2147483648"),
+        (Value::Int(2147483647), "2147483647"),
+        (Value::Long(-9223372036854775808), "-9223372036854775808"),
+        (Value::Long(9223372036854775807), "9223372036854775807"),
+        (Value::Long(10), "10"),
+    ] {
+        let text = value_text(rt.alloc(), &value, &Known::Plain)?;
+        assert_eq!(rt; text.as_str(), want, "of {value:?}");
+    }
+    Ok(())
+}
+
+#[test]
+fn bits_and_words_are_shown_of_other_values(rt: HostRuntime) -> Result<(), Fail> {
+    for (value, want) in [
+        (Value::Boolean(0), "false"),
+        (Value::Boolean(1), "true"),
+        (Value::Boolean(255), "true"),
+        (Value::Void, "void"),
+        (Value::Float(0x7fc00000), "float:0x7fc00000"),
+        (Value::Float(0), "float:0x00000000"),
+        (Value::Float(0xabcdef), "float:0x00abcdef"),
+        (Value::Float(u32::MAX), "float:0xffffffff"),
+        (Value::Double(1), "double:0x0000000000000001"),
+        (
+            Value::Double(0x3ff0000000000000),
+            "double:0x3ff0000000000000",
+        ),
+        (Value::Double(u64::MAX), "double:0xffffffffffffffff"),
+    ] {
+        let text = value_text(rt.alloc(), &value, &Known::Plain)?;
+        assert_eq!(rt; text.as_str(), want, "of {value:?}");
+    }
+    Ok(())
+}
+
+#[test]
+fn chars_are_shown_in_quotes(rt: HostRuntime) -> Result<(), Fail> {
+    for (char, want) in [
+        (0x41, "'A'"),
+        (0x20, "' '"),
+        (0x7e, "'~'"),
+        (0x22, "'\"'"),
+        (0x27, "'\\''"),
+        (0x5c, "'\\\\'"),
+        (0, "'\\u0000'"),
+        (0x0a, "'\\u000a'"),
+        (0x1f, "'\\u001f'"),
+        (0x7f, "'\\u007f'"),
+        (0xe9, "'\\u00e9'"),
+        (0x20ac, "'\\u20ac'"),
+        (0xd800, "'\\ud800'"),
+        (0xffff, "'\\uffff'"),
+    ] {
+        let text = value_text(rt.alloc(), &Value::Char(char), &Known::Plain)?;
+        assert_eq!(rt; text.as_str(), want, "of {char}");
+    }
+    Ok(())
+}
+
+#[test]
+fn objects_are_shown_by_class_and_id(rt: HostRuntime) -> Result<(), Fail> {
+    let alloc = rt.alloc();
+    for (value, class, want) in [
+        (
+            Value::Object(ObjectId(31)),
+            b"Lcom/acme/Foo;".as_slice(),
+            "com.acme.Foo@1f",
+        ),
+        (
+            Value::Thread(ObjectId(1)),
+            b"Ljava/lang/Thread;",
+            "java.lang.Thread@1",
+        ),
+        (Value::ThreadGroup(ObjectId(16)), b"LG;", "G@10"),
+        (
+            Value::ClassLoader(ObjectId(0xabc)),
+            b"Lapp/Loader;",
+            "app.Loader@abc",
+        ),
+        (
+            Value::ClassObject(ObjectId(9)),
+            b"Ljava/lang/Class;",
+            "java.lang.Class@9",
+        ),
+        (
+            Value::Object(ObjectId(u64::MAX)),
+            b"LA;",
+            "A@ffffffffffffffff",
+        ),
+    ] {
+        let signature = Blob::from_slice(alloc, class)?;
+        let text = value_text(alloc, &value, &Known::Object { signature })?;
+        assert_eq!(rt; text.as_str(), want, "of {class:?}");
+    }
+    Ok(())
+}
+
+#[test]
+fn an_object_of_any_class_is_shown(rt: HostRuntime) -> Result<(), Fail> {
+    let alloc = rt.alloc();
+    let value = Value::Object(ObjectId(31));
+    for (class, want) in [
+        // hidden classes, a name past ASCII, an ill-formed one, and none
+        (b"La/F$$Lambda.0x7f5c;".as_slice(), "a.F$$Lambda.0x7f5c@1f"),
+        (b"La/Proxy$1/0x00c0;", "a.Proxy$1.0x00c0@1f"),
+        (b"Lgr\xc3\xb6\xc3\x9fe/A;", "größe.A@1f"),
+        (b"LA\xff;", "A\u{fffd}@1f"),
+        (b"L;", "@1f"),
+        (b"", "@1f"),
+        // signatures that no object's class has
+        (b"[[I", "int[][]@1f"),
+        (b"V", "void@1f"),
+        (b"X", "X@1f"),
+    ] {
+        let signature = Blob::from_slice(alloc, class)?;
+        let text = value_text(alloc, &value, &Known::Object { signature })?;
+        assert_eq!(rt; text.as_str(), want, "of {class:?}");
+    }
+    let unknown = value_text(alloc, &value, &Known::Plain)?;
+    assert_eq!(rt; unknown.as_str(), "@1f");
+    Ok(())
+}
+
+#[test]
+fn arrays_are_shown_with_their_length(rt: HostRuntime) -> Result<(), Fail> {
+    let alloc = rt.alloc();
+    for (class, length, want) in [
+        (b"[I".as_slice(), 0, "int[0]"),
+        (b"[[I", 3, "int[3][]"),
+        (b"[Lcom/acme/Foo;", 12, "com.acme.Foo[12]"),
+        (
+            b"[[[Ljava/lang/String;",
+            2147483647,
+            "java.lang.String[2147483647][][]",
+        ),
+        // classes that no array has
+        (b"[", 1, "[1]"),
+        (b"", 3, "[3]"),
+        (b"I", 3, "int[3]"),
+        (b"Lcom/acme/Foo;", 3, "com.acme.Foo[3]"),
+        (b"L[;", 3, "[[3]"),
+        (b"La[b]c;", 3, "a[b]c[3]"),
+        (b"[La[b[];", 3, "a[b[3][]"),
+        (b"\xff", 3, "\u{fffd}[3]"),
+    ] {
+        let signature = Blob::from_slice(alloc, class)?;
+        let known = Known::Array { signature, length };
+        let text = value_text(alloc, &Value::Array(ObjectId(7)), &known)?;
+        assert_eq!(rt; text.as_str(), want, "of {class:?}");
+    }
+    Ok(())
+}
+
+#[test]
+fn strings_are_shown_in_quotes_and_nothing_as_null(rt: HostRuntime) -> Result<(), Fail> {
+    let alloc = rt.alloc();
+    for (bytes, want) in [
+        (b"".as_slice(), r#""""#),
+        (b"a\"b", r#""a\"b""#),
+        (b"null", r#""null""#),
+        (b"\xff\n", "\"\u{fffd}\\n\""),
+    ] {
+        let known = Known::Text(Blob::from_slice(alloc, bytes)?);
+        let text = value_text(alloc, &Value::String(ObjectId(7)), &known)?;
+        assert_eq!(rt; text.as_str(), want, "of {bytes:?}");
+        let null = value_text(alloc, &Value::String(ObjectId(0)), &known)?;
+        assert_eq!(rt; null.as_str(), "null");
+    }
+    let nobody = ObjectId(0);
+    for value in [
+        Value::Object(nobody),
+        Value::Array(nobody),
+        Value::String(nobody),
+        Value::Thread(nobody),
+        Value::ThreadGroup(nobody),
+        Value::ClassLoader(nobody),
+        Value::ClassObject(nobody),
+    ] {
+        let null = value_text(alloc, &value, &Known::Plain)?;
+        assert_eq!(rt; null.as_str(), "null", "of {value:?}");
     }
     Ok(())
 }
