@@ -184,3 +184,15 @@ some_char text inside e = found text inside (2 ^ 16) (unquoted inside) e refl re
 pub no_char : (text : List ℕ) → ((inside : List ℕ) → text ≢ codes "'" ++ inside ++ codes "'") → char_in text ≡ None
 unfolding char_in
 no_char text none = not_found text (2 ^ 16) none
+
+found_passes : (test : ℕ → Bool) (from len n : ℕ) → find test (range_with_len from len) ≡ Some n → test n ≡ true
+found_passes test from zero n e = absurd (none-some n e)
+found_passes test from (suc len) n e =
+    ⊎_elim (λ here. ap test (sym (same_Some from n (sym (cond-true (test from) _ _ here) ∙ e))) ∙ here)
+    (λ not_here. found_passes test (from + 1) len n (sym (cond-false (test from) _ _ not_here) ∙ e))
+    (cases_Bool (test from))
+
+-- what is read as a char is what is shown of it
+pub shown_char : (text : List ℕ) (n : ℕ) → char_in text ≡ Some n → char_text n ≡ text
+unfolding char_in
+shown_char text n e = (bytes_eq-Decides (char_text n) text).0 (found_passes (is_shown text) 0 (2 ^ 16) n e)

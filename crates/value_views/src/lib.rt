@@ -4,6 +4,7 @@
 mod chars;
 mod fault;
 mod known;
+mod laws;
 mod names;
 mod quotes;
 mod reading;
@@ -11,6 +12,7 @@ mod showing;
 
 pub use fault::WriteFault;
 pub use known::Known;
+pub use laws::a_value_that_was_read_is_read_as_it_is_shown;
 pub use names::class_name;
 pub use quotes::quote;
 pub use reading::write_value;

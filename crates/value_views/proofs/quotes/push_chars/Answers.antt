@@ -1,7 +1,6 @@
-use Rattle.std.proofs.Common.{◌≡◌, ◌++◌, ◌∙◌, flat_map, take, string_bytes, sym, ap, map-id}
+use Rattle.std.proofs.Common.{◌++◌, ◌∙◌, flat_map, string_bytes, sym, ap, map-id}
 use Rattle.std.proofs.lemmas.Iterator.{YieldsList-from_chars, YieldsList-from_take}
 use Rattle.std.proofs.lemmas.Iterator.Consumers.{YieldsList-end}
-use Rattle.std.specs.Str.{chars}
 use Rattle.value_views.specs.Quotes.{quoted_char}
 use Rattle.value_views.proofs.quotes.push_chars.Goals as goal
 

@@ -1,16 +1,12 @@
-use Rattle.std.proofs.Common.{◌≡◌, true, arith, rules, ap, sym, ◌∙◌, length, nat_lt, nat_le}
-use Rattle.std.proofs.Common.{◌&&◌}
+use Rattle.std.proofs.Common.{◌≡◌, true, arith, ap, sym, ◌∙◌, length, nat_lt, nat_le, ◌&&◌}
 use Rattle.std.specs.Char.{is_ascii_digit}
 use Rattle.std.specs.List.{list_all}
 use Rattle.std.specs.Result.{result_ok}
-use Rattle.std.specs.Str.Parse.{digits_value}
 use Rattle.std.proofs.lemmas.Bool.{and_parts, cond-true, ltb-true, leb-true}
-use Rattle.std.proofs.lemmas.Str.Parse.{IsNumeralModel, numerals_by_value, parse_gives, digits_value_short}
+use Rattle.std.proofs.lemmas.Str.Parse.{parse_gives, digits_value_short}
 use Rattle.value_views.specs.Reads.{is_number}
+use Rattle.value_views.proofs.Digits.{own}
 use Rattle.value_views.proofs.reading.number_in.Goals as goal
-
-own : IsNumeralModel (λ ds. list_all is_ascii_digit ds ≡ true) (digits_value 10)
-own = numerals_by_value _ (search rules)
 
 pub returns-then-is_number : goal.returns-then-is_number
 returns-then-is_number c =
