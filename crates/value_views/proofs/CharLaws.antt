@@ -185,14 +185,27 @@ pub no_char : (text : List ℕ) → ((inside : List ℕ) → text ≢ codes "'" 
 unfolding char_in
 no_char text none = not_found text (2 ^ 16) none
 
-found_passes : (test : ℕ → Bool) (from len n : ℕ) → find test (range_with_len from len) ≡ Some n → test n ≡ true
-found_passes test from zero n e = absurd (none-some n e)
-found_passes test from (suc len) n e =
-    ⊎_elim (λ here. ap test (sym (same_Some from n (sym (cond-true (test from) _ _ here) ∙ e))) ∙ here)
-    (λ not_here. found_passes test (from + 1) len n (sym (cond-false (test from) _ _ not_here) ∙ e))
+found_below : (test : ℕ → Bool) (from len n : ℕ) → find test (range_with_len from len) ≡ Some n → n < from + len
+found_below test from zero n e = absurd (none-some n e)
+found_below test from (suc len) n e =
+    ⊎_elim (λ here. let same = same_Some from n (sym (cond-true (test from) _ _ here) ∙ e) in omega arith)
+    (λ not_here. let below = found_below test (from + 1) len n (sym (cond-false (test from) _ _ not_here) ∙ e) in
+    omega arith)
     (cases_Bool (test from))
 
--- what is read as a char is what is shown of it
-pub shown_char : (text : List ℕ) (n : ℕ) → char_in text ≡ Some n → char_text n ≡ text
+-- what is found passes
+pub found_passes : {A : Type 0} (test : A → Bool) (xs : List A) (y : A) → find test xs ≡ Some y → test y ≡ true
+found_passes test [] y e = absurd (none-some y e)
+found_passes test (x ∷ xs) y e =
+    ⊎_elim (λ here. ap test (sym (same_Some x y (sym (cond-true (test x) _ _ here) ∙ e))) ∙ here)
+    (λ not_here. found_passes test xs y (sym (cond-false (test x) _ _ not_here) ∙ e))
+    (cases_Bool (test x))
+
+-- what is read as a char is a number of 16 bits
+pub char_fits : (text : List ℕ) (n : ℕ) → char_in text ≡ Some n → n < 65536
 unfolding char_in
-shown_char text n e = (bytes_eq-Decides (char_text n) text).0 (found_passes (is_shown text) 0 (2 ^ 16) n e)
+char_fits text n e = found_below (is_shown text) 0 (2 ^ 16) n e
+
+-- and is read of what is shown of it
+pub char_again : (n : ℕ) → n < 65536 → char_in (char_text n) ≡ Some n
+char_again n small = some_char (char_text n) (char_inside n) refl ∙ unquoted-char_inside n small

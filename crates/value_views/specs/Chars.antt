@@ -1,4 +1,4 @@
--- Chars read from the bytes between their quotes.
+-- How a char is read from the bytes between its quotes. Which char a text is says `char_in`: the one that is shown so.
 use Rattle.std.specs.Prelude.{ℕ, ◌+◌, ◌-◌, ◌*◌, List, [], ◌∷◌, ◌==◌, ◌||◌, if◌then◌else◌}
 use Rattle.std.specs.Prelude.{Option, Some, None, option_and_then}
 use Rattle.std.specs.Int.{is_in_range}

@@ -3,3 +3,4 @@ pub mod Quotes
 pub mod Chars
 pub mod Reads
 pub mod Texts
+pub mod Written

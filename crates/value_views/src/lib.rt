@@ -12,7 +12,10 @@ mod showing;
 
 pub use fault::WriteFault;
 pub use known::Known;
-pub use laws::a_value_that_was_read_is_read_as_it_is_shown;
+pub use laws::{
+    a_value_that_can_be_written_is_read_as_it_is_shown, a_value_that_was_read_can_be_written,
+    a_value_that_was_read_is_read_as_it_is_shown,
+};
 pub use names::class_name;
 pub use quotes::quote;
 pub use reading::write_value;
