@@ -13,7 +13,7 @@ use Rattle.wish_sets.specs.Wanted.{Wanted}
 use Rattle.wish_sets.specs.Wished.{wished, watched, stops, thrown, stepping, is_watched}
 use Rattle.wish_sets.proofs.WishLaws.{wished_has}
 
-has-append : (wish : Wish) (xs ys : List Wish) → has_wish (xs ++ ys) wish ≡ (has_wish xs wish || has_wish ys wish)
+pub has-append : (wish : Wish) (xs ys : List Wish) → has_wish (xs ++ ys) wish ≡ (has_wish xs wish || has_wish ys wish)
 has-append wish [] ys = refl
 has-append wish (x ∷ xs) ys =
     ap (λ b. is_wish wish x || b) (has-append wish xs ys)

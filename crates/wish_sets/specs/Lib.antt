@@ -5,5 +5,7 @@ pub mod Places
 pub mod Wished
 pub mod Requests
 pub mod Wishes
+pub mod Slots
+pub mod Kept
 pub mod Entries
 pub mod Tidy

@@ -4,8 +4,12 @@
 mod change;
 mod entry;
 mod facts;
+mod fixed;
 mod laws;
+mod slot;
+mod wants;
 mod wish;
+mod wishes;
 
 pub use change::{Change, Settled};
 pub use entry::{EntryAt, EntryState, FunctionEntry, LineEntry};
@@ -16,6 +20,7 @@ pub use laws::{
     what_stands_is_tidy,
 };
 pub use wish::{Depth, StepWish, Wish};
+pub use wishes::Wishes;
 
 #[cfg(test)]
 mod tests;

@@ -1,4 +1,4 @@
-use crate::{Depth, Wish};
+use crate::{Change, Depth, Settled, Wish, Wishes};
 use jdwp_events::{EventKind, Modifier, Policy};
 use jdwp_values::{ClassId, Location, MethodId, ThreadId, TypeTag};
 use std::alloc::Global;
@@ -121,5 +121,62 @@ fn a_breakpoint_a_step_and_exceptions_are_narrowed(rt: HostRuntime) -> Result<()
             }]
         )
     );
+    Ok(())
+}
+
+// What the next change is: the place of a Clear and its request's id, or the place of a Set, and the wish's kind.
+fn shown(wishes: &Wishes) -> Option<(bool, u32, u32, EventKind)> {
+    match wishes.next_change()? {
+        Change::Clear {
+            place,
+            request,
+            wish,
+        } => Some((true, place, request, wish.kind())),
+        Change::Set { place, wish } => Some((false, place, 0, wish.kind())),
+    }
+}
+
+// Installs the next wish under an id, or refuses it; or clears the next request.
+fn settle(wishes: &mut Wishes, outcome: Settled) {
+    match (wishes.next_change(), outcome) {
+        (Some(Change::Clear { place, .. }), Settled::Cleared) => wishes.settled(place, outcome),
+        (Some(Change::Set { place, .. }), Settled::Installed(_)) => wishes.settled(place, outcome),
+        (Some(Change::Set { place, .. }), Settled::Refused(_)) => wishes.settled(place, outcome),
+        _ => {}
+    }
+}
+
+#[test]
+fn exceptions_and_steps_are_set_and_cleared(rt: HostRuntime) -> Result<(), Fail> {
+    let mut wishes = Wishes::new(rt.alloc())?;
+    assert_eq!(rt; shown(&wishes), Some((false, 0, 0, EventKind::ThreadStart)));
+    settle(&mut wishes, Settled::Installed(2));
+    assert_eq!(rt; shown(&wishes), Some((false, 1, 0, EventKind::ThreadDeath)));
+    settle(&mut wishes, Settled::Installed(3));
+    assert_eq!(rt; shown(&wishes), None);
+    wishes.set_exceptions(true, false);
+    wishes.set_step(ThreadId(1), Depth::Over);
+    assert_eq!(rt; shown(&wishes), Some((false, 2, 0, EventKind::Exception)));
+    settle(&mut wishes, Settled::Refused(99));
+    assert_eq!(rt; shown(&wishes), Some((false, 3, 0, EventKind::SingleStep)));
+    settle(&mut wishes, Settled::Installed(4));
+    assert_eq!(rt; shown(&wishes), None);
+    wishes.set_exceptions(true, true);
+    wishes.clear_step();
+    assert_eq!(rt; shown(&wishes), Some((true, 2, 4, EventKind::SingleStep)));
+    settle(&mut wishes, Settled::Cleared);
+    assert_eq!(rt; shown(&wishes), Some((false, 2, 0, EventKind::Exception)));
+    Ok(())
+}
+
+#[test]
+fn an_event_belongs_to_the_wish_of_its_kind_and_id(rt: HostRuntime) -> Result<(), Fail> {
+    let mut wishes = Wishes::new(rt.alloc())?;
+    settle(&mut wishes, Settled::Installed(7));
+    let owner = wishes.owner_of(EventKind::ThreadStart, 7);
+    assert!(rt; matches!(owner, Some(Wish::ThreadStart)));
+    for (kind, request) in [(EventKind::ThreadStart, 8), (EventKind::ThreadDeath, 7)] {
+        assert!(rt; wishes.owner_of(kind, request).is_none());
+    }
     Ok(())
 }

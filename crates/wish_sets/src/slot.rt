@@ -1,0 +1,209 @@
+//! A wish, and how it stands.
+ghost use Rattle.std.specs.Prelude.{◌≡◌, ◌+◌, ◌<◌, ◌≤◌, ◌^◌, ◌++◌, if◌then◌else◌, length, IfSome, IfOk};
+ghost use Rattle.std.specs.List.{list_any, position_from};
+ghost use Rattle.std.specs.Option.{option_copied};
+ghost use Rattle.std.specs.Result.{result_map_both};
+ghost use Rattle.wish_sets.specs.Slots.{is_late, is_unset, awaits, marked, with_first, wanted_slot, late_from};
+ghost use Rattle.wish_sets.specs.Slots.{unset_from, change_shown, place_shown, owner_in, new_slot};
+
+use crate::change::{Change, Settled};
+use crate::wish::Wish;
+use jdwp_events::EventKind;
+
+/// A wish that is wished, installed, or may be: whether it is wished, the id of its request where it is installed, and
+/// whether it was refused.
+#[derive(Debug, Drop)]
+pub(crate) struct Slot {
+    pub(crate) wish: Wish,
+    pub(crate) wished: bool,
+    pub(crate) request: Option<u32>,
+    pub(crate) refused: bool,
+}
+
+impl Slot {
+    /// A wish that neither stands nor was refused.
+    pub(crate) fn new(wish: Wish, wished: bool) -> Slot
+        ensures { result ≡ new_slot wish wished }
+    {
+        Slot {
+            wish,
+            wished,
+            request: None,
+            refused: false,
+        }
+    }
+
+    /// It is wished from now on, or isn't; then it is forgotten that it was refused.
+    pub(crate) fn want(&mut self, wished: bool)
+        ensures { self.new ≡ wanted_slot wished self.old }
+    {
+        self.wished = wished;
+        self.refused = self.refused && wished;
+    }
+
+    // It has to be cleared: it is installed, and not wished.
+    fn is_late(&self) -> bool
+        ensures { result ≡ is_late self.now }
+    {
+        self.request.is_some() && !self.wished
+    }
+
+    // It has to be set: it is wished, and neither installed nor refused.
+    fn is_unset(&self) -> bool
+        ensures { result ≡ is_unset self.now }
+    {
+        self.wished && self.request.is_none() && !self.refused
+    }
+
+    // It waits for an outcome of this kind.
+    fn awaits(&self, outcome: Settled) -> bool
+        ensures { result ≡ awaits outcome self.now }
+    {
+        match outcome {
+            Settled::Cleared => self.is_late(),
+            Settled::Installed(_) => self.is_unset(),
+            Settled::Refused(_) => self.is_unset(),
+        }
+    }
+
+    // An outcome is marked.
+    fn mark(&mut self, outcome: Settled)
+        ensures { self.new ≡ marked outcome self.old }
+    {
+        match outcome {
+            Settled::Cleared => self.request = None,
+            Settled::Installed(request) => self.request = Some(request),
+            Settled::Refused(_) => self.refused = true,
+        }
+    }
+}
+
+// The Clear of the first that has to be cleared; else the place behind these, counted from a place.
+fn late_in(slots: &[Slot], place: u32) -> Result<u32, Change<'_>>
+    requires { place + length slots.now < 2 ^ 32 }
+    ensures found { result_map_both (λ place. place) (λ change. (place_shown change, change_shown change)) result
+        ≡ late_from place slots.now }
+    ensures within { IfOk result (λ behind. behind ≤ place + length slots.now) }
+{
+    let mut place = place;
+    for slot in slots {
+        if let Some(request) = slot.request {
+            if !slot.wished {
+                return Err(Change::Clear {
+                    place,
+                    request,
+                    wish: &slot.wish,
+                });
+            }
+            place += 1;
+        }
+    }
+    Ok(place)
+}
+
+// The Set of the first that has to be set; else the place behind these, counted from a place.
+fn unset_in(slots: &[Slot], place: u32) -> Result<u32, Change<'_>>
+    requires { place + length slots.now < 2 ^ 32 }
+    ensures found { result_map_both (λ place. place) (λ change. (place_shown change, change_shown change)) result
+        ≡ unset_from place slots.now }
+    ensures within { IfOk result (λ behind. behind ≤ place + length slots.now) }
+{
+    let mut place = place;
+    for slot in slots {
+        if slot.is_unset() {
+            return Err(Change::Set {
+                place,
+                wish: &slot.wish,
+            });
+        }
+        if slot.wished {
+            place += 1;
+        }
+    }
+    Ok(place)
+}
+
+#[tactic(auto, using(crate::proofs::SlotLaws::late_append))]
+/// The Clear of the first of two lists that has to be cleared; else how many of them are installed.
+pub(crate) fn late<'a>(slots: &'a [Slot], fixed: &'a [Slot]) -> Result<u32, Change<'a>>
+    requires { length slots.now + length fixed.now < 2 ^ 32 }
+    ensures { result_map_both (λ place. place) (λ change. (place_shown change, change_shown change)) result
+        ≡ late_from 0 (slots.now ++ fixed.now) }
+{
+    match late_in(slots, 0) {
+        Ok(place) => late_in(fixed, place),
+        Err(change) => Err(change),
+    }
+}
+
+#[tactic(auto, using(crate::proofs::SlotLaws::unset_append))]
+/// The Set of the first of two lists that has to be set; else how many of them are wished.
+pub(crate) fn unset<'a>(slots: &'a [Slot], fixed: &'a [Slot]) -> Result<u32, Change<'a>>
+    requires { length slots.now + length fixed.now < 2 ^ 32 }
+    ensures { result_map_both (λ place. place) (λ change. (place_shown change, change_shown change)) result
+        ≡ unset_from 0 (slots.now ++ fixed.now) }
+{
+    match unset_in(slots, 0) {
+        Ok(place) => unset_in(fixed, place),
+        Err(change) => Err(change),
+    }
+}
+
+// The place of the first that waits for an outcome of this kind.
+fn place_of(slots: &[Slot], outcome: Settled) -> Option<usize>
+    ensures value { result ≡ position_from (awaits outcome) 0 slots.now }
+    ensures within { IfSome result (λ at. at < length slots.now) }
+{
+    slots.iter().position(|slot| slot.awaits(outcome))
+}
+
+// Marks an outcome at the first that waits for it, and says whether there was one.
+fn settle_first(slots: &mut [Slot], outcome: Settled) -> bool
+    ensures found { result ≡ list_any (awaits outcome) slots.old }
+    ensures marked { slots.new ≡ with_first (awaits outcome) (marked outcome) slots.old }
+{
+    let Some(at) = place_of(slots, outcome) else {
+        return false;
+    };
+    slots[at].mark(outcome);
+    true
+}
+
+/// Marks an outcome at the first of two lists that waits for it.
+pub(crate) fn settle(slots: &mut Vec<Slot>, fixed: &mut [Slot], outcome: Settled)
+    ensures slots { slots.new.items ≡ with_first (awaits outcome) (marked outcome) slots.old.items }
+    ensures fixed { fixed.new ≡ (if list_any (awaits outcome) slots.old.items then fixed.old
+        else with_first (awaits outcome) (marked outcome) fixed.old) }
+{
+    if !settle_first(slots, outcome) {
+        settle_first(fixed, outcome);
+    }
+}
+
+// The first that is installed, of this kind and under this request.
+fn owner_in(slots: &[Slot], kind: EventKind, request: u32) -> Option<&Wish>
+    ensures { option_copied result ≡ owner_in slots.now kind request }
+{
+    for slot in slots {
+        if slot.request == Some(request) && slot.wish.kind() == kind {
+            return Some(&slot.wish);
+        }
+    }
+    None
+}
+
+/// The first of two lists that is installed, of this kind and under this request.
+#[tactic(auto, using(crate::proofs::SlotLaws::owner_append))]
+pub(crate) fn owner<'a>(
+    slots: &'a [Slot],
+    fixed: &'a [Slot],
+    kind: EventKind,
+    request: u32,
+) -> Option<&'a Wish>
+    ensures { option_copied result ≡ owner_in (slots.now ++ fixed.now) kind request }
+{
+    match owner_in(slots, kind, request) {
+        Some(wish) => Some(wish),
+        None => owner_in(fixed, kind, request),
+    }
+}

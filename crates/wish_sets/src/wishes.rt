@@ -1,0 +1,117 @@
+//! What is wished of the target, and what stands.
+ghost use Rattle.std.specs.Prelude.{◌≡◌, ◌∷◌, [], Some, None, true, option_map, IfOk};
+ghost use Rattle.std.specs.Option.{option_copied};
+ghost use Rattle.std.specs.Result.{result_map_both};
+ghost use Rattle.wish_sets.specs.Wanted.{with_exceptions, with_step};
+ghost use Rattle.wish_sets.specs.Wishes.{new_wishes, rewished, next_change, next_place, is_outcome, settled, owner_of};
+ghost use Rattle.wish_sets.specs.Slots.{change_shown, place_shown};
+
+use crate::change::{Change, Settled};
+use crate::fixed::{fixed_slots, want_step, want_thrown};
+use crate::slot::{Slot, late, owner, settle, unset};
+use crate::wants::Wants;
+use crate::wish::{Depth, StepWish, Wish};
+use jdwp_events::EventKind;
+use jdwp_values::ThreadId;
+use std::alloc::Global;
+use std::marker::Model;
+use wire_core::{List, NoMemory};
+
+/// What is wanted, and the event requests that the target holds or has refused (JDWP, EventRequest command set, Set and
+/// Clear).
+///
+/// Contracts see what is wanted, what is installed and what was refused.
+#[derive(Debug, Drop)]
+pub struct Wishes {
+    wants: Wants,
+    slots: Vec<Slot>,
+    fixed: [Slot; 5],
+}
+
+impl Model for Wishes {
+    ghost use Rattle.std.specs.Prelude.{◌++◌};
+    ghost use Rattle.wish_sets.specs.Wishes.{Wishes as WhatStands};
+    ghost use Rattle.wish_sets.specs.Kept.{wanted_by, wishes_by, AreKept};
+
+    ghost Value = { WhatStands };
+
+    ghost view = { λ w. wishes_by w.wants (w.slots.items ++ w.fixed) };
+
+    ghost invariant = { λ w. AreKept (wanted_by w.wants) w.slots.items w.fixed };
+}
+
+impl Wishes {
+    /// Nothing is wanted, and nothing stands: the starts and ends of threads alone are wished. `NoMemory` comes where
+    /// memory is refused.
+    pub fn new(alloc: Global) -> Result<Wishes, NoMemory>
+        ensures { IfOk result (λ wishes. wishes ≡ new_wishes) }
+    {
+        let mut slots = Vec::new(alloc);
+        slots.push(Slot::new(Wish::ThreadStart, true))?;
+        slots.push(Slot::new(Wish::ThreadDeath, true))?;
+        Ok(Wishes {
+            wants: Wants::new(alloc),
+            slots,
+            fixed: fixed_slots(),
+        })
+    }
+
+    /// Replaces which exceptions stop, those that are caught and those that are not. It takes no memory (DAP
+    /// specification, SetExceptionBreakpoints request; JDWP, EventRequest command set, Set, ExceptionOnly).
+    pub fn set_exceptions(&mut self, caught: bool, uncaught: bool)
+        ensures { self.new ≡ rewished (with_exceptions caught uncaught self.old.wanted) self.old }
+    {
+        self.wants.caught = caught;
+        self.wants.uncaught = uncaught;
+        want_thrown(&mut self.fixed, caught, uncaught);
+    }
+
+    /// A step is in flight, in place of any other. It takes no memory (DAP specification, Next, StepIn and StepOut
+    /// requests; JDWP, EventRequest command set, Set, Step).
+    pub fn set_step(&mut self, thread: ThreadId, depth: Depth)
+        ensures { self.new ≡ rewished (with_step (Some (record { thread = thread; depth = depth })) self.old.wanted) self.old }
+    {
+        let step = Some(StepWish { thread, depth });
+        self.wants.step = step;
+        want_step(&mut self.fixed, step);
+    }
+
+    /// No step is in flight. It takes no memory.
+    pub fn clear_step(&mut self)
+        ensures { self.new ≡ rewished (with_step None self.old.wanted) self.old }
+    {
+        self.wants.step = None;
+        want_step(&mut self.fixed, None);
+    }
+
+    /// The next change: the first request that is installed and no longer wished, as a Clear; else the first wish that
+    /// is neither installed nor refused, as a Set. `None` exactly where what is installed is what is wished less what
+    /// was refused. It takes no memory.
+    pub fn next_change(&self) -> Option<Change<'_>>
+        ensures change { option_map change_shown result ≡ next_change self.now }
+        ensures place { option_map place_shown result ≡ next_place self.now }
+    {
+        match late(&self.slots, &self.fixed) {
+            Ok(_) => unset(&self.slots, &self.fixed).err(),
+            Err(change) => Some(change),
+        }
+    }
+
+    /// Marks what came of the next change, which stands at this place: a Clear was cleared, a Set was installed or
+    /// refused. It takes no memory.
+    pub fn settled(&mut self, _place: u32, outcome: Settled)
+        requires next { next_place self.old ≡ Some _place }
+        requires outcome { is_outcome (next_change self.old) outcome ≡ true }
+        ensures { self.new ≡ settled outcome self.old }
+    {
+        settle(&mut self.slots, &mut self.fixed, outcome);
+    }
+
+    /// The wish of an event, by its kind and the id of its request: the first installed one, in wish order, that has
+    /// both; `None` exactly where none has. It takes no memory (JDWP, Event command set, Composite, requestID).
+    pub fn owner_of(&self, kind: EventKind, request: u32) -> Option<&Wish>
+        ensures { option_copied result ≡ owner_of self.now.installed kind request }
+    {
+        owner(&self.slots, &self.fixed, kind, request)
+    }
+}
