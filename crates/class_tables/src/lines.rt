@@ -26,8 +26,9 @@ fn later(found: Option<Line>, entry: Line) -> Line
     }
 }
 
-/// The least index of the entries of a line.
-pub(crate) fn line_start(line: i32, entries: &[Line]) -> Option<u64>
+/// The code index at which a line begins among these entries: the least of those of the line; `None` exactly where
+/// none is of it (JDWP, Method command set, LineTable).
+pub fn line_start(line: i32, entries: &[Line]) -> Option<u64>
     ensures { result ≡ line_start line entries.now }
 {
     let mut start = None;

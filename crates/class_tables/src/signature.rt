@@ -2,15 +2,17 @@ ghost use Rattle.std.specs.Prelude.{◌≡◌};
 ghost use Rattle.std.specs.Option.{option_copied};
 ghost use Rattle.class_tables.specs.Signatures.{class_path, package_of, package_in};
 
-/// The package in a class's signature.
-pub(crate) fn package_in(signature: &[u8]) -> Option<&[u8]>
+/// The path of the package in a class's signature, empty in the default package; `None` exactly where the signature is
+/// not that of a class (JNI specification, Types and Data Structures, Type Signatures).
+pub fn package_in(signature: &[u8]) -> Option<&[u8]>
     ensures { option_copied result ≡ package_in signature.now }
 {
     Some(package_of(class_path(signature)?))
 }
 
-// The path in a class's signature; an array's and a primitive type's have none.
-fn class_path(signature: &[u8]) -> Option<&[u8]>
+/// The path in a class's signature; `None` exactly where it is not that of a class, as an array's and a primitive type's
+/// (JNI specification, Types and Data Structures, Type Signatures).
+pub fn class_path(signature: &[u8]) -> Option<&[u8]>
     ensures { option_copied result ≡ class_path signature.now }
 {
     match signature {

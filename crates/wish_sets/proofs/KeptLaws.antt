@@ -82,7 +82,7 @@ stops_early : (those : List Place) → AllByRecursion Early (map (λ (place : Pl
 stops_early [] = tt
 stops_early (place ∷ those) = (omega arith, stops_early those)
 
-listed_early : (wanted : Wanted) → AllByRecursion Early (listed_wishes wanted)
+pub listed_early : (wanted : Wanted) → AllByRecursion Early (listed_wishes wanted)
 listed_early wanted = (
   omega arith,
   (

@@ -6,6 +6,7 @@ pub mod TidyLaws
 pub mod LeftLaws
 mod Examples
 pub mod FirstLaws
+pub mod SpellLaws
 pub mod SlotLaws
 pub mod KeptLaws
 pub mod OutcomeLaws
@@ -14,4 +15,7 @@ pub mod WantedLaws
 pub mod ThrownLaws
 pub mod StepLaws
 pub mod StepKept
+pub mod FormingLaws
+pub mod FormedLaws
+pub mod FormedKept
 pub mod NewLaws

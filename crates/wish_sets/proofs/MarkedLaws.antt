@@ -256,7 +256,7 @@ module _ (wanted : Wanted) (outcome : Settled) (slots fixed : List Slot) (kept :
     sound = subst (AllByRecursion (λ slot. is_sound slot ≡ true)) all_after
         (each_changed (awaits outcome) (marked outcome) (λ slot. is_sound slot ≡ true)
         (sound_marked outcome) (slots ++ fixed) kept.sound);
-    counted = subst (λ n. n + 5 < 2 ^ 32) (sym (length-changed (awaits outcome) (marked outcome) slots)) kept.counted;
+    counted = subst (λ n. n + 5 < 2 ^ 31) (sym (length-changed (awaits outcome) (marked outcome) slots)) kept.counted;
   }
     where
       ends : (b : Bool) → AreFixed wanted (cond b fixed (with_first (awaits outcome) (marked outcome) fixed))

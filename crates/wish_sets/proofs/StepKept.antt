@@ -76,11 +76,11 @@ unfolding IsStrictlySortedBy
 last_rises [] a b sorted = sorted.0.0
 last_rises (x ∷ xs) a b sorted = last_rises xs a b sorted.1
 
-wishes_of-append : (xs ys : List Slot) → wishes_of (xs ++ ys) ≡ wishes_of xs ++ wishes_of ys
+pub wishes_of-append : (xs ys : List Slot) → wishes_of (xs ++ ys) ≡ wishes_of xs ++ wishes_of ys
 wishes_of-append [] ys = refl
 wishes_of-append (x ∷ xs) ys = ap (λ ws. x.wish ∷ ws) (wishes_of-append xs ys)
 
-early_before : (step : StepWish) (slots : List Slot) → AllByRecursion (λ (slot : Slot). Early slot.wish) slots
+pub early_before : (step : StepWish) (slots : List Slot) → AllByRecursion (λ (slot : Slot). Early slot.wish) slots
     → AllByRecursion (λ w. wish_cmp w (step_wish step) ≡ Less) (wishes_of slots)
 early_before step [] all = tt
 early_before step (slot ∷ slots) all = (

@@ -141,4 +141,4 @@ pub record AreKept (wanted : Wanted) (slots fixed : List Slot) : Type 0 where
   pub wishes : wishes_in slots ≡ in_order (listed_wishes wanted)
   pub ends : AreFixed wanted fixed
   pub sound : AllByRecursion (λ slot. is_sound slot ≡ true) (slots ++ fixed)
-  pub counted : length slots + 5 < 2 ^ 32
+  pub counted : length slots + 5 < 2 ^ 31

@@ -1,5 +1,6 @@
 pub mod Order
 pub mod Names
+pub mod Spelling
 pub mod Wanted
 pub mod Places
 pub mod Wished
@@ -7,5 +8,6 @@ pub mod Requests
 pub mod Wishes
 pub mod Slots
 pub mod Kept
+pub mod Forming
 pub mod Entries
 pub mod Tidy

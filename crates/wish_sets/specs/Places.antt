@@ -12,14 +12,9 @@ use Rattle.wish_sets.specs.declared.entry.FunctionEntry.{FunctionEntry}
 use Rattle.wish_sets.specs.declared.entry.LineEntry.{LineEntry}
 use Rattle.wish_sets.specs.declared.facts.KnownClass.{KnownClass}
 use Rattle.wish_sets.specs.declared.facts.KnownMethod.{KnownMethod}
+pub use Rattle.wish_sets.specs.declared.place.Place.{Place}
 use Rattle.wish_sets.specs.Names.{key_parts, same_key, names_class, method_named}
 use Rattle.wish_sets.specs.Wanted.{Wanted}
-
--- an entry that has a location: its id, whether it is one of a source's lines, and the location
-pub record Place : Type 0 where
-  pub id : ℕ
-  pub line : Bool
-  pub at : Location
 
 -- a location in a method of a class, with the tag of the class
 abbrev pub location_at : ClassId → KnownClass → MethodId → ℕ → Location

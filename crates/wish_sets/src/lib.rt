@@ -1,12 +1,17 @@
 //! Which event requests a session wishes of its target, which ones stand, and the next change that leads there.
 #![tactic(auto)]
 
+mod asked;
 mod change;
 mod entry;
 mod facts;
 mod fixed;
+mod forming;
 mod laws;
+mod names;
+mod place;
 mod slot;
+mod spelling;
 mod wants;
 mod wish;
 mod wishes;

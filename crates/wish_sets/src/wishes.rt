@@ -1,13 +1,18 @@
 //! What is wished of the target, and what stands.
-ghost use Rattle.std.specs.Prelude.{◌≡◌, ◌∷◌, [], Some, None, true, option_map, IfOk};
+ghost use Rattle.std.specs.Prelude.{◌≡◌, ◌<◌, ◌^◌, ◌∷◌, [], Some, None, true, option_map, IfOk, OnOk, OnErr};
 ghost use Rattle.std.specs.Option.{option_copied};
 ghost use Rattle.std.specs.Result.{result_map_both};
-ghost use Rattle.wish_sets.specs.Wanted.{with_exceptions, with_step};
+ghost use Rattle.wish_sets.specs.Wanted.{with_exceptions, with_functions, with_step};
 ghost use Rattle.wish_sets.specs.Wishes.{new_wishes, rewished, next_change, next_place, is_outcome, settled, owner_of};
+ghost use Rattle.wish_sets.specs.Forming.{wished_or_installed};
 ghost use Rattle.wish_sets.specs.Slots.{change_shown, place_shown};
+ghost use Rattle.wish_sets.specs.Wished.{is_watched, is_listed, is_named};
 
 use crate::change::{Change, Settled};
+use crate::asked::{is_listed, is_named, watches};
+use crate::entry::FunctionEntry;
 use crate::fixed::{fixed_slots, want_step, want_thrown};
+use crate::forming::form;
 use crate::slot::{Slot, late, owner, settle, unset};
 use crate::wants::Wants;
 use crate::wish::{Depth, StepWish, Wish};
@@ -15,6 +20,7 @@ use jdwp_events::EventKind;
 use jdwp_values::ThreadId;
 use std::alloc::Global;
 use std::marker::Model;
+use std::mem;
 use wire_core::{List, NoMemory};
 
 /// What is wanted, and the event requests that the target holds or has refused (JDWP, EventRequest command set, Set and
@@ -84,6 +90,25 @@ impl Wishes {
         want_step(&mut self.fixed, None);
     }
 
+    /// Replaces the functions to stop in. `NoMemory` comes where memory is refused, or where 2^31 or more would be wished
+    /// or installed; then nothing changes (DAP specification, SetFunctionBreakpoints request).
+    pub fn set_functions(
+        &mut self,
+        alloc: Global,
+        entries: List<FunctionEntry>,
+    ) -> Result<(), NoMemory>
+        ensures ok { OnOk result (self.new ≡ rewished (with_functions entries self.old.wanted) self.old) }
+        ensures bound { OnOk result (wished_or_installed self.new < 2 ^ 31) }
+        ensures err { OnErr result (self.new ≡ self.old) }
+    {
+        let before = mem::replace(&mut self.wants.functions, entries);
+        if let Err(refused) = form(&mut self.slots, alloc, &self.wants) {
+            self.wants.functions = before;
+            return Err(refused);
+        }
+        Ok(())
+    }
+
     /// The next change: the first request that is installed and no longer wished, as a Clear; else the first wish that
     /// is neither installed nor refused, as a Set. `None` exactly where what is installed is what is wished less what
     /// was refused. It takes no memory.
@@ -113,5 +138,30 @@ impl Wishes {
         ensures { option_copied result ≡ owner_of self.now.installed kind request }
     {
         owner(&self.slots, &self.fixed, kind, request)
+    }
+
+    /// Whether the classes of a package are wished as they are prepared, by the path that a signature has, in bytes with
+    /// `/` between its parts and empty in the default package. It takes no memory (JDWP, EventRequest command set, Set,
+    /// ClassMatch).
+    pub fn is_watched(&self, path: &[u8]) -> bool
+        ensures { result ≡ is_watched self.now.wanted path.now }
+    {
+        watches(&self.slots, path)
+    }
+
+    /// Whether a source is listed, with an entry at least, by the path of its package and the name of its file. It takes
+    /// no memory (DAP specification, SetBreakpoints request).
+    pub fn is_listed(&self, path: &[u8], file: &[u8]) -> bool
+        ensures { result ≡ is_listed self.now.wanted (record { package_path = path.now; file = file.now }) }
+    {
+        is_listed(&self.wants.lists, path, file)
+    }
+
+    /// Whether a function names a class, by its signature, and the method where one is given. It takes no memory (DAP
+    /// specification, SetFunctionBreakpoints request).
+    pub fn is_named(&self, signature: &[u8], method: Option<&[u8]>) -> bool
+        ensures { result ≡ is_named self.now.wanted signature.now (option_copied method.entry) }
+    {
+        is_named(self.wants.functions.as_slice(), signature, method)
     }
 }
