@@ -51,7 +51,7 @@ way_due IdSizes state asked h = by_sizes state.sizes h
     by_sizes None h = grind (arith, h)
     by_sizes (Some sizes) h = refl
 
-lacked_due : (state : State) (hand : Hand) (parts : List Part) → sizes_kept state.sizes hand.asked ≡ true
+pub lacked_due : (state : State) (hand : Hand) (parts : List Part) → sizes_kept state.sizes hand.asked ≡ true
     → all_due hand.asked (lacked_by state hand parts) ≡ true
 lacked_due state hand [] h = refl
 lacked_due state hand (Part.Looks lookup ∷ rest) h = need_due (sight_of state hand) (plan lookup state)
@@ -65,7 +65,7 @@ new_apart state hand h =
     with_apart hand.asked [] (lacked_by state hand hand.parts) refl (lacked_due state hand hand.parts h)
 
 -- a question is asked
-asked_kept : (sizes : Option SizesRead) (asked : List Sent) (want : Want) → sizes_kept sizes asked ≡ true
+pub asked_kept : (sizes : Option SizesRead) (asked : List Sent) (want : Want) → sizes_kept sizes asked ≡ true
     → sizes_kept sizes (asked ++ record { want = want; reply = None } ∷ []) ≡ true
 asked_kept sizes asked want h =
     rw (was_more questions.IdSizes want asked, waits_more questions.IdSizes want asked)
@@ -77,8 +77,8 @@ asked_kept sizes asked want h =
     by_bools known waits was one h = grind (arith, h)
 
 -- the reply to another question leaves this one pending
-waits_other : (question other : Question) (replied : Replied) (asked : List Sent) → same_question other question ≡ false
-    → is_waiting question asked ≡ true → is_waiting question (filled other replied asked) ≡ true
+pub waits_other : (question other : Question) (replied : Replied) (asked : List Sent)
+    → same_question other question ≡ false → is_waiting question asked ≡ true → is_waiting question (filled other replied asked) ≡ true
 waits_other question other replied [] differ is = cc
 waits_other question other replied (sent ∷ asked) differ is =
     by_tests (is_none sent.reply) (asks_for sent other) (asks_for sent question)

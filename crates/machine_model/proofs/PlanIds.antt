@@ -208,7 +208,7 @@ need_chained sight (pairs p q rest) f =
     after_like (beside (need sight p) (need sight q)) _ _ (λ two. need_chained sight (rest two) f)
     ∙ after_after (beside (need sight p) (need sight q)) (λ two. need sight (rest two)) (λ a. need sight (f a))
 
-need_made : {A B : Type 0} (sight : Sight) (f : A → B) (p : Plan A)
+pub need_made : {A B : Type 0} (sight : Sight) (f : A → B) (p : Plan A)
     → need sight (made_with f p) ≡ after (need sight p) (λ a. has (f a))
 unfolding need made_with
 need_made sight f (gives a) = refl

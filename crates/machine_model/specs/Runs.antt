@@ -3,8 +3,9 @@ use Rattle.std.specs.Prelude.{ℕ, ◌≡◌, ◌∷◌, ◌++◌, ◌||◌, Boo
 use Rattle.jdwp_events.specs.Composites.{FitsComposite}
 use Rattle.jdwp_values.specs.declared.sizes.IdSizes.{IdSizes}
 use Rattle.machine_model.specs.Due.{can_read, due}
-use Rattle.machine_model.specs.Names.{Act, Command, Composite, Disconnect, Effect, Item, Question, Replied, Request}
-use Rattle.machine_model.specs.Names.{TargetCommand, Told, a_composite, a_question, a_raw, a_request, an_effect}
+use Rattle.machine_model.specs.Names.{Act, Command, Composite, Disconnect, Effect, Item, Phase, Question, Replied}
+use Rattle.machine_model.specs.Names.{Request, TargetCommand, Told, a_composite, a_question, a_raw, a_request}
+use Rattle.machine_model.specs.Names.{an_effect}
 use Rattle.machine_model.specs.Replying.{IsReply, SizesFor, answered, ended, is_waiting}
 use Rattle.machine_model.specs.State.{Hand, Machine, State, fresh, has_raw, is_gone, is_some, knowing}
 
@@ -59,13 +60,16 @@ greeting_heard m = knowing m (record m.state { greeting_heard = true })
 abbrev pub is_served : Composite → Bool
 is_served composite = false
 
--- A composite is taken where it has a spelling with the sizes of ids that are known; and where it is served, or the
--- target is gone, where it does nothing (JDWP, Event command set, Composite).
+-- a composite is taken where it is served, or the target is gone, where it does nothing
+abbrev pub takes : Phase → Composite → Bool
+takes phase composite = is_gone phase || is_served composite
+
+-- A composite that is taken has a spelling with the sizes of ids that are known (JDWP, Event command set, Composite).
 pub record Takes (state : State) (composite : Composite) : Type 0 where
   pub used : IdSizes
   pub serves : SizesFor state.sizes used
   pub fits : FitsComposite used composite
-  pub is_wanted : is_gone state.phase || is_served composite ≡ true
+  pub is_taken : takes state.phase composite ≡ true
 
 -- What may come next. A composite that can be read is read before anything else; nothing else is asked of what comes,
 -- so it may come where something is due.

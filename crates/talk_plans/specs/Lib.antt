@@ -1,0 +1,4 @@
+pub mod Asking
+pub mod Planning
+pub mod Sizes
+pub mod Talking

@@ -1,0 +1,107 @@
+//! What the client is told, with numbers in place of the target's ids.
+ghost use Rattle.std.specs.Prelude.{◌≡◌, IfOk, OnOk, map};
+ghost use Rattle.machine_model.specs.State.{State as AState};
+ghost use Rattle.machine_model.specs.Telling.{body_told, event_told, numbered, numbered_by, outcome_told, response_to};
+ghost use Rattle.machine_model.specs.Telling.{thread_told, with_threads};
+
+use crate::state::State;
+use crate::threads::ThreadNumbers;
+use dap_messages::{
+    Event as EventTold, Outcome as OutcomeTold, Request, Response, Shape, Thread, Told,
+};
+use jdwp_values::lossy;
+use machine_model::{Body, Event, NamedThread, Outcome};
+use std::alloc::Global;
+use wire_core::{List, NoMemory, Text};
+
+fn add_threads(threads: &mut ThreadNumbers, named: &[NamedThread]) -> Result<(), NoMemory>
+    ensures { OnOk result (threads.new ≡ with_threads threads.old named.now) }
+{
+    for first in named {
+        threads.add(first.thread)?;
+    }
+    Ok(())
+}
+
+// What a body numbers first.
+fn number(body: &Body, state: &mut State) -> Result<(), NoMemory>
+    ensures { OnOk result (state.new ≡ numbered body.now state.old) }
+{
+    match body {
+        Body::Nothing => Ok(()),
+        Body::Capabilities => Ok(()),
+        Body::Threads(named) => add_threads(&mut state.threads, named.as_slice()),
+    }
+}
+
+fn threads_told(
+    alloc: Global,
+    threads: &ThreadNumbers,
+    named: &[NamedThread],
+) -> Result<List<Thread>, NoMemory>
+    ensures { IfOk result (λ told. told ≡ map (thread_told threads.now) named.now) }
+{
+    let mut told = List::new(alloc);
+    for first in named {
+        told.push(Thread {
+            id: threads.number(first.thread),
+            name: lossy(alloc, first.name.as_slice())?,
+        })?;
+    }
+    Ok(told)
+}
+
+fn body_told(alloc: Global, body: &Body, state: &State) -> Result<Shape, NoMemory>
+    ensures { IfOk result (λ shape. shape ≡ body_told body.now state.now) }
+{
+    match body {
+        Body::Nothing => Ok(Shape::Nothing),
+        Body::Capabilities => Ok(Shape::Capabilities),
+        Body::Threads(named) => {
+            Ok(Shape::Threads(threads_told(alloc, &state.threads, named.as_slice())?))
+        }
+    }
+}
+
+/// How an outcome is told, once its threads have their numbers.
+pub(crate) fn outcome_told(
+    alloc: Global,
+    outcome: Outcome,
+    state: &mut State,
+) -> Result<OutcomeTold, NoMemory>
+    ensures told { IfOk result (λ told. told ≡ outcome_told outcome state.old) }
+    ensures numbered { OnOk result (state.new ≡ numbered_by outcome state.old) }
+{
+    match outcome {
+        Outcome::Success(body) => {
+            number(&body, state)?;
+            Ok(OutcomeTold::Success(body_told(alloc, &body, state)?))
+        }
+        Outcome::Failure(failure) => Ok(OutcomeTold::Failure(failure)),
+    }
+}
+
+/// The response to a request: its sequence number and its command come back.
+pub(crate) fn response_to(
+    alloc: Global,
+    request: &Request,
+    outcome: OutcomeTold,
+) -> Result<Told, NoMemory>
+    ensures { IfOk result (λ told. told ≡ response_to request.now outcome) }
+{
+    Ok(Told::Response(Response {
+        request_seq: request.seq,
+        command: Text::from_str(alloc, request.name.as_str())?,
+        outcome,
+    }))
+}
+
+/// How an event is told.
+pub(crate) fn event_told(event: Event) -> EventTold
+    ensures { (state : AState) → result ≡ event_told event state }
+{
+    match event {
+        Event::Initialized => EventTold::Initialized,
+        Event::Terminated => EventTold::Terminated,
+    }
+}

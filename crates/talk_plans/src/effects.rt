@@ -1,0 +1,101 @@
+//! The effects of event requests, and what their replies make of what is known.
+ghost use Rattle.std.specs.Prelude.{◌≡◌, false, is_some, true, IfOk};
+ghost use Rattle.machine_model.specs.Requests.{effect_due, request_in, set_to, wishes_after};
+ghost use Rattle.talk_plans.specs.Talking.{IsNext};
+ghost use Rattle.wish_sets.specs.Wishes.{Wishes as AWishes, is_cleared, is_outcome, next_change, next_place, set_by};
+ghost use Rattle.wish_sets.specs.Wishes.{settled};
+ghost use Rattle.wish_sets.specs.declared.wish.Wish.{Wish as AWish};
+
+use crate::copies::wish_copy;
+use jdwp_commands::{Answer, Replied};
+use machine_model::Effect;
+use std::alloc::Global;
+use wire_core::NoMemory;
+use wish_sets::{Change, Settled, Wishes};
+
+/// The effect that is due: what isn't wished any more is cleared first, then what is wished is set.
+pub(crate) fn effect_due(alloc: Global, wishes: &Wishes) -> Result<Option<Effect>, NoMemory>
+    ensures { IfOk result (λ effect. effect ≡ effect_due wishes.now) }
+{
+    match wishes.next_change() {
+        None => Ok(None),
+        Some(
+            Change::Clear {
+                place: _,
+                request,
+                wish,
+            },
+        ) => Ok(Some(Effect::Clear {
+            wish: wish_copy(alloc, wish)?,
+            request,
+        })),
+        Some(Change::Set { place: _, wish }) => Ok(Some(Effect::Set(wish_copy(alloc, wish)?))),
+    }
+}
+
+// The id of the event request that an answer gives.
+fn request_in(replied: &Replied) -> Option<u32>
+    ensures { result ≡ request_in replied.now }
+{
+    match replied {
+        Replied::Answer(Answer::Set(request)) => Some(*request),
+        _ => None,
+    }
+}
+
+fn code_in(replied: &Replied) -> u16 {
+    match replied {
+        Replied::Answer(_) => 0,
+        Replied::Error(code) => *code,
+    }
+}
+
+// What came of a Set: it has an event request, or was refused.
+fn set_outcome(replied: &Replied) -> Settled
+    ensures set { (wish : AWish) (w : AWishes) → set_by wish result w ≡ set_to (request_in replied.now) wish w }
+    ensures kind { is_cleared result ≡ false }
+{
+    match request_in(replied) {
+        Some(request) => Settled::Installed(request),
+        None => Settled::Refused(code_in(replied)),
+    }
+}
+
+fn next_place(wishes: &Wishes) -> Option<u32>
+    ensures place { result ≡ next_place wishes.now }
+    ensures change { is_some result ≡ is_some (next_change wishes.now) }
+{
+    match wishes.next_change() {
+        None => None,
+        Some(Change::Clear { place, .. }) => Some(place),
+        Some(Change::Set { place, .. }) => Some(place),
+    }
+}
+
+// What came of the change that is due is marked.
+fn mark(wishes: &mut Wishes, outcome: Settled)
+    requires { is_outcome (next_change wishes.old) outcome ≡ true }
+    ensures { wishes.new ≡ settled outcome wishes.old }
+{
+    match next_place(wishes) {
+        None => {}
+        Some(place) => wishes.settled(place, outcome),
+    }
+}
+
+/// What the reply to the effect that was due makes of the event requests.
+#[tactic(auto, using(crate::proofs::EffectLaws::set_is, crate::proofs::EffectLaws::clear_is))]
+pub(crate) fn settle(wishes: &mut Wishes, effect: &Effect, replied: &Replied)
+    requires { IsNext effect.now wishes.old }
+    ensures { wishes.new ≡ wishes_after effect.now replied.now wishes.old }
+{
+    match effect {
+        Effect::Does(_) => {}
+        Effect::Set(_) => mark(wishes, set_outcome(replied)),
+        Effect::Clear { .. } => {
+            if let Replied::Answer(_) = replied {
+                mark(wishes, Settled::Cleared);
+            }
+        }
+    }
+}

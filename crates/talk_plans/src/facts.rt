@@ -1,0 +1,143 @@
+//! The facts of classes that replies tell.
+ghost use Rattle.std.specs.Prelude.{◌≡◌, IfOk, OnOk};
+ghost use Rattle.machine_model.specs.Facts.{above_in, fields_in, lines_in, methods_in, source_in, variables_in};
+ghost use Rattle.machine_model.specs.Plans.{answer_in};
+ghost use Rattle.machine_model.specs.Replying.{learnt};
+
+use class_tables::Classes;
+use jdwp_commands::{Answer, Question, Replied};
+use jdwp_values::{ClassId, Field, LineTable, Method, Variable};
+use std::alloc::Global;
+use wire_core::{Blob, List, NoMemory};
+
+fn source_in(alloc: Global, replied: &Replied) -> Result<Option<Blob>, NoMemory>
+    ensures { IfOk result (λ source. source ≡ source_in (answer_in replied.now)) }
+{
+    match replied {
+        Replied::Answer(Answer::SourceFile(file)) => {
+            Ok(Some(Blob::from_slice(alloc, file.as_slice())?))
+        }
+        _ => Ok(None),
+    }
+}
+
+fn method_copies(alloc: Global, methods: &[Method]) -> Result<List<Method>, NoMemory>
+    ensures { IfOk result (λ copies. copies ≡ methods.now) }
+{
+    let mut copies = List::new(alloc);
+    for method in methods {
+        copies.push(Method {
+            id: method.id,
+            name: Blob::from_slice(alloc, method.name.as_slice())?,
+            signature: Blob::from_slice(alloc, method.signature.as_slice())?,
+            bits: method.bits,
+        })?;
+    }
+    Ok(copies)
+}
+
+fn methods_in(alloc: Global, replied: &Replied) -> Result<List<Method>, NoMemory>
+    ensures { IfOk result (λ methods. methods ≡ methods_in (answer_in replied.now)) }
+{
+    match replied {
+        Replied::Answer(Answer::Methods(methods)) => method_copies(alloc, methods.as_slice()),
+        _ => Ok(List::new(alloc)),
+    }
+}
+
+fn field_copies(alloc: Global, fields: &[Field]) -> Result<List<Field>, NoMemory>
+    ensures { IfOk result (λ copies. copies ≡ fields.now) }
+{
+    let mut copies = List::new(alloc);
+    for field in fields {
+        copies.push(Field {
+            id: field.id,
+            name: Blob::from_slice(alloc, field.name.as_slice())?,
+            signature: Blob::from_slice(alloc, field.signature.as_slice())?,
+            bits: field.bits,
+        })?;
+    }
+    Ok(copies)
+}
+
+fn fields_in(alloc: Global, replied: &Replied) -> Result<List<Field>, NoMemory>
+    ensures { IfOk result (λ fields. fields ≡ fields_in (answer_in replied.now)) }
+{
+    match replied {
+        Replied::Answer(Answer::Fields(fields)) => field_copies(alloc, fields.as_slice()),
+        _ => Ok(List::new(alloc)),
+    }
+}
+
+fn above_in(replied: &Replied) -> ClassId
+    ensures { result ≡ above_in (answer_in replied.now) }
+{
+    match replied {
+        Replied::Answer(Answer::Superclass(class)) => *class,
+        _ => ClassId(0),
+    }
+}
+
+fn lines_in(alloc: Global, replied: &Replied) -> Result<Option<LineTable>, NoMemory>
+    ensures { IfOk result (λ lines. lines ≡ lines_in (answer_in replied.now)) }
+{
+    match replied {
+        Replied::Answer(Answer::LineTable(table)) => Ok(Some(LineTable {
+            start: table.start,
+            end: table.end,
+            lines: List::from_slice(alloc, table.lines.as_slice())?,
+        })),
+        _ => Ok(None),
+    }
+}
+
+fn variable_copies(alloc: Global, variables: &[Variable]) -> Result<List<Variable>, NoMemory>
+    ensures { IfOk result (λ copies. copies ≡ variables.now) }
+{
+    let mut copies = List::new(alloc);
+    for variable in variables {
+        copies.push(Variable {
+            index: variable.index,
+            name: Blob::from_slice(alloc, variable.name.as_slice())?,
+            signature: Blob::from_slice(alloc, variable.signature.as_slice())?,
+            length: variable.length,
+            slot: variable.slot,
+        })?;
+    }
+    Ok(copies)
+}
+
+fn variables_in(alloc: Global, replied: &Replied) -> Result<Option<List<Variable>>, NoMemory>
+    ensures { IfOk result (λ variables. variables ≡ variables_in (answer_in replied.now)) }
+{
+    match replied {
+        Replied::Answer(Answer::VariableTable { variables, .. }) => {
+            Ok(Some(variable_copies(alloc, variables.as_slice())?))
+        }
+        _ => Ok(None),
+    }
+}
+
+/// Learns the fact of a class that was asked for; where the target refused it, the fact is absent.
+pub(crate) fn learn(
+    alloc: Global,
+    question: &Question,
+    replied: &Replied,
+    classes: &mut Classes,
+) -> Result<(), NoMemory>
+    ensures { OnOk result (classes.new ≡ learnt question.now (answer_in replied.now) classes.old) }
+{
+    match question {
+        Question::SourceFile(class) => classes.learn_source(*class, source_in(alloc, replied)?),
+        Question::Methods(class) => classes.learn_methods(*class, methods_in(alloc, replied)?),
+        Question::Fields(class) => classes.learn_fields(*class, fields_in(alloc, replied)?),
+        Question::Superclass(class) => classes.learn_super(*class, above_in(replied)),
+        Question::LineTable { class, method } => {
+            classes.learn_lines(*class, *method, lines_in(alloc, replied)?)
+        }
+        Question::VariableTable { class, method } => {
+            classes.learn_variables(*class, *method, variables_in(alloc, replied)?)
+        }
+        _ => Ok(()),
+    }
+}

@@ -1,0 +1,295 @@
+//! What each item does, part by part.
+ghost use Rattle.std.specs.Prelude.{◌≡◌, ◌∷◌, ◌||◌, [], List as Parts, IfOk};
+ghost use Rattle.machine_model.specs.Lookups.{lookup_responds};
+ghost use Rattle.machine_model.specs.Rows.{chosen, choice_responds, end_parts, failure_of, gone_parts, gone_row};
+ghost use Rattle.machine_model.specs.Rows.{gone_tail, has_response, if_attached, is_response, leaves, leaving};
+ghost use Rattle.machine_model.specs.Rows.{options_of, parts_of, request_parts, row_of, unless_attached, wanting};
+ghost use Rattle.machine_model.specs.declared.parts.Outcome.TheVariants.{Failure as Failed};
+ghost use Rattle.talk_plans.specs.Talking.{attach_parts, disconnect_parts};
+ghost use Rattle.machine_model.specs.State.{Hand as AHand};
+ghost use Rattle.machine_model.specs.declared.parts.Part.TheVariants.{Responds};
+
+use crate::state::State;
+use dap_messages::{Command, Failure, InitializeArguments};
+use machine_model::{
+    Body, Choice, ClientOptions, Deed, Event, Finish, Guard, Item, Lookup, Note, Outcome, Part,
+    Phase,
+};
+use std::alloc::Global;
+use std::collections::VecDeque;
+use wire_core::{List, NoMemory, Text};
+
+fn options_of(arguments: &InitializeArguments) -> ClientOptions
+    ensures { result ≡ options_of arguments.now }
+{
+    ClientOptions {
+        lines_from_one: arguments.lines_start_at1,
+        columns_from_one: arguments.columns_start_at1,
+        shows_types: arguments.supports_variable_type,
+    }
+}
+
+fn text_copies(alloc: Global, texts: &[Text]) -> Result<List<Text>, NoMemory>
+    ensures { IfOk result (λ copies. copies ≡ texts.now) }
+{
+    let mut copies = List::new(alloc);
+    for text in texts {
+        copies.push(Text::from_str(alloc, text.as_str())?)?;
+    }
+    Ok(copies)
+}
+
+fn attach_row(alloc: Global, roots: &[Text]) -> Result<VecDeque<Part>, NoMemory>
+    ensures { IfOk result (λ parts. parts.items
+        ≡ attach_parts roots.now) }
+{
+    Ok(VecDeque::from_array(
+        alloc,
+        [
+            Part::Notes(Note::Roots(text_copies(alloc, roots)?)),
+            Part::Awaits(Guard::Handshake),
+            Part::Awaits(Guard::IdSizes),
+            Part::Updates,
+            Part::Responds(Outcome::Success(Body::Nothing)),
+            Part::Tells(Event::Initialized),
+        ],
+    )?)
+}
+
+fn disconnect_row(alloc: Global, exits: bool) -> Result<VecDeque<Part>, NoMemory>
+    ensures { IfOk result (λ parts. parts.items ≡ disconnect_parts exits) }
+{
+    Ok(VecDeque::from_array(
+        alloc,
+        [
+            Part::Unfolds(Choice::Leaves(exits)),
+            Part::Responds(Outcome::Success(Body::Nothing)),
+            Part::Ends(Finish::Done),
+        ],
+    )?)
+}
+
+fn failing(alloc: Global, failure: Failure) -> Result<VecDeque<Part>, NoMemory>
+    ensures { IfOk result (λ parts. parts.items ≡ Responds (Failed failure) ∷ []) }
+{
+    Ok(VecDeque::from_array(alloc, [Part::Responds(Outcome::Failure(failure))])?)
+}
+
+// What a request does that doesn't fail beforehand.
+fn row_of(alloc: Global, command: &Command) -> Result<VecDeque<Part>, NoMemory>
+    ensures { IfOk result (λ parts. parts.items ≡ row_of command.now) }
+{
+    match command {
+        Command::Initialize(arguments) => Ok(VecDeque::from_array(
+            alloc,
+            [
+                Part::Responds(Outcome::Success(Body::Capabilities)),
+                Part::Notes(Note::Options(options_of(arguments))),
+            ],
+        )?),
+        Command::Attach(arguments) => attach_row(alloc, arguments.source_roots.as_slice()),
+        Command::Threads => Ok(VecDeque::from_array(alloc, [Part::Looks(Lookup::Threads)])?),
+        Command::Disconnect(arguments) => disconnect_row(alloc, arguments.terminate_debuggee),
+        Command::Unsupported => failing(alloc, Failure::unsupported()),
+        Command::BadArguments(name) => {
+            let name = Text::from_str(alloc, name.as_str())?;
+            failing(alloc, Failure::bad_arguments(name))
+        }
+    }
+}
+
+// A session is attached once.
+fn unless_attached(phase: Phase) -> Option<Failure>
+    ensures { result ≡ unless_attached phase }
+{
+    match phase {
+        Phase::Fresh => None,
+        Phase::Attached => Some(Failure::already_attached()),
+        Phase::Gone => Some(Failure::target_gone()),
+    }
+}
+
+// What asks the target needs one.
+fn if_attached(phase: Phase) -> Option<Failure>
+    ensures { result ≡ if_attached phase }
+{
+    match phase {
+        Phase::Fresh => Some(Failure::not_attached()),
+        Phase::Attached => None,
+        Phase::Gone => Some(Failure::target_gone()),
+    }
+}
+
+// The failure that is known before anything is done.
+fn failure_of(command: &Command, state: &State) -> Option<Failure>
+    ensures { result ≡ failure_of (wanting command.now) state.now }
+{
+    match command {
+        Command::Initialize(_) => None,
+        Command::Attach(_) => unless_attached(state.phase),
+        Command::Threads => if_attached(state.phase),
+        Command::Disconnect(_) => None,
+        Command::Unsupported => None,
+        Command::BadArguments(_) => None,
+    }
+}
+
+fn request_parts(
+    alloc: Global,
+    command: &Command,
+    state: &State,
+) -> Result<VecDeque<Part>, NoMemory>
+    ensures { IfOk result (λ parts. parts.items ≡ request_parts command.now state.now) }
+{
+    match failure_of(command, state) {
+        Some(failure) => failing(alloc, failure),
+        None => row_of(alloc, command),
+    }
+}
+
+// The client is told that nothing more comes of the target, once.
+fn end_parts(alloc: Global, terminated: bool) -> Result<VecDeque<Part>, NoMemory>
+    ensures { IfOk result (λ parts. parts.items ≡ end_parts terminated) }
+{
+    if terminated {
+        return Ok(VecDeque::new(alloc));
+    }
+    Ok(VecDeque::from_array(alloc, [Part::Tells(Event::Terminated)])?)
+}
+
+/// What an item does when its turn comes.
+pub(crate) fn parts_of(
+    alloc: Global,
+    state: &State,
+    item: &Item,
+) -> Result<VecDeque<Part>, NoMemory>
+    ensures { IfOk result (λ parts. parts.items ≡ parts_of state.now item.now) }
+{
+    match item {
+        Item::Request(request) => request_parts(alloc, &request.command, state),
+        Item::Composite { .. } => Ok(VecDeque::new(alloc)),
+        Item::Raw { .. } => Ok(VecDeque::new(alloc)),
+        Item::TargetEnd => end_parts(alloc, state.terminated),
+    }
+}
+
+fn leaving(exits: bool) -> Deed
+    ensures { result ≡ leaving exits }
+{
+    if exits { Deed::Exit } else { Deed::Dispose }
+}
+
+// Only a target that is attached has to be left.
+fn leaves(alloc: Global, phase: Phase, exits: bool) -> Result<VecDeque<Part>, NoMemory>
+    ensures { IfOk result (λ parts. parts.items ≡ leaves phase exits) }
+{
+    match phase {
+        Phase::Fresh => Ok(VecDeque::new(alloc)),
+        Phase::Attached => Ok(VecDeque::from_array(alloc, [Part::Sends(leaving(exits))])?),
+        Phase::Gone => Ok(VecDeque::new(alloc)),
+    }
+}
+
+/// What a choice becomes when its turn comes.
+pub(crate) fn chosen(
+    alloc: Global,
+    choice: Choice,
+    state: &State,
+) -> Result<VecDeque<Part>, NoMemory>
+    ensures { IfOk result (λ parts. (hand : AHand) → parts.items ≡ chosen choice state.now hand) }
+{
+    match choice {
+        Choice::Leaves(exits) => leaves(alloc, state.phase, exits),
+    }
+}
+
+fn lookup_responds(lookup: Lookup) -> bool
+    ensures { result ≡ lookup_responds lookup }
+{
+    match lookup {
+        Lookup::Threads => true,
+    }
+}
+
+fn choice_responds(choice: Choice) -> bool
+    ensures { result ≡ choice_responds choice }
+{
+    match choice {
+        Choice::Leaves(_) => false,
+    }
+}
+
+fn is_response(part: &Part) -> bool
+    ensures { result ≡ is_response part.now }
+{
+    match part {
+        Part::Responds(_) => true,
+        Part::Looks(lookup) => lookup_responds(*lookup),
+        Part::Unfolds(choice) => choice_responds(*choice),
+        Part::Tells(_) => false,
+        Part::Sends(_) => false,
+        Part::Awaits(_) => false,
+        Part::Updates => false,
+        Part::Notes(_) => false,
+        Part::Ends(_) => false,
+    }
+}
+
+/// Whether a part that is left brings the response of its item.
+pub(crate) fn has_response(parts: &VecDeque<Part>) -> bool
+    ensures { result ≡ has_response parts.now.items }
+{
+    for place in 0..parts.len() {
+        if is_response(&parts[place]) {
+            return true;
+        }
+    }
+    false
+}
+
+// What is left of a request that has its response.
+fn gone_tail(alloc: Global, command: &Command) -> Result<VecDeque<Part>, NoMemory>
+    ensures { IfOk result (λ parts. parts.items ≡ gone_tail command.now) }
+{
+    match command {
+        Command::Disconnect(_) => Ok(VecDeque::from_array(alloc, [Part::Ends(Finish::Done)])?),
+        _ => Ok(VecDeque::new(alloc)),
+    }
+}
+
+// What is left of a request that has none.
+fn gone_row(alloc: Global, command: &Command) -> Result<VecDeque<Part>, NoMemory>
+    ensures { IfOk result (λ parts. parts.items ≡ gone_row command.now) }
+{
+    match command {
+        Command::Disconnect(_) => Ok(VecDeque::from_array(
+            alloc,
+            [
+                Part::Responds(Outcome::Success(Body::Nothing)),
+                Part::Ends(Finish::Done),
+            ],
+        )?),
+        _ => failing(alloc, Failure::target_gone()),
+    }
+}
+
+/// What is left of an item once its target has ended.
+pub(crate) fn gone_parts(
+    alloc: Global,
+    responds: bool,
+    item: &Item,
+) -> Result<VecDeque<Part>, NoMemory>
+    ensures { IfOk result (λ parts. parts.items ≡ gone_parts responds item.now) }
+{
+    match item {
+        Item::Request(request) => {
+            if responds {
+                return gone_row(alloc, &request.command);
+            }
+            gone_tail(alloc, &request.command)
+        }
+        Item::Composite { .. } => Ok(VecDeque::new(alloc)),
+        Item::Raw { .. } => Ok(VecDeque::new(alloc)),
+        Item::TargetEnd => Ok(VecDeque::new(alloc)),
+    }
+}

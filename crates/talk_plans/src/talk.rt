@@ -1,0 +1,391 @@
+//! The talk about the item in hand.
+ghost use Rattle.std.specs.Prelude.{◌≡◌, ◌++◌, IfOk, OnOk};
+ghost use Rattle.machine_model.specs.Due.{asked_by, asked_first, lacked_by, way};
+ghost use Rattle.machine_model.specs.Plans.{lacking};
+ghost use Rattle.machine_model.specs.Replying.{done_by, given_up, hand_replied, told_by};
+ghost use Rattle.machine_model.specs.Rows.{parts_of};
+ghost use Rattle.machine_model.specs.State.{Machine, State as AState, in_hand, is_flying};
+ghost use Rattle.talk_plans.specs.Talking.{AreSized, IsNext, SaysSizes, StaysSized, asks, does, goes_on, holding};
+ghost use Rattle.talk_plans.specs.Talking.{step_of, talk_due};
+ghost use Rattle.talk_plans.specs.Planning.{need_of};
+ghost use Rattle.machine_model.specs.declared.acts.TargetCommand.TheVariants.{Question as a_question};
+ghost use Rattle.machine_model.specs.declared.acts.TargetCommand.TheVariants.{Effect as an_effect};
+ghost use Rattle.machine_model.specs.declared.parts.Part.TheVariants as parts;
+ghost use Rattle.machine_model.specs.declared.parts.Guard.TheVariants.{Handshake as handshake, IdSizes as id_sizes};
+
+use crate::asking::Asking;
+use crate::bodies::{event_told, outcome_told, response_to};
+use crate::copies::effect_copy;
+use crate::effects::effect_due;
+use crate::next::Next;
+use crate::plans::{Need, found_for, found_parts, refused_parts};
+use crate::rows::{chosen, gone_parts, has_response, parts_of};
+use crate::state::State;
+use dap_messages::Told;
+use jdwp_commands::{Question, Replied};
+use machine_model::{Deed, Doing, Effect, Guard, Item, Lookup, Outcome, Part, Want};
+use std::alloc::Global;
+use std::collections::VecDeque;
+use std::marker::Model;
+use wire_core::NoMemory;
+
+/// The talk about the item in hand: what is left of it to do, what is to be asked for it and what was, and the last
+/// effect that was sent for it.
+#[derive(Debug, Drop)]
+pub struct Talk {
+    item: Item,
+    parts: VecDeque<Part>,
+    asking: Asking,
+    effect: Option<Doing>,
+}
+
+impl Model for Talk {
+    ghost use Rattle.machine_model.specs.State.{Hand};
+
+    ghost Value = { Hand };
+
+    ghost view = { λ t. record {
+      item = t.item;
+      parts = t.parts.items;
+      queue = t.asking.queue;
+      asked = t.asking.asked;
+      effect = t.effect;
+    } };
+}
+
+fn put_first(mut parts: VecDeque<Part>, others: &mut VecDeque<Part>) -> Result<(), NoMemory>
+    ensures { OnOk result (others.new.items ≡ parts.items ++ others.old.items) }
+{
+    while let Some(part) = parts.pop_back() {
+        others.push_front(part)?;
+    }
+    Ok(())
+}
+
+// What is lacking of a look-up.
+fn lacking(alloc: Global, need: Need) -> Result<VecDeque<Want>, NoMemory>
+    ensures { IfOk result (λ wants. wants.items ≡ lacking (need_of need)) }
+{
+    match need {
+        Need::Has(_finding) => Ok(VecDeque::new(alloc)),
+        Need::Fails {
+            place: _place,
+            code: _code,
+        } => Ok(VecDeque::new(alloc)),
+        Need::Lacks { first, mut others } => {
+            others.push_front(first)?;
+            Ok(others)
+        }
+    }
+}
+
+impl Talk {
+    /// An item is begun.
+    pub fn start(alloc: Global, item: Item, state: &State) -> Result<Talk, NoMemory>
+        ensures begun { IfOk result (λ talk. talk ≡ in_hand item (parts_of state.now item)) }
+        ensures sized { IfOk result (λ talk. AreSized state.now talk) }
+    {
+        let parts = parts_of(alloc, state, &item)?;
+        Ok(Talk {
+            item,
+            parts,
+            asking: Asking::new(alloc),
+            effect: None,
+        })
+    }
+
+    /// The item is given up at its target's end.
+    pub fn give_up(&mut self, alloc: Global) -> Result<(), NoMemory>
+        ensures { OnOk result (self.new ≡ given_up self.old) }
+    {
+        self.parts = gone_parts(alloc, has_response(&self.parts), &self.item)?;
+        self.asking = Asking::new(alloc);
+        self.effect = None;
+        Ok(())
+    }
+
+    /// A question of the item is replied to.
+    #[tactic(auto, using(crate::proofs::TalkLaws::answered_sized))]
+    pub fn answered(
+        &mut self,
+        alloc: Global,
+        state: &mut State,
+        question: Question,
+        replied: Replied,
+    ) -> Result<(), NoMemory>
+        ensures hand { OnOk result (self.new ≡ hand_replied (a_question question) replied self.old) }
+        ensures state { OnOk result (state.new ≡ told_by question replied state.old) }
+        ensures sized { AreSized state.old self.old → SaysSizes question replied
+            → OnOk result (AreSized state.new self.new) }
+    {
+        state.hear(alloc, &question, &replied)?;
+        self.asking.answer(alloc, question, replied)
+    }
+
+    /// The effect of the item that is in flight is replied to.
+    pub fn done(&mut self, state: &mut State, effect: Effect, replied: Replied)
+        requires { IsNext effect state.old.wishes }
+        ensures hand { self.new ≡ hand_replied (an_effect effect) replied self.old }
+        ensures state { state.new ≡ done_by effect replied state.old }
+        ensures sized { AreSized state.old self.old → AreSized state.new self.new }
+    {
+        state.settle(&effect, &replied);
+        self.effect = Some(Doing {
+            effect,
+            reply: Some(replied),
+        });
+    }
+
+    /// What the talk has next; where the window is full nothing is asked.
+    #[tactic(auto, unfolding(machine_model::specs::Due::wanted, machine_model::specs::Due::newly_lacked), using(crate::proofs::TalkLaws::talk_due, crate::proofs::TalkLaws::stays_sized))]
+    pub fn step(&mut self, alloc: Global, state: &mut State, full: bool) -> Result<Next, NoMemory>
+        requires { AreSized state.old self.old }
+        ensures due { IfOk result (λ next. (m : Machine)
+            → step_of m next state.new self.new ≡ talk_due full m state.old self.old) }
+        ensures sized { OnOk result (AreSized state.new self.new) }
+    {
+        if state.is_gone() {
+            return self.go_on(alloc, state);
+        }
+        if self.is_flying() {
+            return Ok(Next::Wait);
+        }
+        if self.asking.has_queued() {
+            return self.ask(alloc, full);
+        }
+        let wants = self.lacked(alloc, state)?;
+        self.asking.queue(alloc, wants)?;
+        if self.asking.has_queued() {
+            return Ok(Next::Go);
+        }
+        if self.asking.asked().has_waiting() {
+            return Ok(Next::Wait);
+        }
+        self.go_on(alloc, state)
+    }
+}
+
+impl Talk {
+    // An effect was sent, and its reply isn't there.
+    fn is_flying(&self) -> bool
+        ensures { result ≡ is_flying self.now.effect }
+    {
+        match &self.effect {
+            None => false,
+            Some(doing) => doing.reply.is_none(),
+        }
+    }
+
+    // What the part in front lacks.
+    fn lacked(&self, alloc: Global, state: &State) -> Result<VecDeque<Want>, NoMemory>
+        ensures { IfOk result (λ wants. wants.items ≡ lacked_by state.now self.now self.now.parts) }
+    {
+        match self.parts.front() {
+            Some(Part::Looks(lookup)) => {
+                lacking(
+                    alloc,
+                    found_for(alloc, *lookup, state, self.asking.asked())?,
+                )
+            }
+            Some(Part::Awaits(guard)) => awaited(alloc, *guard, state),
+            _ => Ok(VecDeque::new(alloc)),
+        }
+    }
+
+    // The first of what is to be asked is asked, where there is room.
+    fn ask(&mut self, alloc: Global, full: bool) -> Result<Next, NoMemory>
+        ensures due { IfOk result (λ next. (m : Machine) (state : AState)
+            → step_of m next state self.new ≡ asked_first full (holding m state self.old) self.old.queue) }
+        ensures sized { (state : AState) → AreSized state self.old → OnOk result (AreSized state self.new) }
+    {
+        if full {
+            return Ok(Next::Wait);
+        }
+        let asked = self.asking.ask(alloc)?;
+        Ok(asks(asked))
+    }
+
+    // The next part of the item, which nothing hinders.
+    fn go_on(&mut self, alloc: Global, state: &mut State) -> Result<Next, NoMemory>
+        ensures due { IfOk result (λ next. (m : Machine)
+            → step_of m next state.new self.new ≡ goes_on m state.old self.old) }
+        ensures same { OnOk result (StaysSized state.old self.old state.new self.new) }
+    {
+        match self.parts.pop_front() {
+            None => Ok(Next::Done),
+            Some(part) => self.do_part(alloc, state, part),
+        }
+    }
+
+    // A part is done, which was taken out.
+    fn do_part(&mut self, alloc: Global, state: &mut State, part: Part) -> Result<Next, NoMemory>
+        ensures due { IfOk result (λ next. (m : Machine)
+            → step_of m next state.new self.new ≡ does m state.old self.old part) }
+        ensures same { OnOk result (StaysSized state.old self.old state.new self.new) }
+    {
+        match part {
+            Part::Responds(outcome) => self.responds(alloc, state, outcome),
+            Part::Tells(event) => {
+                state.tell(event);
+                Ok(Next::Tell(Told::Event(event_told(event))))
+            }
+            Part::Sends(deed) => self.sends(state, deed),
+            Part::Looks(lookup) => self.looks(alloc, state, lookup),
+            Part::Awaits(Guard::Handshake) => self.awaits_handshake(state),
+            Part::Awaits(Guard::IdSizes) => self.awaits_sizes(state),
+            Part::Updates => self.updates(alloc, state),
+            Part::Notes(note) => {
+                state.note(note);
+                Ok(Next::Go)
+            }
+            Part::Unfolds(choice) => {
+                put_first(chosen(alloc, choice, state)?, &mut self.parts)?;
+                Ok(Next::Go)
+            }
+            Part::Ends(finish) => {
+                self.parts.push_front(Part::Ends(finish))?;
+                Ok(Next::Over(finish))
+            }
+        }
+    }
+
+    fn responds(
+        &mut self,
+        alloc: Global,
+        state: &mut State,
+        outcome: Outcome,
+    ) -> Result<Next, NoMemory>
+        ensures due { IfOk result (λ next. (m : Machine)
+            → step_of m next state.new self.new ≡ does m state.old self.old (parts.Responds outcome)) }
+        ensures same { OnOk result (StaysSized state.old self.old state.new self.new) }
+    {
+        match &self.item {
+            Item::Request(request) => {
+                let told = outcome_told(alloc, outcome, state)?;
+                Ok(Next::Tell(response_to(alloc, request, told)?))
+            }
+            Item::Composite { .. } => Ok(Next::Go),
+            Item::Raw { .. } => Ok(Next::Go),
+            Item::TargetEnd => Ok(Next::Go),
+        }
+    }
+
+    // Nothing is sent to a target that is gone.
+    fn sends(&mut self, state: &State, deed: Deed) -> Result<Next, NoMemory>
+        ensures due { IfOk result (λ next. (m : Machine)
+            → step_of m next state.now self.new ≡ does m state.now self.old (parts.Sends deed)) }
+        ensures same { OnOk result (StaysSized state.now self.old state.now self.new) }
+    {
+        if state.is_gone() {
+            self.parts.push_front(Part::Sends(deed))?;
+            return Ok(Next::Wait);
+        }
+        self.effect = Some(Doing {
+            effect: Effect::Does(deed),
+            reply: None,
+        });
+        Ok(Next::Send(Effect::Does(deed)))
+    }
+
+    fn looks(&mut self, alloc: Global, state: &State, lookup: Lookup) -> Result<Next, NoMemory>
+        ensures due { IfOk result (λ next. (m : Machine)
+            → step_of m next state.now self.new ≡ does m state.now self.old (parts.Looks lookup)) }
+        ensures same { OnOk result (StaysSized state.now self.old state.now self.new) }
+    {
+        match found_for(alloc, lookup, state, self.asking.asked())? {
+            Need::Has(finding) => {
+                let parts = found_parts(alloc, lookup, finding, state)?;
+                put_first(parts, &mut self.parts)?;
+                Ok(Next::Go)
+            }
+            Need::Fails { place: _, code } => {
+                let parts = refused_parts(alloc, lookup, code, state)?;
+                put_first(parts, &mut self.parts)?;
+                Ok(Next::Go)
+            }
+            Need::Lacks {
+                first: _,
+                others: _,
+            } => {
+                self.parts.push_front(Part::Looks(lookup))?;
+                Ok(Next::Wait)
+            }
+        }
+    }
+
+    // The handshake goes out first, and then that of the target is waited for (JDWP, JDWP Start Up).
+    fn awaits_handshake(&mut self, state: &mut State) -> Result<Next, NoMemory>
+        ensures due { IfOk result (λ next. (m : Machine)
+            → step_of m next state.new self.new ≡ does m state.old self.old (parts.Awaits handshake)) }
+        ensures same { OnOk result (StaysSized state.old self.old state.new self.new) }
+    {
+        if state.greeting_sent && state.greeting_heard {
+            return Ok(Next::Go);
+        }
+        self.parts.push_front(Part::Awaits(Guard::Handshake))?;
+        if state.greeting_sent || state.is_gone() {
+            return Ok(Next::Wait);
+        }
+        state.greeting_sent = true;
+        Ok(Next::Greet)
+    }
+
+    fn awaits_sizes(&mut self, state: &State) -> Result<Next, NoMemory>
+        ensures due { IfOk result (λ next. (m : Machine)
+            → step_of m next state.now self.new ≡ does m state.now self.old (parts.Awaits id_sizes)) }
+        ensures same { OnOk result (StaysSized state.now self.old state.now self.new) }
+    {
+        match state.sizes {
+            Some(_) => Ok(Next::Go),
+            None => {
+                self.parts.push_front(Part::Awaits(Guard::IdSizes))?;
+                Ok(Next::Wait)
+            }
+        }
+    }
+
+    // The change of event requests that is due goes, until none is.
+    fn updates(&mut self, alloc: Global, state: &State) -> Result<Next, NoMemory>
+        ensures due { IfOk result (λ next. (m : Machine)
+            → step_of m next state.now self.new ≡ does m state.now self.old parts.Updates) }
+        ensures same { OnOk result (StaysSized state.now self.old state.now self.new) }
+    {
+        match effect_due(alloc, &state.wishes)? {
+            None => Ok(Next::Go),
+            Some(effect) => {
+                self.parts.push_front(Part::Updates)?;
+                if state.is_gone() {
+                    return Ok(Next::Wait);
+                }
+                self.effect = Some(Doing {
+                    effect: effect_copy(alloc, &effect)?,
+                    reply: None,
+                });
+                Ok(Next::Send(effect))
+            }
+        }
+    }
+}
+
+// A question is asked, where there is one.
+fn asks(question: Option<Question>) -> Next
+    ensures { result ≡ asks question }
+{
+    match question {
+        None => Next::Wait,
+        Some(question) => Next::Ask(question),
+    }
+}
+
+// What is asked for a guard: the sizes of ids, until they are known.
+fn awaited(alloc: Global, guard: Guard, state: &State) -> Result<VecDeque<Want>, NoMemory>
+    ensures { IfOk result (λ wants. wants.items ≡ asked_by (way guard state.now)) }
+{
+    match guard {
+        Guard::Handshake => Ok(VecDeque::new(alloc)),
+        Guard::IdSizes => match state.sizes {
+            Some(_) => Ok(VecDeque::new(alloc)),
+            None => Ok(VecDeque::from_array(alloc, [Want::Must(Question::IdSizes)])?),
+        },
+    }
+}
