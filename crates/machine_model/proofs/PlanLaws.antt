@@ -156,8 +156,12 @@ heard_so sight want = by_want want
         → fact_known sight.classes question ≡ known → found_from 0 sight.asked question ≡ found
         → HeardSo sight (Want.Fact question) (fact_heard question known found)
     by_known question None None is there = (refl, (is, none question there))
-    by_known question None (Some found) is there = inr (is, found.replied,
-        record { place = found.place; stands = replied_at sight.asked question found there }, refl)
+    by_known question None (Some found) is there = inr (
+      is,
+      found.replied,
+      record { place = found.place; stands = replied_at sight.asked question found there },
+      refl,
+    )
     by_known question (Some fact) found is there = inl is
 
     by_want : (want : Want) → HeardSo sight want (heard_of sight want)
