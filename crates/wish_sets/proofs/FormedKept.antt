@@ -1,12 +1,12 @@
 -- What is kept fits what is wanted once it is formed afresh.
-use Rattle.std.proofs.Common.{◌≡◌, ℕ, suc, ◌+◌, ◌<◌, ◌≤◌, ◌^◌, Bool, true, false, not, List, [], ◌∷◌, ◌++◌, refl, ap, sym, ◌∙◌}
-use Rattle.std.proofs.Common.{subst, cond, length, Option, Some, None, arith, length-append}
-use Rattle.std.specs.Prelude.{◌||◌, ◌&&◌, filter, map, is_some}
-use Rattle.std.specs.List.{list_any, AllByRecursion}
+use Rattle.std.proofs.Common.{◌≡◌, ℕ, suc, ◌+◌, ◌<◌, ◌≤◌, ◌^◌, Bool, true, false, not, List, [], ◌∷◌, ◌++◌, refl, ap}
+use Rattle.std.proofs.Common.{sym, ◌∙◌}
+use Rattle.std.proofs.Common.{subst, length, Option, Some, None, arith, length-append}
+use Rattle.std.specs.Prelude.{filter}
+use Rattle.std.specs.List.{AllByRecursion}
 use Rattle.std.specs.List.Sorted.{IsStrictlySortedBy}
 use Rattle.std.specs.Ordering.{ordering_reverse}
-use Rattle.std.specs.declared.cmp.Ordering.{Ordering}
-use Rattle.std.specs.declared.cmp.Ordering.TheVariants.{Less, Equal, Greater}
+use Rattle.std.specs.declared.cmp.Ordering.TheVariants.{Less}
 use Rattle.wish_sets.specs.declared.slot.Slot.{Slot}
 use Rattle.wish_sets.specs.declared.wants.Wants.{Wants}
 use Rattle.wish_sets.specs.declared.wish.StepWish.{StepWish}
@@ -14,18 +14,18 @@ use Rattle.wish_sets.specs.declared.wish.Wish.{Wish}
 use Rattle.wish_sets.specs.declared.wish.Wish.TheVariants as wishes
 use Rattle.wish_sets.specs.Forming.{AreInOrder, AreFormed, IsWider, wished_or_installed}
 use Rattle.wish_sets.specs.Kept.{wanted_by, wishes_by, listed_wishes, is_sound, step_wish, AreFixed, AreKept}
-use Rattle.wish_sets.specs.Order.{has_wish, in_order, is_wish, wish_cmp, wish_rank, wish_total}
+use Rattle.wish_sets.specs.Order.{has_wish, in_order, is_wish, wish_cmp, wish_total}
 use Rattle.wish_sets.specs.Slots.{wishes_in, requests_in, refusals_in, wanted_slots}
 use Rattle.wish_sets.specs.Wanted.{Wanted}
 use Rattle.wish_sets.specs.Wished.{wished, thrown, stepping}
-use Rattle.wish_sets.specs.Wishes.{Wishes, EventRequest, rewished, is_surplus}
+use Rattle.wish_sets.specs.Wishes.{Wishes, EventRequest, rewished}
 use Rattle.wish_sets.proofs.OrderLaws.{any-fold}
 use Rattle.wish_sets.proofs.WishLaws.{alike, filter-same}
 use Rattle.wish_sets.proofs.KeptLaws.{Early, kept_wishes, tells_wished, thrown-behind, each-append}
 use Rattle.wish_sets.proofs.SlotLaws.{Tells, wishes_of}
 use Rattle.wish_sets.proofs.StepKept.{requests-append, refusals-append, filter-append, early_before, wishes_of-append}
 use Rattle.wish_sets.proofs.ThrownLaws.{each-front, each-rest}
-use Rattle.wish_sets.proofs.WantedLaws.{wanted_already, refusals_wanted, has_early, has_thrown, has_step}
+use Rattle.wish_sets.proofs.WantedLaws.{rewanted, wanted_already, refusals_wanted, has_early, has_thrown, has_step}
 
 -- Lists in order, one behind the other --------------------------------------------------------------------------------
 
@@ -73,10 +73,19 @@ before_fixed : (wanted : Wanted) (slots fixed : List Slot) → AreFixed wanted f
     → AllByRecursion (λ y. AllByRecursion (λ w. wish_cmp w y ≡ Less) (wishes_of slots)) (wishes_of fixed)
 before_fixed wanted slots fixed ends early =
     subst (λ xs. AllByRecursion (λ y. AllByRecursion (λ w. wish_cmp w y ≡ Less) (wishes_of slots)) (wishes_of xs))
-    (sym ends.these)
-    (thrown_at ends.p.wish false true ends.exceptions.uncaught, (thrown_at ends.q.wish true false ends.exceptions.caught,
-    (thrown_at ends.r.wish true true ends.exceptions.both, (step_at ends.a.wish ends.steps.first ends.steps.first_is,
-    (step_at ends.b.wish ends.steps.second ends.steps.second_is, tt)))))
+    (sym ends.these) (
+      thrown_at ends.p.wish false true ends.exceptions.uncaught,
+      (
+        thrown_at ends.q.wish true false ends.exceptions.caught,
+        (
+          thrown_at ends.r.wish true true ends.exceptions.both,
+          (
+            step_at ends.a.wish ends.steps.first ends.steps.first_is,
+            (step_at ends.b.wish ends.steps.second ends.steps.second_is, tt),
+          ),
+        ),
+      ),
+    )
   where
     thrown_at : (wish : Wish) (a b : Bool) → wish ≡ wishes.Thrown a b
         → AllByRecursion (λ w. wish_cmp w wish ≡ Less) (wishes_of slots)
@@ -159,19 +168,22 @@ module _ (before after : Wants) (caught : after.caught ≡ before.caught) (uncau
   abbrev with_both : Wanted → List EventRequest → List Wish → Wishes
   with_both wanted rs ws = record { wanted = wanted; installed = rs; refused = ws }
 
-  -- Slots were added ---------------------------------------------------------------------------------------------------
+  -- Slots were added
 
   pub wider_kept : (wide : List Slot) → IsWider slots wide → AreKept (wanted_by before) wide fixed
   wider_kept wide is = with_others (wanted_by before) wide is.in_order (is.wishes ∙ kept.wishes) ends
 
-  pub wider_is : (wide : List Slot) → IsWider slots wide → wishes_by before (wide ++ fixed) ≡ wishes_by before (slots ++ fixed)
+  pub wider_is : (wide : List Slot) → IsWider slots wide → wishes_by before (wide ++ fixed)
+      ≡ wishes_by before (slots ++ fixed)
   wider_is wide is =
       ap (λ rs. with_both (wanted_by before) rs (refusals_in (wide ++ fixed)))
-      (requests-append wide fixed ∙ (ap (λ rs. rs ++ requests_in fixed) is.requests ∙ sym (requests-append slots fixed)))
+      (requests-append wide fixed ∙ (ap (λ rs. rs ++ requests_in fixed) is.requests
+      ∙ sym (requests-append slots fixed)))
       ∙ ap (with_both (wanted_by before) (requests_in (slots ++ fixed)))
-      (refusals-append wide fixed ∙ (ap (λ ws. ws ++ refusals_in fixed) is.refusals ∙ sym (refusals-append slots fixed)))
+      (refusals-append wide fixed ∙ (ap (λ ws. ws ++ refusals_in fixed) is.refusals
+      ∙ sym (refusals-append slots fixed)))
 
-  -- Slots were formed afresh -------------------------------------------------------------------------------------------
+  -- Slots were formed afresh
 
   abbrev test : Wish → Bool
   test = has_wish (wished (wanted_by after))
@@ -200,12 +212,19 @@ module _ (before after : Wants) (caught : after.caught ≡ before.caught) (uncau
   fixed_stays : wanted_slots test fixed ≡ fixed
   fixed_stays =
       wanted_already test fixed
-      (subst (AllByRecursion (λ slot. test slot.wish ≡ slot.wished)) (sym ends.these)
-      (thrown_stays ends.p false true ends.exceptions.uncaught told.0,
-      (thrown_stays ends.q true false ends.exceptions.caught told.1.0,
-      (thrown_stays ends.r true true ends.exceptions.both told.1.1.0,
-      (step_stays ends.a ends.steps.first ends.steps.first_is told.1.1.1.0,
-      (step_stays ends.b ends.steps.second ends.steps.second_is told.1.1.1.1.0, tt))))))
+      (subst (AllByRecursion (λ slot. test slot.wish ≡ slot.wished)) (sym ends.these) (
+        thrown_stays ends.p false true ends.exceptions.uncaught told.0,
+        (
+          thrown_stays ends.q true false ends.exceptions.caught told.1.0,
+          (
+            thrown_stays ends.r true true ends.exceptions.both told.1.1.0,
+            (
+              step_stays ends.a ends.steps.first ends.steps.first_is told.1.1.1.0,
+              (step_stays ends.b ends.steps.second ends.steps.second_is told.1.1.1.1.0, tt),
+            ),
+          ),
+        ),
+      ))
       (each-rest (λ slot. is_sound slot ≡ true) slots fixed kept.sound)
 
   listed_tested : (those : List Wish) → AllByRecursion Early those
@@ -213,7 +232,7 @@ module _ (before after : Wants) (caught : after.caught ≡ before.caught) (uncau
   listed_tested [] all = tt
   listed_tested (w ∷ those) all = (
     sym (has_early (wanted_by after) w all.0
-    ∙ any-fold wish_cmp (is_wish w) (alike w) [] (listed_wishes (wanted_by after))),
+        ∙ any-fold wish_cmp (is_wish w) (alike w) [] (listed_wishes (wanted_by after))),
     listed_tested those all.1,
   )
 
@@ -225,7 +244,8 @@ module _ (before after : Wants) (caught : after.caught ≡ before.caught) (uncau
       → wishes_by after (new ++ fixed) ≡ rewished (wanted_by after) (wishes_by before (slots ++ fixed))
   formed_is new are =
       ap (λ rs. with_both (wanted_by after) rs (refusals_in (new ++ fixed)))
-      (requests-append new fixed ∙ (ap (λ rs. rs ++ requests_in fixed) are.requests ∙ sym (requests-append slots fixed)))
+      (requests-append new fixed ∙ (ap (λ rs. rs ++ requests_in fixed) are.requests
+      ∙ sym (requests-append slots fixed)))
       ∙ ap (with_both (wanted_by after) (requests_in (slots ++ fixed)))
       (refusals-append new fixed
       ∙ (ap (λ ws. ws ++ refusals_in fixed) (are.refusals
@@ -239,14 +259,19 @@ module _ (before after : Wants) (caught : after.caught ≡ before.caught) (uncau
 -- How many ------------------------------------------------------------------------------------------------------------
 
 counted_slots : (is_in : Wish → Bool) (slots : List Slot) → AllByRecursion (Tells is_in) slots
-    → length (wishes_in slots) + length (filter (λ (r : EventRequest). not (is_in r.wish)) (requests_in slots)) ≤ length slots
+    → length (wishes_in slots) + length (filter (λ (r : EventRequest). not (is_in r.wish)) (requests_in slots)) ≤
+    length slots
 counted_slots is_in [] all = omega arith
 counted_slots is_in (slot ∷ slots) all = by slot.wished slot.request all.0 (counted_slots is_in slots all.1)
   where
     by : (b : Bool) (o : Option ℕ) → is_in slot.wish ≡ b
-        → length (wishes_in slots) + length (filter (λ (r : EventRequest). not (is_in r.wish)) (requests_in slots)) ≤ length slots
+        → length (wishes_in slots) + length (filter (λ (r : EventRequest). not (is_in r.wish)) (requests_in slots)) ≤
+        length slots
         → length (wishes_in (record slot { wished = b; request = o } ∷ slots))
-        + length (filter (λ (r : EventRequest). not (is_in r.wish)) (requests_in (record slot { wished = b; request = o } ∷ slots)))
+        + length (filter (λ (r : EventRequest). not (is_in r.wish)) (requests_in (record slot {
+          wished = b;
+          request = o;
+        } ∷ slots)))
         ≤ suc (length slots)
     by true None e less = omega (arith, less)
     by true (Some request) e less = rw e (omega (arith, less))
@@ -256,8 +281,17 @@ counted_slots is_in (slot ∷ slots) all = by slot.wished slot.request all.0 (co
 pub few_wishes : (wants : Wants) (slots fixed : List Slot) → AreKept (wanted_by wants) slots fixed
     → wished_or_installed (wishes_by wants (slots ++ fixed)) < 2 ^ 31
 few_wishes wants slots fixed kept =
-    let all = counted_slots (has_wish (wished (wanted_by wants))) (slots ++ fixed) (tells_wished wants slots fixed kept) in
+    let all = counted_slots (has_wish (wished (wanted_by wants))) (slots
+    ++ fixed) (tells_wished wants slots fixed kept) in
     let five : length fixed ≡ 5 = ap length kept.ends.these in
     let same : length (wishes_in (slots ++ fixed)) ≡ length (wished (wanted_by wants)) =
     ap length (kept_wishes (wanted_by wants) slots fixed kept) in
     omega (arith, all, five, same, length-append slots fixed, kept.counted)
+
+-- where nothing else is wanted, nothing changes
+pub nothing_else : (wants : Wants) (slots fixed : List Slot) → AreKept (wanted_by wants) slots fixed
+    → wishes_by wants (slots ++ fixed) ≡ rewished (wanted_by wants) (wishes_by wants (slots ++ fixed))
+nothing_else wants slots fixed kept =
+    ap (wishes_by wants) (sym (wanted_already (has_wish (wished (wanted_by wants))) (slots ++ fixed)
+    (tells_wished wants slots fixed kept) kept.sound))
+    ∙ rewanted wants wants (slots ++ fixed)

@@ -1,15 +1,15 @@
 -- Slots say what is wished: two lists in order that have the same wishes are one.
-use Rattle.std.proofs.Common.{◌≡◌, ℕ, suc, ◌+◌, ◌<◌, ◌^◌, Bool, true, false, not, List, [], ◌∷◌, ◌++◌, refl, ap, sym, ◌∙◌}
-use Rattle.std.proofs.Common.{subst, cond, length}
-use Rattle.std.specs.Prelude.{◌||◌, ◌&&◌, filter, map, fold}
-use Rattle.std.specs.List.{list_any, AllByRecursion}
+use Rattle.std.proofs.Common.{◌≡◌, suc, ◌+◌, ◌<◌, ◌^◌, Bool, true, false, List, [], ◌∷◌, refl, ap, sym, ◌∙◌}
+use Rattle.std.proofs.Common.{subst, length}
+use Rattle.std.specs.Prelude.{◌||◌, ◌&&◌, filter}
+use Rattle.std.specs.List.{AllByRecursion}
 use Rattle.std.specs.List.Sorted.{IsStrictlySortedBy}
 use Rattle.std.specs.Ordering.{is_eq, ordering_reverse}
 use Rattle.std.specs.declared.cmp.Ordering.{Ordering}
 use Rattle.std.specs.declared.cmp.Ordering.TheVariants.{Less, Equal, Greater}
 use Rattle.wish_sets.specs.declared.slot.Slot.{Slot}
 use Rattle.wish_sets.specs.declared.wish.Wish.{Wish}
-use Rattle.wish_sets.specs.Forming.{has_its_slot, AreInOrder, AreFormed, IsWider}
+use Rattle.wish_sets.specs.Forming.{has_its_slot, AreFormed, IsWider}
 use Rattle.wish_sets.specs.Order.{has_wish, in_order, is_wish, wish_cmp, wish_rank, wish_total}
 use Rattle.wish_sets.specs.Slots.{wishes_in, wanted_slots}
 use Rattle.wish_sets.proofs.OrderLaws.{any-fold, sorted-fold}

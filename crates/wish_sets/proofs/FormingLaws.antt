@@ -1,6 +1,7 @@
 -- Each wish that is listed gets its slot, and then slots say what is wished.
-use Rattle.std.proofs.Common.{◌≡◌, ℕ, zero, suc, ◌+◌, ◌<◌, ◌≤◌, ◌^◌, Bool, true, false, not, List, [], ◌∷◌, ◌++◌, refl, ap, sym}
-use Rattle.std.proofs.Common.{◌∙◌, subst, cond, length, take, drop, get_or, set, Option, Some, None, arith}
+use Rattle.std.proofs.Common.{◌≡◌, ℕ, zero, suc, ◌+◌, ◌<◌, ◌≤◌, ◌^◌, Bool, true, false, List, [], ◌∷◌, ◌++◌, refl, ap}
+use Rattle.std.proofs.Common.{sym}
+use Rattle.std.proofs.Common.{◌∙◌, subst, length, take, drop, get_or, set, Option, Some, None, arith}
 use Rattle.std.specs.Prelude.{◌||◌, ◌&&◌, filter, map, filter_map, fold, is_some}
 use Rattle.std.specs.BTreeSet.{insert_key}
 use Rattle.std.specs.List.{list_any, AllByRecursion, insert}
@@ -21,12 +22,11 @@ use Rattle.wish_sets.specs.Places.{Place, places}
 use Rattle.wish_sets.specs.Wanted.{Wanted}
 use Rattle.wish_sets.specs.Wished.{has_entries}
 use Rattle.wish_sets.specs.Kept.{is_sound, listed_wishes}
-use Rattle.wish_sets.specs.Order.{has_wish, is_wish, wish_cmp, wish_rank, wish_total}
+use Rattle.wish_sets.specs.Order.{is_wish, wish_cmp, wish_rank, wish_total}
 use Rattle.wish_sets.specs.Slots.{wishes_in, requests_in, refusals_in, new_slot, wanted_slot, wanted_slots}
 use Rattle.wish_sets.proofs.OrderLaws.{any-insert, each-insert, sorted-insert}
 use Rattle.wish_sets.proofs.WishLaws.{alike, is_itself}
 use Rattle.wish_sets.proofs.SlotLaws.{wishes_of}
-use Rattle.wish_sets.proofs.KeptLaws.{each-map, each-append}
 
 -- the order of two does not matter to whether they are one
 pub is_wish_sym : (a b : Wish) → is_wish a b ≡ is_wish b a
@@ -214,10 +214,13 @@ pub listed_are : (wanted : Wanted)
 listed_are wanted =
     ap (λ ws. wishes.ThreadStart ∷ wishes.ThreadDeath ∷ ws ++ map stop_at (places wanted))
     (sym (watches-append
-    (map (λ (list : List ℕ × List LineEntry). package_name (key_parts list.0).package_path) (filter has_entries wanted.lists))
-    (map (λ (entry : FunctionEntry). package_named entry.name) (filter (λ entry. has_class entry.name) wanted.functions))
+    (map (λ (list : List ℕ × List LineEntry). package_name (key_parts list.0).package_path) (filter has_entries
+    wanted.lists))
+    (map (λ (entry : FunctionEntry). package_named entry.name) (filter (λ entry. has_class entry.name)
+    wanted.functions))
     ∙ (ap (λ ws. ws ++ map wishes.Watch
-    (map (λ (entry : FunctionEntry). package_named entry.name) (filter (λ entry. has_class entry.name) wanted.functions)))
+    (map (λ (entry : FunctionEntry). package_named entry.name) (filter (λ entry. has_class entry.name)
+    wanted.functions)))
     (watches-map (λ (list : List ℕ × List LineEntry). package_name (key_parts list.0).package_path)
     (filter has_entries wanted.lists))
     ∙ ap (λ ws. list_watches wanted.lists ++ ws)

@@ -145,7 +145,8 @@ wishes_in-append [] ys = refl
 wishes_in-append (slot ∷ xs) ys = by slot.wished (wishes_in-append xs ys)
   where
     by : (b : Bool) → wishes_in (xs ++ ys) ≡ wishes_in xs ++ wishes_in ys
-        → wishes_in (record slot { wished = b } ∷ (xs ++ ys)) ≡ wishes_in (record slot { wished = b } ∷ xs) ++ wishes_in ys
+        → wishes_in (record slot { wished = b } ∷ (xs ++ ys)) ≡ wishes_in (record slot { wished = b } ∷ xs)
+        ++ wishes_in ys
     by true e = ap (λ ws. slot.wish ∷ ws) e
     by false e = e
 
@@ -164,7 +165,8 @@ kept_wishes wanted slots fixed kept =
     wishes_in-append slots fixed
     ∙ (ap (λ ws. ws ++ wishes_in fixed) kept.wishes
     ∙ (ap (λ ws. in_order (listed_wishes wanted) ++ ws) (fixed_wishes wanted fixed kept.ends)
-    ∙ (sym (append_assoc (in_order (listed_wishes wanted)) (thrown wanted.caught wanted.uncaught) (stepping wanted.step))
+    ∙ (sym (append_assoc (in_order (listed_wishes wanted)) (thrown wanted.caught wanted.uncaught) (stepping
+    wanted.step))
     ∙ sym (wished_parts wanted))))
 
 each-is : {A : Type 0} (f g : A → Bool) → ((x : A) → f x ≡ g x) → (h : A → Bool) → (xs : List A)
@@ -197,7 +199,8 @@ module _ (wants : Wants) (slots fixed : List Slot) (kept : AreKept (wanted_by wa
       each-both (λ slot. has_slot stands kept_all slot.wish ≡ stands slot)
       (λ slot. has_slot (λ s. s.refused) kept_all slot.wish ≡ slot.refused)
       (TellsUnset (is_missing what_stands.installed what_stands.refused))
-      (λ slot e f. rw (has-installed kept_all slot.wish, e, has-kept (λ s. s.refused) kept_all slot.wish, f) refl) kept_all
+      (λ slot e f. rw (has-installed kept_all slot.wish, e, has-kept (λ s. s.refused) kept_all slot.wish, f) refl)
+      kept_all
       (own_slot stands kept_all kept.sorted) (own_slot (λ s. s.refused) kept_all kept.sorted)
 
   pub next_is : next_change what_stands

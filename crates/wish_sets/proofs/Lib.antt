@@ -7,6 +7,7 @@ pub mod LeftLaws
 mod Examples
 pub mod FirstLaws
 pub mod SpellLaws
+pub mod TableLaws
 pub mod SlotLaws
 pub mod KeptLaws
 pub mod OutcomeLaws

@@ -18,7 +18,8 @@ use Rattle.wish_sets.specs.Slots.{with_first}
 use Rattle.wish_sets.specs.Wanted.{Wanted}
 use Rattle.wish_sets.specs.Wished.{wished, stepping}
 use Rattle.wish_sets.specs.Wishes.{Wishes, EventRequest, WishChange, clears, sets, next_change, is_outcome, is_cleared}
-use Rattle.wish_sets.specs.Wishes.{settled, settled_by, is_missing, is_surplus, cleared, installed_as, refused_now, set_by}
+use Rattle.wish_sets.specs.Wishes.{settled, settled_by, is_missing, is_surplus, cleared, installed_as, refused_now}
+use Rattle.wish_sets.specs.Wishes.{set_by}
 use Rattle.wish_sets.proofs.WishLaws.{none-any}
 use Rattle.wish_sets.proofs.NextLaws.{clears-is, sets-is}
 use Rattle.wish_sets.proofs.FirstLaws.{changed-append, each_changed, length-changed}
@@ -205,7 +206,8 @@ module _ (wanted : Wanted) (outcome : Settled) (p q r a b : Slot) (exceptions : 
       (parts.0, (or-parts (is_late b) false parts.1).0)
 
   five_marked : (at_p at_q at_r at_a : Bool) → awaits outcome a ≡ at_a → (at_b : Bool) → awaits outcome b ≡ at_b
-      → AreFixed wanted (cond at_p (marked outcome p ∷ q ∷ r ∷ a ∷ b ∷ []) (p ∷ cond at_q (marked outcome q ∷ r ∷ a ∷ b ∷ [])
+      → AreFixed wanted (cond at_p (marked outcome p ∷ q ∷ r ∷ a ∷ b ∷ []) (p ∷ cond at_q (marked outcome q ∷ r ∷ a ∷ b
+      ∷ [])
       (q ∷ cond at_r (marked outcome r ∷ a ∷ b ∷ []) (r ∷ cond at_a (marked outcome a ∷ b ∷ [])
       (a ∷ cond at_b (marked outcome b ∷ []) (b ∷ []))))))
   five_marked true at_q at_r at_a e at_b f =
@@ -292,7 +294,8 @@ module _ {K : Type 0} (pick : Slot → Option K) (test : Slot → Bool) (change 
       by true e = ap (λ o. cons_option o (filter_map pick slots)) (same slot)
       by false e = ap (cons_option (pick slot)) e
 
-refusals_stay : (test : Slot → Bool) (change : Slot → Slot) → ((slot : Slot) → refusal_in (change slot) ≡ refusal_in slot)
+refusals_stay : (test : Slot → Bool) (change : Slot → Slot) → ((slot : Slot)
+    → refusal_in (change slot) ≡ refusal_in slot)
     → (slots : List Slot) → refusals_in (with_first test change slots) ≡ refusals_in slots
 refusals_stay test change same slots =
     refusals_are (with_first test change slots) ∙ (picks_stay refusal_in test change same slots

@@ -182,7 +182,8 @@ module _ {K : Type 0} (wish_in : K → Wish) (pick : Slot → Option K) (change 
           here same (unpicked slot h)
       by true h true f false g e again =
           let k = tells false g in absurd (let m : (true && false) ≡ true = rw (f, k) at h in cc)
-      by true h false f c g e again = absurd (let m : (false && (not (is_some slot.request) && not slot.refused)) ≡ true = rw f at h in cc)
+      by true h false f c g e again = absurd (let m : (false && (not (is_some slot.request) && not slot.refused))
+          ≡ true = rw f at h in cc)
       by false h true f true g e again =
           let k = tells true g in absurd (let m : (true && true) ≡ false = rw (f, k) at h in cc)
       by false h true f false g e again =

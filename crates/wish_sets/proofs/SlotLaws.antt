@@ -1,4 +1,5 @@
--- Slots in wish order: each wish is found by its slot alone, and the first that has to be changed gives the next change.
+-- Slots in wish order: each wish is found by its slot alone, and the first that has to be changed gives the next
+-- change.
 use Rattle.std.proofs.Common.{◌≡◌, ℕ, ◌+◌, Bool, true, false, not, List, [], ◌∷◌, ◌++◌, refl, ap, sym, ◌∙◌, cond}
 use Rattle.std.proofs.Common.{Option, Some, None, Result, Ok, Err}
 use Rattle.std.specs.Prelude.{◌||◌, ◌&&◌, filter, find, map, is_some, option_map}
@@ -229,7 +230,11 @@ owner_append (slot ∷ xs) ys kind request = by slot.request (owner_append xs ys
         → owner_in (xs ++ ys) kind request ≡ option_or (owner_in xs kind request) (owner_in ys kind request)
         → option_map (λ (r : EventRequest). r.wish) (cond b (Some (record { wish = slot.wish; request = request' }))
         (find (is_request kind request) (requests_in (xs ++ ys))))
-        ≡ option_or (option_map (λ (r : EventRequest). r.wish) (cond b (Some (record { wish = slot.wish; request = request' }))
+        ≡ option_or (option_map (λ (r : EventRequest). r.wish) (cond b (Some (record {
+          wish = slot.wish;
+          request =
+              request';
+        }))
         (find (is_request kind request) (requests_in xs)))) (owner_in ys kind request)
     found true request' e = refl
     found false request' e = e

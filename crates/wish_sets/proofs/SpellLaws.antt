@@ -1,7 +1,7 @@
 -- A name goes on byte for byte as the path of its package does.
-use Rattle.std.proofs.Common.{◌≡◌, ℕ, zero, suc, Bool, true, false, List, [], ◌∷◌, ◌++◌, refl, ap, sym, ◌∙◌, cond, drop}
+use Rattle.std.proofs.Common.{◌≡◌, ℕ, zero, suc, Bool, true, false, List, [], ◌∷◌, ◌++◌, refl, ap, sym, ◌∙◌, cond}
 use Rattle.std.proofs.Common.{Option, Some, None, length, arith}
-use Rattle.std.specs.Prelude.{◌==◌, ◌&&◌, bytes_eq, if◌then◌else◌}
+use Rattle.std.specs.Prelude.{◌==◌, ◌&&◌, bytes_eq}
 use Rattle.std.specs.Str.Lossy.{replacement_bytes}
 use Rattle.jdwp_values.specs.Lossy.{continued, lossy, lossy_after}
 use Rattle.wish_sets.specs.Names.{dotted, package_name}
@@ -53,9 +53,9 @@ unfolding lossy_after
 spelled byte path zero name = by (continued (dot_for byte) (dotted path))
   where
     by : (o : Option ℕ) → bytes_eq name (elim o as (λ _. List ℕ) [
-          | None ↦ replacement_bytes ++ lossy_after 0 (dotted path)
-          | Some n ↦ dot_for byte ∷ lossy_after n (dotted path)
-        ]) ≡ matched path (begun byte o name)
+      | None ↦ replacement_bytes ++ lossy_after 0 (dotted path)
+      | Some n ↦ dot_for byte ∷ lossy_after n (dotted path)
+    ]) ≡ matched path (begun byte o name)
     by None = replaced_matched path name
     by (Some n) = byte_matched path byte n name
 spelled byte path (suc count) name = byte_matched path byte count name
@@ -70,7 +70,8 @@ unfolding lossy_after
 none_left name zero = refl
 none_left name (suc count) = refl
 
-pub from_the_start : (name path : List ℕ) → bytes_eq name (lossy_after 0 (dotted path)) ≡ bytes_eq name (package_name path)
+pub from_the_start : (name path : List ℕ) → bytes_eq name (lossy_after 0 (dotted path))
+    ≡ bytes_eq name (package_name path)
 unfolding lossy
 from_the_start name path = refl
 
@@ -85,4 +86,5 @@ no_bytes (byte ∷ path) e = absurd (omega (arith, e))
 pub at_the_end : (path name : List ℕ) (count : ℕ) → length path ≡ 0
     → (length name == 0) ≡ bytes_eq name (lossy_after count (dotted path))
 at_the_end path name count e =
-    empty_name name ∙ sym (ap (λ bytes. bytes_eq name (lossy_after count bytes)) (no_bytes path e) ∙ none_left name count)
+    empty_name name ∙ sym (ap (λ bytes. bytes_eq name (lossy_after count bytes)) (no_bytes path e)
+    ∙ none_left name count)

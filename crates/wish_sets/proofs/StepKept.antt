@@ -295,7 +295,8 @@ module _ (wants : Wants) (slots fixed : List Slot) (kept : AreKept (wanted_by wa
 
   pub step_kept : AreKept wanted_after slots (with_step_wanted step fixed)
   step_kept = record {
-    sorted = subst (IsStrictlySortedBy wish_cmp) (sym (ap wishes_of all_are ∙ wishes_wanted test with_pair)) sorted_pair;
+    sorted = subst (IsStrictlySortedBy wish_cmp) (sym (ap wishes_of all_are
+        ∙ wishes_wanted test with_pair)) sorted_pair;
     early = kept.early;
     wishes = kept.wishes;
     ends = ends_after;

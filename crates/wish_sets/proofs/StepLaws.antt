@@ -208,7 +208,8 @@ module _ (wanted : Wanted) (a b : Slot) (steps : AreSteps wanted a b) (rises : w
       by : (c : Bool) → is_of_step (Some step) a ≡ c → (d : Bool) → is_of_step (Some step) b ≡ d
           → (s : Bool) → is_some b.request ≡ s
           → ArePlaced (Some step) test a b
-          (cond (not c && not d) (ordered (cond s (new_slot (step_wish step) false ∷ b ∷ []) (a ∷ new_slot (step_wish step) false ∷ [])))
+          (cond (not c && not d) (ordered (cond s (new_slot (step_wish step) false ∷ b ∷ []) (a ∷ new_slot (step_wish
+          step) false ∷ [])))
           (a ∷ b ∷ []))
       by true e d f s g = as_they_are (Some step) (rw e refl)
       by false e true f s g = as_they_are (Some step) (rw (e, f) refl)

@@ -128,7 +128,8 @@ module _ (wants : Wants) (slots fixed : List Slot) (kept : AreKept (wanted_by wa
       (ap (with_thrown c u) ends.these ∙ (thrown_are ∙ ap (wanted_slots test) (sym ends.these)))
       ∙ sym (wanted-append test slots fixed))
 
-  pub thrown_is : wishes_by after (slots ++ with_thrown c u fixed) ≡ rewished wanted_after (wishes_by wants (slots ++ fixed))
+  pub thrown_is : wishes_by after (slots ++ with_thrown c u fixed) ≡ rewished wanted_after (wishes_by wants (slots
+      ++ fixed))
   thrown_is = ap (wishes_by after) all_are ∙ rewanted wants after (slots ++ fixed)
 
   pub thrown_kept : AreKept wanted_after slots (with_thrown c u fixed)

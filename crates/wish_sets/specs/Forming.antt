@@ -1,9 +1,8 @@
 -- What is wished is formed afresh: which wishes are listed, and the slots that they get.
 use Rattle.std.specs.Prelude.{◌≡◌, ℕ, ◌+◌, ◌<◌, ◌^◌, Bool, true, List, [], ◌∷◌, map, filter, length, Option, Some, None}
-use Rattle.std.specs.BTreeSet.{insert_key}
 use Rattle.std.specs.List.{list_any, AllByRecursion}
 use Rattle.std.specs.List.Sorted.{IsStrictlySortedBy}
-use Rattle.std.specs.Ordering.{match_ordering, on}
+use Rattle.std.specs.Ordering.{match_ordering}
 use Rattle.std.specs.declared.cmp.Ordering.{Ordering}
 use Rattle.wish_sets.specs.declared.entry.FunctionEntry.{FunctionEntry}
 use Rattle.wish_sets.specs.declared.entry.LineEntry.{LineEntry}

@@ -9,5 +9,6 @@ pub mod Wishes
 pub mod Slots
 pub mod Kept
 pub mod Forming
+pub mod Tables
 pub mod Entries
 pub mod Tidy

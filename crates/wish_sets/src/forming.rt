@@ -1,5 +1,6 @@
 //! What is wished is formed afresh, and each wish gets its slot.
-ghost use Rattle.std.specs.Prelude.{◌≡◌, ◌+◌, ◌<◌, ◌^◌, ◌++◌, [], ◌∷◌, true, map, length, filter, IfOk, OnOk, OnErr, IfSome};
+ghost use Rattle.std.specs.Prelude.{◌≡◌, ◌+◌, ◌<◌, ◌^◌, ◌++◌, [], ◌∷◌, true, map, length, filter, IfOk, OnOk, OnErr};
+ghost use Rattle.std.specs.Prelude.{IfSome};
 ghost use Rattle.std.specs.BTreeSet.{insert_key};
 ghost use Rattle.std.specs.List.{AllByRecursion};
 ghost use Rattle.wish_sets.specs.Forming.{list_watches, function_watches, new_place, AreInOrder, IsWider, AreFormed};
@@ -179,7 +180,8 @@ fn want_all(slots: &mut Vec<Slot>, those: &[Wish])
     want_listed(slots, those);
 }
 
-/// Slots say what is wished but exceptions and the step, formed afresh. Where memory is refused, or where there would be
+/// Slots say what is wished but exceptions and the step, formed afresh. Where memory is refused, or where there would
+/// be
 /// too many slots, nothing else than before is wished.
 pub(crate) fn form(slots: &mut Vec<Slot>, alloc: Global, wants: &Wants) -> Result<(), NoMemory>
     requires { AreInOrder slots.old.items }

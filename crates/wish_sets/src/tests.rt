@@ -1,9 +1,10 @@
-use crate::{Change, Depth, Settled, Wish, Wishes};
+use crate::{Change, Depth, FunctionEntry, LineEntry, Settled, Wish, Wishes};
+use class_tables::Classes;
 use jdwp_events::{EventKind, Modifier, Policy};
-use jdwp_values::{ClassId, Location, MethodId, ThreadId, TypeTag};
+use jdwp_values::{ClassId, Line, LineTable, Location, Method, MethodId, ThreadId, TypeTag};
 use std::alloc::Global;
 use std::test::Fail;
-use wire_core::{List, NoMemory, Text};
+use wire_core::{Blob, List, NoMemory, Text};
 
 // A location in a class, in its method 7 at index 8.
 fn at(class: u64) -> Location {
@@ -178,5 +179,120 @@ fn an_event_belongs_to_the_wish_of_its_kind_and_id(rt: HostRuntime) -> Result<()
     for (kind, request) in [(EventKind::ThreadStart, 8), (EventKind::ThreadDeath, 7)] {
         assert!(rt; wishes.owner_of(kind, request).is_none());
     }
+    Ok(())
+}
+
+// What is known of the class `Cart` of the default package, prepared: its method 7 `add` begins line 3 at index 4.
+fn shop(alloc: Global) -> Result<Classes, Fail> {
+    let mut classes = Classes::new(alloc);
+    let class = ClassId(5);
+    let signature = Blob::from_slice(alloc, b"LCart;")?;
+    classes.learn(class, TypeTag::Class, signature, true)?;
+    classes.learn_source(class, Some(Blob::from_slice(alloc, b"Cart.java")?))?;
+    let mut methods = List::new(alloc);
+    methods.push(Method {
+        id: MethodId(7),
+        name: Blob::from_slice(alloc, b"add")?,
+        signature: Blob::from_slice(alloc, b"()V")?,
+        bits: 0,
+    })?;
+    classes.learn_methods(class, methods)?;
+    let mut lines = List::new(alloc);
+    lines.push(Line { index: 4, line: 3 })?;
+    let table = LineTable {
+        start: 0,
+        end: 9,
+        lines,
+    };
+    classes.learn_lines(class, MethodId(7), Some(table))?;
+    Ok(classes)
+}
+
+// The location in the method of `Cart` at an index.
+fn in_cart(index: u64) -> Wish {
+    Wish::Stop(Location {
+        tag: TypeTag::Class,
+        class: ClassId(5),
+        method: MethodId(7),
+        index,
+    })
+}
+
+// The next wish is set, and installed under an id.
+fn is_set(wishes: &mut Wishes, wish: &Wish, request: u32) -> bool {
+    let is_next = match wishes.next_change() {
+        Some(Change::Set { wish: next, .. }) => next == wish,
+        _ => false,
+    };
+    settle(wishes, Settled::Installed(request));
+    is_next
+}
+
+#[test]
+fn entries_are_bound_once_their_class_is_known(rt: HostRuntime) -> Result<(), Fail> {
+    let alloc = rt.alloc();
+    let mut wishes = Wishes::new(alloc)?;
+    settle(&mut wishes, Settled::Installed(1));
+    settle(&mut wishes, Settled::Installed(2));
+    let mut lines = List::new(alloc);
+    lines.push(LineEntry {
+        id: 1,
+        line: 3,
+        plain: true,
+    })?;
+    wishes.set_lines(alloc, Text::from_str(alloc, "Cart.java")?, lines)?;
+    let mut functions = List::new(alloc);
+    functions.push(FunctionEntry {
+        id: 2,
+        name: Text::from_str(alloc, "Cart.add")?,
+        plain: true,
+    })?;
+    wishes.set_functions(alloc, functions)?;
+    assert!(rt; is_set(&mut wishes, &Wish::Watch(Text::from_str(alloc, "")?), 3));
+    assert_eq!(rt; shown(&wishes), None);
+    wishes.class_known(alloc, &shop(alloc)?, ClassId(5))?;
+    assert!(rt; is_set(&mut wishes, &in_cart(0), 4));
+    assert!(rt; is_set(&mut wishes, &in_cart(4), 5));
+    assert_eq!(rt; shown(&wishes), None);
+    wishes.set_functions(alloc, List::new(alloc))?;
+    assert_eq!(rt; shown(&wishes), Some((true, 3, 4, EventKind::Breakpoint)));
+    Ok(())
+}
+
+#[test]
+fn what_is_wanted_is_watched_listed_and_named(rt: HostRuntime) -> Result<(), Fail> {
+    let alloc = rt.alloc();
+    let mut wishes = Wishes::new(alloc)?;
+    let mut lines = List::new(alloc);
+    lines.push(LineEntry {
+        id: 1,
+        line: 3,
+        plain: false,
+    })?;
+    wishes.set_lines(
+        alloc,
+        Text::from_str(alloc, "com/caf\u{e9}/Till.java")?,
+        lines,
+    )?;
+    let mut functions = List::new(alloc);
+    functions.push(FunctionEntry {
+        id: 2,
+        name: Text::from_str(alloc, "org.Bank.open")?,
+        plain: false,
+    })?;
+    wishes.set_functions(alloc, functions)?;
+    for (path, watched) in [
+        (b"com/caf\xc3\xa9".as_slice(), true),
+        (b"org", true),
+        (b"com/caf\xc3", false),
+        (b"com", false),
+    ] {
+        assert_eq!(rt; wishes.is_watched(path), watched);
+    }
+    assert!(rt; wishes.is_listed(b"com/caf\xc3\xa9", b"Till.java"));
+    assert!(rt; !wishes.is_listed(b"org", b"Bank.java"));
+    assert!(rt; wishes.is_named(b"Lorg/Bank;", None));
+    assert!(rt; wishes.is_named(b"Lorg/Bank;", Some(b"open")));
+    assert!(rt; !wishes.is_named(b"Lorg/Bank;", Some(b"shut")));
     Ok(())
 }

@@ -1,5 +1,7 @@
 //! What a session wants to stop at.
-ghost use Rattle.std.specs.Prelude.{◌≡◌};
+ghost use Rattle.std.specs.Prelude.{◌≡◌, ◌<◌, bytes_eq, length, IfSome};
+ghost use Rattle.std.specs.List.{position_from};
+ghost use Rattle.class_tables.specs.Facts.{same_class};
 ghost use Rattle.wish_sets.specs.Kept.{wanted_by};
 ghost use Rattle.wish_sets.specs.Wanted.{nothing_wanted};
 
@@ -35,4 +37,22 @@ impl Wants {
             classes: Vec::new(alloc),
         }
     }
+}
+
+/// The place of the list of a source, by its key.
+pub(crate) fn list_at(lists: &[(Text, List<LineEntry>)], key: &Text) -> Option<usize>
+    ensures place { result ≡ position_from (λ list. bytes_eq key.now list.0) 0 lists.now }
+    ensures within { IfSome result (λ place. place < length lists.now) }
+{
+    lists
+        .iter()
+        .position(|list| key.as_bytes() == list.0.as_bytes())
+}
+
+/// The place of a class that is known.
+pub(crate) fn class_at(classes: &[(ClassId, KnownClass)], class: ClassId) -> Option<usize>
+    ensures place { result ≡ position_from (λ known. same_class class known.0) 0 classes.now }
+    ensures within { IfSome result (λ place. place < length classes.now) }
+{
+    classes.iter().position(|known| class == known.0)
 }

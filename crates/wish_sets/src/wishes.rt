@@ -2,26 +2,30 @@
 ghost use Rattle.std.specs.Prelude.{◌≡◌, ◌<◌, ◌^◌, ◌∷◌, [], Some, None, true, option_map, IfOk, OnOk, OnErr};
 ghost use Rattle.std.specs.Option.{option_copied};
 ghost use Rattle.std.specs.Result.{result_map_both};
-ghost use Rattle.wish_sets.specs.Wanted.{with_exceptions, with_functions, with_step};
+ghost use Rattle.wish_sets.specs.Wanted.{with_class, with_exceptions, with_functions, with_lines, with_step};
 ghost use Rattle.wish_sets.specs.Wishes.{new_wishes, rewished, next_change, next_place, is_outcome, settled, owner_of};
+ghost use Rattle.class_tables.specs.Lookups.{found_in};
 ghost use Rattle.wish_sets.specs.Forming.{wished_or_installed};
 ghost use Rattle.wish_sets.specs.Slots.{change_shown, place_shown};
 ghost use Rattle.wish_sets.specs.Wished.{is_watched, is_listed, is_named};
 
-use crate::change::{Change, Settled};
 use crate::asked::{is_listed, is_named, watches};
-use crate::entry::FunctionEntry;
+use crate::change::{Change, Settled};
+use crate::entry::{FunctionEntry, LineEntry};
 use crate::fixed::{fixed_slots, want_step, want_thrown};
 use crate::forming::form;
+use crate::learnt::class_found;
 use crate::slot::{Slot, late, owner, settle, unset};
-use crate::wants::Wants;
+use crate::table::{put_at, take_back};
+use crate::wants::{Wants, class_at, list_at};
 use crate::wish::{Depth, StepWish, Wish};
+use class_tables::Classes;
 use jdwp_events::EventKind;
-use jdwp_values::ThreadId;
+use jdwp_values::{ClassId, ThreadId};
 use std::alloc::Global;
 use std::marker::Model;
 use std::mem;
-use wire_core::{List, NoMemory};
+use wire_core::{List, NoMemory, Text};
 
 /// What is wanted, and the event requests that the target holds or has refused (JDWP, EventRequest command set, Set and
 /// Clear).
@@ -75,7 +79,8 @@ impl Wishes {
     /// A step is in flight, in place of any other. It takes no memory (DAP specification, Next, StepIn and StepOut
     /// requests; JDWP, EventRequest command set, Set, Step).
     pub fn set_step(&mut self, thread: ThreadId, depth: Depth)
-        ensures { self.new ≡ rewished (with_step (Some (record { thread = thread; depth = depth })) self.old.wanted) self.old }
+        ensures { self.new ≡ rewished (with_step (Some (record { thread = thread; depth = depth })) self.old.wanted)
+            self.old }
     {
         let step = Some(StepWish { thread, depth });
         self.wants.step = step;
@@ -90,7 +95,30 @@ impl Wishes {
         want_step(&mut self.fixed, None);
     }
 
-    /// Replaces the functions to stop in. `NoMemory` comes where memory is refused, or where 2^31 or more would be wished
+    /// Replaces the list of a source, by its key: the path of its package, `/` and the name of its file, or that name
+    /// alone in the default package. `NoMemory` comes where memory is refused, or where 2^31 or more would be wished or
+    /// installed; then nothing changes (DAP specification, SetBreakpoints request).
+    pub fn set_lines(
+        &mut self,
+        alloc: Global,
+        key: Text,
+        entries: List<LineEntry>,
+    ) -> Result<(), NoMemory>
+        ensures ok { OnOk result (self.new ≡ rewished (with_lines key entries self.old.wanted) self.old) }
+        ensures bound { OnOk result (wished_or_installed self.new < 2 ^ 31) }
+        ensures err { OnErr result (self.new ≡ self.old) }
+    {
+        let at = list_at(&self.wants.lists, &key);
+        let before = put_at(&mut self.wants.lists, at, key, entries)?;
+        if let Err(refused) = form(&mut self.slots, alloc, &self.wants) {
+            take_back(&mut self.wants.lists, at, before);
+            return Err(refused);
+        }
+        Ok(())
+    }
+
+    /// Replaces the functions to stop in. `NoMemory` comes where memory is refused, or where 2^31 or more would be
+    /// wished
     /// or installed; then nothing changes (DAP specification, SetFunctionBreakpoints request).
     pub fn set_functions(
         &mut self,
@@ -104,6 +132,35 @@ impl Wishes {
         let before = mem::replace(&mut self.wants.functions, entries);
         if let Err(refused) = form(&mut self.slots, alloc, &self.wants) {
             self.wants.functions = before;
+            return Err(refused);
+        }
+        Ok(())
+    }
+
+    /// Copies what is known of a class: its tag, its signature, its source, whether it is prepared, its methods and
+    /// their
+    /// lines. A class that was not loaded changes nothing, nor does one that is made known again with nothing new.
+    /// `NoMemory` comes where memory is refused, or where 2^31 or more would be wished or installed; then nothing
+    /// changes
+    /// (JDWP, VirtualMachine command set, AllClasses; JDWP, Event command set, Composite, ClassPrepare).
+    pub fn class_known(
+        &mut self,
+        alloc: Global,
+        classes: &Classes,
+        class: ClassId,
+    ) -> Result<(), NoMemory>
+        ensures ok { OnOk result
+            (self.new ≡ rewished (with_class (found_in classes.now) class self.old.wanted) self.old) }
+        ensures bound { OnOk result (wished_or_installed self.new < 2 ^ 31) }
+        ensures err { OnErr result (self.new ≡ self.old) }
+    {
+        let at = class_at(&self.wants.classes, class);
+        let Some(facts) = class_found(alloc, classes, class)? else {
+            return Ok(());
+        };
+        let before = put_at(&mut self.wants.classes, at, class, facts)?;
+        if let Err(refused) = form(&mut self.slots, alloc, &self.wants) {
+            take_back(&mut self.wants.classes, at, before);
             return Err(refused);
         }
         Ok(())
@@ -140,7 +197,8 @@ impl Wishes {
         owner(&self.slots, &self.fixed, kind, request)
     }
 
-    /// Whether the classes of a package are wished as they are prepared, by the path that a signature has, in bytes with
+    /// Whether the classes of a package are wished as they are prepared, by the path that a signature has, in bytes
+    /// with
     /// `/` between its parts and empty in the default package. It takes no memory (JDWP, EventRequest command set, Set,
     /// ClassMatch).
     pub fn is_watched(&self, path: &[u8]) -> bool
@@ -149,7 +207,8 @@ impl Wishes {
         watches(&self.slots, path)
     }
 
-    /// Whether a source is listed, with an entry at least, by the path of its package and the name of its file. It takes
+    /// Whether a source is listed, with an entry at least, by the path of its package and the name of its file. It
+    /// takes
     /// no memory (DAP specification, SetBreakpoints request).
     pub fn is_listed(&self, path: &[u8], file: &[u8]) -> bool
         ensures { result ≡ is_listed self.now.wanted (record { package_path = path.now; file = file.now }) }

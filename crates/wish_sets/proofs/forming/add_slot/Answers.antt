@@ -1,10 +1,5 @@
 -- The slot stands at its place.
-use Rattle.std.proofs.Common.{◌≡◌, ◌+◌, ℕ, ◌<◌, ◌^◌, true, length, sym, ap, subst, ◌∙◌, Some, arith}
-use Rattle.std.specs.List.{insert}
-use Rattle.std.specs.BTreeSet.{insert_key}
-use Rattle.wish_sets.specs.declared.slot.Slot.{Slot}
-use Rattle.wish_sets.specs.Forming.{by_wish, new_place, has_its_slot, IsWider}
-use Rattle.wish_sets.specs.Slots.{new_slot}
+use Rattle.std.proofs.Common.{◌≡◌, ◌+◌, ◌<◌, ◌^◌, length, sym, ap, ◌∙◌, Some, arith}
 use Rattle.wish_sets.proofs.FormingLaws.{at_its_place, has_a_place, has_now, wider}
 use Rattle.wish_sets.proofs.forming.add_slot.Goals as goal
 
@@ -18,8 +13,13 @@ returns-clause-wider c =
     let here : c.in-Some.at ≡ 0 + c.in-Some.at = omega arith in
     let place = rw c.deref.ensures.value at c.in-Some.ensures.place in
     let count : length c.deref.result.now ≡ length c.args.slots.now.items = ap length c.deref.ensures.value in
-    let room : length c.args.slots.now.items + 6 < 2 ^ 31 = omega (arith, count, c.deref.ensures.len, c.len.ensures,
-    c.if-len-ge-MOST.false) in
+    let room : length c.args.slots.now.items + 6 < 2 ^ 31 = omega (
+      arith,
+      count,
+      c.deref.ensures.len,
+      c.len.ensures,
+      c.if-len-ge-MOST.false,
+    ) in
     rw c.in_ok-insert.ensures.items (rw c.new.ensures (rw c.in_ok-copy.ensures
     (rw (at_its_place c.args.wish.now 0 c.args.slots.now.items c.in-Some.at (sym place ∙ ap Some here))
     (wider c.args.wish.now c.args.slots.now.items c.requires.in_order c.requires.early room))))

@@ -1,8 +1,7 @@
 -- Each wish has its slot, so slots say what is wished.
-use Rattle.std.proofs.Common.{◌≡◌, ◌∙◌, ap, sym, subst, true, ◌<◌}
+use Rattle.std.proofs.Common.{◌≡◌, ◌∙◌, sym, subst, true, ◌<◌}
 use Rattle.std.specs.List.{AllByRecursion}
-use Rattle.wish_sets.specs.declared.wish.Wish.{Wish}
-use Rattle.wish_sets.specs.Forming.{has_its_slot, AreFormed}
+use Rattle.wish_sets.specs.Forming.{has_its_slot}
 use Rattle.wish_sets.specs.Kept.{wanted_by, listed_wishes}
 use Rattle.wish_sets.specs.Order.{wish_rank}
 use Rattle.wish_sets.proofs.KeptLaws.{listed_early}

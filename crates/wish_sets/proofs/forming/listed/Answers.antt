@@ -1,12 +1,20 @@
 -- What is added comes to what is listed.
-use Rattle.std.proofs.Common.{◌≡◌, ◌∙◌, ap, sym}
 use Rattle.wish_sets.specs.Kept.{wanted_by}
 use Rattle.wish_sets.proofs.FormingLaws.{listed_are}
 use Rattle.wish_sets.proofs.forming.listed.Goals as goal
 
 pub returns : goal.returns
 returns c =
-    rw (c.in_ok-add_stops.ensures, c.in_ok-add_function_watches.ensures, c.in_ok-add_list_watches.ensures,
-    c.in_ok-push-2.ensures.ok, c.in_ok-push.ensures.ok, c.new-found.ensures, c.as_slice-2.ensures, c.as_slice.ensures,
-    c.deref.ensures.value, c.in_ok-places.ensures)
+    rw (
+      c.in_ok-add_stops.ensures,
+      c.in_ok-add_function_watches.ensures,
+      c.in_ok-add_list_watches.ensures,
+      c.in_ok-push-2.ensures.ok,
+      c.in_ok-push.ensures.ok,
+      c.new-found.ensures,
+      c.as_slice-2.ensures,
+      c.as_slice.ensures,
+      c.deref.ensures.value,
+      c.in_ok-places.ensures,
+    )
     (listed_are (wanted_by c.args.wants.now))

@@ -8,4 +8,5 @@ use Rattle.wish_sets.proofs.forming.package_text.Goals as goal
 pub returns : goal.returns
 returns c =
     IfOk-weaker c.lossy.result _ _ (λ name is. is ∙ (itself c.package_named.result.now
-    (c.package_named.ensures.utf8 (subst IsUtf8 c.as_str.ensures c.as_str.utf8)) ∙ c.package_named.ensures.name)) c.lossy.ensures
+    (c.package_named.ensures.utf8 (subst IsUtf8 c.as_str.ensures c.as_str.utf8))
+    ∙ c.package_named.ensures.name)) c.lossy.ensures

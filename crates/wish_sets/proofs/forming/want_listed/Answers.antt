@@ -1,5 +1,5 @@
 -- One slot more is wanted.
-use Rattle.std.proofs.Common.{◌≡◌, ◌++◌, ◌∙◌, ap, sym, subst, arith, add-one, set, get_or, length, take, drop, suc}
+use Rattle.std.proofs.Common.{◌≡◌, ◌++◌, ◌∙◌, ap, sym, subst, arith, add-one, set, get_or, take, drop, suc}
 use Rattle.wish_sets.specs.Order.{has_wish}
 use Rattle.wish_sets.specs.Slots.{wanted_slot, wanted_slots}
 use Rattle.wish_sets.proofs.FormingLaws.{one_wanted}

@@ -1,5 +1,5 @@
 -- A text is cut in front of a byte that is a character by itself.
-use Rattle.std.proofs.Common.{◌≡◌, ℕ, ◌-◌, ◌<◌, ◌≤◌, get_or, subst, sym, arith, length}
+use Rattle.std.proofs.Common.{◌≡◌, ◌-◌, ◌<◌, ◌≤◌, get_or, subst, sym, arith, length}
 use Rattle.std.proofs.lemmas.Str.{IsUtf8-take, IsUtf8-nil, IsCharBoundary-before_ascii}
 use Rattle.wish_sets.proofs.names.before_last.Goals as goal
 
@@ -13,4 +13,5 @@ returns-else-end-eq0-clause-utf8 c = λ ascii utf8.
     let within : end ≤ length c.args.bytes.now = c.end_of_last-end.ensures.within in
     let found : get_or c.args.bytes.now (end - 1) 0 ≡ c.args.last = c.end_of_last-end.ensures.found some in
     IsUtf8-take c.args.bytes.now (end - 1) utf8
-    (IsCharBoundary-before_ascii c.args.bytes.now (end - 1) (omega arith) (subst (λ byte. byte < 128) (sym found) ascii))
+    (IsCharBoundary-before_ascii c.args.bytes.now (end - 1) (omega arith) (subst (λ byte. byte < 128) (sym found)
+    ascii))

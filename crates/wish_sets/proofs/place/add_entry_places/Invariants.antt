@@ -1,7 +1,6 @@
-use Rattle.std.proofs.Common.{◌≡◌, ◌++◌, ℕ, List, true, drop}
+use Rattle.std.proofs.Common.{◌≡◌, ◌++◌, ℕ, true, drop}
 use Rattle.std.specs.Prelude.{map, filter_map}
 use Rattle.jdwp_values.specs.declared.location.Location.{Location}
-use Rattle.wish_sets.specs.declared.facts.KnownMethod.{KnownMethod}
 use Rattle.wish_sets.specs.declared.place.Place.{Place}
 use Rattle.wish_sets.specs.Places.{line_location}
 use Rattle.wish_sets.proofs.place.add_entry_places.Given as goal

@@ -1,4 +1,4 @@
-use Rattle.std.proofs.Common.{◌≡◌, ◌++◌, ℕ, List, false, drop}
+use Rattle.std.proofs.Common.{◌≡◌, ◌++◌, ℕ, false, drop}
 use Rattle.std.specs.Prelude.{map, filter_map}
 use Rattle.jdwp_values.specs.declared.location.Location.{Location}
 use Rattle.wish_sets.specs.declared.place.Place.{Place}

@@ -15,11 +15,13 @@ returns-in_default-clause-marked c =
 
 pub returns-clause-found : goal.returns-clause-found
 returns-clause-found c =
-    sym (first_there (awaits c.args.outcome) 0 c.args.slots.now c.in-Some.at (sym c.place_of.ensures.value ∙ c.in-Some.is))
+    sym (first_there (awaits c.args.outcome) 0 c.args.slots.now c.in-Some.at (sym c.place_of.ensures.value
+    ∙ c.in-Some.is))
 
 pub returns-clause-marked : goal.returns-clause-marked
 returns-clause-marked c =
     ap (set c.args.slots.now c.in-Some.at) c.mark.ensures
     ∙ changed_at (awaits c.args.outcome) (marked c.args.outcome) 0 c.args.slots.now c.in-Some.at
     c.index-slots-at.result
-    (sym c.place_of.ensures.value ∙ (c.in-Some.is ∙ ap Some (let same : c.in-Some.at ≡ 0 + c.in-Some.at = omega arith in same)))
+    (sym c.place_of.ensures.value ∙ (c.in-Some.is ∙ ap Some (let same : c.in-Some.at
+    ≡ 0 + c.in-Some.at = omega arith in same)))

@@ -1,5 +1,5 @@
 -- A package is watched where it is wished.
-use Rattle.std.proofs.Common.{◌≡◌, ◌∙◌, ap, sym, arith}
+use Rattle.std.proofs.Common.{◌∙◌, ap, sym, arith}
 use Rattle.wish_sets.specs.declared.wish.Wish.TheVariants as wishes
 use Rattle.wish_sets.specs.Kept.{wanted_by}
 use Rattle.wish_sets.specs.Names.{package_name}

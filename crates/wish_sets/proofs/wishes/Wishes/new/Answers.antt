@@ -4,4 +4,12 @@ use Rattle.wish_sets.proofs.wishes.Wishes.new.Goals as goal
 
 pub invariant_of-result : goal.invariant_of-result
 invariant_of-result c =
-    rw (c.new-3.ensures, c.fixed_slots.ensures, c.in_ok-push-2.ensures.items, c.in_ok-push.ensures.items, c.new-slots.ensures.items, c.new.ensures, c.new-2.ensures) new_kept
+    rw (
+      c.new-3.ensures,
+      c.fixed_slots.ensures,
+      c.in_ok-push-2.ensures.items,
+      c.in_ok-push.ensures.items,
+      c.new-slots.ensures.items,
+      c.new.ensures,
+      c.new-2.ensures,
+    ) new_kept

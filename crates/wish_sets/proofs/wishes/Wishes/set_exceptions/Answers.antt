@@ -9,5 +9,6 @@ invariant_of-self c =
 
 pub returns : goal.returns
 returns c =
-    rw (c.want_thrown.ensures, ← c.self.view_is) (thrown_is c.self.inside.wants c.self.inside.slots.items c.self.inside.fixed
+    rw (c.want_thrown.ensures, ← c.self.view_is) (thrown_is c.self.inside.wants c.self.inside.slots.items
+    c.self.inside.fixed
     c.self.invariant c.args.caught c.args.uncaught)

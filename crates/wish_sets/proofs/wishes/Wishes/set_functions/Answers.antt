@@ -1,8 +1,5 @@
 -- What is wanted is formed afresh, or else as it was.
-use Rattle.std.proofs.Common.{◌≡◌, ◌++◌, ◌∙◌, ap, sym, subst, refl}
-use Rattle.wish_sets.specs.Kept.{wanted_by, wishes_by}
-use Rattle.wish_sets.specs.Wanted.{with_functions}
-use Rattle.wish_sets.specs.Wishes.{rewished}
+use Rattle.std.proofs.Common.{◌∙◌, refl}
 use Rattle.wish_sets.proofs.FormedKept.{in_order_now, wider_kept, wider_is, formed_kept, formed_is, few_wishes}
 use Rattle.wish_sets.proofs.wishes.Wishes.set_functions.Goals as goal
 
@@ -24,7 +21,8 @@ returns-in-Err-clause-err c =
 
 pub invariant_of-self-in_default : goal.invariant_of-self-in_default
 invariant_of-self-in_default c =
-    formed_kept c.self.inside.wants (record c.self.inside.wants { functions = c.replace-before.new.dest }) refl refl refl
+    formed_kept c.self.inside.wants (record c.self.inside.wants { functions = c.replace-before.new.dest }) refl refl
+    refl
     c.self.inside.slots.items c.self.inside.fixed c.self.invariant c.form.new.slots.items c.in_default.ensures.ok
 
 pub returns-clause-ok : goal.returns-clause-ok
@@ -37,5 +35,6 @@ pub returns-clause-bound : goal.returns-clause-bound
 returns-clause-bound c =
     few_wishes (record c.self.inside.wants { functions = c.replace-before.new.dest }) c.form.new.slots.items
     c.self.inside.fixed
-    (formed_kept c.self.inside.wants (record c.self.inside.wants { functions = c.replace-before.new.dest }) refl refl refl
+    (formed_kept c.self.inside.wants (record c.self.inside.wants { functions = c.replace-before.new.dest }) refl refl
+    refl
     c.self.inside.slots.items c.self.inside.fixed c.self.invariant c.form.new.slots.items c.in_default.ensures.ok)

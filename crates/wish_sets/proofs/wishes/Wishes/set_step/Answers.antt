@@ -10,5 +10,6 @@ invariant_of-self c =
 
 pub returns : goal.returns
 returns c =
-    rw (c.want_step.ensures, ← c.self.view_is) (step_is c.self.inside.wants c.self.inside.slots.items c.self.inside.fixed
+    rw (c.want_step.ensures, ← c.self.view_is) (step_is c.self.inside.wants c.self.inside.slots.items
+    c.self.inside.fixed
     c.self.invariant (Some (record { thread = c.args.thread; depth = c.args.depth })))

@@ -1,0 +1,18 @@
+-- Values under keys: one is put, and taken back.
+use Rattle.std.specs.Prelude.{ℕ, zero, suc, ◌-◌, List, [], ◌∷◌, ◌++◌, length, take, Option, Some, None}
+
+-- the value at a place
+abbrev pub with_value : {K V : Type 0} → ℕ → V → List (K × V) → List (K × V)
+with_value k value [] = []
+with_value zero value (entry ∷ entries) = (entry.0, value) ∷ entries
+with_value (suc k) value (entry ∷ entries) = entry ∷ with_value k value entries
+
+-- a value is put at the place of its key, else behind all with it
+abbrev pub put_at : {K V : Type 0} → Option ℕ → K → V → List (K × V) → List (K × V)
+put_at None key value entries = entries ++ (key, value) ∷ []
+put_at (Some k) key value entries = with_value k value entries
+
+-- what was put is taken back
+abbrev pub taken_back : {K V : Type 0} → Option ℕ → Option V → List (K × V) → List (K × V)
+taken_back (Some k) (Some before) entries = with_value k before entries
+taken_back at before entries = take (length entries - 1) entries
