@@ -62,7 +62,7 @@ row_fits failure command = grind arith
 begun_fits : (state : State) (item : Item) → fits item (parts_of state item) ≡ true
 begun_fits state (a_request request) = row_fits (failure_of (wanting request.command) state) request.command
 begun_fits state target_end = grind arith
-begun_fits state (a_composite at composite) = refl
+begun_fits state (a_composite at composite) = grind arith
 begun_fits state (a_raw at body) = refl
 
 gone_fits : (responds : Bool) (item : Item) → fits item (gone_parts responds item) ≡ true
@@ -221,7 +221,7 @@ begun_owes : (state : State) (item : Item) → owes_event (parts_of state item) 
 begun_owes state (a_request request) = rw (row_is (failure_of
     (wanting request.command) state) request.command).responds refl
 begun_owes state target_end = grind arith
-begun_owes state (a_composite at composite) = refl
+begun_owes state (a_composite at composite) = grind arith
 begun_owes state (a_raw at body) = refl
 
 given_owes : (hand : Option Hand) → hand_owes (option_map given_up hand) ≡ false
@@ -451,10 +451,7 @@ last_begun state (a_request request) is = by_told state.terminated is
     by_told : (told : Bool) → (told || false) ≡ true → (told || has_last (parts_of state (a_request request))) ≡ true
     by_told true is = refl
     by_told false is = cc
-last_begun state (a_composite at composite) is = by_told state.terminated is
-  where
-    by_told : (told : Bool) → (told || false) ≡ true → (told || false) ≡ true
-    by_told told is = is
+last_begun state (a_composite at composite) is = grind (arith, is)
 last_begun state (a_raw at body) is = by_told state.terminated is
   where
     by_told : (told : Bool) → (told || false) ≡ true → (told || false) ≡ true

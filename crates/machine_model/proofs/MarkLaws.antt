@@ -48,7 +48,7 @@ row_once failure command = grind arith
 begun_once : (state : State) (item : Item) → stand_once (parts_of state item) ≡ true
 begun_once state (a_request request) = row_once (failure_of (wanting request.command) state) request.command
 begun_once state target_end = grind arith
-begun_once state (a_composite at composite) = refl
+begun_once state (a_composite at composite) = grind arith
 begun_once state (a_raw at body) = refl
 
 gone_none : (responds : Bool) (item : Item) → has_mark (gone_parts responds item) ≡ false
@@ -140,7 +140,7 @@ begun_marked state target_end gone = rw (gone refl) (by_told state.terminated)
         (cond (has_last (end_parts told)) (cond true (not told) false) true) false ≡ true
     by_told true = refl
     by_told false = refl
-begun_marked state (a_composite at composite) gone = refl
+begun_marked state (a_composite at composite) gone = grind arith
 begun_marked state (a_raw at body) gone = refl
 
 same_told : (outcome : Outcome) (state : State) → (numbered_by outcome state).terminated ≡ state.terminated

@@ -80,7 +80,7 @@ row_last failure command = grind arith
 begun_last : (state : State) (item : Item) → stand_last (parts_of state item) ≡ true
 begun_last state (a_request request) = row_last (failure_of (wanting request.command) state) request.command
 begun_last state target_end = grind arith
-begun_last state (a_composite at composite) = refl
+begun_last state (a_composite at composite) = grind arith
 begun_last state (a_raw at body) = refl
 
 chosen_none : (choice : Choice) (state : State) (hand : Hand) → no_options (chosen choice state hand) ≡ true
@@ -131,7 +131,7 @@ Fits (Some hand) = FitsItem hand.item hand.parts
 
 begun_fits : (state : State) (item : Item) → FitsItem item (parts_of state item)
 begun_fits state (a_request request) = λ has options. row_asks state request.command options
-begun_fits state (a_composite at composite) = refl
+begun_fits state (a_composite at composite) = grind arith
 begun_fits state (a_raw at body) = refl
 begun_fits state target_end = grind arith
 
@@ -294,7 +294,7 @@ begun_options : (state : State) (item : Item) (options : ClientOptions)
 begun_options state (a_request request) options =
     rw (row_is (failure_of (wanting request.command) state) request.command).responds refl
 begun_options state target_end options = grind arith
-begun_options state (a_composite at composite) options = refl
+begun_options state (a_composite at composite) options = grind arith
 begun_options state (a_raw at body) options = refl
 
 skipped_on : (m : Machine) (hand : Hand) (part : Part) (rest : List Part) → stand_last (part ∷ rest) ≡ true

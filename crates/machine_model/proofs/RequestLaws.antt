@@ -92,7 +92,7 @@ begun_needs attached state (a_request request) is =
         → needs_set attached (parts_by failure (row_of command)) ≡ true → attached ≡ true
     row_needs attached failure command is = grind (arith, is)
 begun_needs attached state target_end is = grind (arith, is)
-begun_needs attached state (a_composite at composite) is = is
+begun_needs attached state (a_composite at composite) is = grind (arith, is)
 begun_needs attached state (a_raw at body) is = is
 
 plain_needs : (attached : Bool) (parts rest : List Part) → are_plain parts ≡ true

@@ -32,7 +32,7 @@ pub begun_item : (state : State) (item : Item)
 begun_item state (a_request request) =
     rw (row_is (failure_of (wanting request.command) state) request.command).responds refl
 begun_item state target_end = no_item target_end (has_response (parts_of state target_end)) refl
-begun_item state (a_composite at composite) = refl
+begun_item state (a_composite at composite) = grind arith
 begun_item state (a_raw at body) = refl
 
 given_up_item : (responds : Bool) (item : Item)

@@ -50,7 +50,7 @@ begun_sized : (state : State) (item : Item) → cond (has_attach (parts_of state
     (parts_of state item)) true ≡ true
 begun_sized state (a_request request) = row_sized (failure_of (wanting request.command) state) request.command
 begun_sized state target_end = grind arith
-begun_sized state (a_composite at composite) = refl
+begun_sized state (a_composite at composite) = grind arith
 begun_sized state (a_raw at body) = refl
 
 -- what a part becomes leaves the guard where it is

@@ -84,7 +84,7 @@ pub begun_order : (state : State) (sized : Bool) (item : Item) → in_order size
     → in_order sized (is_attached state.phase) (parts_of state item) ≡ true
 begun_order state sized (a_request request) h = row_order state sized request.command h
 begun_order state sized target_end h = grind (arith, h)
-begun_order state sized (a_composite at composite) h = h
+begun_order state sized (a_composite at composite) h = grind (arith, h)
 begun_order state sized (a_raw at body) h = h
 
 row_parts : (P : Id → Type 0) (failure : Option Failure) (command : Command)

@@ -187,7 +187,7 @@ responds_once gone parts = once_in parts
 once_begun : (state : State) (item : Item) → once_in (parts_of state item) ≡ true
 once_begun state (a_request request) = (row_is (failure_of (wanting request.command) state) request.command).once
 once_begun state target_end = grind arith
-once_begun state (a_composite at composite) = refl
+once_begun state (a_composite at composite) = grind arith
 once_begun state (a_raw at body) = refl
 
 pub once : IsTest responds_once
@@ -205,7 +205,7 @@ once = record {
 free_begun : (state : State) (item : Item) → free_once (is_gone state.phase) (parts_of state item) ≡ true
 free_begun state (a_request request) = row_free state request.command (is_gone state.phase) refl
 free_begun state target_end = grind arith
-free_begun state (a_composite at composite) = refl
+free_begun state (a_composite at composite) = grind arith
 free_begun state (a_raw at body) = refl
 
 chosen_free : (choice : Choice) (state : State) (hand : Hand) (gone : Bool) → is_gone state.phase ≡ gone
@@ -256,7 +256,7 @@ row_silent failure command = grind arith
 silent_begun : (state : State) (item : Item) → last_silent (parts_of state item) ≡ true
 silent_begun state (a_request request) = row_silent (failure_of (wanting request.command) state) request.command
 silent_begun state target_end = grind arith
-silent_begun state (a_composite at composite) = refl
+silent_begun state (a_composite at composite) = grind arith
 silent_begun state (a_raw at body) = refl
 
 silent_tail : (part : Part) (rest : List Part) → last_silent (part ∷ rest) ≡ true → last_silent rest ≡ true
