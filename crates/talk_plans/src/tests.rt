@@ -1,11 +1,11 @@
-ghost use Rattle.std.specs.Prelude.{OnOk};
+ghost use Rattle.std.specs.Prelude.{IfOk, OnOk};
 ghost use Rattle.talk_plans.specs.Talking.{AreSized};
 
 use super::*;
 use dap_messages::{AttachArguments, Command, DisconnectArguments, Outcome, Request, Shape, Told};
 use jdwp_commands::{Answer, Question, Replied};
 use jdwp_values::ThreadId;
-use machine_model::{Deed, Effect, Item};
+use machine_model::{Deed, Effect, Item, Phase};
 use std::alloc::Global;
 use std::rt::HostRuntime;
 use std::test::Fail;
@@ -93,50 +93,50 @@ fn an_attach_waits_for_the_handshake(rt: HostRuntime) -> Result<(), Fail> {
     Ok(())
 }
 
-#[test]
-fn an_attach_asks_for_the_sizes_of_ids(rt: HostRuntime) -> Result<(), Fail> {
+// An `attach` whose handshake came: what is asked, what is next once that is answered, and what is known then.
+fn sized(rt: &HostRuntime) -> Result<(Next, Next, State), NoMemory> {
     let mut state = State::new(rt.alloc())?;
     state.target_greeted();
-    assert!(rt; state.is_greeted());
     let mut talk = Talk::start(rt.alloc(), attach(rt.alloc())?, &state)?;
-    assert!(rt; matches!(seen(rt.alloc(), &mut talk, &mut state)?, Next::Greet));
-    assert!(rt;
-        matches!(
-            seen(rt.alloc(), &mut talk, &mut state)?,
-            Next::Ask(Question::IdSizes)
-        )
-    );
-    assert!(rt; state.sizes().is_none());
+    let _greeting = seen(rt.alloc(), &mut talk, &mut state)?;
+    let asked = seen(rt.alloc(), &mut talk, &mut state)?;
     talk.answered(rt.alloc(), &mut state, Question::IdSizes, sizes())?;
-    assert!(rt; state.sizes().is_some());
-    assert!(rt;
-        matches!(
-            seen(rt.alloc(), &mut talk, &mut state)?,
-            Next::Send(Effect::Set(_))
-        )
-    );
-    assert!(rt; !state.is_attached());
-    Ok(())
+    let then = seen(rt.alloc(), &mut talk, &mut state)?;
+    Ok((asked, then, state))
 }
 
 #[test]
-fn a_request_of_a_target_that_is_gone_fails(rt: HostRuntime) -> Result<(), Fail> {
+fn an_attach_asks_for_the_sizes_of_ids(rt: HostRuntime) -> Result<(), Fail> {
+    let (asked, then, state) = sized(&rt)?;
+    assert!(rt; matches!(asked, Next::Ask(Question::IdSizes)));
+    assert!(rt; matches!(then, Next::Send(Effect::Set(_))));
+    assert!(rt; state.is_greeted());
+    assert!(rt; state.sizes().is_some());
+    assert!(rt; !state.is_attached());
+    assert!(rt; !state.is_gone());
+    Ok(())
+}
+
+// A `threads` before an `attach`, and an `attach` that is given up at its target's end, and what is behind that.
+fn failed(rt: &HostRuntime) -> Result<(Next, Next, Next), NoMemory> {
     let mut state = State::new(rt.alloc())?;
     let threads = request(rt.alloc(), "threads", Command::Threads)?;
     let mut early = Talk::start(rt.alloc(), threads, &state)?;
-    assert_eq!(rt;
-        code_told(&seen(rt.alloc(), &mut early, &mut state)?),
-        Some(3)
-    );
+    let not_attached = seen(rt.alloc(), &mut early, &mut state)?;
     let mut talk = Talk::start(rt.alloc(), attach(rt.alloc())?, &state)?;
     state.target_ended();
     talk.give_up(rt.alloc())?;
-    assert!(rt; state.is_gone());
-    assert_eq!(rt;
-        code_told(&seen(rt.alloc(), &mut talk, &mut state)?),
-        Some(10)
-    );
-    assert!(rt; matches!(seen(rt.alloc(), &mut talk, &mut state)?, Next::Done));
+    let gone = seen(rt.alloc(), &mut talk, &mut state)?;
+    let then = seen(rt.alloc(), &mut talk, &mut state)?;
+    Ok((not_attached, gone, then))
+}
+
+#[test]
+fn a_request_without_a_target_fails(rt: HostRuntime) -> Result<(), Fail> {
+    let (not_attached, gone, then) = failed(&rt)?;
+    assert_eq!(rt; code_told(&not_attached), Some(3));
+    assert_eq!(rt; code_told(&gone), Some(10));
+    assert!(rt; matches!(then, Next::Done));
     Ok(())
 }
 
@@ -198,50 +198,82 @@ fn numbers_told(next: &Next) -> (u64, u64) {
     }
 }
 
-#[test]
-fn threads_are_told_in_order_however_their_names_come(rt: HostRuntime) -> Result<(), Fail> {
+const THREADS: [ThreadId; 3] = [ThreadId(31), ThreadId(22), ThreadId(13)];
+
+// A `threads` of a target that has these three.
+fn listing(alloc: Global, state: &mut State) -> Result<Talk, NoMemory>
+    ensures { IfOk result (λ talk. AreSized state.new talk) }
+{
+    state.phase = Phase::Attached;
+    let item = request(alloc, "threads", Command::Threads)?;
+    let mut talk = Talk::start(alloc, item, state)?;
+    let _first = seen(alloc, &mut talk, state)?;
+    let threads = all_threads(alloc, &THREADS)?;
+    talk.answered(alloc, state, Question::AllThreads, threads)?;
+    Ok(talk)
+}
+
+// The threads whose names are asked for, and what is next where the window is full behind the first.
+fn asked(rt: &HostRuntime) -> Result<([Next; 3], Next), NoMemory> {
     let mut state = State::new(rt.alloc())?;
-    state.phase = machine_model::Phase::Attached;
-    let threads = [ThreadId(31), ThreadId(22), ThreadId(13)];
-    let item = request(rt.alloc(), "threads", Command::Threads)?;
-    let mut talk = Talk::start(rt.alloc(), item, &state)?;
-    assert!(rt;
-        matches!(
-            seen(rt.alloc(), &mut talk, &mut state)?,
-            Next::Ask(Question::AllThreads)
-        )
-    );
-    let listed = all_threads(rt.alloc(), &threads)?;
-    talk.answered(rt.alloc(), &mut state, Question::AllThreads, listed)?;
-    assert!(rt; asks_name(&seen(rt.alloc(), &mut talk, &mut state)?, threads[0]));
-    assert!(rt; matches!(talk.step(rt.alloc(), &mut state, true)?, Next::Wait));
-    assert!(rt; asks_name(&seen(rt.alloc(), &mut talk, &mut state)?, threads[1]));
-    assert!(rt; asks_name(&seen(rt.alloc(), &mut talk, &mut state)?, threads[2]));
-    assert!(rt; matches!(seen(rt.alloc(), &mut talk, &mut state)?, Next::Wait));
-    let main = name(rt.alloc())?;
+    let mut talk = listing(rt.alloc(), &mut state)?;
+    let first = seen(rt.alloc(), &mut talk, &mut state)?;
+    let full = talk.step(rt.alloc(), &mut state, true)?;
+    let second = seen(rt.alloc(), &mut talk, &mut state)?;
+    let third = seen(rt.alloc(), &mut talk, &mut state)?;
+    Ok(([first, second, third], full))
+}
+
+#[test]
+fn names_are_asked_for_while_there_is_room(rt: HostRuntime) -> Result<(), Fail> {
+    let (names, full) = asked(&rt)?;
+    assert!(rt; asks_name(&names[0], THREADS[0]));
+    assert!(rt; matches!(full, Next::Wait));
+    assert!(rt; asks_name(&names[1], THREADS[1]));
+    assert!(rt; asks_name(&names[2], THREADS[2]));
+    Ok(())
+}
+
+// A `threads` whose three names were asked for.
+fn waiting(alloc: Global, state: &mut State) -> Result<Talk, NoMemory>
+    ensures { IfOk result (λ talk. AreSized state.new talk) }
+{
+    let mut talk = listing(alloc, state)?;
+    let _first = seen(alloc, &mut talk, state)?;
+    let _second = seen(alloc, &mut talk, state)?;
+    let _third = seen(alloc, &mut talk, state)?;
+    Ok(talk)
+}
+
+// What is told once the names have come from the last to the first, the second of which is refused.
+fn told(rt: &HostRuntime) -> Result<Next, NoMemory> {
+    let mut state = State::new(rt.alloc())?;
+    let mut talk = waiting(rt.alloc(), &mut state)?;
+    let last = name(rt.alloc())?;
     talk.answered(
         rt.alloc(),
         &mut state,
-        Question::ThreadName(threads[2]),
-        main,
+        Question::ThreadName(THREADS[2]),
+        last,
     )?;
     talk.answered(
         rt.alloc(),
         &mut state,
-        Question::ThreadName(threads[1]),
+        Question::ThreadName(THREADS[1]),
         Replied::Error(10),
     )?;
-    let main = name(rt.alloc())?;
+    let first = name(rt.alloc())?;
     talk.answered(
         rt.alloc(),
         &mut state,
-        Question::ThreadName(threads[0]),
-        main,
+        Question::ThreadName(THREADS[0]),
+        first,
     )?;
-    assert_eq!(rt;
-        numbers_told(&seen(rt.alloc(), &mut talk, &mut state)?),
-        (1, 2)
-    );
-    assert!(rt; matches!(seen(rt.alloc(), &mut talk, &mut state)?, Next::Done));
+    seen(rt.alloc(), &mut talk, &mut state)
+}
+
+#[test]
+fn threads_are_told_in_order_however_their_names_come(rt: HostRuntime) -> Result<(), Fail> {
+    assert_eq!(rt; numbers_told(&told(&rt)?), (1, 2));
     Ok(())
 }
