@@ -19,4 +19,5 @@ pub mod StepKept
 pub mod FormingLaws
 pub mod FormedLaws
 pub mod FormedKept
+pub mod StandingLaws
 pub mod NewLaws

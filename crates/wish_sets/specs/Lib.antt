@@ -11,4 +11,5 @@ pub mod Kept
 pub mod Forming
 pub mod Tables
 pub mod Entries
+pub mod Standing
 pub mod Tidy

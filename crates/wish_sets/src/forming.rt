@@ -77,16 +77,16 @@ fn add_stops(found: &mut List<Wish>, places: &[Place]) -> Result<(), NoMemory>
 }
 
 // All that is wished but exceptions and the step, in any order and as often as it is wished.
-fn listed(alloc: Global, wants: &Wants) -> Result<List<Wish>, NoMemory>
+fn listed(alloc: Global, wants: &Wants, all: &[Place]) -> Result<List<Wish>, NoMemory>
+    requires { all.now ≡ places (wanted_by wants.now) }
     ensures { IfOk result (λ found. found ≡ listed_wishes (wanted_by wants.now)) }
 {
-    let places = places(alloc, wants)?;
     let mut found = List::new(alloc);
     found.push(Wish::ThreadStart)?;
     found.push(Wish::ThreadDeath)?;
     add_list_watches(&mut found, alloc, &wants.lists)?;
     add_function_watches(&mut found, alloc, wants.functions.as_slice())?;
-    add_stops(&mut found, places.as_slice())?;
+    add_stops(&mut found, all)?;
     Ok(found)
 }
 
@@ -180,16 +180,24 @@ fn want_all(slots: &mut Vec<Slot>, those: &[Wish])
     want_listed(slots, those);
 }
 
-/// Slots say what is wished but exceptions and the step, formed afresh. Where memory is refused, or where there would
-/// be
-/// too many slots, nothing else than before is wished.
-pub(crate) fn form(slots: &mut Vec<Slot>, alloc: Global, wants: &Wants) -> Result<(), NoMemory>
+/// Slots say what is wished but exceptions and the step, formed afresh, and the places of all entries are kept. Where
+/// memory is refused, or where there would be too many slots, the places stay, and nothing else than before is wished.
+pub(crate) fn form(
+    slots: &mut Vec<Slot>,
+    bound: &mut List<Place>,
+    alloc: Global,
+    wants: &Wants,
+) -> Result<(), NoMemory>
     requires { AreInOrder slots.old.items }
+    ensures places { OnOk result (bound.new ≡ places (wanted_by wants.now)) }
     ensures ok { OnOk result (AreFormed (listed_wishes (wanted_by wants.now)) slots.old.items slots.new.items) }
+    ensures same { OnErr result (bound.new ≡ bound.old) }
     ensures err { OnErr result (IsWider slots.old.items slots.new.items) }
 {
-    let those = listed(alloc, wants)?;
+    let found = places(alloc, wants)?;
+    let those = listed(alloc, wants, found.as_slice())?;
     add_slots(slots, alloc, those.as_slice())?;
     want_all(slots, those.as_slice());
+    *bound = found;
     Ok(())
 }

@@ -13,6 +13,7 @@ mod names;
 mod place;
 mod slot;
 mod spelling;
+mod standing;
 mod table;
 mod wants;
 mod wish;

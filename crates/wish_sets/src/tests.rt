@@ -1,4 +1,4 @@
-use crate::{Change, Depth, FunctionEntry, LineEntry, Settled, Wish, Wishes};
+use crate::{Change, Depth, EntryAt, EntryState, FunctionEntry, LineEntry, Settled, Wish, Wishes};
 use class_tables::Classes;
 use jdwp_events::{EventKind, Modifier, Policy};
 use jdwp_values::{ClassId, Line, LineTable, Location, Method, MethodId, ThreadId, TypeTag};
@@ -209,13 +209,13 @@ fn shop(alloc: Global) -> Result<Classes, Fail> {
 }
 
 // The location in the method of `Cart` at an index.
-fn in_cart(index: u64) -> Wish {
-    Wish::Stop(Location {
+fn in_cart(index: u64) -> Location {
+    Location {
         tag: TypeTag::Class,
         class: ClassId(5),
         method: MethodId(7),
         index,
-    })
+    }
 }
 
 // The next wish is set, and installed under an id.
@@ -228,9 +228,8 @@ fn is_set(wishes: &mut Wishes, wish: &Wish, request: u32) -> bool {
     is_next
 }
 
-#[test]
-fn entries_are_bound_once_their_class_is_known(rt: HostRuntime) -> Result<(), Fail> {
-    let alloc = rt.alloc();
+// Line 3 of `Cart` is listed as entry 1, and its method `add` as entry 2; what was wished before is installed.
+fn cart_listed(alloc: Global) -> Result<Wishes, Fail> {
     let mut wishes = Wishes::new(alloc)?;
     settle(&mut wishes, Settled::Installed(1));
     settle(&mut wishes, Settled::Installed(2));
@@ -248,14 +247,40 @@ fn entries_are_bound_once_their_class_is_known(rt: HostRuntime) -> Result<(), Fa
         plain: true,
     })?;
     wishes.set_functions(alloc, functions)?;
-    assert!(rt; is_set(&mut wishes, &Wish::Watch(Text::from_str(alloc, "")?), 3));
+    settle(&mut wishes, Settled::Installed(3));
+    Ok(wishes)
+}
+
+#[test]
+fn entries_are_bound_once_their_class_is_known(rt: HostRuntime) -> Result<(), Fail> {
+    let alloc = rt.alloc();
+    let mut wishes = cart_listed(alloc)?;
     assert_eq!(rt; shown(&wishes), None);
     wishes.class_known(alloc, &shop(alloc)?, ClassId(5))?;
-    assert!(rt; is_set(&mut wishes, &in_cart(0), 4));
-    assert!(rt; is_set(&mut wishes, &in_cart(4), 5));
+    assert!(rt; is_set(&mut wishes, &Wish::Stop(in_cart(0)), 4));
+    assert!(rt; is_set(&mut wishes, &Wish::Stop(in_cart(4)), 5));
     assert_eq!(rt; shown(&wishes), None);
     wishes.set_functions(alloc, List::new(alloc))?;
     assert_eq!(rt; shown(&wishes), Some((true, 3, 4, EventKind::Breakpoint)));
+    Ok(())
+}
+
+#[test]
+fn an_entry_stands_as_its_locations_do(rt: HostRuntime) -> Result<(), Fail> {
+    let alloc = rt.alloc();
+    let mut wishes = cart_listed(alloc)?;
+    wishes.class_known(alloc, &shop(alloc)?, ClassId(5))?;
+    assert_eq!(rt; wishes.state_of(1), Some(EntryState::Waiting));
+    settle(&mut wishes, Settled::Refused(99));
+    settle(&mut wishes, Settled::Installed(5));
+    assert_eq!(rt; wishes.state_of(1), Some(EntryState::Verified));
+    assert_eq!(rt; wishes.state_of(2), Some(EntryState::Refused));
+    assert_eq!(rt; wishes.state_of(3), None);
+    let found = wishes.entries_at(alloc, &in_cart(4))?;
+    assert_eq!(rt;
+        found.as_slice(),
+        [EntryAt { id: 1, line: true }].as_slice()
+    );
     Ok(())
 }
 

@@ -5,23 +5,26 @@ ghost use Rattle.std.specs.Result.{result_map_both};
 ghost use Rattle.wish_sets.specs.Wanted.{with_class, with_exceptions, with_functions, with_lines, with_step};
 ghost use Rattle.wish_sets.specs.Wishes.{new_wishes, rewished, next_change, next_place, is_outcome, settled, owner_of};
 ghost use Rattle.class_tables.specs.Lookups.{found_in};
+ghost use Rattle.wish_sets.specs.Entries.{entries_at, state_of};
 ghost use Rattle.wish_sets.specs.Forming.{wished_or_installed};
 ghost use Rattle.wish_sets.specs.Slots.{change_shown, place_shown};
 ghost use Rattle.wish_sets.specs.Wished.{is_watched, is_listed, is_named};
 
 use crate::asked::{is_listed, is_named, watches};
 use crate::change::{Change, Settled};
-use crate::entry::{FunctionEntry, LineEntry};
+use crate::entry::{EntryAt, EntryState, FunctionEntry, LineEntry};
 use crate::fixed::{fixed_slots, want_step, want_thrown};
 use crate::forming::form;
 use crate::learnt::class_found;
+use crate::place::Place;
 use crate::slot::{Slot, late, owner, settle, unset};
+use crate::standing::{entries_at, entry_state, has_entry};
 use crate::table::{put_at, take_back};
 use crate::wants::{Wants, class_at, list_at};
 use crate::wish::{Depth, StepWish, Wish};
 use class_tables::Classes;
 use jdwp_events::EventKind;
-use jdwp_values::{ClassId, ThreadId};
+use jdwp_values::{ClassId, Location, ThreadId};
 use std::alloc::Global;
 use std::marker::Model;
 use std::mem;
@@ -34,20 +37,23 @@ use wire_core::{List, NoMemory, Text};
 #[derive(Debug, Drop)]
 pub struct Wishes {
     wants: Wants,
+    bound: List<Place>,
     slots: Vec<Slot>,
     fixed: [Slot; 5],
 }
 
 impl Model for Wishes {
-    ghost use Rattle.std.specs.Prelude.{◌++◌};
+    ghost use Rattle.std.specs.Prelude.{◌≡◌, ◌++◌};
     ghost use Rattle.wish_sets.specs.Wishes.{Wishes as WhatStands};
     ghost use Rattle.wish_sets.specs.Kept.{wanted_by, wishes_by, AreKept};
+    ghost use Rattle.wish_sets.specs.Places.{places};
 
     ghost Value = { WhatStands };
 
     ghost view = { λ w. wishes_by w.wants (w.slots.items ++ w.fixed) };
 
-    ghost invariant = { λ w. AreKept (wanted_by w.wants) w.slots.items w.fixed };
+    ghost invariant = { λ w. AreKept (wanted_by w.wants) w.slots.items w.fixed
+        × (w.bound ≡ places (wanted_by w.wants)) };
 }
 
 impl Wishes {
@@ -61,6 +67,7 @@ impl Wishes {
         slots.push(Slot::new(Wish::ThreadDeath, true))?;
         Ok(Wishes {
             wants: Wants::new(alloc),
+            bound: List::new(alloc),
             slots,
             fixed: fixed_slots(),
         })
@@ -110,7 +117,7 @@ impl Wishes {
     {
         let at = list_at(&self.wants.lists, &key);
         let before = put_at(&mut self.wants.lists, at, key, entries)?;
-        if let Err(refused) = form(&mut self.slots, alloc, &self.wants) {
+        if let Err(refused) = form(&mut self.slots, &mut self.bound, alloc, &self.wants) {
             take_back(&mut self.wants.lists, at, before);
             return Err(refused);
         }
@@ -130,7 +137,7 @@ impl Wishes {
         ensures err { OnErr result (self.new ≡ self.old) }
     {
         let before = mem::replace(&mut self.wants.functions, entries);
-        if let Err(refused) = form(&mut self.slots, alloc, &self.wants) {
+        if let Err(refused) = form(&mut self.slots, &mut self.bound, alloc, &self.wants) {
             self.wants.functions = before;
             return Err(refused);
         }
@@ -159,7 +166,7 @@ impl Wishes {
             return Ok(());
         };
         let before = put_at(&mut self.wants.classes, at, class, facts)?;
-        if let Err(refused) = form(&mut self.slots, alloc, &self.wants) {
+        if let Err(refused) = form(&mut self.slots, &mut self.bound, alloc, &self.wants) {
             take_back(&mut self.wants.classes, at, before);
             return Err(refused);
         }
@@ -222,5 +229,26 @@ impl Wishes {
         ensures { result ≡ is_named self.now.wanted signature.now (option_copied method.entry) }
     {
         is_named(self.wants.functions.as_slice(), signature, method)
+    }
+
+    /// How an entry stands, by its id; `None` exactly where no entry that is listed has it. It takes no memory (DAP
+    /// specification, Breakpoint, verified).
+    pub fn state_of(&self, id: u64) -> Option<EntryState>
+        ensures { result ≡ state_of self.now id }
+    {
+        if has_entry(&self.wants.lists, self.wants.functions.as_slice(), id) {
+            let bound = self.bound.as_slice();
+            Some(entry_state(bound, id, &self.slots, &self.fixed))
+        } else {
+            None
+        }
+    }
+
+    /// The entries that have a location, in order of their ids, each once. `NoMemory` comes where memory is refused
+    /// (JDWP, Event command set, Composite, Breakpoint, location).
+    pub fn entries_at(&self, alloc: Global, at: &Location) -> Result<List<EntryAt>, NoMemory>
+        ensures { IfOk result (λ found. found ≡ entries_at self.now.wanted at.now) }
+    {
+        entries_at(alloc, self.bound.as_slice(), *at)
     }
 }

@@ -12,9 +12,8 @@ returns c =
       c.in_ok-push-2.ensures.ok,
       c.in_ok-push.ensures.ok,
       c.new-found.ensures,
-      c.as_slice-2.ensures,
       c.as_slice.ensures,
       c.deref.ensures.value,
-      c.in_ok-places.ensures,
+      c.requires,
     )
     (listed_are (wanted_by c.args.wants.now))

@@ -14,6 +14,6 @@ returns c =
     let watch = wishes.Watch (package_name c.args.path.now) in
     rw (← c.self.view_is) (c.watches.ensures
     ∙ (ap (λ slots. has_wish (wishes_in slots) watch) c.deref.ensures.value
-    ∙ (ap (λ those. has_wish those watch) c.self.invariant.wishes
+    ∙ (ap (λ those. has_wish those watch) c.self.invariant.0.wishes
     ∙ (sym (has_early (wanted_by c.self.inside.wants) watch (omega arith))
     ∙ sym (watched_is_wished (wanted_by c.self.inside.wants) c.args.path.now)))))

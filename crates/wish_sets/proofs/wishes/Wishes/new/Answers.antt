@@ -1,15 +1,19 @@
 -- Nothing is kept but the slots of threads and the fixed ones.
+use Rattle.std.proofs.Common.{◌∙◌, ap, sym}
+use Rattle.wish_sets.specs.Places.{places}
 use Rattle.wish_sets.proofs.NewLaws.{new_kept}
 use Rattle.wish_sets.proofs.wishes.Wishes.new.Goals as goal
 
 pub invariant_of-result : goal.invariant_of-result
-invariant_of-result c =
-    rw (
-      c.new-3.ensures,
-      c.fixed_slots.ensures,
-      c.in_ok-push-2.ensures.items,
-      c.in_ok-push.ensures.items,
-      c.new-slots.ensures.items,
-      c.new.ensures,
-      c.new-2.ensures,
-    ) new_kept
+invariant_of-result c = (
+  rw (
+    c.new-3.ensures,
+    c.fixed_slots.ensures,
+    c.in_ok-push-2.ensures.items,
+    c.in_ok-push.ensures.items,
+    c.new-slots.ensures.items,
+    c.new.ensures,
+    c.new-2.ensures,
+  ) new_kept,
+  c.new-4.ensures ∙ sym (ap places c.new-3.ensures),
+)

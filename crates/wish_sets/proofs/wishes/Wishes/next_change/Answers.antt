@@ -23,7 +23,7 @@ shown_place (Err change) = refl
 
 pub returns-in-Ok-clause-change : goal.returns-in-Ok-clause-change
 returns-in-Ok-clause-change c =
-    let next = next_is c.self.inside.wants c.self.inside.slots.items c.self.inside.fixed c.self.invariant in
+    let next = next_is c.self.inside.wants c.self.inside.slots.items c.self.inside.fixed c.self.invariant.0 in
     let none = rw (c.deref.ensures.value) at c.in-Ok.ensures in
     let found = rw (c.deref-in-Ok.ensures.value) at c.unset.ensures in
     rw (← c.self.view_is, next, ← none) (ap (option_map change_shown) c.err.ensures.value
@@ -31,7 +31,7 @@ returns-in-Ok-clause-change c =
 
 pub returns-in-Ok-clause-place : goal.returns-in-Ok-clause-place
 returns-in-Ok-clause-place c =
-    let next = place_is c.self.inside.wants c.self.inside.slots.items c.self.inside.fixed c.self.invariant in
+    let next = place_is c.self.inside.wants c.self.inside.slots.items c.self.inside.fixed c.self.invariant.0 in
     let none = rw (c.deref.ensures.value) at c.in-Ok.ensures in
     let found = rw (c.deref-in-Ok.ensures.value) at c.unset.ensures in
     rw (← c.self.view_is, next, ← none) (ap (option_map place_shown) c.err.ensures.value
@@ -39,12 +39,12 @@ returns-in-Ok-clause-place c =
 
 pub returns-in-Err-clause-change : goal.returns-in-Err-clause-change
 returns-in-Err-clause-change c =
-    let next = next_is c.self.inside.wants c.self.inside.slots.items c.self.inside.fixed c.self.invariant in
+    let next = next_is c.self.inside.wants c.self.inside.slots.items c.self.inside.fixed c.self.invariant.0 in
     let found = rw (c.deref.ensures.value) at c.in-Err.ensures in
     rw (← c.self.view_is, next, ← found) refl
 
 pub returns-in-Err-clause-place : goal.returns-in-Err-clause-place
 returns-in-Err-clause-place c =
-    let next = place_is c.self.inside.wants c.self.inside.slots.items c.self.inside.fixed c.self.invariant in
+    let next = place_is c.self.inside.wants c.self.inside.slots.items c.self.inside.fixed c.self.invariant.0 in
     let found = rw (c.deref.ensures.value) at c.in-Err.ensures in
     rw (← c.self.view_is, next, ← found) refl

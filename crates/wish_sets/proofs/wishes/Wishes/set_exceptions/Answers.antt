@@ -3,12 +3,14 @@ use Rattle.wish_sets.proofs.ThrownLaws.{thrown_is, thrown_kept}
 use Rattle.wish_sets.proofs.wishes.Wishes.set_exceptions.Goals as goal
 
 pub invariant_of-self : goal.invariant_of-self
-invariant_of-self c =
-    rw c.want_thrown.ensures (thrown_kept c.self.inside.wants c.self.inside.slots.items c.self.inside.fixed
-    c.self.invariant c.args.caught c.args.uncaught)
+invariant_of-self c = (
+  rw c.want_thrown.ensures (thrown_kept c.self.inside.wants c.self.inside.slots.items c.self.inside.fixed
+      c.self.invariant.0 c.args.caught c.args.uncaught),
+  c.self.invariant.1,
+)
 
 pub returns : goal.returns
 returns c =
     rw (c.want_thrown.ensures, ← c.self.view_is) (thrown_is c.self.inside.wants c.self.inside.slots.items
     c.self.inside.fixed
-    c.self.invariant c.args.caught c.args.uncaught)
+    c.self.invariant.0 c.args.caught c.args.uncaught)

@@ -6,30 +6,35 @@ use Rattle.wish_sets.proofs.wishes.Wishes.set_functions.Goals as goal
 pub form-requires : goal.form-requires
 form-requires c =
     in_order_now c.self.inside.wants c.self.inside.wants refl refl refl c.self.inside.slots.items c.self.inside.fixed
-    c.self.invariant
+    c.self.invariant.0
 
 pub invariant_of-self : goal.invariant_of-self
 invariant_of-self c =
-    rw c.replace-before.ensures.value (wider_kept c.self.inside.wants c.self.inside.wants refl refl refl
-    c.self.inside.slots.items c.self.inside.fixed c.self.invariant c.form.new.slots.items c.in-Err.ensures.err)
+    rw c.replace-before.ensures.value (
+      wider_kept c.self.inside.wants c.self.inside.wants refl refl refl
+          c.self.inside.slots.items c.self.inside.fixed c.self.invariant.0 c.form.new.slots.items c.in-Err.ensures.err,
+      c.in-Err.ensures.same ∙ c.self.invariant.1,
+    )
 
 pub returns-in-Err-clause-err : goal.returns-in-Err-clause-err
 returns-in-Err-clause-err c =
     rw c.replace-before.ensures.value (wider_is c.self.inside.wants c.self.inside.wants refl refl refl
-    c.self.inside.slots.items c.self.inside.fixed c.self.invariant c.form.new.slots.items c.in-Err.ensures.err
+    c.self.inside.slots.items c.self.inside.fixed c.self.invariant.0 c.form.new.slots.items c.in-Err.ensures.err
     ∙ c.self.view_is)
 
 pub invariant_of-self-in_default : goal.invariant_of-self-in_default
-invariant_of-self-in_default c =
-    formed_kept c.self.inside.wants (record c.self.inside.wants { functions = c.replace-before.new.dest }) refl refl
-    refl
-    c.self.inside.slots.items c.self.inside.fixed c.self.invariant c.form.new.slots.items c.in_default.ensures.ok
+invariant_of-self-in_default c = (
+  formed_kept c.self.inside.wants (record c.self.inside.wants { functions = c.replace-before.new.dest }) refl refl
+      refl
+      c.self.inside.slots.items c.self.inside.fixed c.self.invariant.0 c.form.new.slots.items c.in_default.ensures.ok,
+  c.in_default.ensures.places,
+)
 
 pub returns-clause-ok : goal.returns-clause-ok
 returns-clause-ok c =
     rw (← c.self.view_is, ← c.replace-before.ensures.after)
     (formed_is c.self.inside.wants (record c.self.inside.wants { functions = c.replace-before.new.dest }) refl refl refl
-    c.self.inside.slots.items c.self.inside.fixed c.self.invariant c.form.new.slots.items c.in_default.ensures.ok)
+    c.self.inside.slots.items c.self.inside.fixed c.self.invariant.0 c.form.new.slots.items c.in_default.ensures.ok)
 
 pub returns-clause-bound : goal.returns-clause-bound
 returns-clause-bound c =
@@ -37,4 +42,4 @@ returns-clause-bound c =
     c.self.inside.fixed
     (formed_kept c.self.inside.wants (record c.self.inside.wants { functions = c.replace-before.new.dest }) refl refl
     refl
-    c.self.inside.slots.items c.self.inside.fixed c.self.invariant c.form.new.slots.items c.in_default.ensures.ok)
+    c.self.inside.slots.items c.self.inside.fixed c.self.invariant.0 c.form.new.slots.items c.in_default.ensures.ok)

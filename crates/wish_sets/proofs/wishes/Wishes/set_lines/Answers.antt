@@ -10,33 +10,39 @@ use Rattle.wish_sets.proofs.wishes.Wishes.set_lines.Goals as goal
 pub form-requires : goal.form-requires
 form-requires c =
     in_order_now c.self.inside.wants c.self.inside.wants refl refl refl c.self.inside.slots.items c.self.inside.fixed
-    c.self.invariant
+    c.self.invariant.0
 
 pub take_back-requires : goal.take_back-requires
 take_back-requires c = c.in_ok-before.ensures.still
 
 pub invariant_of-self-in-Err : goal.invariant_of-self-in-Err
 invariant_of-self-in-Err c =
-    rw (c.take_back.ensures, c.in_ok-before.ensures.back) (wider_kept c.self.inside.wants c.self.inside.wants refl refl
-    refl c.self.inside.slots.items c.self.inside.fixed c.self.invariant c.form.new.slots.items c.in-Err.ensures.err)
+    rw (c.take_back.ensures, c.in_ok-before.ensures.back) (
+      wider_kept c.self.inside.wants c.self.inside.wants refl refl
+          refl c.self.inside.slots.items c.self.inside.fixed c.self.invariant.0 c.form.new.slots.items
+          c.in-Err.ensures.err,
+      c.in-Err.ensures.same ∙ c.self.invariant.1,
+    )
 
 pub returns-in-Err-clause-err : goal.returns-in-Err-clause-err
 returns-in-Err-clause-err c =
     rw (c.take_back.ensures, c.in_ok-before.ensures.back) (wider_is c.self.inside.wants c.self.inside.wants refl refl
-    refl c.self.inside.slots.items c.self.inside.fixed c.self.invariant c.form.new.slots.items c.in-Err.ensures.err
+    refl c.self.inside.slots.items c.self.inside.fixed c.self.invariant.0 c.form.new.slots.items c.in-Err.ensures.err
     ∙ c.self.view_is)
 
 pub invariant_of-self-in_default : goal.invariant_of-self-in_default
-invariant_of-self-in_default c =
-    formed_kept c.self.inside.wants (record c.self.inside.wants { lists = c.put_at.new.entries }) refl refl refl
-    c.self.inside.slots.items c.self.inside.fixed c.self.invariant c.form.new.slots.items c.in_default.ensures.ok
+invariant_of-self-in_default c = (
+  formed_kept c.self.inside.wants (record c.self.inside.wants { lists = c.put_at.new.entries }) refl refl refl
+      c.self.inside.slots.items c.self.inside.fixed c.self.invariant.0 c.form.new.slots.items c.in_default.ensures.ok,
+  c.in_default.ensures.places,
+)
 
 pub returns-clause-ok : goal.returns-clause-ok
 returns-clause-ok c =
     let place = rw c.deref.ensures.value at c.list_at-at.ensures.place in
     rw (← c.self.view_is)
     (formed_is c.self.inside.wants (record c.self.inside.wants { lists = c.put_at.new.entries }) refl refl refl
-    c.self.inside.slots.items c.self.inside.fixed c.self.invariant c.form.new.slots.items c.in_default.ensures.ok
+    c.self.inside.slots.items c.self.inside.fixed c.self.invariant.0 c.form.new.slots.items c.in_default.ensures.ok
     ∙ ap (λ lists. rewished (record (wanted_by c.self.inside.wants) { lists = lists })
     (wishes_by c.self.inside.wants (c.self.inside.slots.items ++ c.self.inside.fixed)))
     (c.in_ok-before.ensures.ok ∙ put_is bytes_eq c.args.key c.args.entries c.self.inside.wants.lists.items
@@ -47,4 +53,4 @@ returns-clause-bound c =
     few_wishes (record c.self.inside.wants { lists = c.put_at.new.entries }) c.form.new.slots.items
     c.self.inside.fixed
     (formed_kept c.self.inside.wants (record c.self.inside.wants { lists = c.put_at.new.entries }) refl refl refl
-    c.self.inside.slots.items c.self.inside.fixed c.self.invariant c.form.new.slots.items c.in_default.ensures.ok)
+    c.self.inside.slots.items c.self.inside.fixed c.self.invariant.0 c.form.new.slots.items c.in_default.ensures.ok)

@@ -4,12 +4,14 @@ use Rattle.wish_sets.proofs.StepKept.{step_is, step_kept}
 use Rattle.wish_sets.proofs.wishes.Wishes.set_step.Goals as goal
 
 pub invariant_of-self : goal.invariant_of-self
-invariant_of-self c =
-    rw c.want_step.ensures (step_kept c.self.inside.wants c.self.inside.slots.items c.self.inside.fixed
-    c.self.invariant (Some (record { thread = c.args.thread; depth = c.args.depth })))
+invariant_of-self c = (
+  rw c.want_step.ensures (step_kept c.self.inside.wants c.self.inside.slots.items c.self.inside.fixed
+      c.self.invariant.0 (Some (record { thread = c.args.thread; depth = c.args.depth }))),
+  c.self.invariant.1,
+)
 
 pub returns : goal.returns
 returns c =
     rw (c.want_step.ensures, ← c.self.view_is) (step_is c.self.inside.wants c.self.inside.slots.items
     c.self.inside.fixed
-    c.self.invariant (Some (record { thread = c.args.thread; depth = c.args.depth })))
+    c.self.invariant.0 (Some (record { thread = c.args.thread; depth = c.args.depth })))
