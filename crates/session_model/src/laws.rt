@@ -23,9 +23,9 @@ pub fn last_words_are_those_of_the_ending()
 /// What the client is sent are the frames of what it is told, numbered 1, 2, 3, and so on; what the target is sent are
 /// its handshake, and the packets of the commands, with the ids 1, 2, 3, and so on; in order, with nothing between
 /// them, and then the last words to that side. A body is spelled with sizes of ids that serve where it is sent, all of
-/// which give the same. Behind
-/// them stands less than the whole of one more only where that side's link failed (DAP overview, Base protocol; DAP
-/// specification, Base Protocol, ProtocolMessage, `seq`; JDWP, JDWP Start Up; JDWP, JDWP Packets, command packet).
+/// which give the same. Behind them stands less than the whole of one more only where that side's link failed (DAP
+/// overview, Base protocol; DAP specification, Base Protocol, ProtocolMessage, `seq`; JDWP, JDWP Start Up; JDWP, JDWP
+/// Packets, command packet).
 pub fn each_side_is_sent_its_messages()
     ensures { SidesAreSent }
 {}
