@@ -1,6 +1,5 @@
 -- How wishes are kept: a slot for each that is wished or installed, in wish order, and fixed ones for exceptions and
--- for
--- steps, so that these take no memory.
+-- for steps, so that these take no memory.
 use Rattle.std.specs.Prelude.{◌≡◌, ◌+◌, ◌<◌, ◌^◌, ◌&&◌, ◌||◌, not, Bool, true, false, if◌then◌else◌}
 use Rattle.std.specs.Prelude.{List, [], ◌∷◌, ◌++◌, map, length, Option, Some, None, is_some}
 use Rattle.std.specs.List.{AllByRecursion}

@@ -125,8 +125,7 @@ impl Wishes {
     }
 
     /// Replaces the functions to stop in. `NoMemory` comes where memory is refused, or where 2^31 or more would be
-    /// wished
-    /// or installed; then nothing changes (DAP specification, SetFunctionBreakpoints request).
+    /// wished or installed; then nothing changes (DAP specification, SetFunctionBreakpoints request).
     pub fn set_functions(
         &mut self,
         alloc: Global,
@@ -145,11 +144,9 @@ impl Wishes {
     }
 
     /// Copies what is known of a class: its tag, its signature, its source, whether it is prepared, its methods and
-    /// their
-    /// lines. A class that was not loaded changes nothing, nor does one that is made known again with nothing new.
-    /// `NoMemory` comes where memory is refused, or where 2^31 or more would be wished or installed; then nothing
-    /// changes
-    /// (JDWP, VirtualMachine command set, AllClasses; JDWP, Event command set, Composite, ClassPrepare).
+    /// their lines. A class that was not loaded changes nothing, nor does one that is made known again with nothing
+    /// new. `NoMemory` comes where memory is refused, or where 2^31 or more would be wished or installed; then nothing
+    /// changes (JDWP, VirtualMachine command set, AllClasses; JDWP, Event command set, Composite, ClassPrepare).
     pub fn class_known(
         &mut self,
         alloc: Global,
@@ -205,9 +202,8 @@ impl Wishes {
     }
 
     /// Whether the classes of a package are wished as they are prepared, by the path that a signature has, in bytes
-    /// with
-    /// `/` between its parts and empty in the default package. It takes no memory (JDWP, EventRequest command set, Set,
-    /// ClassMatch).
+    /// with `/` between its parts and empty in the default package. It takes no memory (JDWP, EventRequest command set,
+    /// Set, ClassMatch).
     pub fn is_watched(&self, path: &[u8]) -> bool
         ensures { result ≡ is_watched self.now.wanted path.now }
     {
@@ -215,8 +211,7 @@ impl Wishes {
     }
 
     /// Whether a source is listed, with an entry at least, by the path of its package and the name of its file. It
-    /// takes
-    /// no memory (DAP specification, SetBreakpoints request).
+    /// takes no memory (DAP specification, SetBreakpoints request).
     pub fn is_listed(&self, path: &[u8], file: &[u8]) -> bool
         ensures { result ≡ is_listed self.now.wanted (record { package_path = path.now; file = file.now }) }
     {
