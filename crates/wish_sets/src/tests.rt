@@ -182,29 +182,50 @@ fn an_event_belongs_to_the_wish_of_its_kind_and_id(rt: HostRuntime) -> Result<()
     Ok(())
 }
 
-// What is known of the class `Cart` of the default package, prepared: its method 7 `add` begins line 3 at index 4.
-fn shop(alloc: Global) -> Result<Classes, Fail> {
-    let mut classes = Classes::new(alloc);
-    let class = ClassId(5);
-    let signature = Blob::from_slice(alloc, b"LCart;")?;
-    classes.learn(class, TypeTag::Class, signature, true)?;
-    classes.learn_source(class, Some(Blob::from_slice(alloc, b"Cart.java")?))?;
-    let mut methods = List::new(alloc);
-    methods.push(Method {
+// The method 7 of the class `Cart`: its name is `add`.
+fn add_method(alloc: Global) -> Result<Method, Fail> {
+    Ok(Method {
         id: MethodId(7),
         name: Blob::from_slice(alloc, b"add")?,
         signature: Blob::from_slice(alloc, b"()V")?,
         bits: 0,
-    })?;
-    classes.learn_methods(class, methods)?;
-    let mut lines = List::new(alloc);
-    lines.push(Line { index: 4, line: 3 })?;
-    let table = LineTable {
+    })
+}
+
+// Its line 3 begins at index 4.
+fn add_lines(alloc: Global) -> Result<LineTable, Fail> {
+    let line = Line { index: 4, line: 3 };
+    Ok(LineTable {
         start: 0,
         end: 9,
-        lines,
-    };
-    classes.learn_lines(class, MethodId(7), Some(table))?;
+        lines: List::from_slice(alloc, &[line])?,
+    })
+}
+
+// Learns the class `Cart` of the default package, prepared.
+fn learn_cart(classes: &mut Classes, alloc: Global) -> Result<(), Fail> {
+    let signature = Blob::from_slice(alloc, b"LCart;")?;
+    classes.learn(ClassId(5), TypeTag::Class, signature, true)?;
+    let source = Blob::from_slice(alloc, b"Cart.java")?;
+    classes.learn_source(ClassId(5), Some(source))?;
+    Ok(())
+}
+
+// Learns its method and the lines of it.
+fn learn_method(classes: &mut Classes, alloc: Global) -> Result<(), Fail> {
+    let mut methods = List::new(alloc);
+    methods.push(add_method(alloc)?)?;
+    classes.learn_methods(ClassId(5), methods)?;
+    let lines = add_lines(alloc)?;
+    classes.learn_lines(ClassId(5), MethodId(7), Some(lines))?;
+    Ok(())
+}
+
+// What is known of `Cart`.
+fn shop(alloc: Global) -> Result<Classes, Fail> {
+    let mut classes = Classes::new(alloc);
+    learn_cart(&mut classes, alloc)?;
+    learn_method(&mut classes, alloc)?;
     Ok(classes)
 }
 
