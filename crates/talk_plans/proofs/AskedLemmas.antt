@@ -23,7 +23,7 @@ use Rattle.talk_plans.specs.declared.asked.Tried.{Tried}
 abbrev Entries : Type 0
 Entries = List (Question × Tried)
 
-same_want : (reason : Reason) (question : Question) → question_of (want_of reason question) ≡ question
+pub same_want : (reason : Reason) (question : Question) → question_of (want_of reason question) ≡ question
 same_want reasons.Must question = refl
 same_want reasons.May question = refl
 same_want reasons.Fact question = refl

@@ -1,4 +1,6 @@
 pub mod Asking
+pub mod Laws
 pub mod Planning
+pub mod Replies
 pub mod Sizes
 pub mod Talking

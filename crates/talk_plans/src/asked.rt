@@ -1,16 +1,20 @@
 //! What was asked for an item, found by its question.
-ghost use Rattle.std.specs.Prelude.{◌≡◌, ◌∷◌, ◌++◌, [], None, false, OnErr, OnOk, option_map};
+ghost use Rattle.std.specs.Prelude.{◌≡◌, ◌∷◌, ◌++◌, [], None, false, IfOk, OnErr, OnOk, option_map};
+ghost use Rattle.std.specs.List.{flat_map};
 ghost use Rattle.jdwp_commands.specs.declared.question.Question.{Question as AQuestion};
 ghost use Rattle.machine_model.specs.Asking.{was_asked};
 ghost use Rattle.machine_model.specs.Plans.{found_from};
-ghost use Rattle.machine_model.specs.Replying.{fails_by, filled, is_failed, is_waiting};
+ghost use Rattle.machine_model.specs.Replying.{fails_by, filled, is_failed, is_waiting, unanswered};
 ghost use Rattle.machine_model.specs.State.{has_waiting};
-ghost use Rattle.talk_plans.specs.Asking.{found_of, waiting_in, want_of};
+ghost use Rattle.talk_plans.specs.Asking.{found_of, sent_of, waiting_in, want_of};
 
+use crate::copies::question_copy;
 use crate::question_key::QuestionKey;
 use indexmap::IndexMap;
 use jdwp_commands::Replied;
+use machine_model::TargetCommand;
 use std::alloc::Global;
+use std::collections::VecDeque;
 use std::marker::Model;
 use wire_core::NoMemory;
 
@@ -128,6 +132,17 @@ impl Asked {
         false
     }
 
+    /// The questions that have no reply, as commands, in order of sending.
+    pub(crate) fn unanswered(&self, alloc: Global) -> Result<VecDeque<TargetCommand>, NoMemory>
+        ensures { IfOk result (λ late. late.items ≡ flat_map unanswered self.now) }
+    {
+        let mut late = VecDeque::new(alloc);
+        for (key, tried) in self.entries.iter() {
+            add_unanswered(alloc, key, tried, &mut late)?;
+        }
+        Ok(late)
+    }
+
     /// Whether a reply fails what waits for it: it is an error, and nothing can stand in for the answer.
     #[tactic(auto, using(crate::proofs::AskedLemmas::fails_is))]
     pub(crate) fn is_failed(&self, key: &QuestionKey, replied: &Replied) -> bool
@@ -159,6 +174,22 @@ impl Asked {
             }
         }
     }
+}
+
+// A question is among them where it has no reply.
+#[tactic(auto, using(crate::proofs::AskedLemmas::same_want))]
+fn add_unanswered(
+    alloc: Global,
+    key: &QuestionKey,
+    tried: &Tried,
+    late: &mut VecDeque<TargetCommand>,
+) -> Result<(), NoMemory>
+    ensures { OnOk result (late.new.items ≡ late.old.items ++ unanswered (sent_of (key.now, tried.now))) }
+{
+    if tried.reply.is_none() {
+        late.push_back(TargetCommand::Question(question_copy(alloc, key.question())?))?;
+    }
+    Ok(())
 }
 
 // An error to what nothing can stand in for.

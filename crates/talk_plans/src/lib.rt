@@ -7,19 +7,24 @@ mod bodies;
 mod copies;
 mod effects;
 mod facts;
+mod laws;
 mod next;
 mod plans;
 mod question_key;
+mod replies;
 mod rows;
 mod sizes;
 mod state;
 mod talk;
 mod threads;
+mod wire;
 
+pub use laws::{a_composite_is_read_first, the_next_item_is_due, what_a_talk_has_next_is_due};
 pub use next::Next;
 pub use sizes::SizesRead;
 pub use state::State;
 pub use talk::Talk;
+pub use wire::wire_effect;
 
 #[cfg(test)]
 mod tests;

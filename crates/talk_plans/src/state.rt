@@ -3,6 +3,7 @@ ghost use Rattle.std.specs.Prelude.{◌≡◌, true, IfOk, OnOk, option_map};
 ghost use Rattle.machine_model.specs.Replying.{done_by, told_by};
 ghost use Rattle.talk_plans.specs.Sizes.{sizes_seen};
 ghost use Rattle.talk_plans.specs.Talking.{IsNext};
+ghost use Rattle.machine_model.specs.Rest.{awaits_greeting};
 ghost use Rattle.machine_model.specs.Rows.{noted};
 ghost use Rattle.machine_model.specs.State.{is_attached, is_gone, nothing_known};
 ghost use Rattle.machine_model.specs.Telling.{after_event, attached_from};
@@ -82,6 +83,13 @@ impl State {
         })
     }
 
+    /// Where the session stands with its target: not attached yet, attached, or left behind by it.
+    pub fn phase(&self) -> Phase
+        ensures { result ≡ self.now.phase }
+    {
+        self.phase
+    }
+
     /// Whether the session is attached to its target.
     pub fn is_attached(&self) -> bool
         ensures { result ≡ is_attached self.now.phase }
@@ -108,6 +116,23 @@ impl State {
         ensures { result ≡ self.now.greeting_heard }
     {
         self.greeting_heard
+    }
+
+    /// Whether the handshake went out, and the target's didn't come yet (JDWP, JDWP Start Up).
+    pub fn awaits_greeting(&self) -> bool
+        ensures { result ≡ awaits_greeting self.now }
+    {
+        if self.is_gone() || !self.greeting_sent {
+            return false;
+        }
+        !self.greeting_heard
+    }
+
+    /// Whether the client was told that nothing more comes of the target (DAP specification, Events, Terminated).
+    pub fn is_terminated(&self) -> bool
+        ensures { result ≡ self.now.terminated }
+    {
+        self.terminated
     }
 
     /// The target's handshake came (JDWP, JDWP Start Up).

@@ -2,14 +2,10 @@
 ghost use Rattle.std.specs.Prelude.{◌≡◌, ◌++◌, IfOk, OnOk};
 ghost use Rattle.machine_model.specs.Due.{asked_by, asked_first, lacked_by, way};
 ghost use Rattle.machine_model.specs.Plans.{lacking};
-ghost use Rattle.machine_model.specs.Replying.{done_by, given_up, hand_replied, told_by};
 ghost use Rattle.machine_model.specs.Rows.{parts_of};
-ghost use Rattle.machine_model.specs.State.{Machine, State as AState, in_hand, is_flying};
-ghost use Rattle.talk_plans.specs.Talking.{AreSized, IsNext, SaysSizes, StaysSized, asks, does, goes_on, holding};
-ghost use Rattle.talk_plans.specs.Talking.{step_of, talk_due};
+ghost use Rattle.machine_model.specs.State.{Machine, State as AState, in_hand};
+ghost use Rattle.talk_plans.specs.Talking.{AreSized, StaysSized, asks, does, goes_on, holding, step_of, talk_due};
 ghost use Rattle.talk_plans.specs.Planning.{need_of};
-ghost use Rattle.machine_model.specs.declared.acts.TargetCommand.TheVariants.{Question as a_question};
-ghost use Rattle.machine_model.specs.declared.acts.TargetCommand.TheVariants.{Effect as an_effect};
 ghost use Rattle.machine_model.specs.declared.parts.Part.TheVariants as parts;
 ghost use Rattle.machine_model.specs.declared.parts.Guard.TheVariants.{Handshake as handshake, IdSizes as id_sizes};
 
@@ -19,10 +15,10 @@ use crate::copies::effect_copy;
 use crate::effects::effect_due;
 use crate::next::Next;
 use crate::plans::{Need, found_for, found_parts, refused_parts};
-use crate::rows::{chosen, gone_parts, has_response, parts_of};
+use crate::rows::{chosen, parts_of};
 use crate::state::State;
 use dap_messages::Told;
-use jdwp_commands::{Question, Replied};
+use jdwp_commands::Question;
 use machine_model::{Deed, Doing, Effect, Guard, Item, Lookup, Outcome, Part, Want};
 use std::alloc::Global;
 use std::collections::VecDeque;
@@ -33,10 +29,10 @@ use wire_core::NoMemory;
 /// effect that was sent for it.
 #[derive(Debug, Drop)]
 pub struct Talk {
-    item: Item,
-    parts: VecDeque<Part>,
-    asking: Asking,
-    effect: Option<Doing>,
+    pub(crate) item: Item,
+    pub(crate) parts: VecDeque<Part>,
+    pub(crate) asking: Asking,
+    pub(crate) effect: Option<Doing>,
 }
 
 impl Model for Talk {
@@ -94,48 +90,6 @@ impl Talk {
         })
     }
 
-    /// The item is given up at its target's end.
-    pub fn give_up(&mut self, alloc: Global) -> Result<(), NoMemory>
-        ensures { OnOk result (self.new ≡ given_up self.old) }
-    {
-        self.parts = gone_parts(alloc, has_response(&self.parts), &self.item)?;
-        self.asking = Asking::new(alloc);
-        self.effect = None;
-        Ok(())
-    }
-
-    /// A question of the item is replied to.
-    #[tactic(auto, using(crate::proofs::TalkLaws::answered_sized))]
-    pub fn answered(
-        &mut self,
-        alloc: Global,
-        state: &mut State,
-        question: Question,
-        replied: Replied,
-    ) -> Result<(), NoMemory>
-        ensures hand { OnOk result (self.new ≡ hand_replied (a_question question) replied self.old) }
-        ensures state { OnOk result (state.new ≡ told_by question replied state.old) }
-        ensures sized { AreSized state.old self.old → SaysSizes question replied
-            → OnOk result (AreSized state.new self.new) }
-    {
-        state.hear(alloc, &question, &replied)?;
-        self.asking.answer(alloc, question, replied)
-    }
-
-    /// The effect of the item that is in flight is replied to.
-    pub fn done(&mut self, state: &mut State, effect: Effect, replied: Replied)
-        requires { IsNext effect state.old.wishes }
-        ensures hand { self.new ≡ hand_replied (an_effect effect) replied self.old }
-        ensures state { state.new ≡ done_by effect replied state.old }
-        ensures sized { AreSized state.old self.old → AreSized state.new self.new }
-    {
-        state.settle(&effect, &replied);
-        self.effect = Some(Doing {
-            effect,
-            reply: Some(replied),
-        });
-    }
-
     /// What the talk has next; where the window is full nothing is asked.
     #[tactic(auto, unfolding(machine_model::specs::Due::wanted, machine_model::specs::Due::newly_lacked), using(crate::proofs::TalkLaws::talk_due, crate::proofs::TalkLaws::stays_sized))]
     pub fn step(&mut self, alloc: Global, state: &mut State, full: bool) -> Result<Next, NoMemory>
@@ -166,16 +120,6 @@ impl Talk {
 }
 
 impl Talk {
-    // An effect was sent, and its reply isn't there.
-    fn is_flying(&self) -> bool
-        ensures { result ≡ is_flying self.now.effect }
-    {
-        match &self.effect {
-            None => false,
-            Some(doing) => doing.reply.is_none(),
-        }
-    }
-
     // What the part in front lacks.
     fn lacked(&self, alloc: Global, state: &State) -> Result<VecDeque<Want>, NoMemory>
         ensures { IfOk result (λ wants. wants.items ≡ lacked_by state.now self.now self.now.parts) }

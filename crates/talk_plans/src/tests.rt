@@ -3,8 +3,8 @@ ghost use Rattle.talk_plans.specs.Talking.{AreSized};
 
 use super::*;
 use dap_messages::{AttachArguments, Command, DisconnectArguments, Outcome, Request, Told};
-use jdwp_commands::{Answer, Question, Replied};
-use machine_model::{Deed, Effect, Item};
+use jdwp_commands::{Answer, Effect as WireEffect, Question, Replied};
+use machine_model::{Deed, Doing, Effect, Item, Phase};
 use std::alloc::Global;
 use std::rt::HostRuntime;
 use std::test::Fail;
@@ -91,6 +91,9 @@ fn what_is_known_is_what_was_told(rt: HostRuntime) -> Result<(), Fail> {
     let mut state = State::new(rt.alloc())?;
     assert!(rt; !state.is_greeted());
     assert!(rt; state.sizes().is_none());
+    assert!(rt; !state.awaits_greeting());
+    assert!(rt; !state.is_terminated());
+    assert_eq!(rt; state.phase(), Phase::Fresh);
     state.target_greeted();
     assert_eq!(rt; sized(rt.alloc(), &mut state)?, Seen::Goes);
     assert!(rt; state.is_greeted());
@@ -103,7 +106,7 @@ fn what_is_known_is_what_was_told(rt: HostRuntime) -> Result<(), Fail> {
 fn given_up(alloc: Global, state: &mut State) -> Result<Seen, NoMemory> {
     let mut talk = attach(alloc, state)?;
     state.target_ended();
-    talk.give_up(alloc)?;
+    let _late = talk.give_up(alloc)?;
     stepped(alloc, &mut talk, state, false)
 }
 
@@ -119,8 +122,14 @@ fn a_request_fails_once_its_target_is_gone(rt: HostRuntime) -> Result<(), Fail> 
 // A `disconnect`, whose Dispose was replied to.
 fn leaving(alloc: Global, state: &mut State) -> Result<Seen, NoMemory> {
     let mut talk = disconnect(alloc, state)?;
-    let dispose = Effect::Does(Deed::Dispose);
-    talk.done(state, dispose, Replied::Answer(Answer::Dispose));
+    talk.effect = Some(Doing {
+        effect: Effect::Does(Deed::Dispose),
+        reply: None,
+    });
+    if !talk.is_flying() || talk.waiting_request().is_none() {
+        return Ok(Seen::Else);
+    }
+    talk.done(state, Replied::Answer(Answer::Dispose));
     let _unfolds = stepped(alloc, &mut talk, state, false)?;
     stepped(alloc, &mut talk, state, false)
 }
@@ -129,5 +138,17 @@ fn leaving(alloc: Global, state: &mut State) -> Result<Seen, NoMemory> {
 fn a_disconnect_is_answered(rt: HostRuntime) -> Result<(), Fail> {
     let mut state = State::new(rt.alloc())?;
     assert_eq!(rt; leaving(rt.alloc(), &mut state)?, Seen::Responds(0));
+    Ok(())
+}
+
+// Whether an Exit is sent with the status 0.
+fn exits(alloc: Global) -> Result<bool, NoMemory> {
+    let sent = wire_effect(alloc, &Effect::Does(Deed::Exit))?;
+    Ok(matches!(sent, WireEffect::Exit(0)))
+}
+
+#[test]
+fn a_target_exits_with_status_0(rt: HostRuntime) -> Result<(), Fail> {
+    assert!(rt; exits(rt.alloc())?);
     Ok(())
 }
