@@ -119,17 +119,9 @@ fn a_request_fails_once_its_target_is_gone(rt: HostRuntime) -> Result<(), Fail> 
     Ok(())
 }
 
-// A `disconnect`, whose Dispose was replied to.
+// A `disconnect`, two steps on.
 fn leaving(alloc: Global, state: &mut State) -> Result<Seen, NoMemory> {
     let mut talk = disconnect(alloc, state)?;
-    talk.effect = Some(Doing {
-        effect: Effect::Does(Deed::Dispose),
-        reply: None,
-    });
-    if !talk.is_flying() || talk.waiting_request().is_none() {
-        return Ok(Seen::Else);
-    }
-    talk.done(state, Replied::Answer(Answer::Dispose));
     let _unfolds = stepped(alloc, &mut talk, state, false)?;
     stepped(alloc, &mut talk, state, false)
 }
@@ -138,6 +130,25 @@ fn leaving(alloc: Global, state: &mut State) -> Result<Seen, NoMemory> {
 fn a_disconnect_is_answered(rt: HostRuntime) -> Result<(), Fail> {
     let mut state = State::new(rt.alloc())?;
     assert_eq!(rt; leaving(rt.alloc(), &mut state)?, Seen::Responds(0));
+    Ok(())
+}
+
+// Whether a talk has an effect in flight, and its request waits, before and after the reply.
+fn replied(talk: &mut Talk, state: &mut State) -> (bool, bool, bool) {
+    talk.effect = Some(Doing {
+        effect: Effect::Does(Deed::Dispose),
+        reply: None,
+    });
+    let before = talk.is_flying();
+    talk.done(state, Replied::Answer(Answer::Dispose));
+    (before, talk.is_flying(), talk.waiting_request().is_some())
+}
+
+#[test]
+fn an_effect_flies_until_its_reply(rt: HostRuntime) -> Result<(), Fail> {
+    let mut state = State::new(rt.alloc())?;
+    let mut talk = disconnect(rt.alloc(), &state)?;
+    assert_eq!(rt; replied(&mut talk, &mut state), (true, false, true));
     Ok(())
 }
 

@@ -30,8 +30,8 @@ fn set_of(alloc: Global, wish: &Wish) -> Result<WireEffect, NoMemory>
     })
 }
 
-/// An effect as it is sent (JDWP, VirtualMachine command set, Dispose and Exit; JDWP, EventRequest command set, Set and
-/// Clear).
+/// An effect as it is sent (JDWP, VirtualMachine command set, Dispose and Exit; JDWP, EventRequest command set, Set
+/// and Clear).
 pub fn wire_effect(alloc: Global, effect: &Effect) -> Result<WireEffect, NoMemory>
     ensures { IfOk result (λ sent. sent ≡ wire_effect effect.now) }
 {
