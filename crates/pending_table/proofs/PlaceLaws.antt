@@ -1,7 +1,7 @@
 -- What places hold after a command was added or taken out.
-use Rattle.std.proofs.Common.{◌≡◌, ℕ, zero, suc, ◌<◌, ◌≤◌, Bool, true, false, cond, List, [], ◌∷◌, ◌++◌, length, take}
+use Rattle.std.proofs.Common.{◌≡◌, ℕ, ◌+◌, zero, suc, ◌<◌, ◌≤◌, Bool, true, false, cond, List, [], ◌∷◌, ◌++◌, length, take}
 use Rattle.std.proofs.Common.{drop, set, get_or, Option, Some, None, refl, sym, ap, ◌∙◌, arith}
-use Rattle.std.specs.Prelude.{◌==◌, is_some, position}
+use Rattle.std.specs.Prelude.{◌==◌, is_some, nat_lt, option_map, position}
 use Rattle.std.specs.List.{remove, position_or_len}
 use Rattle.std.proofs.lemmas.Bool.{cond-true, cond-false, ltb-false}
 use Rattle.std.proofs.lemmas.List.{append-nil, take-append-drop, take-set, drop-set-lt, get_or-set_same}
@@ -9,7 +9,7 @@ use Rattle.std.proofs.lemmas.List.Quantifiers.{position-Some}
 use Rattle.std.proofs.lemmas.List.Sums.{fails_before_first}
 use Rattle.jdwp_commands.specs.declared.asked.Asked.{Asked}
 use Rattle.pending_table.specs.declared.place.Sent.{Sent}
-use Rattle.pending_table.specs.Windows.{pending_under, without}
+use Rattle.pending_table.specs.Windows.{pending_under, place_under, without}
 use Rattle.pending_table.specs.Places.{sent_in, holds, IsPacked}
 
 pub sent_in-append : (xs ys : List (Option Sent)) → sent_in (xs ++ ys) ≡ sent_in xs ++ sent_in ys
@@ -191,3 +191,38 @@ pub emptied : (xs : List (Option Sent)) (at : ℕ) (p : Option Sent) → p ≡ N
     → remove (set xs at p) at ++ get_or (set xs at p) at None ∷ [] ≡ remove xs at ++ None ∷ []
 emptied xs at p free within =
     rw (take-set xs at p, drop-set-lt (suc at) xs at p (omega arith), get_or-set_same xs at p None within, free) refl
+
+-- where nothing is held, no place holds an id
+none_holds : (id : ℕ) (xs : List (Option Sent)) → sent_in xs ≡ [] → position_or_len (holds id) xs ≡ length xs
+none_holds id [] e = refl
+none_holds id (None ∷ xs) e = let rest = none_holds id xs e in omega arith
+none_holds id (Some s ∷ xs) e = absurd cc
+
+less_none : (n count : ℕ) → n ≡ count → nat_lt (1 + n) (suc count) ≡ false
+less_none n count is = grind (arith, is)
+
+more_less : (n count : ℕ) → nat_lt (1 + n) (suc count) ≡ nat_lt n count
+more_less n count = grind arith
+
+first_less : (count : ℕ) → nat_lt 0 (suc count) ≡ true
+first_less count = grind arith
+
+-- the first place that holds an id is that of its command among those that are held
+pub placed : (id : ℕ) (xs : List (Option Sent)) → IsPacked xs
+    → position (holds id) xs ≡ place_under id (sent_in xs)
+placed id [] packed = refl
+placed id (None ∷ xs) packed =
+    rw (packed, less_none (position_or_len (holds id) xs) (length xs) (none_holds id xs packed)) refl
+placed id (Some s ∷ xs) packed = by_id (s.id == id) refl (placed id xs packed)
+  where
+    by_less : (less : Bool) → cond less (Some (1 + position_or_len (holds id) xs)) None
+        ≡ option_map (λ (n : ℕ). 1 + n) (cond less (Some (position_or_len (holds id) xs)) None)
+    by_less true = refl
+    by_less false = refl
+
+    by_id : (here : Bool) → (s.id == id) ≡ here → position (holds id) xs ≡ place_under id (sent_in xs)
+        → position (holds id) (Some s ∷ xs) ≡ place_under id ((s.id, s.asked) ∷ sent_in xs)
+    by_id true is rest = rw (is, first_less (length xs)) refl
+    by_id false is rest =
+        rw (is, sym rest, more_less (position_or_len (holds id) xs) (length xs))
+        (by_less (nat_lt (position_or_len (holds id) xs) (length xs)))

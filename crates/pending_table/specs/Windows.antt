@@ -1,7 +1,7 @@
 -- The window of pending commands (JDWP, JDWP Packets, id: a reply has the id of its command, and the sender sees to it
 -- that the ids of commands without a reply differ).
 use Rattle.std.specs.Prelude.{◌≡◌, ℕ, suc, ◌+◌, ◌-◌, ◌%◌, ◌^◌, Bool, ◌==◌, ◌||◌, if◌then◌else◌, List, [], ◌∷◌, ◌++◌}
-use Rattle.std.specs.Prelude.{length, Option, Some, None, is_some}
+use Rattle.std.specs.Prelude.{length, Option, Some, None, is_some, option_map}
 use Rattle.jdwp_commands.specs.declared.asked.Asked.{Asked}
 
 -- how many ids there are: all that four bytes hold, but 0
@@ -26,6 +26,11 @@ fresh = record { sent = []; next = 0 }
 abbrev pub pending_under : ℕ → List (ℕ × Asked) → Option Asked
 pending_under id [] = None
 pending_under id (s ∷ sent) = if s.0 == id then Some s.1 else pending_under id sent
+
+-- its place among those that are pending, from 0
+abbrev pub place_under : ℕ → List (ℕ × Asked) → Option ℕ
+place_under id [] = None
+place_under id (s ∷ sent) = if s.0 == id then Some 0 else option_map (λ (n : ℕ). 1 + n) (place_under id sent)
 
 -- all but that command
 abbrev pub without : ℕ → List (ℕ × Asked) → List (ℕ × Asked)

@@ -1,5 +1,5 @@
 ghost use Rattle.std.specs.Prelude.{◌≡◌, ◌<◌, [], ◌∷◌, ◌++◌, None, length, position, remove, slice_index_or, is_some};
-ghost use Rattle.pending_table.specs.Windows.{pending_under, without};
+ghost use Rattle.pending_table.specs.Windows.{pending_under, place_under, without};
 ghost use Rattle.pending_table.specs.Places.{holds, sent_in, IsPacked};
 
 use jdwp_commands::Asked;
@@ -27,6 +27,15 @@ fn place_of(places: &[Option<Sent>], id: u32) -> Option<usize>
     ensures { result ≡ position (holds id) places.now }
 {
     places.iter().position(|place| holds_id(place, id))
+}
+
+/// The place among the commands that wait of the one of this id.
+#[tactic(auto, using(crate::proofs::PlaceLaws::placed))]
+pub(crate) fn place(places: &[Option<Sent>], id: u32) -> Option<usize>
+    requires { IsPacked places.now }
+    ensures { result ≡ place_under id (sent_in places.now) }
+{
+    place_of(places, id)
 }
 
 /// Whether a command of this id waits.

@@ -29,6 +29,8 @@ fn a_reply_settles_the_command_of_its_id(rt: HostRuntime) {
     assert_eq!(rt; pending.send(Asked::Question(Question::AllClasses)), 2);
     assert!(rt; !pending.is_full());
     assert_eq!(rt; pending.send(Asked::Effect(Effect::Suspend)), 3);
+    assert_eq!(rt; pending.place(2), Some(1));
+    assert_eq!(rt; pending.place(4), None);
     for (id, want) in [
         (4, Err(UnknownReply(4))),
         (2, Ok("AllClasses")),

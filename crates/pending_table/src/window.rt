@@ -1,7 +1,8 @@
 ghost use Rattle.std.specs.Prelude.{◌≡◌, ◌<◌, ◌-◌, ◌^◌, [], IsTrue, ◌↔◌, false, None, Some, MatchResult, OnOk, OnErr};
-ghost use Rattle.pending_table.specs.Windows.{fresh, id_of, pending_under, is_full, with_sent, settled};
+ghost use Rattle.pending_table.specs.Windows.{fresh, id_of, pending_under, place_under, is_full};
+ghost use Rattle.pending_table.specs.Windows.{with_sent, settled};
 
-use crate::place::{Sent, put, take_out, waits};
+use crate::place::{Sent, place, put, take_out, waits};
 use jdwp_commands::Asked;
 use std::marker::Model;
 
@@ -78,6 +79,13 @@ impl Pending {
         self.count += 1;
         self.next = (self.next + 1) % u32::MAX;
         id
+    }
+
+    /// The place among those that wait of the command that is pending under an id, in the order of sending, from 0.
+    pub fn place(&self, id: u32) -> Option<usize>
+        ensures { result ≡ place_under id self.now.sent }
+    {
+        place(&self.places, id)
     }
 
     /// Takes the command out that a reply of this id answers, and leaves all others; where none is pending under the

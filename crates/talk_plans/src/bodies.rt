@@ -81,12 +81,9 @@ pub(crate) fn outcome_told(
     }
 }
 
-/// The response to a request: its sequence number and its command come back.
-pub(crate) fn response_to(
-    alloc: Global,
-    request: &Request,
-    outcome: OutcomeTold,
-) -> Result<Told, NoMemory>
+/// The response to a request: its sequence number and its command come back (DAP specification, Base Protocol,
+/// Response).
+pub fn response_to(alloc: Global, request: &Request, outcome: OutcomeTold) -> Result<Told, NoMemory>
     ensures { IfOk result (λ told. told ≡ response_to request.now outcome) }
 {
     Ok(Told::Response(Response {

@@ -19,6 +19,7 @@ mod talk;
 mod threads;
 mod wire;
 
+pub use bodies::response_to;
 pub use laws::{a_composite_is_read_first, the_next_item_is_due, what_a_talk_has_next_is_due};
 pub use next::Next;
 pub use sizes::SizesRead;

@@ -1,7 +1,7 @@
 //! Replies to what a talk sent, and what is left without one.
 ghost use Rattle.std.specs.Prelude.{◌≡◌, ◌++◌, false, option_copied, IfOk, OnOk, Some};
 ghost use Rattle.machine_model.specs.Replying.{done_by, given_up, hand_replied, pending_in, told_by};
-ghost use Rattle.machine_model.specs.Replying.{unanswered_effect};
+ghost use Rattle.machine_model.specs.Replying.{is_leaving, unanswered_effect};
 ghost use Rattle.machine_model.specs.Rest.{unanswered_hand};
 ghost use Rattle.machine_model.specs.State.{is_flying};
 ghost use Rattle.machine_model.specs.declared.acts.Effect.{Effect as AnEffect};
@@ -17,7 +17,7 @@ use crate::state::State;
 use crate::talk::Talk;
 use dap_messages::Request;
 use jdwp_commands::{Question, Replied};
-use machine_model::{Doing, Item, TargetCommand};
+use machine_model::{Deed, Doing, Effect, Item, TargetCommand};
 use std::alloc::Global;
 use std::collections::VecDeque;
 use wire_core::NoMemory;
@@ -63,6 +63,19 @@ impl Talk {
             → OnOk result (AreSized state.new self.new) }
     {
         state.hear(alloc, &question, &replied)?;
+        self.note_reply(alloc, question, replied)
+    }
+
+    /// A question of the item is replied to, by which nothing more is known than that it was: the target has ended
+    /// (JDWP, Error Constants, VM_DEAD).
+    pub fn note_reply(
+        &mut self,
+        alloc: Global,
+        question: Question,
+        replied: Replied,
+    ) -> Result<(), NoMemory>
+        ensures { OnOk result (self.new ≡ hand_replied (a_question question) replied self.old) }
+    {
         self.asking.answer(alloc, question, replied)
     }
 
@@ -82,6 +95,26 @@ impl Talk {
         put_reply(&mut self.effect, replied);
     }
 
+    /// The effect in flight is replied to, by which nothing more is known than that it was: the target has ended (JDWP,
+    /// Error Constants, VM_DEAD).
+    pub fn note_done(&mut self, replied: Replied)
+        ensures { (effect : AnEffect) → IsInFlight effect self.old.effect
+            → self.new ≡ hand_replied (an_effect effect) replied self.old }
+    {
+        put_reply(&mut self.effect, replied);
+    }
+
+    /// Whether the effect in flight leaves the target, of which any reply will do (JDWP, VirtualMachine command set,
+    /// Dispose and Exit).
+    pub fn is_leaving(&self) -> bool
+        ensures { (effect : AnEffect) → IsInFlight effect self.now.effect → result ≡ is_leaving (an_effect effect) }
+    {
+        match &self.effect {
+            None => false,
+            Some(doing) => leaves(&doing.effect),
+        }
+    }
+
     /// The item is given up at its target's end; the commands are handed out that have no reply, in order of sending
     /// (JDWP, Event command set, Composite, VMDeath).
     pub fn give_up(&mut self, alloc: Global) -> Result<VecDeque<TargetCommand>, NoMemory>
@@ -94,6 +127,17 @@ impl Talk {
         self.asking = Asking::new(alloc);
         self.effect = None;
         Ok(late)
+    }
+}
+
+fn leaves(effect: &Effect) -> bool
+    ensures { result ≡ is_leaving (an_effect effect.now) }
+{
+    match effect {
+        Effect::Does(Deed::Dispose) => true,
+        Effect::Does(Deed::Exit) => true,
+        Effect::Set(_) => false,
+        Effect::Clear { .. } => false,
     }
 }
 

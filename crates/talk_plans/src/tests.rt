@@ -105,6 +105,8 @@ fn what_is_known_is_what_was_told(rt: HostRuntime) -> Result<(), Fail> {
 // An `attach` that is given up at its target's end.
 fn given_up(alloc: Global, state: &mut State) -> Result<Seen, NoMemory> {
     let mut talk = attach(alloc, state)?;
+    talk.note_reply(alloc, Question::AllThreads, Replied::Error(112))?;
+    talk.note_done(Replied::Error(112));
     state.target_ended();
     let _late = talk.give_up(alloc)?;
     stepped(alloc, &mut talk, state, false)
@@ -139,7 +141,7 @@ fn replied(talk: &mut Talk, state: &mut State) -> (bool, bool, bool) {
         effect: Effect::Does(Deed::Dispose),
         reply: None,
     });
-    let before = talk.is_flying();
+    let before = talk.is_flying() && talk.is_leaving();
     talk.done(state, Replied::Answer(Answer::Dispose));
     (before, talk.is_flying(), talk.waiting_request().is_some())
 }
