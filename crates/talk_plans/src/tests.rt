@@ -3,8 +3,8 @@ ghost use Rattle.talk_plans.specs.Talking.{AreSized};
 
 use super::*;
 use dap_messages::{AttachArguments, Command, DisconnectArguments, Outcome, Request, Told};
-use jdwp_commands::{Answer, Effect as WireEffect, Question, Replied};
-use machine_model::{Deed, Doing, Effect, Item, Phase};
+use jdwp_commands::{Answer, Question, Replied};
+use machine_model::Item;
 use std::alloc::Global;
 use std::rt::HostRuntime;
 use std::test::Fail;
@@ -91,9 +91,6 @@ fn what_is_known_is_what_was_told(rt: HostRuntime) -> Result<(), Fail> {
     let mut state = State::new(rt.alloc())?;
     assert!(rt; !state.is_greeted());
     assert!(rt; state.sizes().is_none());
-    assert!(rt; !state.awaits_greeting());
-    assert!(rt; !state.is_terminated());
-    assert_eq!(rt; state.phase(), Phase::Fresh);
     state.target_greeted();
     assert_eq!(rt; sized(rt.alloc(), &mut state)?, Seen::Goes);
     assert!(rt; state.is_greeted());
@@ -102,13 +99,16 @@ fn what_is_known_is_what_was_told(rt: HostRuntime) -> Result<(), Fail> {
     Ok(())
 }
 
+fn give_up(alloc: Global, talk: &mut Talk) -> Result<(), NoMemory> {
+    let _late = talk.give_up(alloc)?;
+    Ok(())
+}
+
 // An `attach` that is given up at its target's end.
 fn given_up(alloc: Global, state: &mut State) -> Result<Seen, NoMemory> {
     let mut talk = attach(alloc, state)?;
-    talk.note_reply(alloc, Question::AllThreads, Replied::Error(112))?;
-    talk.note_done(Replied::Error(112));
     state.target_ended();
-    let _late = talk.give_up(alloc)?;
+    give_up(alloc, &mut talk)?;
     stepped(alloc, &mut talk, state, false)
 }
 
@@ -132,36 +132,5 @@ fn leaving(alloc: Global, state: &mut State) -> Result<Seen, NoMemory> {
 fn a_disconnect_is_answered(rt: HostRuntime) -> Result<(), Fail> {
     let mut state = State::new(rt.alloc())?;
     assert_eq!(rt; leaving(rt.alloc(), &mut state)?, Seen::Responds(0));
-    Ok(())
-}
-
-// Whether a talk has an effect in flight, and its request waits, before and after the reply.
-fn replied(talk: &mut Talk, state: &mut State) -> (bool, bool, bool) {
-    talk.effect = Some(Doing {
-        effect: Effect::Does(Deed::Dispose),
-        reply: None,
-    });
-    let before = talk.is_flying() && talk.is_leaving();
-    talk.done(state, Replied::Answer(Answer::Dispose));
-    (before, talk.is_flying(), talk.waiting_request().is_some())
-}
-
-#[test]
-fn an_effect_flies_until_its_reply(rt: HostRuntime) -> Result<(), Fail> {
-    let mut state = State::new(rt.alloc())?;
-    let mut talk = disconnect(rt.alloc(), &state)?;
-    assert_eq!(rt; replied(&mut talk, &mut state), (true, false, true));
-    Ok(())
-}
-
-// Whether an Exit is sent with the status 0.
-fn exits(alloc: Global) -> Result<bool, NoMemory> {
-    let sent = wire_effect(alloc, &Effect::Does(Deed::Exit))?;
-    Ok(matches!(sent, WireEffect::Exit(0)))
-}
-
-#[test]
-fn a_target_exits_with_status_0(rt: HostRuntime) -> Result<(), Fail> {
-    assert!(rt; exits(rt.alloc())?);
     Ok(())
 }

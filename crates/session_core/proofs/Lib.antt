@@ -1,0 +1,13 @@
+pub mod ClientLaws
+pub mod FrameLaws
+pub mod GoLaws
+pub mod HearLaws
+pub mod LeavingLaws
+pub mod PacketLaws
+pub mod PickLaws
+pub mod RestLaws
+pub mod RunLaws
+pub mod SettleLaws
+pub mod TalkLaws
+pub mod WindowLaws
+pub mod WorkLaws

@@ -1,0 +1,11 @@
+pub mod Aligning
+pub mod Calls
+pub mod Cores
+pub mod Going
+pub mod Hearing
+pub mod Moving
+pub mod Names
+pub mod Packets
+pub mod Sent
+pub mod Wording
+pub mod Working

@@ -1,0 +1,37 @@
+-- The machine's moves, in the words of the code that makes them.
+use Rattle.std.specs.Prelude.{ℕ, ◌≡◌, Bool, cond, true, not, Option, None, Some}
+use Rattle.machine_model.specs.State.{Hand, Machine, State, is_raw}
+use Rattle.machine_model.specs.declared.acts.Effect.{Effect}
+use Rattle.machine_model.specs.declared.items.Item.{Item}
+use Rattle.session_model.specs.Faults.{IsKeptFault}
+use Rattle.session_model.specs.declared.ending.Ending.{Ending}
+use Rattle.session_model.specs.declared.ending.Ending.TheVariants.{BadTarget, NoMemory}
+use Rattle.session_model.specs.declared.ending.TargetFault.{TargetFault}
+use Rattle.talk_plans.specs.Talking.{step_of, talk_due}
+use Rattle.talk_plans.specs.declared.next.Next.{Next}
+
+-- with this item in hand
+abbrev pub with_hand : Machine → Hand → Machine
+with_hand m hand = record m { hand = Some hand }
+
+-- this effect of this item in hand is in flight
+pub record IsFlight (m : Machine) (hand : Hand) (effect : Effect) : Type 0 where
+  pub held : m.hand ≡ Some hand
+  pub flying : hand.effect ≡ Some (record { effect = effect; reply = None })
+
+-- the item can be begun: a composite that is kept can't, while there is a target
+abbrev pub is_next : Bool → Item → Bool
+is_next gone item = cond gone true (not (is_raw item))
+
+-- the first of the composites that were kept ends the session
+pub data RefusesKept (m : Machine) : Ending → Type 0 where
+  no_memory : RefusesKept m NoMemory
+  faulty : {fault : TargetFault} {offset : ℕ} → IsKeptFault m fault offset
+      → RefusesKept m (BadTarget fault offset 0)
+
+-- what a talk has next in any machine, and the talk behind it
+pub record StepsTo (next : Next) (full : Bool) (state : State) (talk : Hand) (now : State) (held : Option Hand) : Type 0
+  where
+    pub later : Hand
+    pub held_is : held ≡ Some later
+    pub is_due : (m : Machine) → step_of m next now later ≡ talk_due full m state talk

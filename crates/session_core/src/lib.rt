@@ -1,0 +1,19 @@
+//! The session over whole messages: what the client and the target say goes in, what they are told comes out.
+#![tactic(auto)]
+
+mod client;
+mod hearing;
+mod leaving;
+mod machine;
+mod packets;
+mod sending;
+mod session;
+mod sizes;
+mod telling;
+mod waiting;
+mod words;
+
+pub use session::{Core, Out};
+
+#[cfg(test)]
+mod tests;

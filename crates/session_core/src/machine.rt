@@ -1,0 +1,407 @@
+//! The machine: what is known, the items that wait, the one in hand, and the commands that were left without a reply.
+ghost use Rattle.std.specs.Prelude.{◌≡◌, ◌<◌, ◌++◌, Bool, false, None, Some, length, remove, IfErr, IfOk, OnOk, option_map};
+ghost use Rattle.machine_model.specs.Due.{can_read, due, due_as, is_full};
+ghost use Rattle.machine_model.specs.Replying.{answered, done_by, ended, ended_with, given_up};
+ghost use Rattle.machine_model.specs.Replying.{hand_replied, is_dead, is_leaving, pending_in, told_by};
+ghost use Rattle.machine_model.specs.Rest.{awaits_greeting};
+ghost use Rattle.machine_model.specs.Runs.{greeting_heard, heard, with_item};
+ghost use Rattle.machine_model.specs.State.{Hand, Machine as AMachine, fresh, is_gone};
+ghost use Rattle.machine_model.specs.declared.acts.Effect.{Effect as AnEffect};
+ghost use Rattle.machine_model.specs.declared.acts.TargetCommand.TheVariants.{Effect as an_effect};
+ghost use Rattle.machine_model.specs.declared.acts.TargetCommand.TheVariants.{Question as a_question};
+ghost use Rattle.session_core.specs.Moving.{IsFlight, RefusesKept, StepsTo};
+ghost use Rattle.session_core.specs.Packets.{CanReply, Replies};
+ghost use Rattle.talk_plans.specs.Replies.{IsInFlight};
+ghost use Rattle.talk_plans.specs.Sizes.{sizes_seen};
+ghost use Rattle.talk_plans.specs.Talking.{AreSized, IsNext, act_of, hand_after, talk_due};
+
+use crate::hearing::read_kept;
+use crate::sizes::known;
+use crate::waiting::{is_disconnect, take_next};
+use dap_messages::Request;
+use jdwp_commands::{Asked, Question, Replied};
+use machine_model::{Item, TargetCommand};
+use session_model::Ending;
+use std::alloc::Global;
+use std::collections::VecDeque;
+use std::marker::Model;
+use talk_plans::{Next, SizesRead, State, Talk};
+use wire_core::NoMemory;
+
+// The error of a target that has ended (JDWP, Error Constants, VM_DEAD).
+const VM_DEAD: u16 = 112;
+
+/// The translation machine. Contracts see it as the machine's own state.
+#[derive(Debug, Drop)]
+pub(crate) struct Machine {
+    pub(crate) state: State,
+    pub(crate) waiting: VecDeque<Item>,
+    pub(crate) talk: Option<Talk>,
+    late: VecDeque<TargetCommand>,
+    closing: bool,
+}
+
+impl Model for Machine {
+    ghost use Rattle.machine_model.specs.State.{Machine as AMachine};
+
+    ghost Value = { AMachine };
+
+    ghost view = { λ m. record {
+      state = m.state;
+      waiting = m.waiting.items;
+      hand = m.talk;
+      late = m.late.items;
+      closing = m.closing;
+    } };
+}
+
+// The item in hand is given up; its commands without a reply stand behind those that were left so.
+fn give_up(
+    alloc: Global,
+    hand: &mut Option<Talk>,
+    late: &mut VecDeque<TargetCommand>,
+) -> Result<(), NoMemory>
+    ensures late { OnOk result (late.new.items ≡ late.old.items ++ pending_in hand.old) }
+    ensures hand { OnOk result (hand.new ≡ option_map given_up hand.old) }
+{
+    match hand {
+        None => Ok(()),
+        Some(talk) => {
+            let mut commands = talk.give_up(alloc)?;
+            late.append(&mut commands)?;
+            Ok(())
+        }
+    }
+}
+
+// A question of the item in hand is replied to, by which nothing more is known.
+fn note_reply(
+    alloc: Global,
+    hand: &mut Option<Talk>,
+    question: Question,
+    replied: Replied,
+) -> Result<(), NoMemory>
+    ensures { OnOk result (hand.new ≡ option_map (hand_replied (a_question question) replied) hand.old) }
+{
+    match hand {
+        None => Ok(()),
+        Some(talk) => talk.note_reply(alloc, question, replied),
+    }
+}
+
+// A question of the item in hand is replied to.
+fn answered(
+    alloc: Global,
+    hand: &mut Option<Talk>,
+    state: &mut State,
+    question: Question,
+    replied: Replied,
+) -> Result<(), NoMemory>
+    ensures hand { OnOk result (hand.new ≡ option_map (hand_replied (a_question question) replied) hand.old) }
+    ensures state { (talk : Hand) → hand.old ≡ Some talk
+        → OnOk result (state.new ≡ told_by question replied state.old) }
+{
+    match hand {
+        None => Ok(()),
+        Some(talk) => talk.answered(alloc, state, question, replied),
+    }
+}
+
+// The effect of the item in hand that is in flight is replied to, by which nothing more is known.
+fn note_done(hand: &mut Option<Talk>, replied: Replied)
+    ensures { (talk : Hand) (effect : AnEffect) → hand.old ≡ Some talk → IsInFlight effect talk.effect
+        → hand.new ≡ Some (hand_replied (an_effect effect) replied talk) }
+{
+    if let Some(talk) = hand {
+        talk.note_done(replied);
+    }
+}
+
+// The effect of the item in hand that is in flight is replied to.
+fn done(hand: &mut Option<Talk>, state: &mut State, replied: Replied)
+    requires { (talk : Hand) (effect : AnEffect) → hand.old ≡ Some talk → IsInFlight effect talk.effect
+        → IsNext effect state.old.wishes }
+    ensures hand { (talk : Hand) (effect : AnEffect) → hand.old ≡ Some talk → IsInFlight effect talk.effect
+        → hand.new ≡ Some (hand_replied (an_effect effect) replied talk) }
+    ensures state { (talk : Hand) (effect : AnEffect) → hand.old ≡ Some talk → IsInFlight effect talk.effect
+        → state.new ≡ done_by effect replied state.old }
+{
+    if let Some(talk) = hand {
+        talk.done(state, replied);
+    }
+}
+
+// Whether the effect of the item in hand that is in flight leaves the target.
+fn is_leaving(hand: &Option<Talk>) -> bool
+    ensures { (talk : Hand) (effect : AnEffect) → hand.now ≡ Some talk → IsInFlight effect talk.effect
+        → result ≡ is_leaving (an_effect effect) }
+{
+    match hand {
+        None => false,
+        Some(talk) => talk.is_leaving(),
+    }
+}
+
+// What the talk in hand has next.
+fn step_in(
+    alloc: Global,
+    hand: &mut Option<Talk>,
+    state: &mut State,
+    full: bool,
+) -> Result<Next, NoMemory>
+    requires { (talk : Hand) → hand.old ≡ Some talk → AreSized state.old talk }
+    ensures { (talk : Hand) → hand.old ≡ Some talk
+        → IfOk result (λ next. StepsTo next full state.old talk state.new hand.new) }
+{
+    match hand {
+        None => Ok(Next::Wait),
+        Some(talk) => talk.step(alloc, state, full),
+    }
+}
+
+fn drop_talk(_talk: Option<Talk>) {}
+
+// This is in hand now.
+fn hold(hand: &mut Option<Talk>, talk: Talk)
+    ensures { hand.new ≡ Some talk }
+{
+    drop_talk(hand.replace(talk));
+}
+
+// A talk that is done is in hand no more.
+fn let_go(hand: &mut Option<Talk>, next: &Next)
+    ensures { (later : Hand) → hand.old ≡ Some later → hand.new ≡ hand_after next.now later }
+{
+    if let Next::Done = next {
+        drop_talk(hand.take());
+    }
+}
+
+// What the talk in hand has next; one that is done is in hand no more.
+fn go_on(
+    alloc: Global,
+    hand: &mut Option<Talk>,
+    state: &mut State,
+    full: bool,
+) -> Result<Next, NoMemory>
+    requires { (talk : Hand) → hand.old ≡ Some talk → AreSized state.old talk }
+    ensures { (talk : Hand) (m : AMachine) → hand.old ≡ Some talk
+        → IfOk result (λ next. due_as (act_of next) (record m { state = state.new; hand = hand.new })
+        ≡ talk_due full m state.old talk) }
+{
+    let next = step_in(alloc, hand, state, full)?;
+    let_go(hand, &next);
+    Ok(next)
+}
+
+impl Machine {
+    /// A machine that has heard nothing.
+    pub(crate) fn new(alloc: Global) -> Result<Machine, NoMemory>
+        ensures { IfOk result (λ machine. machine ≡ fresh) }
+    {
+        Ok(Machine {
+            state: State::new(alloc)?,
+            waiting: VecDeque::new(alloc),
+            talk: None,
+            late: VecDeque::new(alloc),
+            closing: false,
+        })
+    }
+
+    /// A request waits for its turn.
+    pub(crate) fn hear(&mut self, request: Request) -> Result<(), NoMemory>
+        ensures { OnOk result (self.new ≡ heard self.old request) }
+    {
+        self.closing = is_disconnect(&request.command);
+        self.waiting.push_back(Item::Request(request))?;
+        Ok(())
+    }
+
+    /// The target's handshake is taken up.
+    pub(crate) fn greet(&mut self)
+        ensures { self.new ≡ greeting_heard self.old }
+    {
+        self.state.target_greeted();
+    }
+
+    /// An item of the target's waits for its turn.
+    pub(crate) fn add(&mut self, item: Item) -> Result<(), NoMemory>
+        ensures { OnOk result (self.new ≡ with_item self.old item) }
+    {
+        self.waiting.push_back(item)?;
+        Ok(())
+    }
+
+    /// The target ends.
+    pub(crate) fn end(&mut self, alloc: Global) -> Result<(), NoMemory>
+        ensures { OnOk result (self.new ≡ ended (is_gone self.old.state.phase) self.old) }
+    {
+        if self.state.is_gone() {
+            return Ok(());
+        }
+        self.end_now(alloc)
+    }
+
+    fn end_now(&mut self, alloc: Global) -> Result<(), NoMemory>
+        ensures { OnOk result (self.new ≡ ended_with (pending_in self.old.hand) self.old) }
+    {
+        give_up(alloc, &mut self.talk, &mut self.late)?;
+        self.waiting.push_back(Item::TargetEnd)?;
+        self.state.target_ended();
+        Ok(())
+    }
+
+    /// Whether the target is gone.
+    pub(crate) fn is_gone(&self) -> bool
+        ensures { result ≡ is_gone self.now.state.phase }
+    {
+        self.state.is_gone()
+    }
+
+    /// Whether the target's handshake was taken up (JDWP, JDWP Start Up).
+    pub(crate) fn is_greeted(&self) -> bool
+        ensures { result ≡ self.now.state.greeting_heard }
+    {
+        self.state.is_greeted()
+    }
+
+    /// The sizes of ids, once the target said them (JDWP, VirtualMachine command set, IDSizes).
+    pub(crate) fn sizes(&self) -> Option<SizesRead>
+        ensures { option_map sizes_seen result ≡ self.now.state.sizes }
+    {
+        self.state.sizes()
+    }
+
+    /// Whether a `disconnect` was heard.
+    pub(crate) fn is_closing(&self) -> bool
+        ensures { result ≡ self.now.closing }
+    {
+        self.closing
+    }
+
+    /// Reads the composites that were kept, once the sizes of ids are known. None is served yet, so the first one ends
+    /// the session (JDWP, Event command set, Composite).
+    #[tactic(auto, using(crate::proofs::HearLaws::refuses_kept))]
+    pub(crate) fn read_kept(&self, alloc: Global) -> Result<(), Ending>
+        ensures ok { OnOk result (can_read self.now ≡ false) }
+        ensures err { IfErr result (RefusesKept self.now) }
+    {
+        if self.state.is_gone() {
+            return Ok(());
+        }
+        match self.state.sizes() {
+            None => Ok(()),
+            Some(sizes) => read_kept(alloc, known(sizes)?, &self.waiting),
+        }
+    }
+
+    /// What is due, where no composite is to be read; after it the machine stands where that leads.
+    pub(crate) fn step(&mut self, alloc: Global, full: bool) -> Result<Next, NoMemory>
+        requires read { can_read self.old ≡ false }
+        requires sized { (hand : Hand) → self.old.hand ≡ Some hand → AreSized self.old.state hand }
+        ensures { (id_pending : Bool) → is_full id_pending self.old ≡ full
+            → IfOk result (λ next. due_as (act_of next) self.new ≡ due id_pending self.old) }
+    {
+        if self.talk.is_none() {
+            return self.begin(alloc);
+        }
+        go_on(alloc, &mut self.talk, &mut self.state, full)
+    }
+
+    // An item is begun, where one waits that can be.
+    fn begin(&mut self, alloc: Global) -> Result<Next, NoMemory>
+        requires none { self.old.hand ≡ None }
+        requires read { can_read self.old ≡ false }
+        ensures { (id_pending : Bool)
+            → IfOk result (λ next. due_as (act_of next) self.new ≡ due id_pending self.old) }
+    {
+        match take_next(self.state.is_gone(), &mut self.waiting) {
+            None => Ok(Next::Wait),
+            Some(item) => {
+                let talk = Talk::start(alloc, item, &self.state)?;
+                hold(&mut self.talk, talk);
+                Ok(Next::Go)
+            }
+        }
+    }
+
+    /// A question of the item in hand is replied to, while there is a target.
+    pub(crate) fn answer(
+        &mut self,
+        alloc: Global,
+        question: Question,
+        replied: Replied,
+    ) -> Result<(), NoMemory>
+        requires { is_gone self.old.state.phase ≡ false }
+        ensures { (hand : Hand) → self.old.hand ≡ Some hand
+            → OnOk result (self.new ≡ answered self.old (a_question question) replied) }
+    {
+        if is_dead(&replied) {
+            note_reply(alloc, &mut self.talk, question, replied)?;
+            return self.end_now(alloc);
+        }
+        answered(alloc, &mut self.talk, &mut self.state, question, replied)
+    }
+
+    /// The effect of the item in hand is replied to, while there is a target.
+    pub(crate) fn done(&mut self, alloc: Global, replied: Replied) -> Result<(), NoMemory>
+        requires near { is_gone self.old.state.phase ≡ false }
+        requires next { (hand : Hand) (effect : AnEffect) → IsFlight self.old hand effect
+            → IsNext effect self.old.state.wishes }
+        ensures { (hand : Hand) (effect : AnEffect) → IsFlight self.old hand effect
+            → OnOk result (self.new ≡ answered self.old (an_effect effect) replied) }
+    {
+        if !is_leaving(&self.talk) && is_dead(&replied) {
+            note_done(&mut self.talk, replied);
+            return self.end_now(alloc);
+        }
+        done(&mut self.talk, &mut self.state, replied);
+        Ok(())
+    }
+
+    /// The command at this place of those that are pending is replied to.
+    pub(crate) fn reply(
+        &mut self,
+        alloc: Global,
+        place: usize,
+        asked: Asked,
+        replied: Replied,
+    ) -> Result<(), NoMemory>
+        requires { CanReply self.old place }
+        ensures { OnOk result (Replies self.old place asked replied self.new) }
+    {
+        if self.state.is_gone() {
+            self.forget(place);
+            return Ok(());
+        }
+        match asked {
+            Asked::Question(question) => self.answer(alloc, question, replied),
+            Asked::Effect(_) => self.done(alloc, replied),
+        }
+    }
+
+    /// A command is replied to that an item left which was given up.
+    pub(crate) fn forget(&mut self, place: usize)
+        requires { place < length self.old.late }
+        ensures { self.new ≡ record self.old { late = remove self.old.late place } }
+    {
+        let _ = self.late.remove(place);
+    }
+
+    /// Whether the handshake went out, and the target's hasn't come yet (JDWP, JDWP Start Up).
+    pub(crate) fn awaits_greeting(&self) -> bool
+        ensures { result ≡ awaits_greeting self.now.state }
+    {
+        self.state.awaits_greeting()
+    }
+}
+
+// The error that tells that the target has ended.
+fn is_dead(replied: &Replied) -> bool
+    ensures { result ≡ is_dead replied.now }
+{
+    match replied {
+        Replied::Answer(_) => false,
+        Replied::Error(code) => *code == VM_DEAD,
+    }
+}

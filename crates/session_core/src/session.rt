@@ -1,0 +1,115 @@
+//! A session over whole messages, and what it is seen as.
+ghost use Rattle.std.specs.Prelude.{◌≡◌, ◌<◌, ◌≤◌, length, IfErr, IfOk, OnOk};
+ghost use Rattle.session_core.specs.Cores.{IsReady, fresh_core};
+ghost use Rattle.session_core.specs.Going.{awaits_nothing, rests};
+ghost use Rattle.session_model.specs.declared.ending.Ending.TheVariants.{Flood as floods};
+
+use crate::machine::Machine;
+use crate::words::Words;
+use pending_table::Pending;
+use session_model::{Ending, Limits};
+use std::alloc::Global;
+use std::marker::Model;
+use wire_core::{Blob, NoMemory, Side};
+
+/// A message that has to go out: the side that gets it, and its bytes.
+#[derive(Debug, Drop)]
+pub struct Out {
+    pub side: Side,
+    pub bytes: Blob,
+}
+
+/// A session over whole messages, which has to be spent by `finish`. Contracts see it as the translation machine, the
+/// number of messages that the client was told, the commands without a reply, and the last words that are left.
+pub struct Core {
+    pub(crate) machine: Machine,
+    pub(crate) told: u64,
+    pub(crate) commands: Pending,
+    pub(crate) limit: u32,
+    pub(crate) words: Option<Words>,
+}
+
+impl Model for Core {
+    ghost use Rattle.session_core.specs.Cores.{CoreState};
+
+    ghost Value = { CoreState };
+
+    ghost view = { λ c. record {
+      machine = c.machine;
+      told = c.told;
+      commands = c.commands;
+      limit = c.limit;
+      words = c.words;
+    } };
+}
+
+impl Core {
+    /// A session that has heard and told nothing.
+    pub fn new(alloc: Global, limits: &Limits) -> Result<Core, NoMemory>
+        ensures fresh { IfOk result (λ core. core ≡ fresh_core limits.now.waiting) }
+        ensures ready { IfOk result IsReady }
+    {
+        Ok(Core {
+            machine: Machine::new(alloc)?,
+            told: 0,
+            commands: Pending::new(),
+            limit: limits.waiting,
+            words: None,
+        })
+    }
+
+    /// Whether a `disconnect` was heard, after which nothing more of the client is (DAP specification, Disconnect
+    /// request).
+    pub fn is_closing(&self) -> bool
+        ensures { result ≡ self.now.machine.closing }
+    {
+        self.machine.is_closing()
+    }
+
+    /// Whether the target's handshake was taken up (JDWP, JDWP Start Up).
+    pub fn is_greeted(&self) -> bool
+        ensures { result ≡ self.now.machine.state.greeting_heard }
+    {
+        self.machine.is_greeted()
+    }
+
+    /// Whether nothing is pending: no command without a reply, and no handshake; of a target that is gone nothing is.
+    pub fn at_rest(&self) -> bool
+        requires { IsReady self.now }
+        ensures { result ≡ rests self.now.machine }
+    {
+        self.machine.is_gone() || self.awaits_nothing()
+    }
+
+    /// Gives the session up.
+    pub fn finish(self) {
+        let Core {
+            machine: _,
+            told: _,
+            commands: _,
+            limit: _,
+            words: _,
+        } = self;
+    }
+}
+
+impl Core {
+    // There is room for what came.
+    pub(crate) fn make_room(&self) -> Result<(), Ending>
+        ensures ok { OnOk result (length self.now.machine.waiting ≤ self.now.limit) }
+        ensures err { IfErr result (λ ending. (ending ≡ floods)
+            × (self.now.limit < length self.now.machine.waiting)) }
+    {
+        if self.machine.waiting.len() as u64 > self.limit as u64 {
+            return Err(Ending::Flood);
+        }
+        Ok(())
+    }
+
+    // Whether no command is without a reply, and no handshake is awaited.
+    fn awaits_nothing(&self) -> bool
+        ensures { result ≡ awaits_nothing self.now }
+    {
+        self.commands.is_empty() && !self.machine.awaits_greeting()
+    }
+}
