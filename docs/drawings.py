@@ -13,13 +13,17 @@ PROVED, MODEL, EDGE, LATER, OUTSIDE = "#dceafa", "#e3f1dc", "#fbe3c8", "#f2f2f2"
 # A row is a list of boxes, each the share of the row's width, its colour, its name, and what it does.
 ROWS = [
     [(1, PROVED, "bridge_cmd", "the program: words in, a line and a status out")],
-    [(1, PROVED, "bridge_serve", "a session over wires"), (1, MODEL, "world_model", "what a session is, and its laws")],
-    [(1, PROVED, "bridge_core", "a session over whole messages"),
-     (1, LATER, "class_tables", "what is known of classes; not used yet")],
-    [(1, PROVED, "dap_messages", "requests, responses, events"),
-     (0.5, PROVED, "pending_table", "pending commands"), (0.5, PROVED, "jdwp_commands", "commands, answers")],
-    [(1, PROVED, "dap_frames", "frames in any cutting"), (0.34, PROVED, "jdwp_packets", "packets"),
-     (0.33, PROVED, "jdwp_events", "events"), (0.33, PROVED, "jdwp_values", "ids, values")],
+    [(1, PROVED, "bridge_serve", "a session over wires")],
+    [(1, PROVED, "bridge_core", "a session over whole messages")],
+    [(1, PROVED, "talk_plans", "what is done for one request"),
+     (1, MODEL, "session_model", "which bytes are a session, and its laws")],
+    [(1, MODEL, "machine_model", "what a session does, and its laws"),
+     (1, LATER, "for later", "field_exprs, stop_refs, suspend_ledger, value_views")],
+    [(0.52, PROVED, "dap_messages", "requests, responses"), (0.48, PROVED, "pending_table", "pending commands"),
+     (0.48, PROVED, "jdwp_commands", "commands, answers"), (0.52, PROVED, "wish_sets", "event requests")],
+    [(0.52, PROVED, "dap_frames", "frames in any cutting"), (0.36, PROVED, "jdwp_packets", "packets"),
+     (0.36, PROVED, "jdwp_events", "events"), (0.36, PROVED, "jdwp_values", "ids, values"),
+     (0.4, PROVED, "class_tables", "facts of classes")],
     [(1, PROVED, "wire_core", "texts, lists, the outside as traits")],
     [(1, EDGE, "wire_edge", "TCP, disk, standard output: what the system did is trusted")],
 ]
@@ -35,7 +39,7 @@ MESSAGES = [
     (">>", "2: Set, thread starts"), ("<<", "2: request 2"), (">>", "3: Set, thread deaths"), ("<<", "3: request 3"),
     ("<", "success"), ("<", "initialized"),
     (">", "threads"), (">>", "4: AllThreads"), ("<<", "4: threads 1, 2"),
-    (">>", "5: ThreadName of 1"), ("<<", "5: main"), (">>", "6: ThreadName of 2"), ("<<", "6: Finalizer"),
+    (">>", "5: ThreadName of 1"), (">>", "6: ThreadName of 2"), ("<<", "5: main"), ("<<", "6: Finalizer"),
     ("<", "success: 1 main, 2 Finalizer"),
     (">", "disconnect"), (">>", "7: Dispose"), ("<<", "7: done"), ("<", "success"),
 ]

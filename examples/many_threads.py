@@ -2,22 +2,24 @@
 """Measures `threads` over a target of many threads, beside a plain loop that asks the same target the same questions.
 
 Printed are the seconds until all names are there, of the plain loop and of the bridge, and the processor time that
-the bridge took for it. The target is this script; commands go one at a time in both.
+the bridge took for it. The target is a process of this script. Both keep sixteen questions in flight.
 
 usage: examples/many_threads.py [PROGRAM]
 """
 import json
+import multiprocessing
 import socket
 import struct
 import sys
-import threading
 import time
 
 from building import plainly, program_of
 from over_tcp import Bridge, request
 from round_trips import processor_seconds
 
-COUNTS = (100, 1000, 5000)
+COUNTS = (100, 1000, 5000, 40000)
+IN_FLIGHT = 16
+PIECE = 65536
 HANDSHAKE = b"JDWP-Handshake"
 SIZES = struct.pack(">5I", 8, 8, 8, 8, 8)
 ATTACH = {"sourceRoots": ["/src"]}
@@ -47,11 +49,24 @@ def answer(numbers, body, count):
     return b""
 
 
-def reply_to_one(stream, count):
-    """Replies to the next command."""
-    length, number, _, group, command = struct.unpack(">IIBBB", receive(stream, 11))
-    body = answer((group, command), receive(stream, length - 11), count)
-    stream.sendall(struct.pack(">IIBH", 11 + len(body), number, 0x80, 0) + body)
+def cut(pending):
+    """The whole packets at the front of some bytes, and the rest."""
+    packets = []
+    at = 0
+    while len(pending) - at >= 11:
+        length = struct.unpack_from(">I", pending, at)[0]
+        if len(pending) - at < length:
+            break
+        packets.append(pending[at:at + length])
+        at += length
+    return packets, pending[at:]
+
+
+def reply(packet, count):
+    """The reply packet to a command."""
+    number, _, group, command = struct.unpack_from(">IBBB", packet, 4)
+    body = answer((group, command), packet[11:], count)
+    return struct.pack(">IIBH", 11 + len(body), number, 0x80, 0) + body
 
 
 def serve_target(stream, count):
@@ -59,16 +74,45 @@ def serve_target(stream, count):
     stream.setsockopt(socket.IPPROTO_TCP, socket.TCP_NODELAY, 1)
     try:
         stream.sendall(receive(stream, len(HANDSHAKE)))
-        while True:
-            reply_to_one(stream, count)
+        pending = b""
+        while piece := stream.recv(PIECE):
+            packets, pending = cut(pending + piece)
+            if packets:
+                stream.sendall(b"".join(reply(packet, count) for packet in packets))
     except (EOFError, OSError):
         pass
 
 
-def ask(stream, number, group, command, body):
-    stream.sendall(struct.pack(">IIBBB", 11 + len(body), number, 0, group, command) + body)
-    length, _, _, _ = struct.unpack(">IIBH", receive(stream, 11))
-    return receive(stream, length - 11)
+def target_of(stream, count):
+    """A process that answers as a target of so many threads."""
+    target = multiprocessing.get_context("fork").Process(target=serve_target, args=(stream, count), daemon=True)
+    target.start()
+    stream.close()
+    return target
+
+
+def asked(number, group, command, body):
+    """The packet of a question."""
+    return struct.pack(">IIBBB", 11 + len(body), number, 0, group, command) + body
+
+
+def ask_names(stream, threads):
+    """The names of these threads, with sixteen questions in flight: each reply makes room for one more."""
+    names = []
+    sent = 0
+    pending = b""
+    while len(names) < len(threads):
+        while sent < len(threads) and sent - len(names) < IN_FLIGHT:
+            stream.sendall(asked(2 + sent, 11, 1, struct.pack(">Q", threads[sent])))
+            sent += 1
+        packets = []
+        while not packets:
+            piece = stream.recv(PIECE)
+            if not piece:
+                raise EOFError("the link ended")
+            packets, pending = cut(pending + piece)
+        names.extend(packet[15:] for packet in packets)
+    return names
 
 
 def plain_loop(count):
@@ -77,14 +121,17 @@ def plain_loop(count):
     near = socket.create_connection(listener.getsockname())
     far, _ = listener.accept()
     near.setsockopt(socket.IPPROTO_TCP, socket.TCP_NODELAY, 1)
-    threading.Thread(target=serve_target, args=(far, count), daemon=True).start()
+    target = target_of(far, count)
     near.sendall(HANDSHAKE)
     receive(near, len(HANDSHAKE))
     start = time.monotonic()
-    threads = struct.unpack(">%dQ" % count, ask(near, 1, 1, 4, b"")[4:])
-    names = [ask(near, 2 + place, 11, 1, struct.pack(">Q", thread))[4:] for place, thread in enumerate(threads)]
+    near.sendall(asked(1, 1, 4, b""))
+    length = struct.unpack(">IIBH", receive(near, 11))[0]
+    threads = struct.unpack(">%dQ" % count, receive(near, length - 11)[4:])
+    names = ask_names(near, threads)
     took = time.monotonic() - start
     near.close()
+    target.terminate()
     assert len(names) == count
     return took
 
@@ -92,7 +139,7 @@ def plain_loop(count):
 def bridged(program, count):
     """The seconds that `threads` takes, and the processor time of the bridge for it."""
     with Bridge(program) as bridge:
-        threading.Thread(target=serve_target, args=(bridge.target, count), daemon=True).start()
+        target = target_of(bridge.target, count)
         client = bridge.client()
         for seq, (command, arguments) in enumerate([("initialize", {"adapterID": "jdwp"}), ("attach", ATTACH)]):
             client.send(request(seq + 1, command, arguments))
@@ -106,6 +153,7 @@ def bridged(program, count):
         client.send(request(4, "disconnect"))
         client.receive()
         assert bridge.status() == 0
+        target.terminate()
     return took, spent
 
 
@@ -114,8 +162,8 @@ def main():
     for count in COUNTS:
         plain = plain_loop(count)
         took, spent = bridged(program, count)
-        print("%5d threads: plain loop %7.3f s, bridge %7.3f s, of which its processor time %7.3f s"
-              % (count, plain, took, spent))
+        print("%5d threads: plain loop %7.3f s, bridge %7.3f s, which is %.2f of it; its processor time %7.3f s"
+              % (count, plain, took, took / plain, spent))
 
 
 if __name__ == "__main__":

@@ -5,13 +5,13 @@ use Rattle.bridge_cmd.specs.Words.{AreRefused, Names}
 use Rattle.bridge_cmd.specs.declared.printing.Outcome.{Outcome}
 use Rattle.bridge_cmd.specs.declared.printing.Outcome.TheVariants.{Misused, NotOpened, Ended}
 use Rattle.bridge_cmd.specs.declared.words.Addresses.{Addresses}
-use Rattle.bridge_serve.specs.Serving.{Keeps, Blames}
+use Rattle.bridge_serve.specs.Serving.{Blames, Idles, Keeps}
 use Rattle.wire_core.specs.Output.{Printed}
 use Rattle.wire_core.specs.Outside.{Outside, Connects, FailsToConnect, Rose}
-use Rattle.world_model.specs.Session.{IsSession}
-use Rattle.world_model.specs.declared.ending.Ending.{Ending}
-use Rattle.world_model.specs.declared.ending.Ending.TheVariants.{NoMemory}
-use Rattle.world_model.specs.declared.ending.Limits.{Limits}
+use Rattle.session_model.specs.Session.{IsSession}
+use Rattle.session_model.specs.declared.ending.Ending.{Ending}
+use Rattle.session_model.specs.declared.ending.Ending.TheVariants.{NoMemory}
+use Rattle.session_model.specs.declared.ending.Limits.{Limits}
 
 -- the limits of a session that serves an editor
 abbrev pub usual_limits : Limits
@@ -24,6 +24,7 @@ pub record Serves (addresses : Addresses) (old new : Outside) (ending : Ending) 
   pub session : IsSession opened new usual_limits ending
   pub keeps : Keeps opened new
   pub blames : Blames opened new ending
+  pub idles : Idles usual_limits opened new ending
 
 -- What the words make of the wires, and the outcome: where they are refused nothing is done; else a session is served,
 -- or the links are not opened. Want of memory may come before anything is done.

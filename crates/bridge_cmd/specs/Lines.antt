@@ -9,16 +9,16 @@ use Rattle.jdwp_packets.specs.declared.fault.PacketFault.{PacketFault}
 use Rattle.jdwp_packets.specs.declared.fault.PacketFault.TheVariants.{BadHandshake, ShortLength, BadFlags}
 use Rattle.jdwp_packets.specs.declared.fault.PacketFault.TheVariants.{TooLong as packet_too_long}
 use Rattle.wire_core.specs.Output.{Printed, Appends, FailsToWrite}
-use Rattle.world_model.specs.declared.ending.ClientFault.{ClientFault}
-use Rattle.world_model.specs.declared.ending.ClientFault.TheVariants.{Frame, NotJson, NotAMessage}
-use Rattle.world_model.specs.declared.ending.Ending.{Ending}
-use Rattle.world_model.specs.declared.ending.Ending.TheVariants.{Done, Left, BadClient, BadTarget, ClientLink}
-use Rattle.world_model.specs.declared.ending.Ending.TheVariants.{TargetLink, TargetRefused, Idle, Spent, Flood}
-use Rattle.world_model.specs.declared.ending.Ending.TheVariants.{NoMemory}
-use Rattle.world_model.specs.declared.ending.TargetFault.{TargetFault}
-use Rattle.world_model.specs.declared.ending.TargetFault.TheVariants.{Packet, Short, BadTag, BadCount, BadKind}
-use Rattle.world_model.specs.declared.ending.TargetFault.TheVariants.{BadPolicy, Trailing, BadSizes, PolicyThread}
-use Rattle.world_model.specs.declared.ending.TargetFault.TheVariants.{BadCommand, UnknownReply}
+use Rattle.session_model.specs.declared.ending.ClientFault.{ClientFault}
+use Rattle.session_model.specs.declared.ending.ClientFault.TheVariants.{Frame, NotJson, NotAMessage}
+use Rattle.session_model.specs.declared.ending.Ending.{Ending}
+use Rattle.session_model.specs.declared.ending.Ending.TheVariants.{Done, Left, BadClient, BadTarget, ClientLink}
+use Rattle.session_model.specs.declared.ending.Ending.TheVariants.{TargetLink, TargetRefused, Idle, Spent, Flood}
+use Rattle.session_model.specs.declared.ending.Ending.TheVariants.{NoMemory}
+use Rattle.session_model.specs.declared.ending.TargetFault.{TargetFault}
+use Rattle.session_model.specs.declared.ending.TargetFault.TheVariants.{Packet, Short, BadTag, BadCount, BadKind}
+use Rattle.session_model.specs.declared.ending.TargetFault.TheVariants.{BadPolicy, Trailing, BadSizes, PolicyThread}
+use Rattle.session_model.specs.declared.ending.TargetFault.TheVariants.{BadCommand, UnknownReply}
 
 -- the name of a fault of a frame
 abbrev pub frame_fault_name : FrameFault → List ℕ

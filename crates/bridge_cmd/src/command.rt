@@ -5,9 +5,9 @@ ghost use Rattle.bridge_cmd.specs.Words.{IsValue, Names, serve_words};
 use crate::printing::{Outcome, tell};
 use crate::words::{Addresses, WordsFault, read_words};
 use bridge_serve::serve;
+use session_model::{Ending, Limits};
 use std::alloc::Global;
 use wire_core::{Files, Output, Wires, Word};
-use world_model::{Ending, Limits};
 
 /// Runs the program on its words, prints the line that says how the run ended, and gives its status. `serve --listen A
 /// --target B` connects to a Java machine at B, accepts an editor at A, and serves a session between them; there is no

@@ -5,9 +5,9 @@ ghost use Rattle.bridge_cmd.specs.Lines.{target_fault_name, packet_fault_name, i
 
 use dap_frames::FrameFault;
 use jdwp_packets::PacketFault;
+use session_model::{ClientFault, Ending, TargetFault};
 use std::alloc::{AllocError, Global};
 use wire_core::{OutRefusal, Output};
-use world_model::{ClientFault, Ending, TargetFault};
 
 // The status where a line was not printed, and the one where memory ran out, which stays whatever happens to its line.
 const NOT_PRINTED: u8 = 9;

@@ -4,12 +4,12 @@ ghost use Rattle.wire_core.specs.MemoryWires.{outside_of};
 use crate::command::bridge_main;
 use crate::printing::{Outcome, tell};
 use dap_frames::FrameFault;
+use session_model::{ClientFault, Ending, TargetFault};
 use std::alloc::Global;
 use std::test::Fail;
 use wire_core::{
     Entry, List, MemoryFiles, MemoryOutput, MemoryWires, NoMemory, Side, Step, Text, Word,
 };
-use world_model::{ClientFault, Ending, TargetFault};
 
 const INITIALIZE: &[u8] =
     b"Content-Length: 82\r\n\r\n{\"seq\":1,\"type\":\"request\",\"command\":\"initialize\",\"arguments\":{\"adapterID\":\"jdwp\"}}";

@@ -1,256 +1,174 @@
--- What the target's packets lead to.
-use Rattle.std.proofs.Common.{◌≡◌, ℕ, ◌<◌, Bool, true, false, cond, List, [], ◌∷◌, ◌++◌, length, get_or, drop, inr}
-use Rattle.std.proofs.Common.{Option, Some, refl, sym, ap, subst, ◌∙◌, arith}
-use Rattle.std.specs.Prelude.{◌==◌, Result, Ok, Err, IfOk, IfErr, OnOk}
-use Rattle.jdwp_commands.specs.Answers.{answer_at}
-use Rattle.jdwp_commands.specs.Commands.{number_of}
-use Rattle.jdwp_commands.specs.declared.asked.Asked.{Asked}
-use Rattle.jdwp_commands.specs.declared.asked.Replied.{Replied}
-use Rattle.jdwp_commands.specs.declared.asked.Replied.TheVariants.{Error as an_error}
-use Rattle.jdwp_commands.specs.Bodies.{IsRead}
-use Rattle.jdwp_commands.specs.declared.fault.BodyFault.{BodyFault}
-use Rattle.jdwp_commands.specs.declared.fault.BodyFault.TheVariants as body_faults
-use Rattle.jdwp_events.specs.Composites.{composite_at}
-use Rattle.jdwp_packets.specs.Packets.{Packet, command_packet, reply_packet}
+-- What the target's packets do to a core: moves of the machine, and endings.
+use Rattle.std.proofs.Common.{◌≡◌, ℕ, ◌<◌, ◌++◌, ◌∷◌, Bool, true, false, cond, List, [], length, None}
+use Rattle.std.proofs.Common.{Some, Ok, Err, refl, sym, ap, subst, ◌≤◌}
+use Rattle.std.specs.Prelude.{IfErr, OnOk, Result}
+use Rattle.jdwp_packets.specs.Packets.{Packet, command_packet}
 use Rattle.jdwp_values.specs.declared.sizes.IdSizes.{IdSizes}
-use Rattle.pending_table.specs.Windows.{Window, pending_under, without, settled}
-use Rattle.bridge_core.specs.Hearing.{MayBe, RefusesBody, IsMeasured, RefusesSizes, RefusesRaw}
-use Rattle.bridge_core.specs.Raws.{raw_seen}
-use Rattle.bridge_core.specs.declared.raw.RawComposite.{RawComposite}
-use Rattle.bridge_core.specs.Machines.{Kept, state_of, Becomes}
-use Rattle.bridge_core.specs.Steps.{Sight, sight, IsLike, Answers, RefusesPacket, Overflows, GoesOn, Moves, TakesPacket}
-use Rattle.bridge_core.specs.Steps.{RefusesEnd, without_target, asked_of}
-use Rattle.world_model.specs.Machine.{State, answered}
-use Rattle.world_model.specs.Session.{Raw, Serve, IsReply, Measures, is_tolerated, is_composite, numbers_in, numbers_of}
-use Rattle.world_model.specs.Session.{composite_ending, body_ending}
-use Rattle.world_model.specs.declared.ending.Ending.{Ending}
-use Rattle.world_model.specs.declared.ending.Ending.TheVariants.{Done, Left, BadClient, BadTarget, ClientLink}
-use Rattle.world_model.specs.declared.ending.Ending.TheVariants.{TargetLink, TargetRefused, Idle, Spent, Flood}
-use Rattle.world_model.specs.declared.ending.Ending.TheVariants.{NoMemory}
+use Rattle.machine_model.specs.Due.{can_read}
+use Rattle.machine_model.specs.Replying.{SizesFor, sizes_of}
+use Rattle.machine_model.specs.Runs.{Allows, Message, Run, with_item}
+use Rattle.machine_model.specs.State.{Machine, is_gone, is_some}
+use Rattle.bridge_core.specs.Names.{Item, a_composite, a_raw}
+use Rattle.bridge_core.specs.Calls.{IsLike, RefusesPacket, TakesPacket}
+use Rattle.bridge_core.specs.Cores.{CoreState, IsReady, session_in, with_machine}
+use Rattle.bridge_core.specs.Hearing.{IsBadBody, IsUnserved}
+use Rattle.bridge_core.specs.Packets.{Hears, IsTakenIn, IsUntaken}
+use Rattle.bridge_core.proofs.HearLaws.{is_composite_fault}
+use Rattle.bridge_core.proofs.WindowLaws.{item_aligned}
+use Rattle.session_model.specs.Faults.{IsTargetFault, RefusesComposite}
+use Rattle.session_model.specs.Saying.{PacketSays, is_composite}
+use Rattle.session_model.specs.declared.ending.Ending.{Ending}
+use Rattle.session_model.specs.declared.ending.Ending.TheVariants.{BadTarget, Flood, NoMemory}
+use Rattle.session_model.specs.declared.ending.TargetFault.{TargetFault}
+use Rattle.session_model.specs.declared.ending.TargetFault.TheVariants.{BadCommand}
 
-abbrev Commands : Type 0
-Commands = List (ℕ × Asked)
+-- Composites ----------------------------------------------------------------------------------------------------------
 
--- the command that is pending under an id, between the others
-pub record IsAmong (id : ℕ) (sent : Commands) (asked : Asked) : Type 0 where
-  pub before : List Asked
-  pub after : List Asked
-  pub all : asked_of sent ≡ before ++ asked ∷ after
-  pub others : asked_of (without id sent) ≡ before ++ after
-
-pub among : (id : ℕ) (sent : Commands) (asked : Asked) → pending_under id sent ≡ Some asked → IsAmong id sent asked
-among id [] asked e = absurd cc
-among id (s ∷ sent) asked e = by (s.0 == id) refl (among id sent asked) e
+-- no composite can be read where the sizes of ids aren't known, or the target is gone
+unread_early : (m : Machine) (item : Item) → m.state.sizes ≡ None → can_read (with_item m item) ≡ false
+unread_early m item early = rw early (by_gone (is_gone m.state.phase))
   where
-    later : (s.0 == id) ≡ false → IsAmong id sent asked → IsAmong id (s ∷ sent) asked
-    later differs is = record {
-      before = s.1 ∷ is.before;
-      after = is.after;
-      all = ap (λ (l : List Asked). s.1 ∷ l) is.all;
-      others =
-          ap (λ (b : Bool). asked_of (cond b sent (s ∷ without id sent))) differs ∙ ap (λ (l : List Asked). s.1 ∷ l)
-          is.others;
-    }
+    by_gone : (gone : Bool) → cond gone false false ≡ false
+    by_gone true = refl
+    by_gone false = refl
 
-    by : (b : Bool) → (s.0 == id) ≡ b → (pending_under id sent ≡ Some asked → IsAmong id sent asked)
-        → cond b (Some s.1) (pending_under id sent) ≡ Some asked → IsAmong id (s ∷ sent) asked
-    by true is again e = record {
-      before = [];
-      after = asked_of sent;
-      all = ap (λ (a : Asked). a ∷ asked_of sent) (let same : s.1 ≡ asked = cc in same);
-      others = ap (λ (b : Bool). asked_of (cond b sent (s ∷ without id sent))) is;
-    }
-    by false is again e = later is (again e)
+unread_gone : (m : Machine) (item : Item) → is_gone m.state.phase ≡ true → can_read (with_item m item) ≡ false
+unread_gone m item gone = rw gone refl
 
--- it is one of two endings
-pub may_be : (P : Ending → Type 0) (wanted ending : Ending) → MayBe ending wanted → P NoMemory → P wanted → P ending
-may_be P wanted Done is free holds = subst P (sym is) holds
-may_be P wanted Left is free holds = subst P (sym is) holds
-may_be P wanted (BadClient fault at) is free holds = subst P (sym is) holds
-may_be P wanted (BadTarget fault at id) is free holds = subst P (sym is) holds
-may_be P wanted ClientLink is free holds = subst P (sym is) holds
-may_be P wanted TargetLink is free holds = subst P (sym is) holds
-may_be P wanted (TargetRefused set command code) is free holds = subst P (sym is) holds
-may_be P wanted Idle is free holds = subst P (sym is) holds
-may_be P wanted Spent is free holds = subst P (sym is) holds
-may_be P wanted Flood is free holds = subst P (sym is) holds
-may_be P wanted NoMemory is free holds = free
+-- a composite is kept, before the sizes of ids are known
+pub keeps_so : (old new : CoreState) (at id set number : ℕ) (body : List ℕ) → IsReady old
+    → is_composite set number ≡ true → old.machine.state.sizes ≡ None
+    → new ≡ with_machine old (with_item old.machine (a_raw at body))
+    → Hears old at (command_packet id set number body) new
+keeps_so old new at id set number body ready is early same =
+    subst (λ (core : CoreState). Hears old at (command_packet id set number body) core) (sym same) (record {
+      takes = record {
+        message = Message.keeps at body;
+        says = λ unheard there. subst (λ (offset : ℕ). PacketSays (session_in old unheard)
+            (command_packet id set number body) (Message.keeps offset body) old.commands) there (PacketSays.keeps is);
+        allows = allowed;
+        same = refl;
+      };
+      sound = record {
+        messages = ready.sound.messages ++ Message.keeps at body ∷ [];
+        run = Run.moves ready.sound.run allowed;
+        aligned = item_aligned old.commands.sent old.machine (a_raw at body) ready.sound.aligned;
+        none_to_read = unread_early old.machine (a_raw at body) early;
+      };
+    })
+  where
+    allowed : Allows old.machine (Message.keeps at body) (with_item old.machine (a_raw at body))
+    allowed = Allows.keeps (ap is_some early)
 
--- settling changes only which commands are pending
-pub settled_like : (kept : Kept) (told : ℕ) (commands after : Window) (sizes : Option IdSizes) (raw : List Raw)
-    (limit id : ℕ)
-    → after ≡ settled id commands
-    → IsLike (sight kept told commands sizes raw limit) (sight kept told after sizes raw limit)
-settled_like kept told commands after sizes raw limit id is =
-    record { state = refl; told = refl; next = ap (λ (w : Window). w.next) is }
+-- a composite is taken in a target that is gone
+pub takes_so : (old new : CoreState) (used : IdSizes) (at id set number : ℕ) (body : List ℕ) → IsReady old
+    → is_composite set number ≡ true → old.machine.state.sizes ≡ Some (sizes_of used)
+    → IsTakenIn old used at body new → Hears old at (command_packet id set number body) new
+takes_so old new used at id set number body ready is sizes taken =
+    subst (λ (core : CoreState). Hears old at (command_packet id set number body) core) (sym taken.same) (record {
+      takes = record {
+        message = Message.comes at taken.composite;
+        says = λ unheard there. subst (λ (offset : ℕ). PacketSays (session_in old unheard)
+            (command_packet id set number body) (Message.comes offset taken.composite) old.commands) there
+            (PacketSays.comes is serves taken.reads.reads);
+        allows = allowed;
+        same = refl;
+      };
+      sound = record {
+        messages = ready.sound.messages ++ Message.comes at taken.composite ∷ [];
+        run = Run.moves ready.sound.run allowed;
+        aligned = item_aligned old.commands.sent old.machine (a_composite at taken.composite) ready.sound.aligned;
+        none_to_read = unread_gone old.machine (a_composite at taken.composite) taken.gone;
+      };
+    })
+  where
+    serves : SizesFor old.machine.state.sizes used
+    serves = subst (λ known. SizesFor known used) (sym sizes) SizesFor.sizes_read
 
-pub refuses_body : (old new : Sight) (at id error : ℕ) (body : List ℕ) (asked : Asked) (sizes : IdSizes)
-    (ending : Ending)
-    → pending_under id old.commands.sent ≡ Some asked → Serve old.sizes sizes → IsLike old new
-    → RefusesBody sizes asked at error body ending → RefusesPacket old at (reply_packet id error body) new ending
-refuses_body old new at id error body asked sizes NoMemory is serve like RefusesBody.no_memory = RefusesPacket.no_memory
-refuses_body old new at id error body asked sizes ending is serve like (RefusesBody.refused some not_tolerated) =
-    RefusesPacket.refused is some not_tolerated like
-refuses_body old new at id error body asked sizes ending is serve like (RefusesBody.bad_answer reads) =
-    RefusesPacket.bad_answer (record { sizes = sizes; is_pending = is; serve = serve; reads = reads }) like
+    allowed : Allows old.machine (Message.comes at taken.composite)
+        (with_item old.machine (a_composite at taken.composite))
+    allowed = Allows.comes ready.sound.none_to_read (ap is_some sizes) (record {
+      used = used;
+      serves = serves;
+      fits = taken.reads.fits;
+      is_taken = rw taken.gone refl;
+    })
 
--- sizes are given by an answer alone
-sizes_refuse : (old new : Sight) (at id error : ℕ) (body : List ℕ) (asked : Asked) (sizes : IdSizes) (replied : Replied)
-    (ending : Ending)
-    → pending_under id old.commands.sent ≡ Some asked → Serve old.sizes sizes → IsLike old new
-    → IsReply sizes asked error body replied
-    → RefusesSizes old.raw replied at ending → RefusesPacket old at (reply_packet id error body) new ending
-sizes_refuse old new at id error body asked sizes replied NoMemory is serve like reply RefusesSizes.no_memory =
-    RefusesPacket.no_memory
-sizes_refuse old new at id error body asked sizes replied ending is serve like (IsReply.answers reads)
-    (RefusesSizes.bad_sizes numbers place) =
-    RefusesPacket.bad_sizes (record { sizes = sizes; is_pending = is; serve = serve; reads = reads }) numbers place like
-sizes_refuse old new at id error body asked sizes replied ending is serve like (IsReply.answers reads)
-    (RefusesSizes.bad_raw found numbers first) =
-    RefusesPacket.bad_raw found (record { sizes = sizes; is_pending = is; serve = serve; reads = reads }) numbers
-    first like
-sizes_refuse old new at id error body asked sizes replied ending is serve like (IsReply.refuses some tolerated)
-    (RefusesSizes.bad_sizes numbers place) =
-    absurd cc
-sizes_refuse old new at id error body asked sizes replied ending is serve like (IsReply.refuses some tolerated)
-    (RefusesSizes.bad_raw found numbers first) =
-    absurd cc
+-- where nothing changed
+is_like : (old new : CoreState) → new ≡ old → IsLike old new
+is_like old new same = subst (λ (core : CoreState). IsLike old core) (sym same) (record { same = refl; next = refl })
 
-pub refuses_sizes : (old new : Sight) (at id error : ℕ) (body : List ℕ) (asked : Asked) (sizes : IdSizes)
-    (replied : Replied) (ending : Ending)
-    → pending_under id old.commands.sent ≡ Some asked → Serve old.sizes sizes → IsLike old new
-    → IsReply sizes asked error body replied
-    → RefusesSizes old.raw replied at ending → RefusesPacket old at (reply_packet id error body) new ending
-refuses_sizes = sizes_refuse
+-- a command that is no composite ends the session
+pub refuses_command : (old new : CoreState) (at id set number : ℕ) (body : List ℕ) → is_composite set number ≡ false
+    → new ≡ old → RefusesPacket old at (command_packet id set number body) new (BadTarget BadCommand at 0)
+refuses_command old new at id set number body is same =
+    RefusesPacket.faulty (λ unheard front. subst (λ (offset : ℕ). IsTargetFault (session_in old unheard) BadCommand
+    offset 0) front.offset (IsTargetFault.bad_command front.front is)) (is_like old new same)
 
--- a command is answered
-pub answers : (kept after : Kept) (told : ℕ) (commands left : Window) (sizes later : Option IdSizes) (served : IdSizes)
-    (raw : List Raw) (limit : ℕ)
-    (id error : ℕ) (body : List ℕ) (asked : Asked) (replied : Replied)
-    → pending_under id commands.sent ≡ Some asked → left ≡ settled id commands → Serve sizes served
-    → IsReply served asked error body replied → IsMeasured sizes raw replied later
-    → Becomes kept (λ (s : State). answered s asked replied) after
-    → Answers (sight kept told commands sizes raw limit) id error body (sight after told left later raw limit)
-answers kept after told commands left sizes later served raw limit id error body asked replied pends settles serve reply
-    measured becomes =
-    let is = among id commands.sent asked pends in
-    record {
-      asked = asked;
-      replied = replied;
-      sizes = served;
-      later = later;
-      before = is.before;
-      after = is.after;
-      is_pending = pends;
-      serve = serve;
-      is_reply = reply;
-      measures = measured.measures;
-      none_raw = measured.none_raw;
-      pending = is.all;
-      becomes = rw settles (ap (λ (s : State). record {
-        state = s;
-        told = told;
-        commands = settled id commands;
-        sizes = later;
-        raw = raw;
-        limit = limit;
-      })
-          (becomes (asked_of (without id commands.sent)) ∙ ap
-          (λ (p : List Asked). answered (state_of kept p) asked replied) is.others));
-    }
+-- a composite that isn't taken does
+pub refuses_untaken : (old new : CoreState) (used : IdSizes) (at id set number : ℕ) (body : List ℕ) (ending : Ending)
+    → is_composite set number ≡ true → old.machine.state.sizes ≡ Some (sizes_of used)
+    → IsUntaken old used at body new ending → RefusesPacket old at (command_packet id set number body) new ending
+refuses_untaken old new used at id set number body ending is sizes untaken = by_cause untaken
+  where
+    faulty : {fault : TargetFault} {offset : ℕ} → new ≡ old → RefusesComposite old.machine body at fault offset
+        → RefusesPacket old at (command_packet id set number body) new (BadTarget fault offset 0)
+    faulty {fault} {offset} same refused =
+        RefusesPacket.faulty (λ unheard front. IsTargetFault.bad_composite front.front is
+        (subst (λ (place : ℕ). RefusesComposite old.machine body place fault offset) (sym front.offset) refused))
+        (is_like old new same)
 
--- Replies -------------------------------------------------------------------------------------------------------------
+    by_body : {ending : Ending} → new ≡ old → IsBadBody used body at ending
+        → RefusesPacket old at (command_packet id set number body) new ending
+    by_body same IsBadBody.no_memory = RefusesPacket.no_memory
+    by_body same (IsBadBody.faulty {found} {fault} {place} reads is) =
+        faulty same (RefusesComposite.bad_body used sizes reads (is_composite_fault found fault place is))
 
-pub refused_says : (sizes : IdSizes) (asked : Asked) (error : ℕ) (body : List ℕ) (result : Result Replied Ending)
-    → 0 < error
-    → IfOk result (λ replied. (is_tolerated asked error ≡ true) × (replied ≡ an_error error))
-    → IfOk result (λ replied. IsReply sizes asked error body replied)
-refused_says sizes asked error body (Ok replied) some is = rw is.1 (IsReply.refuses some is.0)
-refused_says sizes asked error body (Err ending) some is = tt
+    by_unserved : {ending : Ending} → is_gone old.machine.state.phase ≡ false → new ≡ old
+        → IsUnserved used body at ending → RefusesPacket old at (command_packet id set number body) new ending
+    by_unserved near same (IsUnserved.bad_body bad) = by_body same bad
+    by_unserved near same (IsUnserved.unserved {composite} reads) =
+        faulty same (RefusesComposite.not_taken used sizes reads (rw near refl))
 
-pub refused_ends : (sizes : IdSizes) (asked : Asked) (at error : ℕ) (body : List ℕ) (result : Result Replied Ending)
-    → 0 < error
-    → IfErr result
-    (λ ending. (is_tolerated asked error ≡ false) ×
-    (ending ≡ TargetRefused (number_of asked).0 (number_of asked).1 error))
-    → IfErr result (RefusesBody sizes asked at error body)
-refused_ends sizes asked at error body (Ok replied) some is = tt
-refused_ends sizes asked at error body (Err ending) some is = rw is.1 (RefusesBody.refused some is.0)
+    by_cause : {ending : Ending} → IsUntaken old used at body new ending
+        → RefusesPacket old at (command_packet id set number body) new ending
+    by_cause IsUntaken.no_memory = RefusesPacket.no_memory
+    by_cause (IsUntaken.unserved near bad same) = by_unserved near same bad
+    by_cause (IsUntaken.bad_body bad same) = by_body same bad
 
-pub body_ends : (sizes : IdSizes) (asked : Asked) (at : ℕ) (body : List ℕ) (fault : BodyFault)
-    → IsRead (answer_at sizes asked body) (Err fault)
-    → RefusesBody sizes asked at 0 body (body_ending fault at)
-body_ends sizes asked at body body_faults.NoMemory is = RefusesBody.no_memory
-body_ends sizes asked at body body_faults.UnknownCommand is = RefusesBody.bad_answer is
-body_ends sizes asked at body (body_faults.Short place) is = RefusesBody.bad_answer is
-body_ends sizes asked at body (body_faults.BadTag place) is = RefusesBody.bad_answer is
-body_ends sizes asked at body (body_faults.BadCount place) is = RefusesBody.bad_answer is
-body_ends sizes asked at body (body_faults.Trailing place) is = RefusesBody.bad_answer is
+-- what there is no memory for ends the session
+pub refuses_memory : {A : Type 0} (result : Result A Ending) (old new : CoreState) (at : ℕ) (packet : Packet)
+    → IfErr result (λ ending. ending ≡ NoMemory) → IfErr result (RefusesPacket old at packet new)
+refuses_memory (Ok a) old new at packet h = tt
+refuses_memory (Err ending) old new at packet h = subst (RefusesPacket old at packet new) (sym h) RefusesPacket.no_memory
 
--- the sizes that were found, with no composite left
-pub measured_new : (old : Option IdSizes) (raw : List Raw) (replied : Replied) (numbers : List ℕ) (found : IdSizes)
-    (result : Result (Option IdSizes) Ending) → numbers_in replied ≡ Some numbers → numbers ≡ numbers_of found
-    → IfOk result (λ later. (later ≡ Some found) × (raw ≡ [])) → IfOk result (λ later. IsMeasured old raw replied later)
-measured_new old raw replied numbers found (Ok later) gives are is = rw is.0 (record {
-  measures = Measures.measures (gives ∙ ap (λ (l : List ℕ). Some l) are);
-  none_raw = inr is.1;
-})
-measured_new old raw replied numbers found (Err ending) gives are is = tt
-
-raw_end : (raw : List Raw) (replied : Replied) (at : ℕ) (numbers : List ℕ) (found : IdSizes) (ending : Ending)
-    → numbers_in replied ≡ Some (numbers_of found) → RefusesRaw found raw ending → RefusesSizes raw replied at ending
-raw_end raw replied at numbers found NoMemory gives RefusesRaw.no_memory = RefusesSizes.no_memory
-raw_end raw replied at numbers found ending gives (RefusesRaw.first is) = RefusesSizes.bad_raw found gives is
-
-pub raw_ends : (raw : List Raw) (replied : Replied) (at : ℕ) (numbers : List ℕ) (found : IdSizes)
-    (result : Result (Option IdSizes) Ending) → numbers_in replied ≡ Some numbers → numbers ≡ numbers_of found
-    → IfErr result (RefusesRaw found raw) → IfErr result (RefusesSizes raw replied at)
-raw_ends raw replied at numbers found (Ok later) gives are is = tt
-raw_ends raw replied at numbers found (Err ending) gives are is =
-    raw_end raw replied at numbers found ending (gives ∙ ap (λ (l : List ℕ). Some l) are) is
-
--- the first of the composites that wait
-pub first_seen : (raw : List RawComposite) (first : RawComposite) → 0 < length raw → first ≡ get_or raw 0 first
-    → raw_seen raw ≡ record { at = first.at; body = first.body } ∷ raw_seen (drop 1 raw)
-first_seen [] first some is = absurd (omega arith)
-first_seen (r ∷ raw) first some is = rw is refl
-
--- A call that changes nothing -----------------------------------------------------------------------------------------
-
-pub like_self : (core : Sight) → IsLike core core
-like_self core = record { state = refl; told = refl; next = refl }
-
-pub unsettled_like : (kept : Kept) (told : ℕ) (commands after : Window) (sizes : Option IdSizes) (raw : List Raw)
-    (limit : ℕ)
-    → after ≡ commands → IsLike (sight kept told commands sizes raw limit) (sight kept told after sizes raw limit)
-unsettled_like kept told commands after sizes raw limit is =
-    record { state = refl; told = refl; next = ap (λ (w : Window). w.next) is }
-
--- once the sizes of ids are known a composite ends the session
-pub composite_ends : (old new : Sight) (at id set number : ℕ) (body : List ℕ) (sizes : IdSizes) (ending : Ending)
-    → is_composite set number ≡ true → old.sizes ≡ Some sizes → IsLike old new
-    → MayBe ending (composite_ending (composite_at sizes body) at)
-    → RefusesPacket old at (command_packet id set number body) new ending
-composite_ends old new at id set number body sizes ending is_one knows like may =
-    may_be (RefusesPacket old at (command_packet id set number body) new) _ ending may RefusesPacket.no_memory
-    (RefusesPacket.bad_composite is_one knows like)
+-- as `refuses_untaken`, of a call's result
+pub refuses_untaken_so : {A : Type 0} (result : Result A Ending) (old new : CoreState) (used : IdSizes)
+    (at id set number : ℕ) (body : List ℕ) → is_composite set number ≡ true
+    → old.machine.state.sizes ≡ Some (sizes_of used) → IfErr result (IsUntaken old used at body new)
+    → IfErr result (RefusesPacket old at (command_packet id set number body) new)
+refuses_untaken_so (Ok a) old new used at id set number body is sizes h = tt
+refuses_untaken_so (Err ending) old new used at id set number body is sizes h =
+    refuses_untaken old new used at id set number body ending is sizes h
 
 -- Room ----------------------------------------------------------------------------------------------------------------
 
-pub taken_on : (old heard new : Sight) (at : ℕ) (packet : Packet) (result : Result (Unit {0}) Ending)
-    → Moves old at packet heard
-    → OnOk result (GoesOn heard new) → OnOk result (TakesPacket old at packet new)
-taken_on old heard new at packet (Ok done) moves goes = record { heard = heard; moves = moves; goes_on = goes }
-taken_on old heard new at packet (Err ending) moves goes = tt
+-- where there is room behind a packet, the core goes on
+pub goes_on_ready : {A : Type 0} (result : Result A Ending) (old new : CoreState) (at : ℕ) (packet : Packet)
+    → Hears old at packet new → OnOk result (length new.machine.waiting ≤ new.limit) → OnOk result (IsReady new)
+goes_on_ready (Ok a) old new at packet hears room = record { sound = hears.sound; room = room }
+goes_on_ready (Err ending) old new at packet hears room = tt
 
-pub refused_on : (old heard new : Sight) (at : ℕ) (packet : Packet) (result : Result (Unit {0}) Ending)
-    → Moves old at packet heard
-    → IfErr result (λ ending. (ending ≡ Flood) × Overflows heard new) → IfErr result (RefusesPacket old at packet new)
-refused_on old heard new at packet (Ok done) moves over = tt
-refused_on old heard new at packet (Err ending) moves over = rw over.0 (RefusesPacket.floods moves over.1)
+pub takes_on : {A : Type 0} (result : Result A Ending) (old new : CoreState) (at : ℕ) (packet : Packet)
+    → Hears old at packet new → OnOk result (TakesPacket old at packet new)
+takes_on (Ok a) old new at packet hears = hears.takes
+takes_on (Err ending) old new at packet hears = tt
 
-pub shut_ends : (old heard new : Sight) (result : Result (Unit {0}) Ending) → heard ≡ without_target old
-    → IfErr result (λ ending. (ending ≡ Flood) × Overflows heard new) → IfErr result (RefusesEnd old new)
-shut_ends old heard new (Ok done) is over = tt
-shut_ends old heard new (Err ending) is over =
-    rw over.0 (RefusesEnd.floods (subst (λ (h : Sight). Overflows h new) is over.1))
+-- where there is none, it ends
+pub floods_on : {A : Type 0} (result : Result A Ending) (old new : CoreState) (at : ℕ) (packet : Packet)
+    → Hears old at packet new
+    → IfErr result (λ ending. (ending ≡ Flood) × (new.limit < length new.machine.waiting))
+    → IfErr result (RefusesPacket old at packet new)
+floods_on (Ok a) old new at packet hears h = tt
+floods_on (Err ending) old new at packet hears h =
+    subst (RefusesPacket old at packet new) (sym h.0) (RefusesPacket.floods hears.takes h.1)

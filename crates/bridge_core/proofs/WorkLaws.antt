@@ -1,285 +1,495 @@
--- The machine has less to do after each step, and it sends and asks only where no command is without a reply.
-use Rattle.std.proofs.Common.{◌≡◌, ℕ, ◌+◌, ◌-◌, ◌*◌, ◌<◌, ◌≤◌, Bool, true, false, List, [], ◌∷◌, ◌++◌, length, take}
-use Rattle.std.proofs.Common.{Option, None, Some, refl, sym, ap, subst, ◌∙◌, arith}
-use Rattle.dap_messages.specs.declared.requests.Command.{Command}
-use Rattle.dap_messages.specs.declared.requests.Command.TheVariants.{Initialize, Attach, Threads, Disconnect}
-use Rattle.dap_messages.specs.declared.requests.Command.TheVariants.{Unsupported, BadArguments}
-use Rattle.dap_messages.specs.declared.told.Event.{Event}
-use Rattle.dap_messages.specs.declared.told.Event.TheVariants.{Initialized, Terminated}
-use Rattle.dap_messages.specs.declared.told.Failure.{Failure}
-use Rattle.dap_messages.specs.declared.told.Outcome.{Outcome}
-use Rattle.jdwp_commands.specs.declared.asked.Asked.{Asked}
-use Rattle.jdwp_commands.specs.declared.asked.Replied.{Replied}
-use Rattle.jdwp_commands.specs.declared.effect.Effect.{Effect}
-use Rattle.jdwp_commands.specs.declared.question.Question.{Question}
-use Rattle.world_model.specs.Machine.{State, Hand, Due, due, due_in, due_next, due_part, due_for, beside}
-use Rattle.world_model.specs.Machine.{without_target, asks_some, window, parts_of, parts_by, row_of, leaves_from}
-use Rattle.world_model.specs.Machine.{leaving_by, end_parts, failure_of, responded, greeted_by, measured_by, changed_by}
-use Rattle.world_model.specs.Machine.{shown_by, next_wish, after_event, reply_among, sizes_reply, threads_need, Need}
-use Rattle.world_model.specs.Machine.{Named, sent}
-use Rattle.world_model.specs.declared.machine.Item.{Item}
-use Rattle.world_model.specs.declared.machine.Item.TheVariants as items
-use Rattle.world_model.specs.declared.machine.Leaving.{Leaving}
-use Rattle.world_model.specs.declared.machine.Part.{Part}
-use Rattle.world_model.specs.declared.machine.Part.TheVariants.{Greets, Awaits, Measures, Changes, Attaches, Shows}
-use Rattle.world_model.specs.declared.machine.Part.TheVariants.{Leaves, Responds, Announces, Serves, Finishes}
-use Rattle.world_model.specs.declared.machine.Phase.{Phase}
-use Rattle.world_model.specs.declared.machine.Phase.TheVariants.{Fresh, Attached, Gone}
-use Rattle.world_model.specs.declared.machine.Wish.{Wish}
-use Rattle.bridge_core.specs.Steps.{hand_work, free_work, work}
+-- Each act lessens what the machine can still do, but a wait and an end; and whether the next id is pending matters to
+-- questions alone.
+use Rattle.std.proofs.Common.{◌≡◌, ℕ, ◌+◌, ◌<◌, ◌≤◌, Bool, true, false, cond, not, List, [], ◌∷◌}
+use Rattle.std.proofs.Common.{◌++◌, length, Option, Some, None, refl, sym, ap, subst, ◌∙◌, option_map, nat_le, arith}
+use Rattle.std.proofs.Common.{length-append}
+use Rattle.std.proofs.lemmas.List.Concat.{flat_map-append}
+use Rattle.std.specs.List.{flat_map}
+use Rattle.machine_model.specs.Due.{Due, Load, Picked, Way, asked_first, behind_first, asked_hand, asked_next, begun}
+use Rattle.machine_model.specs.Due.{busy, can_read}
+use Rattle.machine_model.specs.Due.{clear, due, due_by, gated, guarded, hand_due, is_full, lacking_more}
+use Rattle.machine_model.specs.Due.{lets, load_of, looked, newly_lacked, next_item, passed_by, pick, queued}
+use Rattle.machine_model.specs.Due.{queued_next, responded, updated, waiting, wanted, wanted_in, way}
+use Rattle.machine_model.specs.Due.Way.{passes, greets as greets_way, holds as holds_way, asks as asks_way}
+use Rattle.machine_model.specs.Lookups.{finished, found_for}
+use Rattle.bridge_core.specs.Names.{Act, Choice, Command, Does, Effect, Event, Failure, Finding, Item, Lookup, Note}
+use Rattle.bridge_core.specs.Names.{Outcome, Part, Question, TargetCommand, Want, a_composite, a_question, a_raw}
+use Rattle.bridge_core.specs.Names.{a_request, an_effect, target_end}
+use Rattle.machine_model.specs.Outcomes.{result_of}
+use Rattle.machine_model.specs.Plans.{Need, Result, fails, has, lacks, question_of}
+use Rattle.machine_model.specs.Replying.{pending_in, pending_of, unanswered, unanswered_effect}
+use Rattle.machine_model.specs.Requests.{effect_due}
+use Rattle.machine_model.specs.Rows.{chosen, end_parts, failure_of, leaves, noted, parts_by, parts_of, row_of, wanting}
+use Rattle.machine_model.specs.Runs.{Allows, Message, Run, said}
+use Rattle.machine_model.specs.State.{Hand, Machine, State, has_waiting, is_empty, is_flying, is_gone, is_raw, knowing}
+use Rattle.machine_model.specs.State.{left}
+use Rattle.machine_model.specs.Telling.{after_event, numbered_by}
+use Rattle.machine_model.proofs.HandshakeLaws.{has_handshake}
+use Rattle.machine_model.proofs.PendingLaws.{all_open}
+use Rattle.machine_model.proofs.QuietLaws.{lacking_hand, load_in}
+use Rattle.machine_model.proofs.RestLaws.{is_free, near_queue}
+use Rattle.machine_model.proofs.Stepping.{IsAt, Loses, Moves, moved, walks_due}
+use Rattle.machine_model.proofs.TurnLaws.{Turns, turned, unsent}
+use Rattle.bridge_core.specs.Working.{hand_work, is_wait, is_work, one_if, one_unless, weight, weights}
+use Rattle.bridge_core.specs.Working.{work}
 
--- what there is to do beside commands without a reply
-abbrev pub rough : State → ℕ
-rough s = 20 * length s.waiting + hand_work s.hand
+-- Whether the next id is pending --------------------------------------------------------------------------------------
 
-pub record IsLighter (s next : State) : Type 0 where
-  pub less : rough next < rough s
-  pub same : next.pending ≡ s.pending
+any_first : (full : Bool) (m : Machine) (wants : List Want) → is_wait (asked_first true m wants).act ≡ false
+    → asked_first true m wants ≡ asked_first full m wants
+any_first full m [] is = refl
+any_first full m (want ∷ wants) is = cc
 
-pub record IsNoHeavier (s next : State) : Type 0 where
-  pub less : rough next ≤ rough s
-  pub same : next.pending ≡ s.pending
+any_next : (full : Bool) (m : Machine) (hand : Option Hand) → is_wait (asked_next true m hand).act ≡ false
+    → asked_next true m hand ≡ asked_next full m hand
+any_next full m None is = refl
+any_next full m (Some hand) is = any_first full m hand.queue is
 
-abbrev pub Lightens : State → Due → Type 0
-Lightens s Due.waits = Unit {0}
-Lightens s (Due.goes next) = IsLighter s next
-Lightens s (Due.tells told next) = IsLighter s next
-Lightens s (Due.greets next) = IsLighter s next
-Lightens s (Due.sends effect next) = IsNoHeavier s next
-Lightens s (Due.asks questions) = Unit {0}
-Lightens s (Due.over ending) = Unit {0}
+any_load : (full : Bool) (m : Machine) (load : Load) → is_wait (due_by true load m).act ≡ false
+    → due_by true load m ≡ due_by full load m
+any_load full m busy is = refl
+any_load full m queued is = any_next full m m.hand is
+any_load full m lacking_more is = refl
+any_load full m waiting is = refl
+any_load full m clear is = refl
 
--- Items ---------------------------------------------------------------------------------------------------------------
-
-short_by : (failure : Option Failure) (row : List Part) → length row ≤ 8 → length (parts_by failure row) ≤ 8
-short_by None row short = short
-short_by (Some failure) row short = omega arith
-
-short_leaves : (phase : Phase) (leaving : Leaving) (outcome : Outcome)
-    → length (leaves_from phase leaving ++ Responds outcome ∷ Finishes ∷ []) ≤ 8
-short_leaves Fresh leaving outcome = omega arith
-short_leaves Attached leaving outcome = omega arith
-short_leaves Gone leaving outcome = omega arith
-
-short_row : (phase : Phase) (command : Command) → length (row_of phase command) ≤ 8
-short_row phase (Initialize arguments) = omega arith
-short_row phase (Attach arguments) = omega arith
-short_row phase Threads = omega arith
-short_row phase (Disconnect arguments) = short_leaves phase (leaving_by arguments.terminate_debuggee) _
-short_row phase Unsupported = omega arith
-short_row phase (BadArguments name) = omega arith
-
-short_end : (terminated : Bool) → length (end_parts terminated) ≤ 8
-short_end true = omega arith
-short_end false = omega arith
-
--- an item has few parts
-short_item : (s : State) (item : Item) → length (parts_of s item) ≤ 8
-short_item s (items.Request request) =
-    short_by (failure_of s.phase request.command) (row_of s.phase request.command) (short_row s.phase request.command)
-short_item s items.TargetEnd = short_end s.terminated
-
-next_lightens : (s : State) (waiting : List Item) → s.waiting ≡ waiting → s.hand ≡ None
-    → Lightens s (due_next s waiting)
-next_lightens s [] e free = tt
-next_lightens s (item ∷ rest) e free = record {
-  less = (let short = short_item s item in let long = ap length e in let none = ap hand_work free in omega arith);
-  same = refl;
-}
-
--- Parts ---------------------------------------------------------------------------------------------------------------
-
-by_responded : (s next : State) (item : Item) (outcome : Outcome) → IsLighter s next
-    → Lightens s (responded item outcome next)
-by_responded s next (items.Request request) outcome lighter = lighter
-by_responded s next items.TargetEnd outcome lighter = lighter
-
-by_greeted : (s next : State) (greeted : Bool) → IsLighter s next → Lightens s (greeted_by greeted next)
-by_greeted s next true lighter = lighter
-by_greeted s next false lighter = tt
-
-by_measured : (s next : State) (reply : Option Replied) → IsLighter s next → Lightens s (measured_by reply next)
-by_measured s next None lighter = tt
-by_measured s next (Some replied) lighter = lighter
-
-by_changed : (s next : State) (wish : Option Wish) → IsLighter s next → Lightens s (changed_by wish s next)
-by_changed s next None lighter = lighter
-by_changed s next (Some wish) lighter = record { less = omega arith; same = refl }
-
-by_shown : (s next : State) (need : Need (List Named)) (item : Item) → IsLighter s next
-    → Lightens s (shown_by need item next)
-by_shown s next (Need.has named) item lighter =
-    by_responded s _ item _ (record { less = lighter.less; same = lighter.same })
-by_shown s next (Need.fails code) item lighter = by_responded s next item _ lighter
-by_shown s next (Need.lacks questions) item lighter = tt
-
-by_event : (s next : State) (event : Event) → IsLighter s next → IsLighter s (after_event event next)
-by_event s next Initialized lighter = lighter
-by_event s next Terminated lighter = record { less = lighter.less; same = lighter.same }
-
--- a part is done
-one_done : (s : State) (hand : Hand) (part : Part) (parts : List Part) → s.hand ≡ Some hand → hand.parts ≡ part ∷ parts
-    → 20 * length s.waiting + (2 + 2 * length parts) < rough s
-one_done s hand part parts e is =
-    let held = ap hand_work e in
-    let long = ap length is in
-    omega arith
-
-part_lightens : (s : State) (hand : Hand) (parts : List Part) → s.hand ≡ Some hand → hand.parts ≡ parts
-    → Lightens s (due_part s hand parts)
-part_lightens s hand [] e is = record { less = (let held = ap hand_work e in omega arith); same = refl }
-part_lightens s hand (Greets ∷ parts) e is = record { less = one_done s hand Greets parts e is; same = refl }
-part_lightens s hand (Awaits ∷ parts) e is =
-    by_greeted s _ s.greeted (record { less = one_done s hand Awaits parts e is; same = refl })
-part_lightens s hand (Measures ∷ parts) e is =
-    by_measured s _ (reply_among sizes_reply hand.answers)
-    (record { less = one_done s hand Measures parts e is; same = refl })
-part_lightens s hand (Changes ∷ parts) e is =
-    by_changed s _ (next_wish s) (record { less = one_done s hand Changes parts e is; same = refl })
-part_lightens s hand (Attaches ∷ parts) e is = record { less = one_done s hand Attaches parts e is; same = refl }
-part_lightens s hand (Shows ∷ parts) e is =
-    by_shown s _ (threads_need hand.answers) hand.item (record { less = one_done s hand Shows parts e is; same = refl })
-part_lightens s hand (Leaves leaving ∷ parts) e is =
-    record { less = (let less = one_done s hand (Leaves leaving) parts e is in omega arith); same = refl }
-part_lightens s hand (Responds outcome ∷ parts) e is =
-    by_responded s _ hand.item outcome (record { less = one_done s hand (Responds outcome) parts e is; same = refl })
-part_lightens s hand (Announces event ∷ parts) e is =
-    by_event s _ event (record { less = one_done s hand (Announces event) parts e is; same = refl })
-part_lightens s hand (Serves manner ∷ parts) e is =
-    record { less = one_done s hand (Serves manner) parts e is; same = refl }
-part_lightens s hand (Finishes ∷ parts) e is = tt
-
-in_lightens : (s : State) (hand : Option Hand) → s.hand ≡ hand → Lightens s (due_in s hand)
-in_lightens s None e = next_lightens s s.waiting refl e
-in_lightens s (Some hand) e = part_lightens s hand hand.parts e refl
-
--- Beside commands -----------------------------------------------------------------------------------------------------
-
--- one command keeps all others back
-pub none_beside : (asked : Asked) (pending : List Asked) (step : Due) → beside (asked ∷ pending) step ≡ Due.waits
-none_beside asked pending Due.waits = refl
-none_beside asked pending (Due.goes next) = refl
-none_beside asked pending (Due.tells told next) = refl
-none_beside asked pending (Due.greets next) = refl
-none_beside asked pending (Due.sends effect next) = refl
-none_beside asked pending (Due.asks questions) =
-    ap (λ (n : ℕ). asks_some (take n questions))
-    (let none : window - length (asked ∷ pending) ≡ 0 = omega arith in none)
-none_beside asked pending (Due.over ending) = refl
-
-asks_lighten : (s : State) (questions : List Question) → Lightens s (asks_some questions)
-asks_lighten s [] = tt
-asks_lighten s (question ∷ questions) = tt
-
-beside_lightens : (s : State) (pending : List Asked) (step : Due) → Lightens s step → Lightens s (beside pending step)
-beside_lightens s (asked ∷ pending) step lighter = subst (Lightens s) (sym (none_beside asked pending step)) tt
-beside_lightens s [] Due.waits lighter = tt
-beside_lightens s [] (Due.goes next) lighter = lighter
-beside_lightens s [] (Due.tells told next) lighter = lighter
-beside_lightens s [] (Due.greets next) lighter = lighter
-beside_lightens s [] (Due.sends effect next) lighter = lighter
-beside_lightens s [] (Due.asks questions) lighter = asks_lighten s (take window questions)
-beside_lightens s [] (Due.over ending) lighter = tt
-
-without_lightens : (s : State) (step : Due) → Lightens s step → Lightens s (without_target step)
-without_lightens s Due.waits lighter = tt
-without_lightens s (Due.goes next) lighter = lighter
-without_lightens s (Due.tells told next) lighter = lighter
-without_lightens s (Due.greets next) lighter = tt
-without_lightens s (Due.sends effect next) lighter = tt
-without_lightens s (Due.asks questions) lighter = tt
-without_lightens s (Due.over ending) lighter = tt
-
-for_lightens : (s : State) (phase : Phase) (pending : List Asked) (step : Due) → Lightens s step
-    → Lightens s (due_for phase pending step)
-for_lightens s Fresh pending step lighter = beside_lightens s pending step lighter
-for_lightens s Attached pending step lighter = beside_lightens s pending step lighter
-for_lightens s Gone pending step lighter = without_lightens s step lighter
-
-lightens : (s : State) → Lightens s (due s)
+-- what is due is the same whether or not the next id is pending, unless it is a wait
+pub due_any : (id_pending : Bool) (m : Machine) → is_wait (due id_pending m).act ≡ false
+    → due id_pending m ≡ due false m
 unfolding due
-lightens s = for_lightens s s.phase s.pending (due_in s s.hand) (in_lightens s s.hand refl)
+due_any false m is = refl
+due_any true m is = any_load (is_full false m) m (load_of m) is
 
-pub lightens_by : (s : State) (step : Due) → due s ≡ step → Lightens s step
-lightens_by s step e = subst (Lightens s) e (lightens s)
+abbrev is_ask : Act → Bool
+is_ask (Act.Asks question) = true
+is_ask _ = false
 
--- what is sent or asked is so beside no other command
-abbrev IsAlone : List Asked → Due → Type 0
-IsAlone pending (Due.sends effect next) = pending ≡ []
-IsAlone pending (Due.asks questions) = pending ≡ []
-IsAlone pending _ = Unit {0}
+no_ask_first : (m : Machine) (wants : List Want) → is_ask (asked_first true m wants).act ≡ false
+no_ask_first m [] = refl
+no_ask_first m (want ∷ wants) = refl
 
-asks_alone : (questions : List Question) → IsAlone [] (asks_some questions)
-asks_alone [] = tt
-asks_alone (question ∷ questions) = refl
+no_ask_next : (m : Machine) (hand : Option Hand) → is_ask (asked_next true m hand).act ≡ false
+no_ask_next m None = refl
+no_ask_next m (Some hand) = no_ask_first m hand.queue
 
-beside_alone : (pending : List Asked) (step : Due) → IsAlone pending (beside pending step)
-beside_alone (asked ∷ pending) step = subst (IsAlone (asked ∷ pending)) (sym (none_beside asked pending step)) tt
-beside_alone [] Due.waits = tt
-beside_alone [] (Due.goes next) = tt
-beside_alone [] (Due.tells told next) = tt
-beside_alone [] (Due.greets next) = tt
-beside_alone [] (Due.sends effect next) = refl
-beside_alone [] (Due.asks questions) = asks_alone (take window questions)
-beside_alone [] (Due.over ending) = tt
+no_ask_queued : (m : Machine) (hand : Option Hand) → is_ask (queued_next m hand).act ≡ false
+no_ask_queued m None = refl
+no_ask_queued m (Some hand) = refl
 
-without_alone : (pending : List Asked) (step : Due) → IsAlone pending (without_target step)
-without_alone pending Due.waits = tt
-without_alone pending (Due.goes next) = tt
-without_alone pending (Due.tells told next) = tt
-without_alone pending (Due.greets next) = tt
-without_alone pending (Due.sends effect next) = tt
-without_alone pending (Due.asks questions) = tt
-without_alone pending (Due.over ending) = tt
+no_ask_gated : (gone : Bool) (m : Machine) (to : Due) (act : Act) → to.act ≡ act
+    → is_ask (gated (lets gone act) m to).act ≡ false
+no_ask_gated gone m to Act.Waits is = refl
+no_ask_gated gone m to Act.Goes is = rw is refl
+no_ask_gated gone m to (Act.Tells told) is = rw is refl
+no_ask_gated gone m to Act.Greets is = by_gone gone
+  where
+    by_gone : (gone : Bool) → is_ask (gated (not gone) m to).act ≡ false
+    by_gone true = refl
+    by_gone false = rw is refl
+no_ask_gated gone m to (Act.Sends effect) is = by_gone gone
+  where
+    by_gone : (gone : Bool) → is_ask (gated (not gone) m to).act ≡ false
+    by_gone true = refl
+    by_gone false = rw is refl
+no_ask_gated gone m to (Act.Asks question) is = refl
+no_ask_gated gone m to (Act.Over finish) is = rw is refl
 
-for_alone : (phase : Phase) (pending : List Asked) (step : Due) → IsAlone pending (due_for phase pending step)
-for_alone Fresh pending step = beside_alone pending step
-for_alone Attached pending step = beside_alone pending step
-for_alone Gone pending step = without_alone pending step
+no_ask_by : (m : Machine) (load : Load) → is_ask (due_by true load m).act ≡ false
+no_ask_by m busy = refl
+no_ask_by m queued = no_ask_next m m.hand
+no_ask_by m lacking_more = no_ask_queued m m.hand
+no_ask_by m waiting = refl
+no_ask_by m clear = no_ask_gated (is_gone m.state.phase) m (wanted m) (wanted m).act refl
 
-alone : (s : State) → IsAlone s.pending (due s)
+no_ask : (m : Machine) → is_ask (due true m).act ≡ false
 unfolding due
-alone s = for_alone s.phase s.pending (due_in s s.hand)
+no_ask m = no_ask_by m (load_of m)
 
-sends_alone : (s next : State) (effect : Effect) → due s ≡ Due.sends effect next → s.pending ≡ []
-sends_alone s next effect e = subst (IsAlone s.pending) e (alone s)
+-- a question is asked only where the next id isn't pending
+pub asks_free : (id_pending : Bool) (m : Machine) (question : Question) → (due id_pending m).act ≡ Act.Asks question
+    → id_pending ≡ false
+asks_free false m question is = refl
+asks_free true m question is = let no : true ≡ false = sym (ap is_ask is) ∙ no_ask m in cc
 
--- what is asked is so beside no other command
-pub asks_alone_by : (s : State) (questions : List Question) → due s ≡ Due.asks questions → s.pending ≡ []
-asks_alone_by s questions e = subst (IsAlone s.pending) e (alone s)
+-- An effect is sent only where nothing is pending ---------------------------------------------------------------------
 
--- and after what is sent none is pending that was before
-pub none_after : (s next : State) (effect : Effect) → due s ≡ Due.sends effect next → next.pending ≡ []
-none_after s next effect e =
-    let light : IsNoHeavier s next = lightens_by s (Due.sends effect next) e in
-    light.same ∙ sends_alone s next effect e
+abbrev is_effect : TargetCommand → Bool
+is_effect (a_question question) = false
+is_effect (an_effect effect) = true
 
--- Work ----------------------------------------------------------------------------------------------------------------
+abbrev sends_effect : Option Message → Bool
+sends_effect None = false
+sends_effect (Some (Message.sends command)) = is_effect command
+sends_effect (Some _) = false
 
-pub lighter_work : (s next : State) → IsLighter s next → work next < work s
-lighter_work s next lighter = let same = ap free_work lighter.same in let less = lighter.less in omega arith
+alone : (m : Machine) (now pending : List TargetCommand) (both sent : Bool) (said : Option Message)
+    → sends_effect said ≡ true → Turns pending both sent said now → pending ≡ []
+alone m now pending both sent None is (Turns.stays beside same) = cc
+alone m now pending both sent (Some message) is (Turns.stays beside same) = grind (arith, is, beside)
+alone m now pending both sent said is (Turns.greets unsent same) = cc
+alone m now pending both sent said is (Turns.asks question shakes room only same) = cc
+alone m now pending both sent said is (Turns.changes effect shakes none same) = none
+alone m now pending both sent said is (Turns.answers command replied before after was same) = cc
 
-no_more : (s next : State) → IsNoHeavier s next → work next ≤ work s
-no_more s next lighter = let same = ap free_work lighter.same in let less = lighter.less in omega arith
+-- an effect goes only where no command is pending
+pub sends_alone : {messages : List Message} {m : Machine} → Run messages m → (id_pending : Bool) (effect : Effect)
+    → (due id_pending m).act ≡ Act.Sends effect → pending_of m ≡ []
+sends_alone {messages} {m} r id_pending effect is =
+    let same = due_any id_pending m (ap is_wait is) in
+    let now : (due false m).act ≡ Act.Sends effect = sym (ap (λ (to : Due). to.act) same) ∙ is in
+    alone m (pending_of (due false m).next) (pending_of m) (has_handshake m.state) m.state.greeting_sent
+    (Some (Message.sends (an_effect effect))) refl
+    (turned m (due false m).next (Some (Message.sends (an_effect effect))) (all_open r).holds
+    (moved (Allows.acts (ap said now))))
 
-pub sends_work : (s next : State) (effect : Effect) → due s ≡ Due.sends effect next → work next ≤ work s
-sends_work s next effect e = no_more s next (lightens_by s (Due.sends effect next) e)
+-- The tables ----------------------------------------------------------------------------------------------------------
 
--- with a command that is sent where none is pending
-sent_work : (s : State) (asked : Asked) → s.pending ≡ [] → work (sent s asked) < work s
-sent_work s asked none =
-    let one : free_work s.pending ≡ 1 = ap free_work none in
-    let now : free_work (s.pending ++ asked ∷ []) ≡ 0 = ap (λ (p : List Asked). free_work (p ++ asked ∷ [])) none in
+finished_light : (lookup : Lookup) (result : Result Finding) (state : State)
+    → weights (finished lookup result state) < 10
+finished_light lookup result state = grind arith
+
+leaves_light : (exits : Bool) (state : State) → weights (leaves state.phase exits) < 10
+leaves_light exits state = grind arith
+
+chosen_light : (choice : Choice) (state : State) (hand : Hand) → weights (chosen choice state hand) < 10
+chosen_light choice state hand = grind arith
+
+row_light : (command : Command) → weights (row_of command) < 60
+row_light command = grind arith
+
+parts_light : (failure : Option Failure) (row : List Part) → weights row < 60 → weights (parts_by failure row) < 60
+parts_light None row light = light
+parts_light (Some failure) row light = omega arith
+
+end_light : (terminated : Bool) → weights (end_parts terminated) < 60
+end_light true = omega arith
+end_light false = omega arith
+
+begun_light : (state : State) (item : Item) → weights (parts_of state item) < 60
+begun_light state (a_request request) =
+    parts_light (failure_of (wanting request.command) state) (row_of request.command) (row_light request.command)
+begun_light state (a_composite at composite) = omega arith
+begun_light state (a_raw at body) = omega arith
+begun_light state target_end = end_light state.terminated
+
+numbered_greets : (outcome : Outcome) (state : State) → (numbered_by outcome state).greeting_sent ≡ state.greeting_sent
+numbered_greets outcome state = grind arith
+
+told_greets : (event : Event) (state : State) → (after_event event state).greeting_sent ≡ state.greeting_sent
+told_greets event state = grind arith
+
+noted_greets : (note : Note) (state : State) → (noted note state).greeting_sent ≡ state.greeting_sent
+noted_greets note state = grind arith
+
+weights_joined : (some others : List Part) → weights (some ++ others) ≡ weights some + weights others
+weights_joined [] others = omega arith
+weights_joined (part ∷ some) others = let more = weights_joined some others in omega arith
+
+-- one item fewer waits
+picked_less : (gone : Bool) (items : List Item) (picked : Picked) → pick gone items ≡ Some picked
+    → length picked.rest < length items
+picked_less gone [] picked is = cc
+picked_less gone (item ∷ items) picked is =
+    by_test (cond gone false (is_raw item)) (pick gone items) is (λ other same. picked_less gone items other same)
+  where
+    by_below : (below : Option Picked) → passed_by item below ≡ Some picked
+        → ((other : Picked) → below ≡ Some other → length other.rest < length items)
+        → length picked.rest < length (item ∷ items)
+    by_below None is less = cc
+    by_below (Some other) is less =
+        let fewer = less other refl in
+        let rest : item ∷ other.rest ≡ picked.rest = cc in
+        let long : length (item ∷ other.rest) ≡ length picked.rest = ap length rest in omega arith
+
+    by_test : (skips : Bool) (below : Option Picked)
+        → cond skips (passed_by item below) (Some (record { item = item; rest = items })) ≡ Some picked
+        → ((other : Picked) → below ≡ Some other → length other.rest < length items)
+        → length picked.rest < length (item ∷ items)
+    by_test true below is less = by_below below is less
+    by_test false below is less =
+        let rest : items ≡ picked.rest = cc in
+        let long : length items ≡ length picked.rest = ap length rest in omega arith
+
+-- The moves -----------------------------------------------------------------------------------------------------------
+
+-- the machine's own message, and not one that comes
+abbrev pub is_own_message : Message → Bool
+is_own_message (Message.tells told) = true
+is_own_message Message.greets = true
+is_own_message (Message.sends command) = true
+is_own_message _ = false
+
+abbrev pub is_own : Option Message → Bool
+is_own None = true
+is_own (Some message) = is_own_message message
+
+pub not_lost : (m : Machine) (message : Message) (late : List TargetCommand) → Loses m message late
+    → is_own_message message ≡ false
+not_lost m message late Loses.by_end = refl
+not_lost m message late (Loses.by_question held waits reply last) = refl
+not_lost m message late (Loses.by_effect held flying reply last) = refl
+
+begun_less : (m : Machine) (picked : Picked) → m.hand ≡ None
+    → pick (is_gone m.state.phase) m.waiting ≡ Some picked → work (begun m picked.item picked.rest) < work m
+begun_less m picked none is =
+    let less = picked_less (is_gone m.state.phase) m.waiting picked is in
+    let light = begun_light m.state picked.item in
+    let was : hand_work m.hand ≡ 0 = ap hand_work none in omega arith
+
+part_less : (m : Machine) (hand : Hand) (part : Part) (rest parts : List Part) (state : State) → IsAt m hand part rest
+    → state.greeting_sent ≡ m.state.greeting_sent → weights parts < weight part + weights rest
+    → work (left (knowing m state) hand parts) < work m
+part_less m hand part rest parts state at greets less =
+    let was : hand_work m.hand ≡ hand_work (Some hand) = ap hand_work at.in_hand in
+    let heavy : weights hand.parts ≡ weight part + weights rest = ap weights at.parts in
+    let same : one_unless state.greeting_sent ≡ one_unless m.state.greeting_sent = ap one_unless greets in
     omega arith
 
-pub effect_work : (s next : State) (effect : Effect) (asked : Asked) → due s ≡ Due.sends effect next
-    → work (sent next asked) < work s
-effect_work s next effect asked e =
-    let light : IsNoHeavier s next = lightens_by s (Due.sends effect next) e in
-    let less = sent_work next asked (light.same ∙ sends_alone s next effect e) in
-    let before = no_more s next light in
-    omega arith
+-- an effect is sent for the part in front
+sent_less : (m : Machine) (hand : Hand) (part : Part) (rest : List Part) (now : Hand) → IsAt m hand part rest
+    → hand_work (Some now) < hand_work (Some hand) → work (record m { hand = Some now }) < work m
+sent_less m hand part rest now at less =
+    let was : hand_work m.hand ≡ hand_work (Some hand) = ap hand_work at.in_hand in omega arith
 
-pub question_work : (s : State) (questions : List Question) (asked : Asked) → due s ≡ Due.asks questions
-    → work (sent s asked) < work s
-question_work s questions asked e = sent_work s asked (asks_alone_by s questions e)
+queued_less : (m : Machine) (hand : Hand) → load_of m ≡ lacking_more → m.hand ≡ Some hand
+    → work (record m { hand = Some (record hand { queue = newly_lacked m.state hand }) }) < work m
+queued_less m hand free is =
+    let was : hand_work m.hand ≡ hand_work (Some hand) = ap hand_work is in
+    let before : one_if (is_empty hand.queue) ≡ 1 = ap one_if
+    (by_bools (can_read m) (is_flying hand.effect) (is_empty hand.queue) (is_empty (newly_lacked m.state hand))
+    (has_waiting hand.asked) (load_in m hand lacking_more free (near_queue m free) is)) in
+    let now : one_if (is_empty (newly_lacked m.state hand)) ≡ 0 = ap one_if (lacking_hand m hand free is) in
+    omega arith
+  where
+    by_bools : (reads flies none_queued none_lacking waits : Bool)
+        → cond reads busy (cond flies busy (cond (not none_queued) queued (cond (not none_lacking) lacking_more
+        (cond waits waiting clear)))) ≡ lacking_more → none_queued ≡ true
+    by_bools reads flies none_queued none_lacking waits is = grind arith
+
+at_most : (b : Bool) → one_if b ≤ 1
+at_most true = omega arith
+at_most false = omega arith
+
+asked_less : (m : Machine) (hand : Hand) (want : Want) (wants : List Want) → is_full false m ≡ false
+    → m.hand ≡ Some hand → hand.queue ≡ want ∷ wants
+    → work (record m { hand = option_map (asked_hand want) m.hand }) < work m
+asked_less m hand want wants room is are =
+    let was : hand_work m.hand ≡ hand_work (Some hand) = ap hand_work is in
+    let now : hand_work (option_map (asked_hand want) m.hand) ≡ hand_work (Some (asked_hand want hand)) =
+    ap (λ (held : Option Hand). hand_work (option_map (asked_hand want) held)) is in
+    let before : one_if (is_empty hand.queue) ≡ 0 = ap (λ (queue : List Want). one_if (is_empty queue)) are in
+    let one : List TargetCommand = a_question (question_of want) ∷ [] in
+    let more : length (flat_map unanswered (hand.asked ++ record { want = want; reply = None } ∷ []))
+    ≡ length (flat_map unanswered hand.asked) + 1 =
+    ap length (flat_map-append unanswered hand.asked (record { want = want; reply = None } ∷ []))
+    ∙ length-append (flat_map unanswered hand.asked) one in
+    let few = few_asked m hand is (few_pending (length (pending_of m)) room) in
+    let rest = at_most (is_empty (behind_first hand.queue)) in
+    omega arith
+  where
+    few_pending : (n : ℕ) → nat_le 16 n ≡ false → n < 16
+    few_pending n is = grind (arith, is)
+
+    few_asked : (m : Machine) (hand : Hand) → m.hand ≡ Some hand → length (pending_of m) < 16
+        → length (flat_map unanswered hand.asked) < 16
+    few_asked m hand is few =
+        let all : pending_of m ≡ m.late ++ (flat_map unanswered hand.asked ++ unanswered_effect hand.effect) =
+        ap (λ (held : Option Hand). m.late ++ pending_in held) is in
+        let long = ap length all in
+        let outer = length-append m.late (flat_map unanswered hand.asked ++ unanswered_effect hand.effect) in
+        let inner = length-append (flat_map unanswered hand.asked) (unanswered_effect hand.effect) in omega arith
+
+some_weight : (part : Part) (rest : ℕ) → rest < weight part + rest
+some_weight part rest = grind arith
+
+-- each move of the machine's own lessens what it can still do
+less_on : (m next : Machine) (said : Option Message) → is_own said ≡ true → Moves m said next → work next < work m
+less_on m next said own (Moves.begins picked free none is) = begun_less m picked none is
+less_on m next said own (Moves.drops {hand} free is none) =
+    let was : hand_work m.hand ≡ hand_work (Some hand) = ap hand_work is in omega arith
+less_on m next said own (Moves.responds {hand} {rest} {outcome = outcome} free at is) =
+    part_less m hand (Part.Responds outcome) rest rest (numbered_by outcome m.state) at
+    (numbered_greets outcome m.state) (omega arith)
+less_on m next said own (Moves.finds {hand} {rest} {lookup} found free at needs done) =
+    let parts = finished lookup (result_of found) m.state in
+    let light = finished_light lookup (result_of found) m.state in
+    let both = weights_joined parts rest in
+    part_less m hand (Part.Looks lookup) rest (parts ++ rest) m.state at refl (omega arith)
+less_on m next said own (Moves.passes_over {hand} {part} {rest} free at why) =
+    part_less m hand part rest rest m.state at refl (some_weight part (weights rest))
+less_on m next said own (Moves.tells {hand} {rest} {event} free at) =
+    part_less m hand (Part.Tells event) rest rest (after_event event m.state) at (told_greets event m.state)
+    (omega arith)
+less_on m next said own (Moves.sends {hand} {rest} {deed} free at near) =
+    let heavy : weights hand.parts ≡ 1 + weights rest = ap weights at.parts in
+    sent_less m hand (Part.Sends deed) rest
+    (record hand { parts = rest; effect = Some (record { effect = Does deed; reply = None }) }) at (omega arith)
+less_on m next said own (Moves.updates {hand} {effect} {rest} free at is near) =
+    let heavy : weights hand.parts ≡ 1 + weights rest = ap weights at.parts in
+    let lands : one_unless (is_flying hand.effect) ≡ 1 = ap one_unless (is_free m hand free near at.in_hand).lands in
+    sent_less m hand Part.Updates rest
+    (record hand { parts = Part.Updates ∷ rest; effect = Some (record { effect = effect; reply = None }) }) at
+    (omega arith)
+less_on m next said own (Moves.greets {hand} {guard} free at is near) =
+    let before : one_unless m.state.greeting_sent ≡ 1 = ap one_unless (unsent m guard is) in omega arith
+less_on m next said own (Moves.notes {hand} {note} {rest} free at) =
+    part_less m hand (Part.Notes note) rest rest (noted note m.state) at (noted_greets note m.state) (omega arith)
+less_on m next said own (Moves.unfolds {hand} {choice} {rest} free at) =
+    let parts = chosen choice m.state hand in
+    let light = chosen_light choice m.state hand in
+    let both = weights_joined parts rest in
+    part_less m hand (Part.Unfolds choice) rest (parts ++ rest) m.state at refl (omega arith)
+less_on m next said own (Moves.queues {hand} free is) = queued_less m hand free is
+less_on m next said own (Moves.asks {hand} {want} {wants} free room is are) =
+    asked_less m hand want wants room is are
+less_on m next said own (Moves.loses {message} late near why) =
+    let no : true ≡ false = sym own ∙ not_lost m message late why in cc
+less_on m next said own _ = cc
+
+goes : (m : Machine) → (due false m).act ≡ Act.Goes → Moves m None (due false m).next
+goes m is = rw is at (walks_due m)
+
+moves_by : (m : Machine) (act : Act) → (due false m).act ≡ act → is_work act ≡ true
+    → Moves m (said act) (due false m).next
+moves_by m Act.Waits is work = cc
+moves_by m Act.Goes is work = goes m is
+moves_by m (Act.Tells told) is work = moved (Allows.acts (ap said is))
+moves_by m Act.Greets is work = moved (Allows.acts (ap said is))
+moves_by m (Act.Sends effect) is work = moved (Allows.acts (ap said is))
+moves_by m (Act.Asks question) is work = moved (Allows.acts (ap said is))
+moves_by m (Act.Over finish) is work = cc
+
+pub works_on : (act : Act) → is_work act ≡ true → is_wait act ≡ false
+works_on act is = grind (arith, is)
+
+pub own_said : (act : Act) → is_own (said act) ≡ true
+own_said act = grind arith
+
+-- what is due is a move, unless it is a wait or the end
+pub due_moves : (id_pending : Bool) (m : Machine) → is_work (due id_pending m).act ≡ true
+    → Moves m (said (due id_pending m).act) (due id_pending m).next
+due_moves id_pending m is =
+    let same = due_any id_pending m (works_on (due id_pending m).act is) in
+    let acts : (due id_pending m).act ≡ (due false m).act = ap (λ (to : Due). to.act) same in
+    subst (λ (to : Due). Moves m (said to.act) to.next) (sym same)
+    (moves_by m (due false m).act refl (ap is_work (sym acts) ∙ is))
+
+-- The measure ---------------------------------------------------------------------------------------------------------
+
+-- each act lessens what the machine can still do, but a wait and the end
+pub due_less : (id_pending : Bool) (m : Machine) → is_work (due id_pending m).act ≡ true
+    → work (due id_pending m).next < work m
+due_less id_pending m is =
+    less_on m (due id_pending m).next (said (due id_pending m).act) (own_said (due id_pending m).act)
+    (due_moves id_pending m is)
+
+-- A wait and the end change nothing -----------------------------------------------------------------------------------
+
+abbrev Stays : Machine → Due → Type 0
+Stays m to = is_work to.act ≡ false → to.next ≡ m
+
+stays_responded : (item : Item) (outcome : Outcome) (m : Machine) (hand : Hand) (rest : List Part)
+    → Stays m (responded item outcome m hand rest)
+stays_responded (a_request request) outcome m hand rest = λ is. cc
+stays_responded (a_composite at composite) outcome m hand rest = λ is. cc
+stays_responded (a_raw at body) outcome m hand rest = λ is. cc
+stays_responded target_end outcome m hand rest = λ is. cc
+
+stays_looked : (lookup : Lookup) (found : Need Finding) (m : Machine) (hand : Hand) (rest : List Part)
+    → Stays m (looked lookup found m hand rest)
+stays_looked lookup (has finding) m hand rest = λ is. cc
+stays_looked lookup (fails fault) m hand rest = λ is. cc
+stays_looked lookup (lacks want others) m hand rest = λ is. refl
+
+stays_guarded : (found : Way) (m : Machine) (hand : Hand) (rest : List Part) → Stays m (guarded found m hand rest)
+stays_guarded passes m hand rest = λ is. cc
+stays_guarded greets_way m hand rest = λ is. cc
+stays_guarded holds_way m hand rest = λ is. refl
+stays_guarded (asks_way want) m hand rest = λ is. refl
+
+stays_updated : (found : Option Effect) (m : Machine) (hand : Hand) (rest : List Part)
+    → Stays m (updated found m hand rest)
+stays_updated None m hand rest = λ is. cc
+stays_updated (Some effect) m hand rest = λ is. cc
+
+stays_hand : (m : Machine) (hand : Hand) (parts : List Part) → Stays m (hand_due m hand parts)
+stays_hand m hand [] = λ is. cc
+stays_hand m hand (Part.Responds outcome ∷ rest) = stays_responded hand.item outcome m hand rest
+stays_hand m hand (Part.Tells event ∷ rest) = λ is. cc
+stays_hand m hand (Part.Sends deed ∷ rest) = λ is. cc
+stays_hand m hand (Part.Looks lookup ∷ rest) = stays_looked lookup (found_for lookup m.state hand) m hand rest
+stays_hand m hand (Part.Awaits guard ∷ rest) = stays_guarded (way guard m.state) m hand rest
+stays_hand m hand (Part.Updates ∷ rest) = stays_updated (effect_due m.state.wishes) m hand rest
+stays_hand m hand (Part.Notes note ∷ rest) = λ is. cc
+stays_hand m hand (Part.Unfolds choice ∷ rest) = λ is. cc
+stays_hand m hand (Part.Ends finish ∷ rest) = λ is. refl
+
+stays_next : (m : Machine) (picked : Option Picked) → Stays m (next_item m picked)
+stays_next m None = λ is. refl
+stays_next m (Some picked) = λ is. cc
+
+stays_in : (m : Machine) (hand : Option Hand) → Stays m (wanted_in m hand)
+stays_in m None = stays_next m (pick (is_gone m.state.phase) m.waiting)
+stays_in m (Some hand) = stays_hand m hand hand.parts
+
+stays_wanted : (m : Machine) → Stays m (wanted m)
+unfolding wanted
+stays_wanted m = stays_in m m.hand
+
+stays_gated : (gate : Bool) (m : Machine) (to : Due) → Stays m to → Stays m (gated gate m to)
+stays_gated true m to stays = stays
+stays_gated false m to stays = λ is. refl
+
+stays_first : (full : Bool) (m : Machine) (wants : List Want) → Stays m (asked_first full m wants)
+stays_first full m [] = λ is. refl
+stays_first true m (want ∷ wants) = λ is. refl
+stays_first false m (want ∷ wants) = λ is. cc
+
+stays_asked : (full : Bool) (m : Machine) (hand : Option Hand) → Stays m (asked_next full m hand)
+stays_asked full m None = λ is. refl
+stays_asked full m (Some hand) = stays_first full m hand.queue
+
+stays_lacking : (m : Machine) (hand : Option Hand) → Stays m (queued_next m hand)
+stays_lacking m None = λ is. refl
+stays_lacking m (Some hand) = λ is. cc
+
+stays_by : (full : Bool) (m : Machine) (load : Load) → Stays m (due_by full load m)
+stays_by full m busy = λ is. refl
+stays_by full m queued = stays_asked full m m.hand
+stays_by full m lacking_more = stays_lacking m m.hand
+stays_by full m waiting = λ is. refl
+stays_by full m clear =
+    stays_gated (lets (is_gone m.state.phase) (wanted m).act) m (wanted m) (stays_wanted m)
+
+-- a wait and the end leave the machine as it is
+pub due_stays : (id_pending : Bool) (m : Machine) → is_work (due id_pending m).act ≡ false
+    → (due id_pending m).next ≡ m
+unfolding due
+due_stays id_pending m = stays_by (is_full id_pending m) m (load_of m)
+
+-- The items that wait -------------------------------------------------------------------------------------------------
+
+waiting_on : (m next : Machine) (said : Option Message) → is_own said ≡ true → Moves m said next
+    → length next.waiting ≤ length m.waiting
+waiting_on m next said own (Moves.begins picked free none is) =
+    let less = picked_less (is_gone m.state.phase) m.waiting picked is in omega arith
+waiting_on m next said own (Moves.hears read is) = cc
+waiting_on m next said own (Moves.loses {message} late near why) =
+    let no : true ≡ false = sym own ∙ not_lost m message late why in cc
+waiting_on m next said own (Moves.comes read sized taken) = cc
+waiting_on m next said own (Moves.keeps is) = cc
+waiting_on m next said own (Moves.reads before after read is none taken) = cc
+waiting_on m next said own _ = omega arith
+
+-- no act makes more items wait
+pub due_waiting : (id_pending : Bool) (m : Machine) → length (due id_pending m).next.waiting ≤ length m.waiting
+due_waiting id_pending m = by_work (is_work (due id_pending m).act) refl
+  where
+    by_work : (works : Bool) → is_work (due id_pending m).act ≡ works
+        → length (due id_pending m).next.waiting ≤ length m.waiting
+    by_work true is =
+        waiting_on m (due id_pending m).next (said (due id_pending m).act) (own_said (due id_pending m).act)
+        (due_moves id_pending m is)
+    by_work false is =
+        let same : length (due id_pending m).next.waiting ≡ length m.waiting =
+        ap (λ (m : Machine). length m.waiting) (due_stays id_pending m is) in omega arith

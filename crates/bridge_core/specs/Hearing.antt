@@ -1,50 +1,124 @@
--- What a reply says, and how it ends a session.
-use Rattle.std.specs.Prelude.{ℕ, ◌≡◌, ◌<◌, ◌+◌, ◌*◌, ◌⊎◌, ◌∷◌, false, List, [], Option, None, Some, Err, position}
-use Rattle.jdwp_commands.specs.Answers.{answer_at}
+-- What a packet of the target's says, and how it ends a session: words for the code that judges it.
+use Rattle.std.specs.Prelude.{ℕ, ◌≡◌, ◌<◌, ◌+◌, ◌*◌, ◌==◌, ◌∷◌, ◌++◌, Bool, true, false, cond, List, Ok, Err, None, Some}
+use Rattle.std.specs.Prelude.{Option, position}
+use Rattle.jdwp_commands.specs.Answers.{IsAnswerTo, answer_at}
 use Rattle.jdwp_commands.specs.Commands.{number_of}
+use Rattle.jdwp_commands.specs.declared.answer.Answer.{Answer}
 use Rattle.jdwp_commands.specs.declared.asked.Asked.{Asked}
+use Rattle.jdwp_commands.specs.declared.asked.Asked.TheVariants as commands
 use Rattle.jdwp_commands.specs.declared.asked.Replied.{Replied}
+use Rattle.jdwp_commands.specs.declared.asked.Replied.TheVariants.{Answer as an_answer, Error as an_error}
+use Rattle.jdwp_commands.specs.declared.effect.Effect.TheVariants as effects
 use Rattle.jdwp_commands.specs.declared.fault.BodyFault.{BodyFault}
-use Rattle.jdwp_events.specs.Composites.{composite_at}
+use Rattle.jdwp_commands.specs.declared.fault.BodyFault.TheVariants as body_faults
+use Rattle.jdwp_events.specs.Composites.{FitsComposite, composite_at}
+use Rattle.jdwp_events.specs.declared.composite.Composite.{Composite}
+use Rattle.jdwp_events.specs.declared.composite.CompositeFault.{CompositeFault}
+use Rattle.jdwp_events.specs.declared.composite.CompositeFault.TheVariants as composite_faults
 use Rattle.jdwp_values.specs.Sizes.{is_no_size}
 use Rattle.jdwp_values.specs.declared.sizes.IdSizes.{IdSizes}
-use Rattle.world_model.specs.Session.{Raw, Measures, numbers_in, numbers_of, is_tolerated, composite_ending}
-use Rattle.world_model.specs.Session.{body_ending, target_fault, header}
-use Rattle.world_model.specs.declared.ending.Ending.{Ending}
-use Rattle.world_model.specs.declared.ending.Ending.TheVariants.{TargetRefused, NoMemory}
-use Rattle.world_model.specs.declared.ending.TargetFault.TheVariants.{BadSizes}
+use Rattle.machine_model.specs.Replying.{has_good_sizes, is_essential_question}
+use Rattle.machine_model.specs.State.{has_raw}
+use Rattle.machine_model.specs.declared.items.Item.{Item}
+use Rattle.machine_model.specs.declared.items.Item.TheVariants.{Raw as a_raw}
+use Rattle.session_model.specs.Faults.{header, numbers_in}
+use Rattle.session_model.specs.declared.ending.Ending.{Ending}
+use Rattle.session_model.specs.declared.ending.Ending.TheVariants.{BadTarget, NoMemory, TargetRefused}
+use Rattle.session_model.specs.declared.ending.TargetFault.{TargetFault}
+use Rattle.session_model.specs.declared.ending.TargetFault.TheVariants.{BadCommand, BadCount, BadKind, BadPolicy}
+use Rattle.session_model.specs.declared.ending.TargetFault.TheVariants.{BadSizes, BadTag, Short, Trailing}
 
 -- it is this ending, unless memory ran out
 abbrev pub MayBe : Ending → Ending → Type 0
 MayBe NoMemory wanted = Unit {0}
 MayBe ending wanted = ending ≡ wanted
 
--- a reply that ends the session by what it says alone
-pub data RefusesBody (sizes : IdSizes) (asked : Asked) (at : ℕ) : ℕ → List ℕ → Ending → Type 0 where
-  no_memory : {error : ℕ} {body : List ℕ} → RefusesBody sizes asked at error body NoMemory
-  refused : {error : ℕ} {body : List ℕ} → 0 < error → is_tolerated asked error ≡ false
-      → RefusesBody sizes asked at error body (TargetRefused (number_of asked).0 (number_of asked).1 error)
-  bad_answer : {body : List ℕ} {fault : BodyFault} → answer_at sizes asked body ≡ Err fault
-      → RefusesBody sizes asked at 0 body (body_ending fault at)
+-- a fault of a composite's body, and its place in the body; want of memory is none
+abbrev pub composite_fault : CompositeFault → Option (TargetFault × ℕ)
+composite_fault composite_faults.NoMemory = None
+composite_fault (composite_faults.Short place) = Some (Short, place)
+composite_fault (composite_faults.BadKind place) = Some (BadKind, place)
+composite_fault (composite_faults.BadPolicy place) = Some (BadPolicy, place)
+composite_fault (composite_faults.BadCount place) = Some (BadCount, place)
+composite_fault (composite_faults.BadTag place) = Some (BadTag, place)
+composite_fault (composite_faults.Trailing place) = Some (Trailing, place)
 
--- the sizes of ids after a reply, with which no composite may be left that waits for them
-pub record IsMeasured (old : Option IdSizes) (raw : List Raw) (replied : Replied) (later : Option IdSizes) : Type 0
-  where
-    pub measures : Measures old replied later
-    pub none_raw : (numbers_in replied ≡ None) ⊎ (raw ≡ [])
+-- a fault of an answer's body, and its place in the body; a command that is sent is known
+abbrev pub answer_fault : BodyFault → Option (TargetFault × ℕ)
+answer_fault body_faults.NoMemory = None
+answer_fault body_faults.UnknownCommand = None
+answer_fault (body_faults.Short place) = Some (Short, place)
+answer_fault (body_faults.BadTag place) = Some (BadTag, place)
+answer_fault (body_faults.BadCount place) = Some (BadCount, place)
+answer_fault (body_faults.Trailing place) = Some (Trailing, place)
 
--- sizes that end the session
-pub data RefusesSizes (raw : List Raw) (replied : Replied) (at : ℕ) : Ending → Type 0 where
-  no_memory : RefusesSizes raw replied at NoMemory
-  bad_sizes : {place : ℕ} {numbers : List ℕ} → numbers_in replied ≡ Some numbers
-      → position is_no_size numbers ≡ Some place
-      → RefusesSizes raw replied at (target_fault BadSizes (at + header + 4 * place))
-  bad_raw : (found : IdSizes) {first : Raw} {others : List Raw} → numbers_in replied ≡ Some (numbers_of found)
-      → raw ≡ first ∷ others
-      → RefusesSizes raw replied at (composite_ending (composite_at found first.body) first.at)
+-- Composites ----------------------------------------------------------------------------------------------------------
 
--- the first composite that waits for the sizes of ids ends the session
-pub data RefusesRaw (found : IdSizes) (raw : List Raw) : Ending → Type 0 where
-  no_memory : RefusesRaw found raw NoMemory
-  first : {first : Raw} {others : List Raw} → raw ≡ first ∷ others
-      → RefusesRaw found raw (composite_ending (composite_at found first.body) first.at)
+-- the body reads as this composite (JDWP, Event command set, Composite)
+pub record ReadsComposite (used : IdSizes) (body : List ℕ) (composite : Composite) : Type 0 where
+  pub reads : composite_at used body ≡ Ok composite
+  pub fits : FitsComposite used composite
+
+-- the body of a composite, whose packet begins at this offset, has a fault
+pub data IsBadBody (used : IdSizes) (body : List ℕ) (at : ℕ) : Ending → Type 0 where
+  no_memory : IsBadBody used body at NoMemory
+  faulty : {found : CompositeFault} {fault : TargetFault} {place : ℕ} → composite_at used body ≡ Err found
+      → composite_fault found ≡ Some (fault, place) → IsBadBody used body at (BadTarget fault (at + header + place) 0)
+
+-- a composite that isn't served ends the session: at a fault of its body, or at its packet
+pub data IsUnserved (used : IdSizes) (body : List ℕ) (at : ℕ) : Ending → Type 0 where
+  bad_body : {ending : Ending} → IsBadBody used body at ending → IsUnserved used body at ending
+  unserved : {composite : Composite} → composite_at used body ≡ Ok composite
+      → IsUnserved used body at (BadTarget BadCommand at 0)
+
+-- the first of the composites that were kept ends it
+pub record IsFirstKept (used : IdSizes) (waiting : List Item) (ending : Ending) : Type 0 where
+  pub before : List Item
+  pub after : List Item
+  pub at : ℕ
+  pub body : List ℕ
+  pub waiting_are : waiting ≡ before ++ a_raw at body ∷ after
+  pub is_first : has_raw before ≡ false
+  pub unserved : IsUnserved used body at ending
+
+-- that is so, unless memory ran out
+pub data MayBeKept (used : IdSizes) (waiting : List Item) : Ending → Type 0 where
+  no_memory : MayBeKept used waiting NoMemory
+  kept : {ending : Ending} → IsFirstKept used waiting ending → MayBeKept used waiting ending
+
+-- Replies -------------------------------------------------------------------------------------------------------------
+
+-- the commands whose refusal ends a session, as they are sent
+abbrev pub is_essential_asked : Asked → Bool
+is_essential_asked (commands.Question question) = is_essential_question question
+is_essential_asked (commands.Effect (effects.Clear kind request)) = true
+is_essential_asked (commands.Effect _) = false
+
+-- an error other than that of a dead target ends the session where the command is essential
+abbrev pub is_tolerated_asked : Asked → ℕ → Bool
+is_tolerated_asked asked code = cond (is_essential_asked asked) (code == 112) true
+
+-- what the reply to a command says (JDWP, JDWP Packets, reply packet)
+pub data IsJudged (used : IdSizes) (asked : Asked) : ℕ → List ℕ → Replied → Type 0 where
+  answers : {body : List ℕ} {answer : Answer} → answer_at used asked body ≡ Ok answer → IsAnswerTo used asked answer
+      → has_good_sizes answer ≡ true → IsJudged used asked 0 body (an_answer answer)
+  refuses : {error : ℕ} {body : List ℕ} → 0 < error → is_tolerated_asked asked error ≡ true
+      → IsJudged used asked error body (an_error error)
+
+-- An answer, whose packet begins at this offset, ends the session by sizes of ids that are none.
+pub data HasBadSizes (answer : Answer) (at : ℕ) : Ending → Type 0 where
+  no_memory : HasBadSizes answer at NoMemory
+  bad_sizes : {which : ℕ} → position is_no_size (numbers_in answer) ≡ Some which
+      → HasBadSizes answer at (BadTarget BadSizes (at + header + 4 * which) 0)
+
+-- A reply, whose packet begins at this offset, ends the session: by an error that isn't tolerated, by a fault of its
+-- body, or by sizes of ids that are none (JDWP, VirtualMachine command set, IDSizes).
+pub data IsRefused (used : IdSizes) (asked : Asked) (at : ℕ) : ℕ → List ℕ → Ending → Type 0 where
+  no_memory : {error : ℕ} {body : List ℕ} → IsRefused used asked at error body NoMemory
+  refused : {error : ℕ} {body : List ℕ} → 0 < error → is_tolerated_asked asked error ≡ false
+      → IsRefused used asked at error body (TargetRefused (number_of asked).0 (number_of asked).1 error)
+  bad_answer : {body : List ℕ} {found : BodyFault} {fault : TargetFault} {place : ℕ}
+      → answer_at used asked body ≡ Err found → answer_fault found ≡ Some (fault, place)
+      → IsRefused used asked at 0 body (BadTarget fault (at + header + place) 0)
+  bad_sizes : {body : List ℕ} {answer : Answer} {ending : Ending} → answer_at used asked body ≡ Ok answer
+      → HasBadSizes answer at ending → IsRefused used asked at 0 body ending

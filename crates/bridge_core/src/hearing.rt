@@ -1,23 +1,37 @@
-ghost use Rattle.std.specs.Prelude.{◌≡◌, ◌^◌, ◌<◌, true, false, [], Some, length, IfOk, IfErr};
-ghost use Rattle.bridge_core.specs.Fitting.{Suits};
-ghost use Rattle.bridge_core.specs.Hearing.{MayBe, RefusesBody, IsMeasured, RefusesSizes, RefusesRaw};
-ghost use Rattle.bridge_core.specs.Raws.{raw_seen};
+//! What the target's packets say, and how they end a session.
+ghost use Rattle.std.specs.Prelude.{◌≡◌, ◌+◌, ◌<◌, Err, false, true, IfErr, IfNone, IfOk, IfSome, MatchOption, OnOk};
+ghost use Rattle.std.specs.Prelude.{position, ℕ, List, Ok, Some};
+ghost use Rattle.jdwp_commands.specs.Answers.{IsAnswerTo, answer_at};
+ghost use Rattle.jdwp_commands.specs.Bodies.{IsRead as AreReadSo};
+ghost use Rattle.jdwp_commands.specs.declared.asked.Asked.{Asked as AnAsked};
 ghost use Rattle.jdwp_commands.specs.Commands.{number_of};
+ghost use Rattle.jdwp_events.specs.Composites.{composite_at, IsRead};
+ghost use Rattle.jdwp_values.specs.Sizes.{is_no_size};
+ghost use Rattle.jdwp_values.specs.declared.sizes.IdSizes.{IdSizes as Sizes};
+ghost use Rattle.machine_model.specs.Replying.{has_good_sizes};
+ghost use Rattle.machine_model.specs.State.{has_raw, is_raw};
+ghost use Rattle.bridge_core.specs.Hearing.{IsBadBody, IsJudged, IsRefused, IsUnserved, MayBe, MayBeKept};
+ghost use Rattle.bridge_core.specs.Hearing.{is_essential_asked, is_tolerated_asked};
+ghost use Rattle.bridge_core.specs.Hearing.{HasBadSizes, ReadsComposite, answer_fault, composite_fault};
+ghost use Rattle.session_model.specs.Faults.{header, numbers_in};
+ghost use Rattle.session_model.specs.Saying.{is_composite};
+ghost use Rattle.session_model.specs.declared.ending.Ending.TheVariants.{BadTarget, TargetRefused};
 ghost use Rattle.jdwp_commands.specs.declared.asked.Replied.TheVariants.{Error as an_error};
-ghost use Rattle.jdwp_events.specs.Composites.{composite_at};
-ghost use Rattle.world_model.specs.Session.{IsReply, numbers_in, is_composite, is_essential, is_essential_effect};
-ghost use Rattle.world_model.specs.Session.{is_tolerated, target_fault, body_ending, composite_ending};
-ghost use Rattle.world_model.specs.declared.ending.Ending.TheVariants.{TargetRefused};
 
-use crate::raw::RawComposite;
+use crate::waiting::first_kept;
 use jdwp_commands::{Answer, Asked, BodyFault, Effect, Question, Replied, read_answer};
-use jdwp_events::{CompositeFault, read_composite};
+use jdwp_events::{Composite, CompositeFault, read_composite};
 use jdwp_values::IdSizes;
+use machine_model::Item;
+use session_model::{Ending, TargetFault};
 use std::alloc::Global;
-use world_model::{Ending, TargetFault};
+use std::collections::VecDeque;
 
 // How many bytes of a packet stand before its body (JDWP, JDWP Packets).
 const HEADER: u64 = 11;
+
+// A body of so many bytes isn't read.
+const TOO_LONG: usize = 1 << 32;
 
 // The error of a target that has ended (JDWP, Error Constants, VM_DEAD).
 const VM_DEAD: u16 = 112;
@@ -34,44 +48,204 @@ pub(crate) fn is_composite(set: u8, command: u8) -> bool
     set == EVENT_SET && command == COMPOSITE
 }
 
-/// The ending by a fault of the target's bytes.
-pub(crate) fn target_fault(fault: TargetFault, at: u64) -> Ending
-    ensures { result ≡ target_fault fault at }
+// The ending by a fault at this place of a packet's body. An offset of 2^64 or more takes more memory than there is.
+fn bad_body(fault: TargetFault, at: u64, place: u32) -> Ending
+    ensures { MayBe result (BadTarget fault (at + header + place) 0) }
 {
-    Ending::BadTarget { fault, at, id: 0 }
-}
-
-/// How a composite ends the session: at its first fault, or at its packet, since none is served yet.
-pub(crate) fn composite_refused(alloc: Global, sizes: IdSizes, at: u64, body: &[u8]) -> Ending
-    requires small { at < 2 ^ 62 }
-    requires short { length body.now < 2 ^ 32 }
-    ensures { MayBe result (composite_ending (composite_at sizes body.now) at) }
-{
-    let body_at = at + HEADER;
-    match read_composite(alloc, sizes, body) {
-        Ok(_) => target_fault(TargetFault::BadCommand, at),
-        Err(CompositeFault::NoMemory) => Ending::NoMemory,
-        Err(CompositeFault::Short { at }) => target_fault(TargetFault::Short, body_at + at as u64),
-        Err(CompositeFault::BadKind { at }) => {
-            target_fault(TargetFault::BadKind, body_at + at as u64)
-        }
-        Err(CompositeFault::BadPolicy { at }) => {
-            target_fault(TargetFault::BadPolicy, body_at + at as u64)
-        }
-        Err(CompositeFault::BadCount { at }) => {
-            target_fault(TargetFault::BadCount, body_at + at as u64)
-        }
-        Err(CompositeFault::BadTag { at }) => {
-            target_fault(TargetFault::BadTag, body_at + at as u64)
-        }
-        Err(CompositeFault::Trailing { at }) => {
-            target_fault(TargetFault::Trailing, body_at + at as u64)
-        }
+    match at.checked_add(HEADER + place as u64) {
+        Some(at) => Ending::BadTarget { fault, at, id: 0 },
+        None => Ending::NoMemory,
     }
 }
 
-/// What the reply to a command says.
-pub(crate) fn replied(
+// A fault of a composite's body, and its place.
+fn composite_fault(fault: CompositeFault) -> Option<(TargetFault, u32)>
+    ensures { result ≡ composite_fault fault }
+{
+    match fault {
+        CompositeFault::NoMemory => None,
+        CompositeFault::Short { at } => Some((TargetFault::Short, at)),
+        CompositeFault::BadKind { at } => Some((TargetFault::BadKind, at)),
+        CompositeFault::BadPolicy { at } => Some((TargetFault::BadPolicy, at)),
+        CompositeFault::BadCount { at } => Some((TargetFault::BadCount, at)),
+        CompositeFault::BadTag { at } => Some((TargetFault::BadTag, at)),
+        CompositeFault::Trailing { at } => Some((TargetFault::Trailing, at)),
+    }
+}
+
+// How a body that is no composite ends the session.
+#[tactic(auto, using(crate::proofs::HearLaws::bad_composite))]
+fn composite_refused(fault: CompositeFault, at: u64) -> Ending
+    ensures { (used : Sizes) (body : List ℕ) → IsRead (composite_at used body) (Err fault)
+        → IsBadBody used body at result }
+{
+    match composite_fault(fault) {
+        Some((fault, place)) => bad_body(fault, at, place),
+        None => Ending::NoMemory,
+    }
+}
+
+/// Reads a composite, whose packet stands at this offset.
+pub(crate) fn composite(
+    alloc: Global,
+    sizes: IdSizes,
+    at: u64,
+    body: &[u8],
+) -> Result<Composite, Ending>
+    ensures ok { IfOk result (ReadsComposite sizes body.now) }
+    ensures err { IfErr result (IsBadBody sizes body.now at) }
+{
+    if body.len() >= TOO_LONG {
+        return Err(Ending::NoMemory);
+    }
+    match read_composite(alloc, sizes, body) {
+        Ok(composite) => Ok(composite),
+        Err(fault) => Err(composite_refused(fault, at)),
+    }
+}
+
+/// How a composite that isn't served ends the session.
+pub(crate) fn unserved(alloc: Global, sizes: IdSizes, at: u64, body: &[u8]) -> Ending
+    ensures { IsUnserved sizes body.now at result }
+{
+    match composite(alloc, sizes, at, body) {
+        Ok(_) => Ending::BadTarget {
+            fault: TargetFault::BadCommand,
+            at,
+            id: 0,
+        },
+        Err(ending) => ending,
+    }
+}
+
+// The composite that was kept at this place ends the session.
+#[tactic(auto, using(crate::proofs::HearLaws::kept_so))]
+fn refuse_kept(alloc: Global, sizes: IdSizes, waiting: &VecDeque<Item>, place: usize) -> Ending
+    requires { position is_raw waiting.now.items ≡ Some place }
+    ensures { MayBeKept sizes waiting.now.items result }
+{
+    match waiting.get(place) {
+        Some(Item::Raw { at, body }) => unserved(alloc, sizes, *at, body.as_slice()),
+        _ => Ending::NoMemory,
+    }
+}
+
+/// Reads the composites that were kept. None is served yet, so the first one ends the session.
+#[tactic(auto, using(crate::proofs::PickLaws::none_kept))]
+pub(crate) fn read_kept(
+    alloc: Global,
+    sizes: IdSizes,
+    waiting: &VecDeque<Item>,
+) -> Result<(), Ending>
+    ensures ok { OnOk result (has_raw waiting.now.items ≡ false) }
+    ensures err { IfErr result (MayBeKept sizes waiting.now.items) }
+{
+    match first_kept(waiting) {
+        None => Ok(()),
+        Some(place) => Err(refuse_kept(alloc, sizes, waiting, place)),
+    }
+}
+
+fn is_essential(asked: &Asked) -> bool
+    ensures { result ≡ is_essential_asked asked.now }
+{
+    match asked {
+        Asked::Question(Question::IdSizes) => true,
+        Asked::Question(Question::AllClasses) => true,
+        Asked::Question(_) => false,
+        Asked::Effect(Effect::Clear { .. }) => true,
+        Asked::Effect(_) => false,
+    }
+}
+
+// Whether a session goes on after an error: not where nothing can stand in for the answer, but that the target is dead.
+fn is_tolerated(asked: &Asked, error: u16) -> bool
+    ensures { result ≡ is_tolerated_asked asked.now error }
+{
+    !is_essential(asked) || error == VM_DEAD
+}
+
+// The ending by a refusal.
+fn target_refused(asked: &Asked, error: u16) -> Ending
+    ensures { result ≡ TargetRefused (number_of asked.now).0 (number_of asked.now).1 error }
+{
+    let (set, command) = asked.kind().numbers();
+    Ending::TargetRefused {
+        set,
+        command,
+        code: error,
+    }
+}
+
+// What a reply with an error says.
+fn refused(asked: &Asked, error: u16) -> Result<Replied, Ending>
+    ensures ok { IfOk result (λ replied. (is_tolerated_asked asked.now error ≡ true) × (replied ≡ an_error error)) }
+    ensures err { IfErr result (λ ending. (is_tolerated_asked asked.now error ≡ false)
+        × (ending ≡ TargetRefused (number_of asked.now).0 (number_of asked.now).1 error)) }
+{
+    if is_tolerated(asked, error) {
+        return Ok(Replied::Error(error));
+    }
+    Err(target_refused(asked, error))
+}
+
+// A fault of an answer's body, and its place; the command is known, so nothing else is wrong with it.
+fn answer_fault(fault: BodyFault) -> Option<(TargetFault, u32)>
+    ensures { result ≡ answer_fault fault }
+{
+    match fault {
+        BodyFault::NoMemory => None,
+        BodyFault::UnknownCommand => None,
+        BodyFault::Short { at } => Some((TargetFault::Short, at)),
+        BodyFault::BadTag { at } => Some((TargetFault::BadTag, at)),
+        BodyFault::BadCount { at } => Some((TargetFault::BadCount, at)),
+        BodyFault::Trailing { at } => Some((TargetFault::Trailing, at)),
+    }
+}
+
+// The first of the sizes of ids in an answer that is none (JDWP, VirtualMachine command set, IDSizes).
+fn bad_size(answer: &Answer) -> Option<u32>
+    ensures { MatchOption result (has_good_sizes answer.now ≡ true)
+        (λ which. position is_no_size (numbers_in answer.now) ≡ Some which) }
+{
+    match answer {
+        Answer::IdSizes {
+            field,
+            method,
+            object,
+            class,
+            frame,
+        } => match IdSizes::new([*field, *method, *object, *class, *frame]) {
+            Ok(_) => None,
+            Err(bad) => Some(bad.0),
+        },
+        _ => None,
+    }
+}
+
+// How a body that is no answer ends the session.
+#[tactic(auto, using(crate::proofs::HearLaws::bad_answer))]
+fn answer_refused(fault: BodyFault, at: u64) -> Ending
+    ensures { (used : Sizes) (asked : AnAsked) (body : List ℕ) → AreReadSo (answer_at used asked body) (Err fault)
+        → IsRefused used asked at 0 body result }
+{
+    match answer_fault(fault) {
+        Some((fault, place)) => bad_body(fault, at, place),
+        None => Ending::NoMemory,
+    }
+}
+
+// The ending by sizes of ids that are none.
+#[tactic(auto, using(crate::proofs::HearLaws::bad_sizes_are))]
+fn bad_sizes(answer: &Answer, at: u64) -> Option<Ending>
+    ensures { MatchOption result (has_good_sizes answer.now ≡ true) (λ ending. HasBadSizes answer.now at ending) }
+{
+    let which = bad_size(answer)?;
+    Some(bad_body(TargetFault::BadSizes, at, 4 * which))
+}
+
+/// What the reply to a command says, whose packet stands at this offset.
+pub(crate) fn judged(
     alloc: Global,
     sizes: IdSizes,
     asked: &Asked,
@@ -79,134 +253,20 @@ pub(crate) fn replied(
     error: u16,
     body: &[u8],
 ) -> Result<Replied, Ending>
-    requires small { at < 2 ^ 62 }
-    requires short { length body.now < 2 ^ 32 }
-    ensures ok { IfOk result (λ replied. IsReply sizes asked.now error body.now replied) }
-    ensures suits { IfOk result (λ replied. Suits sizes asked.now replied) }
-    ensures err { IfErr result (RefusesBody sizes asked.now at error body.now) }
+    ensures ok { IfOk result (IsJudged sizes asked.now error body.now) }
+    ensures err { IfErr result (IsRefused sizes asked.now at error body.now) }
 {
     if error > 0 {
         return refused(asked, error);
     }
+    if body.len() >= TOO_LONG {
+        return Err(Ending::NoMemory);
+    }
     match read_answer(alloc, sizes, asked, body) {
-        Ok(answer) => Ok(Replied::Answer(answer)),
-        Err(fault) => Err(body_refused(fault, at)),
-    }
-}
-
-// What a reply with an error says.
-fn refused(asked: &Asked, error: u16) -> Result<Replied, Ending>
-    requires { 0 < error }
-    ensures ok { IfOk result (λ replied. (is_tolerated asked.now error ≡ true) × (replied ≡ an_error error)) }
-    ensures err { IfErr result (λ ending. (is_tolerated asked.now error ≡ false)
-        × (ending ≡ TargetRefused (number_of asked.now).0 (number_of asked.now).1 error)) }
-{
-    if is_tolerated(asked, error) {
-        return Ok(Replied::Error(error));
-    }
-    let (set, command) = asked.kind().numbers();
-    Err(Ending::TargetRefused {
-        set,
-        command,
-        code: error,
-    })
-}
-
-// Whether a session goes on after an error: not where nothing can stand in for the answer, but that the target is dead.
-fn is_tolerated(asked: &Asked, error: u16) -> bool
-    ensures { result ≡ is_tolerated asked.now error }
-{
-    !is_essential(asked) || error == VM_DEAD
-}
-
-fn is_essential(asked: &Asked) -> bool
-    ensures { result ≡ is_essential asked.now }
-{
-    match asked {
-        Asked::Question(question) => matches!(question, Question::IdSizes | Question::AllClasses),
-        Asked::Effect(effect) => is_essential_effect(effect),
-    }
-}
-
-fn is_essential_effect(effect: &Effect) -> bool
-    ensures { result ≡ is_essential_effect effect.now }
-{
-    match effect {
-        Effect::Clear { .. } => true,
-        Effect::Resume => true,
-        Effect::Suspend => true,
-        _ => false,
-    }
-}
-
-// The ending by the fault of an answer's body.
-fn body_refused(fault: BodyFault, at: u64) -> Ending
-    requires { at < 2 ^ 62 }
-    ensures { result ≡ body_ending fault at }
-{
-    let body_at = at + HEADER;
-    match fault {
-        BodyFault::NoMemory => Ending::NoMemory,
-        BodyFault::UnknownCommand => target_fault(TargetFault::BadCommand, at),
-        BodyFault::Short { at } => target_fault(TargetFault::Short, body_at + at as u64),
-        BodyFault::BadTag { at } => target_fault(TargetFault::BadTag, body_at + at as u64),
-        BodyFault::BadCount { at } => target_fault(TargetFault::BadCount, body_at + at as u64),
-        BodyFault::Trailing { at } => target_fault(TargetFault::Trailing, body_at + at as u64),
-    }
-}
-
-/// The sizes of ids after a reply. Where it gives them, the first composite that waits for them ends the session.
-pub(crate) fn measured(
-    alloc: Global,
-    old: Option<IdSizes>,
-    raw: &[RawComposite],
-    replied: &Replied,
-    at: u64,
-) -> Result<Option<IdSizes>, Ending>
-    requires small { at < 2 ^ 62 }
-    ensures ok { IfOk result (λ later. IsMeasured old (raw_seen raw.now) replied.now later) }
-    ensures err { IfErr result (RefusesSizes (raw_seen raw.now) replied.now at) }
-{
-    match numbers_in(replied) {
-        None => Ok(old),
-        Some(numbers) => match IdSizes::new(numbers) {
-            Ok(sizes) => none_waits(alloc, sizes, raw),
-            Err(bad) => Err(target_fault(TargetFault::BadSizes, at + HEADER + 4 * bad.0 as u64)),
+        Ok(answer) => match bad_sizes(&answer, at) {
+            None => Ok(Replied::Answer(answer)),
+            Some(ending) => Err(ending),
         },
-    }
-}
-
-// These sizes of ids, with which no composite may be left that waits for them.
-fn none_waits(
-    alloc: Global,
-    sizes: IdSizes,
-    raw: &[RawComposite],
-) -> Result<Option<IdSizes>, Ending>
-    ensures ok { IfOk result (λ later. (later ≡ Some sizes) × (raw_seen raw.now ≡ [])) }
-    ensures err { IfErr result (RefusesRaw sizes (raw_seen raw.now)) }
-{
-    if raw.is_empty() {
-        return Ok(Some(sizes));
-    }
-    let first = &raw[0];
-    Err(composite_refused(alloc, sizes, first.at, first.body.as_slice()))
-}
-
-// The sizes that a reply gives, if it gives any.
-fn numbers_in(replied: &Replied) -> Option<[u32; 5]>
-    ensures { result ≡ numbers_in replied.now }
-{
-    match replied {
-        Replied::Answer(answer) => match answer {
-            Answer::IdSizes {
-                field,
-                method,
-                object,
-                class,
-                frame,
-            } => Some([*field, *method, *object, *class, *frame]),
-            _ => None,
-        },
-        Replied::Error(_) => None,
+        Err(fault) => Err(answer_refused(fault, at)),
     }
 }

@@ -1,17 +1,19 @@
 //! The session over whole messages: what the client and the target say goes in, what they are told comes out.
 #![tactic(auto)]
 
-mod hand;
+mod client;
 mod hearing;
+mod leaving;
 mod machine;
-mod parts;
-mod raw;
-mod row;
+mod packets;
+mod sending;
 mod session;
+mod sizes;
 mod telling;
-#[cfg(test)]
-mod tests;
-mod threads;
+mod waiting;
 mod words;
 
 pub use session::{Core, Out};
+
+#[cfg(test)]
+mod tests;

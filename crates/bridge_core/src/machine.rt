@@ -1,109 +1,275 @@
-ghost use Rattle.std.specs.Prelude.{◌≡◌, ◌∷◌, [], true, None, IfOk, IfSome, IfNone, OnOk, MatchOption, MatchResult};
-ghost use Rattle.std.specs.Prelude.{length, option_map};
-ghost use Rattle.bridge_core.specs.Fitting.{AsksNoMore, StaysSound};
-ghost use Rattle.jdwp_commands.specs.declared.asked.Asked.TheVariants.{Question as a_question};
-ghost use Rattle.bridge_core.specs.Machines.{kept_fresh, state_of, Steps, Becomes, SaysNext, SaysNone};
-ghost use Rattle.bridge_core.specs.Parts.{holding, is_gone};
-ghost use Rattle.world_model.specs.Machine.{State, queued, target_ended, ended_now, answered, noted, with_answer};
-ghost use Rattle.world_model.specs.Machine.{wish_settled, greets_in_hand, next_wish, parts_of, with_threads};
+//! The machine: what is known, the items that wait, the one in hand, and the commands that were left without a reply.
+ghost use Rattle.std.specs.Prelude.{◌≡◌, ◌<◌, ◌++◌, Bool, false, None, Some, length, remove, IfErr, IfOk, OnOk, option_map};
+ghost use Rattle.machine_model.specs.Due.{can_read, due, due_as, is_full};
+ghost use Rattle.machine_model.specs.Replying.{answered, done_by, ended, ended_with, given_up};
+ghost use Rattle.machine_model.specs.Replying.{hand_replied, is_dead, is_leaving, pending_in, told_by};
+ghost use Rattle.machine_model.specs.Rest.{awaits_greeting};
+ghost use Rattle.machine_model.specs.Runs.{greeting_heard, heard, with_item};
+ghost use Rattle.machine_model.specs.State.{Hand, Machine as AMachine, fresh, is_gone};
+ghost use Rattle.machine_model.specs.declared.acts.Effect.{Effect as AnEffect};
+ghost use Rattle.machine_model.specs.declared.acts.TargetCommand.TheVariants.{Effect as an_effect};
+ghost use Rattle.machine_model.specs.declared.acts.TargetCommand.TheVariants.{Question as a_question};
+ghost use Rattle.bridge_core.specs.Moving.{IsFlight, RefusesKept, StepsTo};
+ghost use Rattle.bridge_core.specs.Packets.{CanReply, Replies};
+ghost use Rattle.talk_plans.specs.Replies.{IsInFlight};
+ghost use Rattle.talk_plans.specs.Sizes.{sizes_seen};
+ghost use Rattle.talk_plans.specs.Talking.{AreSized, IsNext, act_of, hand_after, talk_due};
 
-use crate::hand::Hand;
-use crate::row::{end_parts, is_disconnect, is_end, is_open, request_parts, standing_of, wish_of};
-use crate::threads::{Named, with_threads};
-use crate::{parts, words};
-use dap_messages::{Request, Told};
-use jdwp_commands::{Asked, Effect, Question, Replied};
-use jdwp_values::ThreadId;
+use crate::hearing::read_kept;
+use crate::sizes::known;
+use crate::waiting::{is_disconnect, take_next};
+use dap_messages::Request;
+use jdwp_commands::{Asked, Question, Replied};
+use machine_model::{Item, TargetCommand};
+use session_model::Ending;
 use std::alloc::Global;
 use std::collections::VecDeque;
 use std::marker::Model;
-use wire_core::{List, NoMemory};
-use world_model::{Ending, Item, Manner, Part, Phase, Standing, Wish};
+use talk_plans::{Next, SizesRead, State, Talk};
+use wire_core::NoMemory;
 
-/// What the machine does next.
-#[derive(Debug, Drop)]
-pub(crate) enum Step {
-    Waits,
-    Goes,
-    Tells(Told),
-    Greets,
-    Sends(Effect),
-    Asks(Question),
-    Over(Ending),
-}
+// The error of a target that has ended (JDWP, Error Constants, VM_DEAD).
+const VM_DEAD: u16 = 112;
 
-/// What is said after an ending: to the client, or to the target, which is left to run on.
-#[derive(Debug, Drop)]
-pub(crate) enum LastWord {
-    Tells(Told),
-    Disposes,
-}
-
-/// The translation machine. Contracts see it as its state, but for the commands that are pending.
+/// The translation machine. Contracts see it as the machine's own state.
 #[derive(Debug, Drop)]
 pub(crate) struct Machine {
-    manner: Manner,
-    phase: Phase,
-    greeted: bool,
-    start: Standing,
-    death: Standing,
-    threads: List<ThreadId>,
-    terminated: bool,
-    waiting: VecDeque<Item>,
-    hand: Option<Hand>,
+    pub(crate) state: State,
+    pub(crate) waiting: VecDeque<Item>,
+    pub(crate) talk: Option<Talk>,
+    late: VecDeque<TargetCommand>,
     closing: bool,
 }
 
 impl Model for Machine {
-    ghost use Rattle.bridge_core.specs.Machines.{Kept};
+    ghost use Rattle.machine_model.specs.State.{Machine as AMachine};
 
-    ghost Value = { Kept };
+    ghost Value = { AMachine };
 
     ghost view = { λ m. record {
-      manner = m.manner;
-      phase = m.phase;
-      greeted = m.greeted;
-      start = m.start;
-      death = m.death;
-      threads = m.threads;
-      terminated = m.terminated;
+      state = m.state;
       waiting = m.waiting.items;
-      hand = m.hand;
+      hand = m.talk;
+      late = m.late.items;
       closing = m.closing;
     } };
 }
 
-impl Machine {
-    /// A machine that has heard nothing.
-    pub(crate) fn new(alloc: Global) -> Machine
-        ensures { result ≡ kept_fresh }
-    {
-        Machine {
-            manner: Manner::usual(),
-            phase: Phase::Fresh,
-            greeted: false,
-            start: Standing::Open,
-            death: Standing::Open,
-            threads: List::new(alloc),
-            terminated: false,
-            waiting: VecDeque::new(alloc),
-            hand: None,
-            closing: false,
+// The item in hand is given up; its commands without a reply stand behind those that were left so.
+fn give_up(
+    alloc: Global,
+    hand: &mut Option<Talk>,
+    late: &mut VecDeque<TargetCommand>,
+) -> Result<(), NoMemory>
+    ensures late { OnOk result (late.new.items ≡ late.old.items ++ pending_in hand.old) }
+    ensures hand { OnOk result (hand.new ≡ option_map given_up hand.old) }
+{
+    match hand {
+        None => Ok(()),
+        Some(talk) => {
+            let mut commands = talk.give_up(alloc)?;
+            late.append(&mut commands)?;
+            Ok(())
         }
     }
+}
 
-    /// Where the session stands with its target.
-    pub(crate) fn phase(&self) -> Phase
-        ensures { result ≡ self.now.phase }
+// A question of the item in hand is replied to, by which nothing more is known.
+fn note_reply(
+    alloc: Global,
+    hand: &mut Option<Talk>,
+    question: Question,
+    replied: Replied,
+) -> Result<(), NoMemory>
+    ensures { OnOk result (hand.new ≡ option_map (hand_replied (a_question question) replied) hand.old) }
+{
+    match hand {
+        None => Ok(()),
+        Some(talk) => talk.note_reply(alloc, question, replied),
+    }
+}
+
+// A question of the item in hand is replied to.
+fn answered(
+    alloc: Global,
+    hand: &mut Option<Talk>,
+    state: &mut State,
+    question: Question,
+    replied: Replied,
+) -> Result<(), NoMemory>
+    ensures hand { OnOk result (hand.new ≡ option_map (hand_replied (a_question question) replied) hand.old) }
+    ensures state { (talk : Hand) → hand.old ≡ Some talk
+        → OnOk result (state.new ≡ told_by question replied state.old) }
+{
+    match hand {
+        None => Ok(()),
+        Some(talk) => talk.answered(alloc, state, question, replied),
+    }
+}
+
+// The effect of the item in hand that is in flight is replied to, by which nothing more is known.
+fn note_done(hand: &mut Option<Talk>, replied: Replied)
+    ensures { (talk : Hand) (effect : AnEffect) → hand.old ≡ Some talk → IsInFlight effect talk.effect
+        → hand.new ≡ Some (hand_replied (an_effect effect) replied talk) }
+{
+    if let Some(talk) = hand {
+        talk.note_done(replied);
+    }
+}
+
+// The effect of the item in hand that is in flight is replied to.
+fn done(hand: &mut Option<Talk>, state: &mut State, replied: Replied)
+    requires { (talk : Hand) (effect : AnEffect) → hand.old ≡ Some talk → IsInFlight effect talk.effect
+        → IsNext effect state.old.wishes }
+    ensures hand { (talk : Hand) (effect : AnEffect) → hand.old ≡ Some talk → IsInFlight effect talk.effect
+        → hand.new ≡ Some (hand_replied (an_effect effect) replied talk) }
+    ensures state { (talk : Hand) (effect : AnEffect) → hand.old ≡ Some talk → IsInFlight effect talk.effect
+        → state.new ≡ done_by effect replied state.old }
+{
+    if let Some(talk) = hand {
+        talk.done(state, replied);
+    }
+}
+
+// Whether the effect of the item in hand that is in flight leaves the target.
+fn is_leaving(hand: &Option<Talk>) -> bool
+    ensures { (talk : Hand) (effect : AnEffect) → hand.now ≡ Some talk → IsInFlight effect talk.effect
+        → result ≡ is_leaving (an_effect effect) }
+{
+    match hand {
+        None => false,
+        Some(talk) => talk.is_leaving(),
+    }
+}
+
+// What the talk in hand has next.
+fn step_in(
+    alloc: Global,
+    hand: &mut Option<Talk>,
+    state: &mut State,
+    full: bool,
+) -> Result<Next, NoMemory>
+    requires { (talk : Hand) → hand.old ≡ Some talk → AreSized state.old talk }
+    ensures { (talk : Hand) → hand.old ≡ Some talk
+        → IfOk result (λ next. StepsTo next full state.old talk state.new hand.new) }
+{
+    match hand {
+        None => Ok(Next::Wait),
+        Some(talk) => talk.step(alloc, state, full),
+    }
+}
+
+fn drop_talk(_talk: Option<Talk>) {}
+
+// This is in hand now.
+fn hold(hand: &mut Option<Talk>, talk: Talk)
+    ensures { hand.new ≡ Some talk }
+{
+    drop_talk(hand.replace(talk));
+}
+
+// A talk that is done is in hand no more.
+fn let_go(hand: &mut Option<Talk>, next: &Next)
+    ensures { (later : Hand) → hand.old ≡ Some later → hand.new ≡ hand_after next.now later }
+{
+    if let Next::Done = next {
+        drop_talk(hand.take());
+    }
+}
+
+// What the talk in hand has next; one that is done is in hand no more.
+fn go_on(
+    alloc: Global,
+    hand: &mut Option<Talk>,
+    state: &mut State,
+    full: bool,
+) -> Result<Next, NoMemory>
+    requires { (talk : Hand) → hand.old ≡ Some talk → AreSized state.old talk }
+    ensures { (talk : Hand) (m : AMachine) → hand.old ≡ Some talk
+        → IfOk result (λ next. due_as (act_of next) (record m { state = state.new; hand = hand.new })
+        ≡ talk_due full m state.old talk) }
+{
+    let next = step_in(alloc, hand, state, full)?;
+    let_go(hand, &next);
+    Ok(next)
+}
+
+impl Machine {
+    /// A machine that has heard nothing.
+    pub(crate) fn new(alloc: Global) -> Result<Machine, NoMemory>
+        ensures { IfOk result (λ machine. machine ≡ fresh) }
     {
-        self.phase
+        Ok(Machine {
+            state: State::new(alloc)?,
+            waiting: VecDeque::new(alloc),
+            talk: None,
+            late: VecDeque::new(alloc),
+            closing: false,
+        })
     }
 
-    /// Whether the target's handshake was taken up.
-    pub(crate) fn is_greeted(&self) -> bool
-        ensures { result ≡ self.now.greeted }
+    /// A request waits for its turn.
+    pub(crate) fn hear(&mut self, request: Request) -> Result<(), NoMemory>
+        ensures { OnOk result (self.new ≡ heard self.old request) }
     {
-        self.greeted
+        self.closing = is_disconnect(&request.command);
+        self.waiting.push_back(Item::Request(request))?;
+        Ok(())
+    }
+
+    /// The target's handshake is taken up.
+    pub(crate) fn greet(&mut self)
+        ensures { self.new ≡ greeting_heard self.old }
+    {
+        self.state.target_greeted();
+    }
+
+    /// An item of the target's waits for its turn.
+    pub(crate) fn add(&mut self, item: Item) -> Result<(), NoMemory>
+        ensures { OnOk result (self.new ≡ with_item self.old item) }
+    {
+        self.waiting.push_back(item)?;
+        Ok(())
+    }
+
+    /// The target ends.
+    pub(crate) fn end(&mut self, alloc: Global) -> Result<(), NoMemory>
+        ensures { OnOk result (self.new ≡ ended (is_gone self.old.state.phase) self.old) }
+    {
+        if self.state.is_gone() {
+            return Ok(());
+        }
+        self.end_now(alloc)
+    }
+
+    fn end_now(&mut self, alloc: Global) -> Result<(), NoMemory>
+        ensures { OnOk result (self.new ≡ ended_with (pending_in self.old.hand) self.old) }
+    {
+        give_up(alloc, &mut self.talk, &mut self.late)?;
+        self.waiting.push_back(Item::TargetEnd)?;
+        self.state.target_ended();
+        Ok(())
+    }
+
+    /// Whether the target is gone.
+    pub(crate) fn is_gone(&self) -> bool
+        ensures { result ≡ is_gone self.now.state.phase }
+    {
+        self.state.is_gone()
+    }
+
+    /// Whether the target's handshake was taken up (JDWP, JDWP Start Up).
+    pub(crate) fn is_greeted(&self) -> bool
+        ensures { result ≡ self.now.state.greeting_heard }
+    {
+        self.state.is_greeted()
+    }
+
+    /// The sizes of ids, once the target said them (JDWP, VirtualMachine command set, IDSizes).
+    pub(crate) fn sizes(&self) -> Option<SizesRead>
+        ensures { option_map sizes_seen result ≡ self.now.state.sizes }
+    {
+        self.state.sizes()
     }
 
     /// Whether a `disconnect` was heard.
@@ -113,245 +279,129 @@ impl Machine {
         self.closing
     }
 
-    /// How many items wait.
-    pub(crate) fn waiting(&self) -> usize
-        ensures { result ≡ length self.now.waiting }
+    /// Reads the composites that were kept, once the sizes of ids are known. None is served yet, so the first one ends
+    /// the session (JDWP, Event command set, Composite).
+    #[tactic(auto, using(crate::proofs::HearLaws::refuses_kept))]
+    pub(crate) fn read_kept(&self, alloc: Global) -> Result<(), Ending>
+        ensures ok { OnOk result (can_read self.now ≡ false) }
+        ensures err { IfErr result (RefusesKept self.now) }
     {
-        self.waiting.len()
-    }
-
-    /// Whether the handshake went out, and the target's hasn't come yet.
-    pub(crate) fn awaits_greeting(&self) -> bool
-        ensures { result ≡ greets_in_hand self.now.hand }
-    {
-        match &self.hand {
-            Some(hand) => hand.awaits_greeting(),
-            None => false,
-        }
-    }
-
-    /// The target's handshake is taken up.
-    pub(crate) fn greet(&mut self)
-        ensures { Becomes self.old (λ (s : State). record s { greeted = true }) self.new }
-    {
-        self.greeted = true;
-    }
-
-    /// A request waits for its turn.
-    pub(crate) fn queue(&mut self, request: Request) -> Result<(), NoMemory>
-        ensures queued { OnOk result (Becomes self.old (λ (s : State). queued s request) self.new) }
-        ensures hand { self.new.hand ≡ self.old.hand }
-    {
-        self.closing = is_disconnect(&request.command);
-        self.waiting.push_back(Item::Request(request))?;
-        Ok(())
-    }
-
-    /// The target ends.
-    pub(crate) fn end_target(&mut self, alloc: Global) -> Result<(), NoMemory>
-        ensures ended { OnOk result (Becomes self.old target_ended self.new) }
-        ensures less { AsksNoMore self.old.hand self.new.hand }
-    {
-        if self.is_gone() {
+        if self.state.is_gone() {
             return Ok(());
         }
-        self.end_now(alloc)
-    }
-
-    fn end_now(&mut self, alloc: Global) -> Result<(), NoMemory>
-        ensures ended { OnOk result (Becomes self.old ended_now self.new) }
-        ensures less { AsksNoMore self.old.hand self.new.hand }
-    {
-        if let Some(hand) = self.hand.take() {
-            self.hand = Some(hand.give_up(alloc)?);
+        match self.state.sizes() {
+            None => Ok(()),
+            Some(sizes) => read_kept(alloc, known(sizes)?, &self.waiting),
         }
-        self.waiting.push_back(Item::TargetEnd)?;
-        self.phase = Phase::Gone;
-        Ok(())
     }
 
-    /// A command is answered, which is no longer pending.
+    /// What is due, where no composite is to be read; after it the machine stands where that leads.
+    pub(crate) fn step(&mut self, alloc: Global, full: bool) -> Result<Next, NoMemory>
+        requires read { can_read self.old ≡ false }
+        requires sized { (hand : Hand) → self.old.hand ≡ Some hand → AreSized self.old.state hand }
+        ensures { (id_pending : Bool) → is_full id_pending self.old ≡ full
+            → IfOk result (λ next. due_as (act_of next) self.new ≡ due id_pending self.old) }
+    {
+        if self.talk.is_none() {
+            return self.begin(alloc);
+        }
+        go_on(alloc, &mut self.talk, &mut self.state, full)
+    }
+
+    // An item is begun, where one waits that can be.
+    fn begin(&mut self, alloc: Global) -> Result<Next, NoMemory>
+        requires none { self.old.hand ≡ None }
+        requires read { can_read self.old ≡ false }
+        ensures { (id_pending : Bool)
+            → IfOk result (λ next. due_as (act_of next) self.new ≡ due id_pending self.old) }
+    {
+        match take_next(self.state.is_gone(), &mut self.waiting) {
+            None => Ok(Next::Wait),
+            Some(item) => {
+                let talk = Talk::start(alloc, item, &self.state)?;
+                hold(&mut self.talk, talk);
+                Ok(Next::Go)
+            }
+        }
+    }
+
+    /// A question of the item in hand is replied to, while there is a target.
     pub(crate) fn answer(
         &mut self,
         alloc: Global,
+        question: Question,
+        replied: Replied,
+    ) -> Result<(), NoMemory>
+        requires { is_gone self.old.state.phase ≡ false }
+        ensures { (hand : Hand) → self.old.hand ≡ Some hand
+            → OnOk result (self.new ≡ answered self.old (a_question question) replied) }
+    {
+        if is_dead(&replied) {
+            note_reply(alloc, &mut self.talk, question, replied)?;
+            return self.end_now(alloc);
+        }
+        answered(alloc, &mut self.talk, &mut self.state, question, replied)
+    }
+
+    /// The effect of the item in hand is replied to, while there is a target.
+    pub(crate) fn done(&mut self, alloc: Global, replied: Replied) -> Result<(), NoMemory>
+        requires near { is_gone self.old.state.phase ≡ false }
+        requires next { (hand : Hand) (effect : AnEffect) → IsFlight self.old hand effect
+            → IsNext effect self.old.state.wishes }
+        ensures { (hand : Hand) (effect : AnEffect) → IsFlight self.old hand effect
+            → OnOk result (self.new ≡ answered self.old (an_effect effect) replied) }
+    {
+        if !is_leaving(&self.talk) && is_dead(&replied) {
+            note_done(&mut self.talk, replied);
+            return self.end_now(alloc);
+        }
+        done(&mut self.talk, &mut self.state, replied);
+        Ok(())
+    }
+
+    /// The command at this place of those that are pending is replied to.
+    pub(crate) fn reply(
+        &mut self,
+        alloc: Global,
+        place: usize,
         asked: Asked,
         replied: Replied,
     ) -> Result<(), NoMemory>
-        ensures answered { OnOk result (Becomes self.old (λ (s : State). answered s asked replied) self.new) }
-        ensures sound { StaysSound self.old.hand asked replied self.new.hand }
+        requires { CanReply self.old place }
+        ensures { OnOk result (Replies self.old place asked replied self.new) }
     {
-        if is_end(&asked, &replied) {
-            self.note(asked, replied)?;
-            return self.end_target(alloc);
+        if self.state.is_gone() {
+            self.forget(place);
+            return Ok(());
         }
-        self.note(asked, replied)
-    }
-
-    fn note(&mut self, asked: Asked, replied: Replied) -> Result<(), NoMemory>
-        ensures noted { OnOk result (Becomes self.old (λ (s : State). noted s asked replied) self.new) }
-        ensures sound { StaysSound self.old.hand asked replied self.new.hand }
-    {
         match asked {
-            Asked::Question(question) => self.note_answer(question, replied),
-            Asked::Effect(effect) => {
-                self.settle(wish_of(&effect), &replied);
-                Ok(())
-            }
+            Asked::Question(question) => self.answer(alloc, question, replied),
+            Asked::Effect(_) => self.done(alloc, replied),
         }
     }
 
-    fn note_answer(&mut self, question: Question, replied: Replied) -> Result<(), NoMemory>
-        ensures noted { OnOk result
-            (self.new ≡ record self.old { hand = option_map (with_answer question replied) self.old.hand }) }
-        ensures sound { StaysSound self.old.hand (a_question question) replied self.new.hand }
+    /// A command is replied to that an item left which was given up.
+    pub(crate) fn forget(&mut self, place: usize)
+        requires { place < length self.old.late }
+        ensures { self.new ≡ record self.old { late = remove self.old.late place } }
     {
-        match self.hand.take() {
-            None => Ok(()),
-            Some(mut hand) => {
-                hand.add_answer(question, replied)?;
-                self.hand = Some(hand);
-                Ok(())
-            }
-        }
+        let _ = self.late.remove(place);
     }
 
-    fn settle(&mut self, wish: Option<Wish>, replied: &Replied)
-        ensures settled { Becomes self.old (λ (s : State). wish_settled s wish replied.now) self.new }
-        ensures hand { self.new.hand ≡ self.old.hand }
+    /// Whether the handshake went out, and the target's hasn't come yet (JDWP, JDWP Start Up).
+    pub(crate) fn awaits_greeting(&self) -> bool
+        ensures { result ≡ awaits_greeting self.now.state }
     {
-        match wish {
-            Some(Wish::ThreadStart) => self.start = standing_of(replied),
-            Some(Wish::ThreadDeath) => self.death = standing_of(replied),
-            None => {}
-        }
+        self.state.awaits_greeting()
     }
+}
 
-    /// What is due, where no command keeps the machine from going on; after it the machine stands in the state that
-    /// follows.
-    pub(crate) fn step(&mut self, alloc: Global) -> Result<Step, NoMemory>
-        ensures { MatchResult result (λ step. Steps self.old step self.new) (λ _. self.new.hand ≡ None) }
-    {
-        match self.take_hand() {
-            None => parts::begin(alloc, self),
-            Some(hand) => parts::go_on(alloc, self, hand),
-        }
-    }
-
-    /// The next of an ending's last words, which is said then.
-    pub(crate) fn next_word(
-        &mut self,
-        alloc: Global,
-        ending: &Ending,
-    ) -> Result<Option<LastWord>, NoMemory>
-        ensures some { IfOk result (λ word. IfSome word (λ w. SaysNext ending.now self.old w self.new)) }
-        ensures none { IfOk result (λ word. IfNone word (SaysNone ending.now self.old)) }
-        ensures no_more { IfOk result (λ word. IfNone word (SaysNone ending.now self.new)) }
-        ensures less { AsksNoMore self.old.hand self.new.hand }
-    {
-        words::next_word(alloc, self, ending)
-    }
-
-    /// Whether the target is gone.
-    pub(crate) fn is_gone(&self) -> bool
-        ensures { result ≡ is_gone self.now.phase }
-    {
-        matches!(self.phase, Phase::Gone)
-    }
-
-    /// The first wish that is neither installed nor refused.
-    pub(crate) fn next_wish(&self) -> Option<Wish>
-        ensures { result ≡ next_wish (state_of self.now []) }
-    {
-        if is_open(self.start) {
-            return Some(Wish::ThreadStart);
-        }
-        if is_open(self.death) {
-            return Some(Wish::ThreadDeath);
-        }
-        None
-    }
-
-    /// What an item does.
-    pub(crate) fn parts_of(&self, alloc: Global, item: &Item) -> Result<VecDeque<Part>, NoMemory>
-        ensures { IfOk result (λ parts. parts.items ≡ parts_of (state_of self.now []) item.now) }
-    {
-        match item {
-            Item::Request(request) => request_parts(alloc, self.phase, &request.command),
-            Item::TargetEnd => end_parts(alloc, self.terminated),
-        }
-    }
-
-    /// The first item that waits is taken.
-    pub(crate) fn next_item(&mut self) -> Option<Item>
-        ensures { MatchOption result ((self.old.waiting ≡ []) × (self.new ≡ self.old))
-            (λ item. (self.old.waiting ≡ item ∷ self.new.waiting)
-            × (self.new ≡ record self.old { waiting = self.new.waiting })) }
-    {
-        self.waiting.pop_front()
-    }
-
-    /// Takes what is in hand.
-    pub(crate) fn take_hand(&mut self) -> Option<Hand>
-        ensures taken { result ≡ self.old.hand }
-        ensures left { self.new ≡ record self.old { hand = None } }
-    {
-        self.hand.take()
-    }
-
-    /// This is in hand from here on.
-    pub(crate) fn hold(&mut self, hand: Hand)
-        ensures { self.new ≡ holding self.old hand }
-    {
-        self.hand = Some(hand);
-    }
-
-    /// Nothing is in hand from here on.
-    pub(crate) fn let_go(&mut self)
-        ensures { self.new ≡ record self.old { hand = None } }
-    {
-        self.hand = None;
-    }
-
-    /// From here on the session has another phase.
-    pub(crate) fn enter(&mut self, phase: Phase)
-        ensures { self.new ≡ record self.old { phase = phase } }
-    {
-        self.phase = phase;
-    }
-
-    /// From here on the client is served so.
-    pub(crate) fn serve(&mut self, manner: Manner)
-        ensures { self.new ≡ record self.old { manner = manner } }
-    {
-        self.manner = manner;
-    }
-
-    /// Whether the client was told that nothing more comes of the target.
-    pub(crate) fn is_terminated(&self) -> bool
-        ensures { result ≡ self.now.terminated }
-    {
-        self.terminated
-    }
-
-    /// The client is told that nothing more comes of the target.
-    pub(crate) fn terminate(&mut self)
-        ensures { self.new ≡ record self.old { terminated = true } }
-    {
-        self.terminated = true;
-    }
-
-    /// These threads are told, behind those that were.
-    pub(crate) fn add_threads(&mut self, named: &[Named]) -> Result<(), NoMemory>
-        ensures told { OnOk result (self.new ≡ record self.old { threads = with_threads self.old.threads named.now }) }
-        ensures hand { self.new.hand ≡ self.old.hand }
-    {
-        with_threads(&mut self.threads, named)
-    }
-
-    /// The threads that were told, in the order of their numbers.
-    pub(crate) fn threads(&self) -> &[ThreadId]
-        ensures { result.now ≡ self.now.threads }
-    {
-        self.threads.as_slice()
+// The error that tells that the target has ended.
+fn is_dead(replied: &Replied) -> bool
+    ensures { result ≡ is_dead replied.now }
+{
+    match replied {
+        Replied::Answer(_) => false,
+        Replied::Error(code) => *code == VM_DEAD,
     }
 }

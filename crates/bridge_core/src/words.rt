@@ -1,19 +1,77 @@
-//! What is said after an ending, word by word.
-ghost use Rattle.std.specs.Prelude.{◌≡◌, ◌∷◌, ◌++◌, [], true, None, Some, map, IfOk, OnOk, IfSome, IfNone};
-ghost use Rattle.std.specs.Option.{option_to_list};
-ghost use Rattle.bridge_core.specs.Fitting.{AsksNoMore};
-ghost use Rattle.bridge_core.specs.Machines.{SaysNext, SaysNone};
-ghost use Rattle.bridge_core.specs.Parts.{tells_client, frees_target, rest_left, client_left, target_left, told_words};
-ghost use Rattle.bridge_core.specs.Parts.{last_word, holding};
-ghost use Rattle.world_model.specs.Session.{Word, owed_in, waiting_requests, fails_gone, end_word};
+//! What is said after an ending.
+ghost use Rattle.std.specs.Prelude.{◌≡◌, ◌++◌, ◌∷◌, [], map, IfOk, MatchOption, OnOk};
+ghost use Rattle.std.specs.List.{flat_map};
+ghost use Rattle.machine_model.specs.Rest.{request_in, unanswered_hand};
+ghost use Rattle.bridge_core.specs.Wording.{leaves_target, tells_client, word_seen};
+ghost use Rattle.session_model.specs.LastWords.{client_words, end_word, fails_gone, last_words, target_words};
 
-use crate::hand::Hand;
-use crate::machine::{LastWord, Machine};
-use crate::row::response_to;
+use crate::machine::Machine;
 use dap_messages::{Event, Failure, Outcome, Request, Told};
+use machine_model::Item;
+use session_model::Ending;
 use std::alloc::Global;
+use std::collections::VecDeque;
+use std::marker::Model;
+use talk_plans::{State, Talk, response_to};
 use wire_core::NoMemory;
-use world_model::{Ending, Item, Phase};
+
+/// What is said after an ending: something is told to the client, or the target is left to run on (JDWP, VirtualMachine
+/// command set, Dispose).
+#[derive(Debug, Drop)]
+pub(crate) enum Word {
+    Tells(Told),
+    Disposes,
+}
+
+/// The last words that are left to say, in order. Contracts see them as the definitions have them.
+#[derive(Debug, Drop)]
+pub(crate) struct Words {
+    left: VecDeque<Word>,
+}
+
+impl Model for Words {
+    ghost use Rattle.std.specs.Prelude.{List, map};
+    ghost use Rattle.bridge_core.specs.Wording.{word_seen};
+    ghost use Rattle.session_model.specs.LastWords.{LastWord};
+
+    ghost Value = { List LastWord };
+
+    ghost view = { λ w. map word_seen w.left.items };
+}
+
+impl Words {
+    /// The last words of an ending.
+    pub(crate) fn of(alloc: Global, machine: &Machine, ending: &Ending) -> Result<Words, NoMemory>
+        ensures { IfOk result (λ words. words ≡ last_words ending.now machine.now) }
+    {
+        let mut words = Words {
+            left: VecDeque::new(alloc),
+        };
+        if tells_client(ending) {
+            tell_client(alloc, machine, &mut words)?;
+        }
+        if leaves_target(ending) {
+            leave_target(&machine.state, &mut words)?;
+        }
+        Ok(words)
+    }
+
+    /// The next word, which is left no more.
+    pub(crate) fn next(&mut self) -> Option<Word>
+        ensures { MatchOption result ((self.old ≡ []) × (self.new ≡ []))
+            (λ word. self.old ≡ word_seen word ∷ self.new) }
+    {
+        self.left.pop_front()
+    }
+
+    // One more word is said.
+    fn add(&mut self, word: Word) -> Result<(), NoMemory>
+        ensures { OnOk result (self.new ≡ self.old ++ word_seen word ∷ []) }
+    {
+        self.left.push_back(word)?;
+        Ok(())
+    }
+}
 
 // Whether the client is told of an ending.
 fn tells_client(ending: &Ending) -> bool
@@ -29,8 +87,8 @@ fn tells_client(ending: &Ending) -> bool
 }
 
 // Whether a target that is attached is left to run on.
-fn frees_target(ending: &Ending) -> bool
-    ensures { result ≡ frees_target ending.now }
+fn leaves_target(ending: &Ending) -> bool
+    ensures { result ≡ leaves_target ending.now }
 {
     match ending {
         Ending::Left => true,
@@ -44,131 +102,74 @@ fn frees_target(ending: &Ending) -> bool
     }
 }
 
-// Takes the first request that waits; the target's end owes nothing.
-fn next_request(machine: &mut Machine) -> Option<Request>
-    ensures words { waiting_requests machine.old.waiting
-        ≡ option_to_list result ++ waiting_requests machine.new.waiting }
-    ensures same { machine.new ≡ record machine.old { waiting = machine.new.waiting } }
-    ensures none { IfNone result (machine.new.waiting ≡ []) }
+// The request fails, since its target is gone.
+fn fail(alloc: Global, request: &Request, words: &mut Words) -> Result<(), NoMemory>
+    ensures { OnOk result (words.new ≡ words.old ++ fails_gone request.now ∷ []) }
 {
-    while let Some(item) = machine.next_item() {
-        if let Item::Request(request) = item {
-            return Some(request);
-        }
-    }
-    None
+    let told = response_to(alloc, request, Outcome::Failure(Failure::target_gone()))?;
+    words.add(Word::Tells(told))
 }
 
-// The request fails, since the session is over.
-fn fails_gone(alloc: Global, request: &Request) -> Result<Told, NoMemory>
-    ensures { IfOk result (λ told. Word.tells told ≡ fails_gone request.now) }
+// A request that waits fails; no other item concerns the client.
+fn fail_item(alloc: Global, item: &Item, words: &mut Words) -> Result<(), NoMemory>
+    ensures { OnOk result (words.new ≡ words.old ++ map fails_gone (request_in item.now)) }
 {
-    response_to(alloc, request, Outcome::Failure(Failure::target_gone()))
-}
-
-// The client is told that nothing more comes of the target, once.
-fn end_word(machine: &mut Machine) -> Option<Told>
-    ensures words { end_word machine.old.terminated ≡ told_words result ++ end_word machine.new.terminated }
-    ensures same { machine.new ≡ record machine.old { terminated = machine.new.terminated } }
-    ensures none { IfNone result (machine.old.terminated ≡ true) }
-{
-    if machine.is_terminated() {
-        return None;
-    }
-    machine.terminate();
-    Some(Told::Event(Event::Terminated))
-}
-
-// The next word for the requests that wait and for the target's end.
-fn waiting_word(alloc: Global, machine: &mut Machine) -> Result<Option<Told>, NoMemory>
-    ensures words { IfOk result (λ word. rest_left machine.old ≡ told_words word ++ rest_left machine.new) }
-    ensures none { IfOk result (λ word. IfNone word (rest_left machine.new ≡ [])) }
-    ensures hand { machine.new.hand ≡ machine.old.hand }
-    ensures phase { OnOk result (machine.new.phase ≡ machine.old.phase) }
-{
-    match next_request(machine) {
-        Some(request) => Ok(Some(fails_gone(alloc, &request)?)),
-        None => Ok(end_word(machine)),
+    match item {
+        Item::Request(request) => fail(alloc, request, words),
+        Item::Composite { .. } => Ok(()),
+        Item::Raw { .. } => Ok(()),
+        Item::TargetEnd => Ok(()),
     }
 }
 
-// The next word for the item in hand.
-fn owed_word(alloc: Global, hand: &mut Hand) -> Result<Option<Told>, NoMemory>
-    ensures some { IfOk result (λ word. IfSome word
-        (λ told. map fails_gone (owed_in hand.old.item hand.old.parts)
-        ≡ Word.tells told ∷ map fails_gone (owed_in hand.new.item hand.new.parts))) }
-    ensures none { IfOk result (λ word. IfNone word (owed_in hand.old.item hand.old.parts ≡ [])) }
-    ensures less { AsksNoMore (Some hand.old) (Some hand.new) }
+// The requests that wait fail.
+fn fail_waiting(alloc: Global, waiting: &VecDeque<Item>, words: &mut Words) -> Result<(), NoMemory>
+    ensures { OnOk result (words.new ≡ words.old ++ map fails_gone (flat_map request_in waiting.now.items)) }
 {
-    if !hand.drop_to_response() {
-        return Ok(None);
+    for place in 0..waiting.len() {
+        fail_item(alloc, &waiting[place], words)?;
     }
-    match hand.item() {
-        Item::Request(request) => Ok(Some(fails_gone(alloc, request)?)),
-        Item::TargetEnd => Ok(None),
+    Ok(())
+}
+
+// The request in hand fails, unless its response was told.
+fn fail_in_hand(alloc: Global, hand: &Option<Talk>, words: &mut Words) -> Result<(), NoMemory>
+    ensures { OnOk result (words.new ≡ words.old ++ map fails_gone (unanswered_hand hand.now)) }
+{
+    match hand {
+        None => Ok(()),
+        Some(talk) => match talk.waiting_request() {
+            None => Ok(()),
+            Some(request) => fail(alloc, request, words),
+        },
     }
 }
 
-// The next word for the client, where this is in hand.
-fn hand_word(alloc: Global, machine: &mut Machine, mut hand: Hand) -> Result<Option<Told>, NoMemory>
-    requires { machine.old.hand ≡ None }
-    ensures words { IfOk result
-        (λ word. client_left (holding machine.old hand) ≡ told_words word ++ client_left machine.new) }
-    ensures less { AsksNoMore (Some hand) machine.new.hand }
-    ensures none { IfOk result (λ word. IfNone word (client_left machine.new ≡ [])) }
-    ensures phase { OnOk result (machine.new.phase ≡ machine.old.phase) }
+// The client is told that nothing more comes of the target, unless it was (DAP specification, Events, Terminated).
+fn tell_end(terminated: bool, words: &mut Words) -> Result<(), NoMemory>
+    ensures { OnOk result (words.new ≡ words.old ++ end_word terminated) }
 {
-    match owed_word(alloc, &mut hand)? {
-        Some(told) => {
-            machine.hold(hand);
-            Ok(Some(told))
-        }
-        None => waiting_word(alloc, machine),
+    if terminated {
+        return Ok(());
     }
+    words.add(Word::Tells(Told::Event(Event::Terminated)))
 }
 
-// The next word for the client.
-fn client_word(alloc: Global, machine: &mut Machine) -> Result<Option<Told>, NoMemory>
-    ensures words { IfOk result (λ word. client_left machine.old ≡ told_words word ++ client_left machine.new) }
-    ensures less { AsksNoMore machine.old.hand machine.new.hand }
-    ensures none { IfOk result (λ word. IfNone word (client_left machine.new ≡ [])) }
-    ensures phase { OnOk result (machine.new.phase ≡ machine.old.phase) }
+// The client is told that its requests fail, and that nothing more comes of the target.
+fn tell_client(alloc: Global, machine: &Machine, words: &mut Words) -> Result<(), NoMemory>
+    ensures { OnOk result (words.new ≡ words.old ++ client_words machine.now) }
 {
-    match machine.take_hand() {
-        Some(hand) => hand_word(alloc, machine, hand),
-        None => waiting_word(alloc, machine),
-    }
+    fail_in_hand(alloc, &machine.talk, words)?;
+    fail_waiting(alloc, &machine.waiting, words)?;
+    tell_end(machine.state.is_terminated(), words)
 }
 
-// A target that is attached is left, once.
-fn free_target(machine: &mut Machine, frees: bool) -> Option<LastWord>
-    ensures words { target_left frees machine.old.phase ≡ last_word result ++ target_left frees machine.new.phase }
-    ensures same { machine.new ≡ record machine.old { phase = machine.new.phase } }
-    ensures none { IfNone result (target_left frees machine.new.phase ≡ []) }
+// A target that is attached is left to run on.
+fn leave_target(state: &State, words: &mut Words) -> Result<(), NoMemory>
+    ensures { OnOk result (words.new ≡ words.old ++ target_words state.now.phase) }
 {
-    if !frees || machine.phase() != Phase::Attached {
-        return None;
+    if state.is_attached() {
+        return words.add(Word::Disposes);
     }
-    machine.enter(Phase::Gone);
-    Some(LastWord::Disposes)
-}
-
-/// The next of an ending's last words, which is said then.
-pub(crate) fn next_word(
-    alloc: Global,
-    machine: &mut Machine,
-    ending: &Ending,
-) -> Result<Option<LastWord>, NoMemory>
-    ensures some { IfOk result (λ word. IfSome word (λ w. SaysNext ending.now machine.old w machine.new)) }
-    ensures none { IfOk result (λ word. IfNone word (SaysNone ending.now machine.old)) }
-    ensures no_more { IfOk result (λ word. IfNone word (SaysNone ending.now machine.new)) }
-    ensures less { AsksNoMore machine.old.hand machine.new.hand }
-{
-    if !tells_client(ending) {
-        return Ok(free_target(machine, frees_target(ending)));
-    }
-    match client_word(alloc, machine)? {
-        Some(told) => Ok(Some(LastWord::Tells(told))),
-        None => Ok(free_target(machine, frees_target(ending))),
-    }
+    Ok(())
 }

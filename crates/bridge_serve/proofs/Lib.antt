@@ -1,9 +1,9 @@
-pub mod Logs
-pub mod StepFrames
-pub mod LastWords
-pub mod Moves
-pub mod Words
-pub mod Taking
-pub mod Cutting
-pub mod Coming
-pub mod Whole
+mod Logs
+mod Steps
+mod LastWords
+mod Moves
+mod Words
+mod Taking
+mod Cutting
+mod Coming
+mod Whole

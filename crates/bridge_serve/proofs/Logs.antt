@@ -1,12 +1,14 @@
 -- How logs grow, and how the words on counts go on from call to call.
-use Rattle.std.proofs.Common.{◌≡◌, ℕ, ◌≤◌, refl, sym, ap, ◌∙◌, arith, List, [], ◌++◌, append_assoc, append-nil, Option}
-use Rattle.std.proofs.Common.{None, Some, inl, inr}
+use Rattle.std.proofs.Common.{◌≡◌, ℕ, ◌+◌, ◌≤◌, refl, sym, ap, ◌∙◌, arith, Bool, true, false, List, [], ◌++◌}
+use Rattle.std.proofs.Common.{append_assoc, append-nil, Option, None, Some, inl, inr}
 use Rattle.std.proofs.lemmas.Bool.{cases_lt}
 use Rattle.std.specs.Option.{option_map}
-use Rattle.wire_core.specs.Outside.{Outside, Adds, Rose}
-use Rattle.wire_core.specs.declared.outside.Entry.{Entry}
-use Rattle.world_model.specs.declared.ending.Ending.{Ending}
-use Rattle.bridge_serve.specs.Serving.{Keeps, Blames}
+use Rattle.bridge_serve.specs.Following.{Waits}
+use Rattle.bridge_serve.specs.Names.{Client, Ending, Entry, Side, Target}
+use Rattle.bridge_serve.specs.Serving.{Blames, Keeps, RoseBy, WasQuiet}
+use Rattle.wire_core.specs.Outside.{Adds, Closes, Counts, Hears, Outside, Rose, StaysOpen}
+use Rattle.wire_core.specs.declared.outside.Happening.{Happening}
+use Rattle.wire_core.specs.declared.outside.Happening.TheVariants as happenings
 
 -- nothing was logged
 pub adds_none : (log : Option (List Entry)) → log ≡ option_map (λ before. before ++ []) log
@@ -24,24 +26,61 @@ pub adds_more : (a b c : Outside) (xs ys : List Entry) → Adds a b xs → Adds 
 adds_more a b c xs ys h k = k ∙ ap (option_map (λ before. before ++ ys)) h ∙ grows a.log xs ys
 
 -- nothing happened
+counts_same : (o : Outside) → Counts o o
+counts_same o = record {
+  client_faults = omega arith;
+  target_faults = omega arith;
+  client_empties = omega arith;
+  target_empties = omega arith;
+  open_faults = omega arith;
+}
+
 pub keeps_same : (o : Outside) → Keeps o o
 keeps_same o = record {
-  counts =
-      record {
-        client_faults = omega arith;
-        target_faults = omega arith;
-        client_empties = omega arith;
-        target_empties =
-            omega arith;
-        open_faults = omega arith;
-      };
+  counts = counts_same o;
   asked = refl;
+  client_closed = λ closed. closed;
+  target_closed = λ closed. closed;
 }
+
+-- both sides stay open or closed
+pub keeps_open : {old new : Outside} → Counts old new → new.asked ≡ old.asked → StaysOpen old new → Keeps old new
+keeps_open counts asked stays = record {
+  counts = counts;
+  asked = asked;
+  client_closed = λ closed. stays.client ∙ closed;
+  target_closed = λ closed. stays.target ∙ closed;
+}
+
+-- a side is closed, and the other stays as it is
+pub keeps_other : {old new : Outside} (side : Side) → Counts old new → new.asked ≡ old.asked → Closes side old new
+    → Keeps old new
+keeps_other Client counts asked closes = record {
+  counts = counts;
+  asked = asked;
+  client_closed = λ closed. closes.closed;
+  target_closed = λ closed. closes.other ∙ closed;
+}
+keeps_other Target counts asked closes = record {
+  counts = counts;
+  asked = asked;
+  client_closed = λ closed. closes.other ∙ closed;
+  target_closed = λ closed. closes.closed;
+}
+
+-- whatever came
+pub keeps_heard : (old new : Outside) (buffer : List ℕ) (happening : Happening) → Hears old new buffer happening
+    → Keeps old new
+keeps_heard old new buffer (happenings.Bytes side n) came = keeps_open came.counts came.asked came.happens.3
+keeps_heard old new buffer (happenings.Shut side) came = keeps_other side came.counts came.asked came.happens
+keeps_heard old new buffer (happenings.Failed side) came = keeps_other side came.counts came.asked came.happens.0
+keeps_heard old new buffer happenings.Quiet came = keeps_open came.counts came.asked came.happens.0
 
 -- two calls, one after the other
 pub keeps_on : {a b c : Outside} → Keeps a b → Keeps b c → Keeps a c
 keeps_on h k =
-    let p = h.counts in let q = k.counts in
+    let p = h.counts in
+    let q = k.counts in
     record {
       counts = record {
         client_faults = omega (arith, p.client_faults, q.client_faults);
@@ -51,10 +90,12 @@ keeps_on h k =
         open_faults = omega (arith, p.open_faults, q.open_faults);
       };
       asked = k.asked ∙ h.asked;
+      client_closed = λ closed. k.client_closed (h.client_closed closed);
+      target_closed = λ closed. k.target_closed (h.target_closed closed);
     }
 
 -- a count that rose in a later call rose in all
-pub rose_on : {a b : ℕ} (c : ℕ) → a ≤ b → Rose b c → Rose a c
+rose_on : {a b : ℕ} (c : ℕ) → a ≤ b → Rose b c → Rose a c
 rose_on c h (inl k) = inl (omega (arith, h, k))
 rose_on c h (inr k) = inr k
 
@@ -62,10 +103,67 @@ pub blames_on : {a b : Outside} (c : Outside) (ending : Ending) → Keeps a b �
 blames_on c ending h k = record {
   client = λ is_link. rose_on _ h.counts.client_faults (k.client is_link);
   target = λ is_link. rose_on _ h.counts.target_faults (k.target is_link);
+  client_lost = k.client_lost;
+  target_lost = k.target_lost;
+  client_left = k.client_left;
 }
 
 -- a count that rose and then didn't fall
-pub rose_then : {a b c : ℕ} → a ≤ b → Rose a b → b ≤ c → Rose a c
+rose_then : {a b c : ℕ} → a ≤ b → Rose a b → b ≤ c → Rose a c
 rose_then h (inl k) less = inl (omega (arith, h, k, less))
 rose_then {a} {b} {c} h (inr k) less =
     elim (cases_lt b c) [ inl more ↦ inl (omega (arith, h, more)) | inr most ↦ inr (omega (arith, k, less, most)) ]
+
+pub blames_then : {a b c : Outside} (ending : Ending) → Keeps a b → Blames a b ending → Keeps b c → Blames a c ending
+blames_then ending h blames k = record {
+  client = λ is_link. rose_then h.counts.client_faults (blames.client is_link) k.counts.client_faults;
+  target = λ is_link. rose_then h.counts.target_faults (blames.target is_link) k.counts.target_faults;
+  client_lost = λ is_link. k.client_closed (blames.client_lost is_link);
+  target_lost = λ is_link. k.target_closed (blames.target_lost is_link);
+  client_left = λ has_left. k.client_closed (blames.client_left has_left);
+}
+
+-- Waits in vain -------------------------------------------------------------------------------------------------------
+
+-- a side that is open now was open
+was_open : {was now : Bool} → (was ≡ false → now ≡ false) → now ≡ true → was ≡ true
+was_open {was = true} closed is_open = refl
+was_open {was = false} closed is_open = let no = closed refl in cc
+
+-- a count that rose so often doesn't fall
+rose_by_then : (n a b c : ℕ) → RoseBy n a b → b ≤ c → RoseBy n a c
+rose_by_then n a b c (inl h) less = inl (omega (arith, h, less))
+rose_by_then n a b c (inr h) less = inr (omega (arith, h, less))
+
+-- and rises once more
+rose_by_more : (n a b c : ℕ) → RoseBy n a b → Rose b c → RoseBy (n + 1) a c
+rose_by_more n a b c (inl h) (inl k) = inl (omega (arith, h, k))
+rose_by_more n a b c (inl h) (inr k) = inr (omega (arith, k))
+rose_by_more n a b c (inr h) (inl k) = inr (omega (arith, h, k))
+rose_by_more n a b c (inr h) (inr k) = inr (omega (arith, k))
+
+pub quiet_none : (o : Outside) → WasQuiet 0 o o
+quiet_none o = record { client = λ is_open. inl (omega arith); target = λ is_open. inl (omega arith) }
+
+pub quiet_then : {n : ℕ} {a b c : Outside} → WasQuiet n a b → Keeps b c → WasQuiet n a c
+quiet_then h k = record {
+  client = λ is_open. rose_by_then _ _ _ _ (h.client (was_open k.client_closed is_open)) k.counts.client_empties;
+  target = λ is_open. rose_by_then _ _ _ _ (h.target (was_open k.target_closed is_open)) k.counts.target_empties;
+}
+
+pub quiet_on : {n m : ℕ} {a b c : Outside} → Keeps a b → WasQuiet n a b → Keeps b c → Waits b c n m → WasQuiet m a c
+quiet_on h was k Waits.came =
+    let p = h.counts in
+    let q = k.counts in
+    record {
+      client = λ is_open. inl (omega (arith, p.client_empties, q.client_empties));
+      target = λ is_open. inl (omega (arith, p.target_empties, q.target_empties));
+    }
+quiet_on h was k (Waits.in_vain stays client target) = record {
+  client = λ is_open.
+      let open_then = was_open k.client_closed is_open in
+      rose_by_more _ _ _ _ (was.client open_then) (client open_then);
+  target = λ is_open.
+      let open_then = was_open k.target_closed is_open in
+      rose_by_more _ _ _ _ (was.target open_then) (target open_then);
+}

@@ -1,368 +1,337 @@
 -- How each message that goes out leads a session from one place to another.
-use Rattle.std.proofs.Common.{◌≡◌, ℕ, ◌<◌, ◌≤◌, refl, sym, ap, subst, ◌∙◌, arith, List, [], ◌∷◌, ◌++◌, append-nil}
-use Rattle.std.proofs.Common.{length, take, inl}
-use Rattle.bridge_core.specs.Steps.{Sight, place_of, in_state, waiting_in, Goes, Sends, IsIdle, IsOver, Finds}
-use Rattle.wire_core.specs.Outside.{Outside, Adds, IsOpen, FailsToSend, broken_send}
-use Rattle.wire_core.specs.Outside.{Sends as sends}
-use Rattle.wire_core.specs.declared.outside.Entry.{Entry}
-use Rattle.wire_core.specs.declared.outside.Entry.TheVariants.{Out}
-use Rattle.wire_core.specs.declared.outside.Side.{Side}
-use Rattle.wire_core.specs.declared.outside.Side.TheVariants.{Client, Target}
-use Rattle.world_model.specs.Machine.{State, Message, Due}
-use Rattle.world_model.specs.Session as session
-use Rattle.world_model.specs.Session.{At, Place, Session, IsOn, ended, link_ending, last_words}
-use Rattle.world_model.specs.Session.{target_words}
-use Rattle.world_model.specs.declared.ending.Ending.{Ending}
-use Rattle.world_model.specs.declared.ending.Ending.TheVariants.{Done, ClientLink, TargetLink, NoMemory}
-use Rattle.world_model.specs.declared.ending.Limits.{Limits}
-use Rattle.world_model.specs.declared.machine.Phase.TheVariants.{Gone}
+use Rattle.std.proofs.Common.{◌≡◌, ℕ, ◌+◌, ◌<◌, ◌≤◌, refl, sym, ap, subst, ◌∙◌, arith, false, true, List, [], ◌∷◌, ◌++◌}
+use Rattle.std.proofs.Common.{append-nil, length}
+use Rattle.bridge_core.specs.Calls.{Finds, Goes, IsIdle, IsOver, Sends, in_phase}
+use Rattle.bridge_core.specs.Cores.{CoreState, Unheard, session_in, with_machine}
+use Rattle.bridge_core.specs.Cores.{IsReady as is_ready}
+use Rattle.bridge_serve.specs.Following.{CoreGoesOn, CoreStops, HasEnded, HasWords, IsCounted, Leads}
+use Rattle.bridge_serve.specs.Following.{MayTell, Stopped, nothing_heard}
+use Rattle.bridge_serve.specs.Names.{Client, ClientLink, Done, Ending, Entry, Idle, Left, Limits, NoMemory, Out, Side, Target}
+use Rattle.bridge_serve.specs.Names.{TargetLink}
 use Rattle.bridge_serve.specs.Serving.{Blames}
-use Rattle.bridge_serve.specs.Following.{standing, Heard, nothing_heard, Leads, Stopped, IsLeft, IsCounted}
-use Rattle.bridge_serve.specs.Following.{Framed, CoreIsReady, CoreGoesOn, CoreStops}
-use Rattle.bridge_serve.proofs.LastWords.{each_client, each_target, attached_is_here, left_at, left_for_memory}
-use Rattle.bridge_serve.proofs.LastWords.{speaks_bytes}
-use Rattle.bridge_serve.proofs.Logs.{adds_none, adds_more, keeps_same, keeps_on, blames_on}
-use Rattle.bridge_serve.proofs.StepFrames.{Stays, outgoing, goes_stays, stays_on, stays_same, by}
+use Rattle.bridge_serve.proofs.LastWords.{each_client, each_target, speaks_bytes, words_at, words_here}
+use Rattle.bridge_serve.proofs.Logs.{adds_more, adds_none, blames_on, keeps_on, keeps_open, keeps_other}
+use Rattle.bridge_serve.proofs.Logs.{keeps_same}
+use Rattle.bridge_serve.proofs.Steps.{goes_hidden, sent_so}
+use Rattle.machine_model.specs.Due.{due}
+use Rattle.machine_model.specs.Runs.{Message}
+use Rattle.machine_model.specs.State.{Machine, is_gone}
+use Rattle.session_model.proofs.EndedRules.{ended_by, ends_by}
+use Rattle.session_model.specs.Causes.{Cause, IsOn, link_ending}
+use Rattle.session_model.specs.LastWords.{LastWord, last_words, target_words, word_side}
+use Rattle.session_model.specs.Session.{Going}
+use Rattle.session_model.specs.States.{SessionState, id_pending}
+use Rattle.wire_core.specs.Outside.{Adds, FailsToSend, IsOpen, Outside}
+use Rattle.wire_core.specs.Outside.{Sends as sends}
 
 module _ (limits : Limits) where
-  -- a session that goes on with these entries
-  unfoldable pub Continues : ℕ → At → List Entry → ℕ → At → Type 0
+  -- a session that goes on from one place goes on from the other, with these entries
+  unfoldable pub Continues : ℕ → SessionState → List Entry → ℕ → SessionState → Type 0
   Continues before from entries after to = (log : List Entry) (messages : List Message)
-      → Session limits log messages before from
-      → (later : List Message) × Session limits (log ++ entries) later after to
+      → Going limits log messages before from
+      → (later : List Message) × Going limits (log ++ entries) later after to
 
   -- whoever logs the entries leads the session on
-  pub leads_by : (old new : Outside) (entries : List Entry) (before after : ℕ) (from to : At) → Adds old new entries
-      → Continues before from entries after to → Leads limits old before from new after to
+  pub leads_by : (old new : Outside) (entries : List Entry) (before after : ℕ) (from to : SessionState)
+      → Adds old new entries → Continues before from entries after to → Leads limits old before from new after to
   unfolding Continues
   leads_by old new entries before after from to adds goes_on begin follows =
-      let next = goes_on follows.added follows.messages follows.session in
+      let next = goes_on follows.added follows.messages follows.going in
       record {
         added = follows.added ++ entries;
         messages = next.0;
         log = adds_more begin old new follows.added entries follows.log adds;
-        session = next.1;
+        going = next.1;
       }
 
   -- a step that logs nothing
-  pub unlogged : (before after : ℕ) (from to : At)
-      → ((log : List Entry) (messages : List Message) → Session limits log messages before from
-      → (later : List Message) × Session limits log later after to) → Continues before from [] after to
+  pub unlogged : (turns : ℕ) (from to : SessionState) → ((log : List Entry) (messages : List Message)
+      → Going limits log messages turns from → (later : List Message) × Going limits log later turns to)
+      → Continues turns from [] turns to
   unfolding Continues
-  unlogged before after from to step log messages s = rw append-nil (step log messages s)
+  unlogged turns from to step log messages g = rw append-nil (step log messages g)
 
   -- and changes nothing outside
-  pub leads_in_place : (o : Outside) (turns : ℕ) (from to : At)
-      → ((log : List Entry) (messages : List Message) → Session limits log messages turns from
-      → (later : List Message) × Session limits log later turns to) → Leads limits o turns from o turns to
+  pub leads_in_place : (o : Outside) (turns : ℕ) (from to : SessionState)
+      → ((log : List Entry) (messages : List Message) → Going limits log messages turns from
+      → (later : List Message) × Going limits log later turns to) → Leads limits o turns from o turns to
   leads_in_place o turns from to step =
-      leads_by o o [] turns turns from to (adds_none o.log) (unlogged turns turns from to step)
+      leads_by o o [] turns turns from to (adds_none o.log) (unlogged turns from to step)
+
+  -- where a cause has come, with these entries and so many turns, the session has ended
+  pub stopped_by : (old new : Outside) (entries : List Entry) (before taken after : ℕ) (s : SessionState)
+      (core : CoreState) (ending : Ending) → Adds old new entries → after ≡ before + taken
+      → Cause limits before s ending entries taken → HasWords new core (ended_by s ending)
+      → Stopped limits old before s new after core ending
+  stopped_by old new entries before taken after s core ending adds turns cause has begin follows =
+      subst (λ (n : ℕ). HasEnded limits begin new n core ending) (sym turns)
+      (HasEnded.ended (adds_more begin old new follows.added entries follows.log adds) (ends_by follows.going cause)
+      has)
+
+  -- nothing was logged
+  pub stopped_here : (o : Outside) (turns : ℕ) (s : SessionState) (core : CoreState) (ending : Ending)
+      → Cause limits turns s ending [] 0 → HasWords o core (ended_by s ending)
+      → Stopped limits o turns s o turns core ending
+  stopped_here o turns s core ending cause has =
+      stopped_by o o [] turns 0 turns s core ending (adds_none o.log) (omega arith) cause has
 
   -- one thing after the other, up to an ending
-  pub stopped_on : (a b c : Outside) (before middle after : ℕ) (from to : At) (core : Sight) (ending : Ending)
-      → Leads limits a before from b middle to
-      → Stopped limits b middle to c after core ending → Stopped limits a before from c after core ending
-  stopped_on a b c before middle after from to core ending h k =
-      record { to = k.to; leads = λ begin follows. k.leads begin (h begin follows); is_left = k.is_left }
+  pub stopped_on : (a b c : Outside) (before middle after : ℕ) (from to : SessionState) (core : CoreState)
+      (ending : Ending) → Leads limits a before from b middle to → Stopped limits b middle to c after core ending
+      → Stopped limits a before from c after core ending
+  stopped_on a b c before middle after from to core ending h k begin follows = k begin (h begin follows)
 
   -- where a core has room for what waits, the session is on
-  pub is_on : (core : Sight) (heard : Heard) → core.limit ≡ limits.waiting → waiting_in core ≤ core.limit
-      → IsOn limits (standing core heard)
-  is_on core heard limit room = record { goes_on = refl; no_flood = omega (arith, limit, room) }
+  pub is_on : (core : CoreState) (unheard : Unheard) → core.limit ≡ limits.waiting
+      → length core.machine.waiting ≤ core.limit → IsOn limits (session_in core unheard)
+  is_on core unheard limit room = record { no_flood = omega (arith, limit, room) }
 
   -- the machine goes on by itself
-  pub goes_all : {s next : State} (core : Sight) (heard : Heard) (log : List Entry) (messages : List Message)
-      (turns : ℕ) → Goes s next
-      → core.limit ≡ limits.waiting → waiting_in (in_state core s) ≤ core.limit
-      → Session limits log messages turns (standing (in_state core s) heard)
-      → Session limits log messages turns (standing (in_state core next) heard)
-  goes_all core heard log messages turns Goes.stays limit room h = h
-  goes_all {s} core heard log messages turns (Goes.goes {middle} is rest) limit room h =
-      let less = (by s (Due.goes middle) is).no_more in
-      goes_all core heard log messages turns rest limit (omega (arith, room, less))
-      (Session.goes h (is_on (in_state core s) heard limit room) is)
+  pub goes_all : {m next : Machine} (core : CoreState) (unheard : Unheard) (log : List Entry) (messages : List Message)
+      (turns : ℕ) → Goes m next → core.limit ≡ limits.waiting → length m.waiting ≤ core.limit
+      → Going limits log messages turns (session_in (with_machine core m) unheard)
+      → Going limits log messages turns (session_in (with_machine core next) unheard)
+  goes_all core unheard log messages turns Goes.stays limit room g = g
+  goes_all core unheard log messages turns (Goes.goes {next = middle} rest is) limit room g =
+      let fewer = (goes_hidden rest).fewer in
+      Going.goes (goes_all core unheard log messages turns rest limit room g)
+      (is_on (with_machine core middle) unheard limit (omega (arith, room, fewer))) is
 
--- what the machine by itself leaves
-framed_by : {core core' : Sight} → Stays core.state core'.state → core'.raw ≡ core.raw → core'.limit ≡ core.limit
-    → Framed core core'
-framed_by stays raw limit = record {
-  greeted = stays.greeted;
-  closing = stays.closing;
-  was_gone = stays.was_gone;
-  stays_gone = stays.stays_gone;
-  raw = raw;
-  limit = limit;
-}
-
-framed_on : {a b c : Sight} → Framed a b → Framed b c → Framed a c
-framed_on h k = record {
-  greeted = k.greeted ∙ h.greeted;
-  closing = k.closing ∙ h.closing;
-  was_gone = λ gone. h.was_gone (k.was_gone gone);
-  stays_gone = λ gone. k.stays_gone (h.stays_gone gone);
-  raw = k.raw ∙ h.raw;
-  limit = k.limit ∙ h.limit;
-}
-
-less_room : (core core' : Sight) → Stays core.state core'.state → core'.raw ≡ core.raw → core'.limit ≡ core.limit
-    → waiting_in core ≤ core.limit
-    → waiting_in core' ≤ core'.limit
-less_room core core' stays raw limit room =
-    let fewer = stays.no_more in
-    let same = ap length raw in
-    omega (arith, fewer, same, limit, room)
-
--- a core in another state
-ready_on : (old new : Outside) (core core' : Sight) → CoreIsReady old core → Stays core.state core'.state
-    → core'.raw ≡ core.raw
-    → core'.limit ≡ core.limit → new.client.is_open ≡ old.client.is_open → new.target.is_open ≡ old.target.is_open
-    → CoreIsReady new core'
-ready_on old new core core' ready stays raw limit client target = record {
-  client = client ∙ ready.client;
-  target = λ here. target ∙ ready.target (λ gone. here (stays.stays_gone gone));
-  room = less_room core core' stays raw limit ready.room;
-}
+  -- and nothing is logged
+  pub leads_hidden : (o : Outside) (turns : ℕ) (core : CoreState) (unheard : Unheard) (next : Machine)
+      → Goes core.machine next → core.limit ≡ limits.waiting → length core.machine.waiting ≤ core.limit
+      → Leads limits o turns (session_in core unheard) o turns (session_in (with_machine core next) unheard)
+  leads_hidden o turns core unheard next hidden limit room = leads_in_place o turns _ _ (λ log messages g.
+      (messages, goes_all core unheard log messages turns hidden limit room g))
 
 -- Nothing was due -----------------------------------------------------------------------------------------------------
 
-pub rests : (o : Outside) (core core' : Sight) → CoreIsReady o core → IsIdle core core' → CoreGoesOn o o core core'
-rests o core core' ready idle =
-    let stays = goes_stays idle.comes in
-    let raw = ap (λ (c : Sight). c.raw) idle.same in
-    let limit = ap (λ (c : Sight). c.limit) idle.same in
+pub rests : (o : Outside) (core core' : CoreState) → MayTell o core → is_ready core' → IsIdle core core'
+    → CoreGoesOn o o core core'
+rests o core core' may ready idle =
+    let hidden = goes_hidden idle.goes in
     record {
-      leads = λ limits heard turns same. leads_in_place limits o turns _ _ (λ log messages s. (
-        messages,
-        subst (λ (c : Sight). Session limits log messages turns (standing c heard)) (sym idle.same)
-            (goes_all limits core heard log messages turns idle.comes same ready.room s),
-      ));
+      leads = λ limits unheard turns limit.
+          subst (λ (c : CoreState). Leads limits o turns (session_in core unheard) o turns (session_in c unheard))
+          (sym idle.same) (leads_hidden limits o turns core unheard core'.machine idle.goes limit may.ready.room);
       keeps = keeps_same o;
-      ready = ready_on o o core core' ready stays raw limit refl refl;
-      framed = framed_by stays raw limit;
+      may_tell = record {
+        ready = ready;
+        unspoken = ap (λ (c : CoreState). c.words) idle.same ∙ may.unspoken;
+        client = may.client;
+        target = λ near. may.target (ap is_gone (sym hidden.phase) ∙ near);
+      };
+      same_greeted = hidden.heard;
+      same_limit = ap (λ (c : CoreState). c.limit) idle.same;
     }
 
 -- A message that is due goes out -------------------------------------------------------------------------------------
 
-speaks_raw : {place place' : Place} {message : Message} {side : Side} {bytes : List ℕ}
-    → session.Speaks place message side bytes place'
-    → (place'.raw ≡ place.raw) × (side ≡ Client → place'.commands.next ≡ place.commands.next)
-    × (side ≡ Target → place'.told ≡ place.told)
-speaks_raw session.Speaks.tells = (refl, λ _. refl, λ side. cc)
-speaks_raw session.Speaks.greets = (refl, λ side. cc, λ _. refl)
-speaks_raw (session.Speaks.sends serve) = (refl, λ side. cc, λ _. refl)
-
--- what a message leaves
-pub record Sent (core core' : Sight) (side : Side) : Type 0 where
-  pub stays : Stays core.state core'.state
-  pub raw : core'.raw ≡ core.raw
-  pub to_target : side ≡ Target → core.state.phase ≡ Gone → ⊥
-  pub next : side ≡ Client → core'.commands.next ≡ core.commands.next
-  pub told : side ≡ Target → core'.told ≡ core.told
-
-pub sent_so : (core core' : Sight) (side : Side) (bytes : List ℕ) → Sends core side bytes core' → Sent core core' side
-sent_so core core' side bytes sends =
-    let speaks = sends.speaks nothing_heard.uncuts in
-    let out = outgoing speaks sends.allows in
-    let kept = speaks_raw speaks in
-    let comes = goes_stays sends.comes in
-    record {
-      stays = stays_on comes out.stays;
-      raw = kept.0;
-      to_target = λ is_target gone. out.to_target is_target (comes.stays_gone gone);
-      next = kept.1;
-      told = kept.2;
-    }
-
-pub open_for : (o : Outside) (core core' : Sight) (side : Side) (bytes : List ℕ) → CoreIsReady o core
+pub open_for : (o : Outside) (core core' : CoreState) (side : Side) (bytes : List ℕ) → MayTell o core
     → Sends core side bytes core' → IsOpen side o
-open_for o core core' Client bytes ready sends = ready.client
-open_for o core core' Target bytes ready sends = ready.target ((sent_so core core' Target bytes sends).to_target refl)
+open_for o core core' Client bytes may out = may.client
+open_for o core core' Target bytes may out = may.target ((sent_so may.ready out).near refl)
 
-pub bytes_for : (core core' : Sight) (side : Side) (bytes : List ℕ) → Sends core side bytes core' → 0 < length bytes
-bytes_for core core' side bytes sends =
-    speaks_bytes (sends.speaks nothing_heard.uncuts)
+pub bytes_for : (core core' : CoreState) (side : Side) (bytes : List ℕ) → Sends core side bytes core'
+    → 0 < length bytes
+bytes_for core core' side bytes out = speaks_bytes (out.speaks nothing_heard)
 
-module _ (limits : Limits) where
-  -- the machine comes to it
-  due_now : (core core' : Sight) (side : Side) (bytes : List ℕ) (heard : Heard) (log : List Entry)
-      (messages : List Message) (turns : ℕ)
-      → waiting_in core ≤ core.limit → core.limit ≡ limits.waiting → (sends : Sends core side bytes core')
-      → Session limits log messages turns (standing core heard)
-      → Session limits log messages turns (standing (in_state core sends.before) heard)
-      × IsOn limits (standing (in_state core sends.before) heard)
-  due_now core core' side bytes heard log messages turns room limit sends s =
-      let less = (goes_stays sends.comes).no_more in (
-        goes_all limits core heard log messages turns sends.comes limit room s,
-        is_on limits (in_state core sends.before) heard limit (omega (arith, room, less)),
-      )
+module _ (limits : Limits) (core core' : CoreState) (side : Side) (bytes : List ℕ) (out : Sends core side bytes core')
+  where
+    on_before : (o : Outside) (unheard : Unheard) → MayTell o core → core.limit ≡ limits.waiting
+        → IsOn limits (session_in (with_machine core out.before) unheard)
+    on_before o unheard may limit =
+        let fewer = (sent_so may.ready out).room in
+        let room = may.ready.room in
+        is_on limits (with_machine core out.before) unheard limit (omega (arith, room, fewer))
 
-  sends_one : (core core' : Sight) (side : Side) (bytes : List ℕ) (heard : Heard) (turns : ℕ)
-      → waiting_in core ≤ core.limit
-      → core.limit ≡ limits.waiting → Sends core side bytes core'
-      → Continues limits turns (standing core heard) (Out side bytes ∷ []) turns (standing core' heard)
-  unfolding Continues
-  sends_one core core' side bytes heard turns room limit sends log messages s =
-      let now = due_now core core' side bytes heard log messages turns room limit sends s in
-      (_, Session.speaks now.0 now.1 sends.allows (sends.speaks heard.uncuts))
+    sends_one : (o : Outside) (unheard : Unheard) (turns : ℕ) → MayTell o core → core.limit ≡ limits.waiting
+        → Continues limits turns (session_in core unheard) (Out side bytes ∷ []) turns (session_in core' unheard)
+    unfolding Continues
+    sends_one o unheard turns may limit log messages g = (
+      _,
+      Going.speaks (goes_all limits core unheard log messages turns out.goes limit may.ready.room g)
+          (on_before o unheard may limit) out.allows (out.speaks unheard),
+    )
 
-  -- its send fails, and the link with it
-  breaks_one : (core core' : Sight) (side : Side) (bytes : List ℕ) (kept : ℕ) (heard : Heard) (turns : ℕ)
-      → waiting_in core ≤ core.limit
-      → core.limit ≡ limits.waiting → (sends : Sends core side bytes core') → kept < length bytes
-      → Continues limits turns (standing core heard) (broken_send side (take kept bytes)) turns
-      (record (ended (standing (in_state core sends.before) heard) (link_ending side)) { broken = 1 })
-  unfolding Continues
-  breaks_one core core' side bytes kept heard turns room limit sends proper log messages s =
-      let now = due_now core core' side bytes heard log messages turns room limit sends s in
-      (_, Session.breaks now.0 now.1 sends.allows (sends.speaks heard.uncuts) proper)
-
-pub sends_on : (old new : Outside) (core core' : Sight) (side : Side) (bytes : List ℕ) → CoreIsReady old core
-    → Sends core side bytes core' → sends old new side bytes → CoreGoesOn old new core core'
-sends_on old new core core' side bytes ready due_message sent =
-    let left = sent_so core core' side bytes due_message in
+pub sends_on : (old new : Outside) (core core' : CoreState) (side : Side) (bytes : List ℕ) → MayTell old core
+    → is_ready core' → Sends core side bytes core' → sends old new side bytes → CoreGoesOn old new core core'
+sends_on old new core core' side bytes may ready out sent =
+    let left = sent_so may.ready out in
     record {
-      leads = λ limits heard turns limit.
+      leads = λ limits unheard turns limit.
           leads_by limits old new _ turns turns _ _ sent.log
-          (sends_one limits core core' side bytes heard turns ready.room limit due_message);
-      keeps = record { counts = sent.counts; asked = sent.asked };
-      ready =
-          ready_on old new core core' ready left.stays left.raw due_message.same_limit sent.stays.client
-          sent.stays.target;
-      framed = framed_by left.stays left.raw due_message.same_limit;
+          (sends_one limits core core' side bytes out old unheard turns may limit);
+      keeps = keeps_open sent.counts sent.asked sent.stays;
+      may_tell = record {
+        ready = ready;
+        unspoken = ap (λ (c : CoreState). c.words) out.same ∙ may.unspoken;
+        client = sent.stays.client ∙ may.client;
+        target = λ near. sent.stays.target ∙ may.target (still_near core core' left.gone near);
+      };
+      same_greeted = left.heard;
+      same_limit = ap (λ (c : CoreState). c.limit) out.same;
     }
+  where
+    still_near : (core core' : CoreState)
+        → (is_gone core.machine.state.phase ≡ true → is_gone core'.machine.state.phase ≡ true)
+        → is_gone core'.machine.state.phase ≡ false → is_gone core.machine.state.phase ≡ false
+    still_near core core' gone near = grind (arith, gone, near)
+
+-- what is left of a message that wasn't sent: the session stands with its target as before it
+abbrev pub unsent_from : CoreState → CoreState → CoreState
+unsent_from core core' = with_machine core' (in_phase core.machine.state.phase core'.machine)
 
 -- the last words of a link that failed are those from before the message
-words_broken : (core core' : Sight) (side : Side) (bytes : List ℕ) (sends : Sends core side bytes core')
-    → last_words (link_ending side) sends.before ≡ last_words (link_ending side) core'.state
-words_broken core core' Client bytes sends =
-    let out = outgoing (sends.speaks nothing_heard.uncuts) sends.allows in
-    ap target_words (sym (out.phase refl))
-words_broken core core' Target bytes sends =
-    let out = outgoing (sends.speaks nothing_heard.uncuts) sends.allows in
-    sym (out.words refl)
+words_broken : (core core' : CoreState) (side : Side) (bytes : List ℕ) → is_ready core
+    → (out : Sends core side bytes core')
+    → last_words (link_ending side) out.before ≡ last_words (link_ending side) (unsent_from core core').machine
+words_broken core core' Client bytes ready out = ap target_words (sent_so ready out).phase
+words_broken core core' Target bytes ready out = sym ((sent_so ready out).words refl)
 
-left_broken : (old new : Outside) (core core' : Sight) (side : Side) (bytes : List ℕ) (heard : Heard)
-    → CoreIsReady old core
-    → (sends : Sends core side bytes core') → FailsToSend old new side bytes
-    → IsLeft new core' (record (ended (standing (in_state core sends.before) heard) (link_ending side)) { broken = 1 })
-    (link_ending side)
-left_broken old new core core' Client bytes heard ready sends failed =
-    let left = sent_so core core' Client bytes sends in
-    record {
-      is_ended = inl refl;
-      words = words_broken core core' Client bytes sends;
-      counted =
-          each_target (IsCounted (place_of core heard.uncuts) core') core'.state.phase
-          (λ attached. sym (left.next refl));
-      speakable = each_target _ core'.state.phase
-          (λ attached. failed.closes.other ∙ ready.target
-          (λ gone. attached_is_here attached (left.stays.stays_gone gone)));
-    }
-left_broken old new core core' Target bytes heard ready sends failed =
-    let left = sent_so core core' Target bytes sends in
-    record {
-      is_ended = inl refl;
-      words = words_broken core core' Target bytes sends;
-      counted = each_client (IsCounted (place_of core heard.uncuts) core') (λ told. sym (left.told refl)) core'.state;
-      speakable = each_client _ (λ told. failed.closes.other ∙ ready.client) core'.state;
-    }
+has_broken : (old new : Outside) (core core' : CoreState) (side : Side) (bytes : List ℕ) (unheard : Unheard)
+    → MayTell old core → (out : Sends core side bytes core') → FailsToSend old new side bytes
+    → HasWords new (unsent_from core core')
+    (ended_by (session_in (with_machine core out.before) unheard) (link_ending side))
+has_broken old new core core' Client bytes unheard may out failed =
+    let left = sent_so may.ready out in
+    words_at new (unsent_from core core') (session_in (with_machine core out.before) unheard) ClientLink
+    (ap (λ (c : CoreState). c.words) out.same ∙ may.unspoken) (words_broken core core' Client bytes may.ready out)
+    (each_target (IsCounted (session_in (with_machine core out.before) unheard).streams (unsent_from core core'))
+    out.before.state.phase (λ near. sym (left.next refl)))
+    (each_target (λ (word : LastWord). IsOpen (word_side word) new) out.before.state.phase
+    (λ near. failed.closes.other ∙ may.target (ap is_gone (sym left.phase) ∙ near)))
+has_broken old new core core' Target bytes unheard may out failed =
+    let left = sent_so may.ready out in
+    words_at new (unsent_from core core') (session_in (with_machine core out.before) unheard) TargetLink
+    (ap (λ (c : CoreState). c.words) out.same ∙ may.unspoken) (words_broken core core' Target bytes may.ready out)
+    (each_client (IsCounted (session_in (with_machine core out.before) unheard).streams (unsent_from core core'))
+    (λ told. sym (left.told refl)) out.before)
+    (each_client (λ (word : LastWord). IsOpen (word_side word) new) (λ told. failed.closes.other ∙ may.client)
+    out.before)
 
 blames_broken : (old new : Outside) (side : Side) (bytes : List ℕ) → FailsToSend old new side bytes
     → Blames old new (link_ending side)
-blames_broken old new Client bytes failed = record { client = λ is_link. failed.rose; target = λ is_link. cc }
-blames_broken old new Target bytes failed = record { client = λ is_link. cc; target = λ is_link. failed.rose }
+blames_broken old new Client bytes failed = record {
+  client = λ is_link. failed.rose;
+  target = λ is_link. cc;
+  client_lost = λ is_link. failed.closes.closed;
+  target_lost = λ is_link. cc;
+  client_left = λ has_left. cc;
+}
+blames_broken old new Target bytes failed = record {
+  client = λ is_link. cc;
+  target = λ is_link. failed.rose;
+  client_lost = λ is_link. cc;
+  target_lost = λ is_link. failed.closes.closed;
+  client_left = λ has_left. cc;
+}
 
-pub breaks : (old new : Outside) (core core' : Sight) (side : Side) (bytes : List ℕ) → CoreIsReady old core
-    → Sends core side bytes core' → FailsToSend old new side bytes → CoreStops old new core core' (link_ending side)
-breaks old new core core' side bytes ready sends failed = record {
-  stopped = λ limits heard turns limit. record {
-    to = _;
-    leads = leads_by limits old new _ turns turns _ _ failed.log
-        (breaks_one limits core core' side bytes failed.kept heard turns ready.room limit sends failed.proper);
-    is_left = left_broken old new core core' side bytes heard ready sends failed;
-  };
-  keeps = record { counts = failed.counts; asked = failed.asked };
+link_awake : (side : Side) → link_ending side ≡ Idle → ⊥
+link_awake Client is = cc
+link_awake Target is = cc
+
+pub breaks : (old new : Outside) (core core' : CoreState) (side : Side) (bytes : List ℕ) → MayTell old core
+    → Sends core side bytes core' → FailsToSend old new side bytes
+    → CoreStops old new core (unsent_from core core') (link_ending side)
+breaks old new core core' side bytes may out failed = record {
+  stopped = λ limits unheard turns limit.
+      stopped_on limits old old new turns turns turns _ _ (unsent_from core core') (link_ending side)
+      (leads_hidden limits old turns core unheard out.before out.goes limit may.ready.room)
+      (stopped_by limits old new _ turns 0 turns _ (unsent_from core core') (link_ending side) failed.log (omega arith)
+      (Cause.broken (on_before limits core core' side bytes out old unheard may limit) out.allows (out.speaks unheard)
+      failed.proper) (has_broken old new core core' side bytes unheard may out failed));
+  keeps = keeps_other side failed.counts failed.asked failed.closes;
   blames = blames_broken old new side bytes failed;
+  awake = link_awake side;
 }
 
 -- The machine finds an end -------------------------------------------------------------------------------------------
 
-no_blame : (o : Outside) (ending : Ending) → (ending ≡ ClientLink → ⊥) → (ending ≡ TargetLink → ⊥) → Blames o o ending
-no_blame o ending client target =
-    record { client = λ is_link. absurd (client is_link); target = λ is_link. absurd (target is_link) }
+-- no link is to blame, and nothing was waited for
+abbrev pub IsNoLink : Ending → Type 0
+IsNoLink Left = ⊥
+IsNoLink ClientLink = ⊥
+IsNoLink TargetLink = ⊥
+IsNoLink Idle = ⊥
+IsNoLink _ = Unit {0}
+
+pub no_link : (o : Outside) (ending : Ending) → IsNoLink ending → Blames o o ending
+no_link o ending none = record {
+  client = λ is_link. absurd (subst IsNoLink is_link none);
+  target = λ is_link. absurd (subst IsNoLink is_link none);
+  client_lost = λ is_link. absurd (subst IsNoLink is_link none);
+  target_lost = λ is_link. absurd (subst IsNoLink is_link none);
+  client_left = λ has_left. absurd (subst IsNoLink has_left none);
+}
+
+pub no_idle : (ending : Ending) → IsNoLink ending → ending ≡ Idle → ⊥
+no_idle ending none is = subst IsNoLink is none
 
 -- memory ran out, and nothing was sent
-pub stops_for_memory : (o : Outside) (core core' : Sight) → CoreStops o o core core' NoMemory
+pub stops_for_memory : (o : Outside) (core core' : CoreState) → CoreStops o o core core' NoMemory
 stops_for_memory o core core' = record {
-  stopped = λ limits heard turns limit.
-      record {
-        to = standing core heard;
-        leads = λ begin follows. follows;
-        is_left = left_for_memory o core'
-            (standing core heard) refl;
-      };
+  stopped = λ limits unheard turns limit begin follows. HasEnded.forgets follows;
   keeps = keeps_same o;
-  blames = no_blame o NoMemory (λ is_link. cc) (λ is_link. cc);
+  blames = no_link o NoMemory tt;
+  awake = no_idle NoMemory tt;
 }
 
 -- the machine found the session over
-over_stops : (o : Outside) (core core' : Sight) (ending : Ending) → CoreIsReady o core → IsOver core ending core'
-    → CoreStops o o core core' ending
-over_stops o core core' ending ready over =
-    let done = by core'.state (Due.over ending) over.is_due in
-    let stays = goes_stays over.comes in
-    let less = stays.no_more in
-    let now = in_state core core'.state in
-    let ready' : CoreIsReady o now = ready_on o o core now ready stays refl refl refl refl in
+over_stops : (o : Outside) (core core' : CoreState) → MayTell o core → IsOver core core' → CoreStops o o core core' Done
+over_stops o core core' may over =
+    let hidden = goes_hidden over.goes in
+    let fewer = hidden.fewer in
+    let room = may.ready.room in
     record {
-      stopped = λ limits heard turns limit. record {
-        to = ended (standing now heard) ending;
-        leads = leads_in_place limits o turns _ _ (λ log messages s. (
-          messages,
-          Session.stops (goes_all limits core heard log messages turns over.comes limit ready.room s) refl
-              (session.Stops.over (is_on limits now heard limit (omega (arith, ready.room, less))) over.is_due),
-        ));
-        is_left = subst (λ (c : Sight). IsLeft o c (ended (standing now heard) ending) ending) (sym over.same)
-            (left_at o now (ended (standing now heard) ending) ending ready'.client ready'.target refl refl refl refl);
-      };
+      stopped = λ limits unheard turns limit.
+          subst (λ (c : CoreState). Stopped limits o turns (session_in core unheard) o turns c Done) (sym over.same)
+          (stopped_on limits o o o turns turns turns _ _ (with_machine core core'.machine) Done
+          (leads_hidden limits o turns core unheard core'.machine over.goes limit room)
+          (stopped_here limits o turns _ (with_machine core core'.machine) Done
+          (Cause.over (is_on limits (with_machine core core'.machine) unheard limit (omega (arith, room, fewer)))
+          (ap (λ (c : CoreState). (due (id_pending c.commands) core'.machine).act) (sym over.same) ∙ over.is_due))
+          (words_here o (with_machine core core'.machine) _ Done may.unspoken may.client
+          (λ near. may.target (ap is_gone (sym hidden.phase) ∙ near)) refl refl refl)));
       keeps = keeps_same o;
-      blames =
-          no_blame o ending (λ is_link. let e : Done ≡ ClientLink = sym done ∙ is_link in cc)
-          (λ is_link. let e : Done ≡ TargetLink = sym done ∙ is_link in cc);
+      blames = no_link o Done tt;
+      awake = no_idle Done tt;
     }
 
-pub finds_stops : (o : Outside) (core core' : Sight) (ending : Ending) → CoreIsReady o core → Finds core core' ending
+pub finds_stops : (o : Outside) (core core' : CoreState) (ending : Ending) → MayTell o core → Finds core core' ending
     → CoreStops o o core core' ending
-finds_stops o core core' ending ready Finds.no_memory = stops_for_memory o core core'
-finds_stops o core core' ending ready (Finds.over over) = over_stops o core core' ending ready over
+finds_stops o core core' ending may Finds.no_memory = stops_for_memory o core core'
+finds_stops o core core' ending may (Finds.over over) = over_stops o core core' may over
 
 -- One after the other -------------------------------------------------------------------------------------------------
 
-pub core_on : (a b c : Outside) (x y z : Sight) → CoreGoesOn a b x y → CoreGoesOn b c y z → CoreGoesOn a c x z
+pub core_on : (a b c : Outside) (x y z : CoreState) → CoreGoesOn a b x y → CoreGoesOn b c y z → CoreGoesOn a c x z
 core_on a b c x y z h k = record {
-  leads = λ limits heard turns limit begin follows.
-      k.leads limits heard turns (h.framed.limit ∙ limit) begin (h.leads limits heard turns limit begin follows);
+  leads = λ limits unheard turns limit begin follows.
+      k.leads limits unheard turns (h.same_limit ∙ limit) begin (h.leads limits unheard turns limit begin follows);
   keeps = keeps_on h.keeps k.keeps;
-  ready = k.ready;
-  framed = framed_on h.framed k.framed;
+  may_tell = k.may_tell;
+  same_greeted = k.same_greeted ∙ h.same_greeted;
+  same_limit = k.same_limit ∙ h.same_limit;
 }
 
-pub core_stops_on : (a b c : Outside) (x y z : Sight) (ending : Ending) → CoreGoesOn a b x y → CoreStops b c y z ending
-    → CoreStops a c x z ending
+pub core_stops_on : (a b c : Outside) (x y z : CoreState) (ending : Ending) → CoreGoesOn a b x y
+    → CoreStops b c y z ending → CoreStops a c x z ending
 core_stops_on a b c x y z ending h k = record {
-  stopped =
-      λ limits heard turns limit. stopped_on limits a b c turns turns turns _ _ z ending
-      (h.leads limits heard turns limit)
-      (k.stopped limits heard turns (h.framed.limit ∙ limit));
+  stopped = λ limits unheard turns limit.
+      stopped_on limits a b c turns turns turns _ _ z ending (h.leads limits unheard turns limit)
+      (k.stopped limits unheard turns (h.same_limit ∙ limit));
   keeps = keeps_on h.keeps k.keeps;
   blames = blames_on c ending h.keeps k.blames;
+  awake = k.awake;
 }
 
 -- nothing was done yet
-pub core_stays : (o : Outside) (x : Sight) → CoreIsReady o x → CoreGoesOn o o x x
-core_stays o x ready = record {
-  leads = λ limits heard turns limit begin follows. follows;
+pub core_stays : (o : Outside) (x : CoreState) → MayTell o x → CoreGoesOn o o x x
+core_stays o x may = record {
+  leads = λ limits unheard turns limit begin follows. follows;
   keeps = keeps_same o;
-  ready = ready;
-  framed = framed_by (stays_same x.state) refl refl;
+  may_tell = may;
+  same_greeted = refl;
+  same_limit = refl;
 }

@@ -1,473 +1,416 @@
 -- How what came of the target is taken up: its end, its handshake, and its packets.
-use Rattle.std.proofs.Common.{◌≡◌, ℕ, ◌+◌, ◌<◌, ◌≤◌, ◌==◌, refl, sym, ap, subst, ◌∙◌, arith, Bool, true, false}
-use Rattle.std.proofs.Common.{if◌then◌else◌, List, [], ◌∷◌, ◌++◌, length, take, drop, Option, None, Some, Result, Ok}
-use Rattle.std.proofs.Common.{Err, OnOk, IfErr}
-use Rattle.std.proofs.lemmas.List.{length-drop, length-take-le}
-use Rattle.bridge_core.specs.Steps.{Sight, in_state, waiting_in, raw_in, dropped, offset_of, packet_of, body_of}
-use Rattle.bridge_core.specs.Steps.{IsLike, Moves, RefusesPacket, RefusesEnd, TakesPacket, GoesOn as fits}
-use Rattle.bridge_core.specs.Steps.{without_target}
-use Rattle.jdwp_commands.specs.declared.asked.Asked.{Asked}
-use Rattle.jdwp_commands.specs.declared.asked.Asked.TheVariants.{Question as a_question, Effect as an_effect}
-use Rattle.jdwp_commands.specs.declared.asked.Replied.{Replied}
-use Rattle.jdwp_commands.specs.declared.fault.BodyFault.{BodyFault}
-use Rattle.jdwp_commands.specs.declared.fault.BodyFault.TheVariants as body_faults
-use Rattle.jdwp_events.specs.Composites.{composite_at}
-use Rattle.jdwp_events.specs.declared.composite.Composite.{Composite}
-use Rattle.jdwp_events.specs.declared.composite.CompositeFault.{CompositeFault}
-use Rattle.jdwp_events.specs.declared.composite.CompositeFault.TheVariants as composite_faults
-use Rattle.jdwp_packets.proofs.PacketLaws.{packet-steady, whole-is}
-use Rattle.jdwp_packets.specs.Packets as packets
-use Rattle.jdwp_packets.specs.Packets.{Packet, command_packet, reply_packet, packet_front, greeting_front, flags_of}
-use Rattle.jdwp_packets.specs.Packets.{size_of}
-use Rattle.jdwp_packets.specs.Receiving.{Received, received_front, before_greeting}
+use Rattle.std.proofs.Common.{◌≡◌, ℕ, ◌+◌, ◌<◌, ◌≤◌, refl, sym, ap, subst, ◌∙◌, arith, Bool, true, false, List, [], ◌∷◌, ◌++◌}
+use Rattle.std.proofs.Common.{cond, length, Option, None, Some, Result, Ok, Err, OnOk, IfErr}
+use Rattle.std.proofs.lemmas.List.{length-drop}
+use Rattle.bridge_core.specs.Calls.{IsLike, RefusesEnd, RefusesPacket, TakesPacket, offset_of}
+use Rattle.bridge_core.specs.Calls.{packet_of, without_target}
+use Rattle.bridge_core.specs.Cores.{CoreState, Unheard, session_in, streams_in, with_machine}
+use Rattle.bridge_core.specs.Cores.{IsReady as is_ready}
+use Rattle.bridge_serve.specs.Following.{CoreGoesOn, CoreStops, GoesOn, Handles, HandlesLast, HasEnded}
+use Rattle.bridge_serve.specs.Following.{IsMispacked, IsTakenUp, Leads, MayTake, MayTell, SameEnds, Stops}
+use Rattle.bridge_serve.specs.Following.{packet_taken}
+use Rattle.bridge_core.specs.Names.{Question, Replied}
+use Rattle.bridge_serve.specs.Names.{BadTarget, Client, Ending, Flood, Limits, NoMemory, Target, mispacked}
+use Rattle.bridge_serve.proofs.LastWords.{words_here}
+use Rattle.bridge_serve.proofs.Logs.{blames_on, keeps_on, keeps_same}
+use Rattle.bridge_serve.proofs.Moves.{IsNoLink, is_on, leads_in_place, no_idle, no_link, stopped_here, stopped_on}
+use Rattle.jdwp_packets.proofs.PacketLaws.{packet-steady}
+use Rattle.jdwp_packets.specs.Packets.{Packet, greeting_front, packet_front}
+use Rattle.jdwp_packets.specs.Receiving.{Received, before_greeting, received_front}
 use Rattle.jdwp_packets.specs.Taking.{IsAnswer, IsTaken, Shows}
 use Rattle.jdwp_packets.specs.declared.cutter.Packet.{Packet as Shown}
 use Rattle.jdwp_packets.specs.declared.cutter.Packet.TheVariants.{Command, Reply}
 use Rattle.jdwp_packets.specs.declared.fault.PacketFault.{PacketFault}
 use Rattle.jdwp_packets.specs.declared.fault.PacketTrouble.{PacketTrouble}
-use Rattle.wire_core.specs.Outside.{Outside, IsOpen}
-use Rattle.wire_core.specs.Streams.{Front, waits, whole, faulty, Uncut, past, left}
-use Rattle.wire_core.specs.declared.outside.Entry.{Entry}
-use Rattle.wire_core.specs.declared.outside.Side.TheVariants.{Client, Target}
-use Rattle.world_model.specs.Machine.{State, Message, Allows, due, Due, target_ended, ended_from, answered, noted}
-use Rattle.world_model.specs.Machine.{wish_of, wish_settled, is_end}
-use Rattle.world_model.specs.Session as session
-use Rattle.world_model.specs.Session.{Raw, Session, Brings, IsOn, ReadsTarget, ended, last_words}
-use Rattle.world_model.specs.Session.{composite_ending, body_ending}
-use Rattle.world_model.specs.declared.ending.Ending.{Ending}
-use Rattle.world_model.specs.declared.ending.Ending.TheVariants.{BadTarget, ClientLink, TargetLink, Flood, NoMemory}
-use Rattle.world_model.specs.declared.ending.Limits.{Limits}
-use Rattle.world_model.specs.declared.ending.TargetFault.TheVariants.{Packet as packet_fault}
-use Rattle.world_model.specs.declared.machine.Phase.{Phase}
-use Rattle.world_model.specs.declared.machine.Phase.TheVariants.{Fresh, Attached, Gone}
-use Rattle.world_model.specs.declared.machine.Wish.{Wish}
-use Rattle.world_model.specs.declared.machine.Wish.TheVariants.{ThreadStart, ThreadDeath}
-use Rattle.bridge_serve.specs.Serving.{Blames}
-use Rattle.bridge_serve.specs.Following.{standing, Heard, Leads, IsReady, IsTakenUp, CoreIsReady, CoreGoesOn}
-use Rattle.bridge_serve.specs.Following.{CoreStops, GoesOn, Stops, client_end, target_end, packet_taken, IsMispacked}
-use Rattle.bridge_serve.specs.Following.{Handles, HandlesLast}
-use Rattle.bridge_serve.proofs.LastWords.{words_of_pending, left_at, left_for_memory}
-use Rattle.bridge_serve.proofs.Logs.{keeps_same, keeps_on, blames_on}
-use Rattle.bridge_serve.proofs.Moves.{leads_in_place, stopped_on, is_on}
+use Rattle.machine_model.proofs.Stepping.{Moves, moved}
+use Rattle.machine_model.specs.Due.{Load, can_read, due, due_by, hand_load, is_full, load_of}
+use Rattle.machine_model.specs.Replying.{ended, told_by}
+use Rattle.machine_model.specs.Runs.{Allows, Message, greeting_heard}
+use Rattle.machine_model.specs.State.{Machine, State, has_raw, is_gone, is_some}
+use Rattle.machine_model.specs.declared.acts.Act.{Act}
+use Rattle.session_model.specs.Causes.{Cause, ReadsOn, ReadsTarget}
+use Rattle.session_model.specs.Faults.{IsKeptFault, IsTargetFault}
+use Rattle.session_model.specs.LastWords.{last_words}
+use Rattle.session_model.specs.Saying.{Brings, PacketSays}
+use Rattle.session_model.specs.Session.{Going}
+use Rattle.session_model.specs.States.{SessionState, id_pending, target_front}
+use Rattle.wire_core.specs.Outside.{IsOpen, Outside}
+use Rattle.wire_core.specs.Streams.{Front, left, past}
 
--- One step, and then what is due -------------------------------------------------------------------------------------
-
--- the streams came no further, and no wait was in vain
-pub record SameEnds (heard heard' : Heard) : Type 0 where
-  pub client : client_end heard' ≡ client_end heard
-  pub target : target_end heard' ≡ target_end heard
-  pub quiets : heard'.quiets ≡ heard.quiets
+-- One thing, and then what is due ------------------------------------------------------------------------------------
 
 -- something was taken up: the machine knows of it, and may have something to do
-pub record TakesUp (o : Outside) (core core' : Sight) (heard heard' : Heard) : Type 0 where
+pub record TakesUp (o : Outside) (core core' : CoreState) (unheard unheard' : Unheard) : Type 0 where
   pub leads : (limits : Limits) (turns : ℕ) → core.limit ≡ limits.waiting
-      → Leads limits o turns (standing core heard) o turns (standing core' heard')
-  pub ready : CoreIsReady o core'
-  pub shaken : core'.state.greeted ≡ true → heard'.uncuts.target.greeted ≡ true
-  pub none_raw : core'.state.phase ≡ Gone → core'.raw ≡ []
+      → Leads limits o turns (session_in core unheard) o turns (session_in core' unheard')
+  pub shaken : core'.machine.state.greeting_heard ≡ true → unheard'.target.greeted ≡ true
   pub same_limit : core'.limit ≡ core.limit
-  pub ends : SameEnds heard heard'
+  pub ends : SameEnds unheard unheard'
 
-pub tells_on : (old new : Outside) (core middle core' : Sight) (heard heard' : Heard)
-    → TakesUp old core middle heard heard'
-    → CoreGoesOn old new middle core' → due core'.state ≡ Due.waits → GoesOn old new core core' heard heard'
-tells_on old new core middle core' heard heard' takes on nothing_due = record {
+pub tells_on : (old new : Outside) (core middle core' : CoreState) (unheard unheard' : Unheard)
+    → TakesUp old core middle unheard unheard' → CoreGoesOn old new middle core'
+    → (due (id_pending core'.commands) core'.machine).act ≡ Act.Waits → GoesOn old new core core' unheard unheard'
+tells_on old new core middle core' unheard unheard' takes on nothing_due = record {
   leads = λ limits turns limit begin follows.
-      on.leads limits heard' turns (takes.same_limit ∙ limit) begin (takes.leads limits turns limit begin follows);
+      on.leads limits unheard' turns (takes.same_limit ∙ limit) begin (takes.leads limits turns limit begin follows);
   keeps = on.keeps;
-  ready = record {
-    opens = record { client = on.ready.client; target = λ here not_ended. on.ready.target here };
-    room = on.ready.room;
+  may_take = record {
+    ready = on.may_tell.ready;
+    unspoken = on.may_tell.unspoken;
+    client = on.may_tell.client;
+    target = λ near not_ended. on.may_tell.target near;
     nothing_due = nothing_due;
-    shaken = λ greeted. takes.shaken (sym on.framed.greeted ∙ greeted);
-    none_raw = λ gone. on.framed.raw ∙ takes.none_raw (on.framed.was_gone gone);
+    shaken = λ heard. takes.shaken (sym on.same_greeted ∙ heard);
   };
-  same_limit = on.framed.limit ∙ takes.same_limit;
-  same_client_end = takes.ends.client;
-  same_target_end = takes.ends.target;
-  same_quiets = takes.ends.quiets;
+  same_limit = on.same_limit ∙ takes.same_limit;
+  same_ends = takes.ends;
 }
 
-pub tells_last : (old new : Outside) (core middle core' : Sight) (heard heard' : Heard) (ending : Ending)
-    → TakesUp old core middle heard heard'
-    → CoreStops old new middle core' ending → Stops old new core core' heard ending
-tells_last old new core middle core' heard heard' ending takes stops = record {
-  stopped =
-      λ limits turns limit. stopped_on limits old old new turns turns turns _ _ core' ending
-      (takes.leads limits turns limit)
-      (stops.stopped limits heard' turns (takes.same_limit ∙ limit));
+pub tells_last : (old new : Outside) (core middle core' : CoreState) (unheard unheard' : Unheard) (ending : Ending)
+    → TakesUp old core middle unheard unheard' → CoreStops old new middle core' ending
+    → Stops old new core core' unheard ending
+tells_last old new core middle core' unheard unheard' ending takes stops = record {
+  stopped = λ limits turns limit.
+      stopped_on limits old old new turns turns turns _ _ core' ending (takes.leads limits turns limit)
+      (stops.stopped limits unheard' turns (takes.same_limit ∙ limit));
   keeps = stops.keeps;
   blames = stops.blames;
+  awake = stops.awake;
 }
 
 -- what was heard was taken up, and the session goes on or ends behind it
-pub handles_on : {hears : Sight → Type 0} {old new : Outside} {core core' : Sight} {heard heard' : Heard}
-    → ((middle : Sight) → hears middle → TakesUp old core middle heard heard') → Handles hears old new core'
-    → GoesOn old new core core' heard heard'
-handles_on {old = old} {new = new} {core = core} {core' = core'} {heard = heard} {heard' = heard'} takes handles =
-    tells_on old new core handles.middle core' heard heard' (takes handles.middle handles.heard) handles.goes_on
+pub handles_on : {hears : CoreState → Type 0} {old new : Outside} {core core' : CoreState} {unheard unheard' : Unheard}
+    → ((middle : CoreState) → hears middle → TakesUp old core middle unheard unheard') → Handles hears old new core'
+    → GoesOn old new core core' unheard unheard'
+handles_on {old = old} {new} {core} {core'} {unheard} {unheard'} takes handles =
+    tells_on old new core handles.middle core' unheard unheard' (takes handles.middle handles.heard) handles.goes_on
     handles.nothing_due
 
-pub handles_last : {hears : Sight → Type 0} {refuses : Sight → Ending → Type 0} {old new : Outside} {core core' : Sight}
-    {heard heard' : Heard} {ending : Ending}
-    → ((middle : Sight) → hears middle → TakesUp old core middle heard heard')
-    → ((there : Sight) (last : Ending) → refuses there last → Stops old old core there heard last)
-    → HandlesLast hears refuses old new core' ending → Stops old new core core' heard ending
+pub handles_last : {hears : CoreState → Type 0} {refuses : CoreState → Ending → Type 0} {old new : Outside}
+    {core core' : CoreState} {unheard unheard' : Unheard} {ending : Ending}
+    → ((middle : CoreState) → hears middle → TakesUp old core middle unheard unheard')
+    → ((there : CoreState) (last : Ending) → refuses there last → Stops old old core there unheard last)
+    → HandlesLast hears refuses old new core' ending → Stops old new core core' unheard ending
 handles_last {core' = core'} {ending = ending} takes refused (HandlesLast.refuses h) = refused core' ending h
-handles_last {old = old} {new = new} {core = core} {core' = core'} {heard = heard} {heard' = heard'} {ending = ending}
-    takes refused (HandlesLast.stops {middle = middle} h stops) =
-    tells_last old new core middle core' heard heard' ending (takes middle h) stops
+handles_last {old = old} {new} {core} {core'} {unheard} {unheard'} {ending} takes refused
+    (HandlesLast.stops {middle = middle} h stops) =
+    tells_last old new core middle core' unheard unheard' ending (takes middle h) stops
 
--- both sides are open, but for a target that is gone
-pub core_ready : (o : Outside) (core : Sight) (heard : Heard) → IsReady o core heard → heard.uncuts.ended ≡ false
-    → CoreIsReady o core
-core_ready o core heard ready not_ended = record {
-  client = ready.opens.client;
-  target = λ here. ready.opens.target here not_ended;
-  room = ready.room;
+-- something may be told where no end waits to be taken up
+pub may_tell : (o : Outside) (core : CoreState) (unheard : Unheard) → MayTake o core unheard → unheard.ended ≡ false
+    → MayTell o core
+may_tell o core unheard may not_ended = record {
+  ready = may.ready;
+  unspoken = may.unspoken;
+  client = may.client;
+  target = λ near. may.target near not_ended;
 }
 
-pub on_in : (limits : Limits) (o : Outside) (core : Sight) (heard : Heard) → IsReady o core heard
-    → core.limit ≡ limits.waiting
-    → IsOn limits (standing core heard)
-on_in limits o core heard ready limit = is_on limits core heard limit ready.room
+-- what came is read on
+pub reads_on : (limits : Limits) (o : Outside) (core : CoreState) (unheard : Unheard) → MayTake o core unheard
+    → core.limit ≡ limits.waiting → ReadsOn limits (session_in core unheard)
+reads_on limits o core unheard may limit =
+    record { nothing_due = may.nothing_due; on = is_on limits core unheard limit may.ready.room }
 
 -- nothing was taken up
-pub stays : (o : Outside) (core : Sight) (heard : Heard) → IsReady o core heard → GoesOn o o core core heard heard
-stays o core heard ready = record {
+pub stays : (o : Outside) (core : CoreState) (unheard : Unheard) → MayTake o core unheard
+    → GoesOn o o core core unheard unheard
+stays o core unheard may = record {
   leads = λ limits turns limit begin follows. follows;
   keeps = keeps_same o;
-  ready = ready;
+  may_take = may;
   same_limit = refl;
-  same_client_end = refl;
-  same_target_end = refl;
-  same_quiets = refl;
+  same_ends = record { client = refl; target = refl; quiets = refl };
 }
+
+ends_on : {u v w : Unheard} → SameEnds u v → SameEnds v w → SameEnds u w
+ends_on h k =
+    record { client = k.client ∙ h.client; target = k.target ∙ h.target; quiets = k.quiets ∙ h.quiets }
 
 -- one after the other
-pub on_and_on : (a b c : Outside) (x y z : Sight) (u v w : Heard) → GoesOn a b x y u v → GoesOn b c y z v w
+pub on_and_on : (a b c : Outside) (x y z : CoreState) (u v w : Unheard) → GoesOn a b x y u v → GoesOn b c y z v w
     → GoesOn a c x z u w
 on_and_on a b c x y z u v w h k = record {
-  leads =
-      λ limits turns limit begin follows. k.leads limits turns (h.same_limit ∙ limit) begin
-      (h.leads limits turns limit begin follows);
+  leads = λ limits turns limit begin follows.
+      k.leads limits turns (h.same_limit ∙ limit) begin (h.leads limits turns limit begin follows);
   keeps = keeps_on h.keeps k.keeps;
-  ready = k.ready;
+  may_take = k.may_take;
   same_limit = k.same_limit ∙ h.same_limit;
-  same_client_end = k.same_client_end ∙ h.same_client_end;
-  same_target_end = k.same_target_end ∙ h.same_target_end;
-  same_quiets = k.same_quiets ∙ h.same_quiets;
+  same_ends = ends_on h.same_ends k.same_ends;
 }
 
-pub on_and_stops : (a b c : Outside) (x y z : Sight) (u v : Heard) (ending : Ending) → GoesOn a b x y u v
-    → Stops b c y z v ending
-    → Stops a c x z u ending
+pub on_and_stops : (a b c : Outside) (x y z : CoreState) (u v : Unheard) (ending : Ending) → GoesOn a b x y u v
+    → Stops b c y z v ending → Stops a c x z u ending
 on_and_stops a b c x y z u v ending h k = record {
-  stopped = λ limits turns limit. stopped_on limits a b c turns turns turns _ _ z ending (h.leads limits turns limit)
+  stopped = λ limits turns limit.
+      stopped_on limits a b c turns turns turns _ _ z ending (h.leads limits turns limit)
       (k.stopped limits turns (h.same_limit ∙ limit));
   keeps = keeps_on h.keeps k.keeps;
   blames = blames_on c ending h.keeps k.blames;
+  awake = k.awake;
 }
 
 -- Endings where nothing is sent --------------------------------------------------------------------------------------
 
--- no link is to blame
-abbrev pub IsNoLink : Ending → Type 0
-IsNoLink ClientLink = ⊥
-IsNoLink TargetLink = ⊥
-IsNoLink _ = Unit {0}
-
-pub no_link : (o : Outside) (ending : Ending) → IsNoLink ending → Blames o o ending
-no_link o ending none = record {
-  client = λ is_link. absurd (subst IsNoLink is_link none);
-  target = λ is_link. absurd (subst IsNoLink is_link none);
-}
-
 -- memory ran out
-pub forgets : (o : Outside) (core core' : Sight) (heard : Heard) → Stops o o core core' heard NoMemory
-forgets o core core' heard = record {
-  stopped = λ limits turns limit.
-      record {
-        to = standing core heard;
-        leads = λ begin follows. follows;
-        is_left = left_for_memory o core'
-            (standing core heard) refl;
-      };
+pub forgets : (o : Outside) (core core' : CoreState) (unheard : Unheard) → Stops o o core core' unheard NoMemory
+forgets o core core' unheard = record {
+  stopped = λ limits turns limit begin follows. HasEnded.forgets follows;
   keeps = keeps_same o;
   blames = no_link o NoMemory tt;
+  awake = no_idle NoMemory tt;
 }
 
--- a cause stands where something was taken up
-pub stops_there : (o : Outside) (core there core' : Sight) (heard heard' : Heard) (ending : Ending)
-    → ((limits : Limits) (turns : ℕ) → core.limit ≡ limits.waiting → (log : List Entry) (messages : List Message)
-    → Session limits log messages turns (standing core heard)
-    → (later : List Message) × Session limits log later turns (standing there heard'))
+-- A cause stands where something was taken up, and the core is like that but for which commands are pending.
+pub stops_there : (o : Outside) (core there core' : CoreState) (unheard unheard' : Unheard) (ending : Ending)
     → ((limits : Limits) (turns : ℕ) → core.limit ≡ limits.waiting
-    → session.Stops limits turns (standing there heard') ending)
-    → IsOpen Client o → ((core'.state.phase ≡ Gone → ⊥) → IsOpen Target o)
-    → last_words ending there.state ≡ last_words ending core'.state
-    → there.told ≡ core'.told → there.commands.next ≡ core'.commands.next → IsNoLink ending
-    → Stops o o core core' heard ending
-stops_there o core there core' heard heard' ending comes cause client target words told next none = record {
-  stopped = λ limits turns limit. record {
-    to = ended (standing there heard') ending;
-    leads = leads_in_place limits o turns _ _ (λ log messages s.
-        let come = comes limits turns limit log messages s in
-        (come.0, Session.stops come.1 refl (cause limits turns limit)));
-    is_left = left_at o core' (ended (standing there heard') ending) ending client target refl words told next;
-  };
+    → Leads limits o turns (session_in core unheard) o turns (session_in there unheard'))
+    → ((limits : Limits) (turns : ℕ) → core.limit ≡ limits.waiting
+    → Cause limits turns (session_in there unheard') ending [] 0)
+    → there.words ≡ None → IsOpen Client o → (is_gone there.machine.state.phase ≡ false → IsOpen Target o)
+    → IsLike there core' → IsNoLink ending → Stops o o core core' unheard ending
+stops_there o core there core' unheard unheard' ending comes cause unspoken client target like none = record {
+  stopped = λ limits turns limit.
+      stopped_on limits o o o turns turns turns _ _ core' ending (comes limits turns limit)
+      (stopped_here limits o turns _ core' ending (cause limits turns limit)
+      (words_here o core' (session_in there unheard') ending (ap (λ (c : CoreState). c.words) like.same ∙ unspoken)
+      client target (ap (λ (c : CoreState). last_words ending c.machine) (sym like.same))
+      (ap (λ (c : CoreState). c.told) (sym like.same)) (sym like.next)));
   keeps = keeps_same o;
   blames = no_link o ending none;
+  awake = no_idle ending none;
 }
 
--- a cause stands here, and the core is as it was but for what is pending
-pub stops_here : (o : Outside) (core core' : Sight) (heard : Heard) (ending : Ending) → CoreIsReady o core
-    → IsLike core core'
+alike : (core : CoreState) → IsLike core core
+alike core = record { same = refl; next = refl }
+
+-- a cause stands here
+pub stops_here : (o : Outside) (core core' : CoreState) (unheard : Unheard) (ending : Ending) → MayTell o core
     → ((limits : Limits) (turns : ℕ) → core.limit ≡ limits.waiting
-    → session.Stops limits turns (standing core heard) ending)
-    → IsNoLink ending → Stops o o core core' heard ending
-stops_here o core core' heard ending ready like cause none =
-    stops_there o core core core' heard heard ending (λ limits turns limit log messages s. (messages, s)) cause
-    ready.client
-    (λ here. ready.target (λ gone. here (ap (λ (s : State). s.phase) like.state ∙ gone)))
-    (sym (ap (λ (s : State). last_words ending s) like.state ∙ words_of_pending ending core.state core'.state.pending))
-    (sym like.told) (sym like.next) none
+    → Cause limits turns (session_in core unheard) ending [] 0)
+    → IsLike core core' → IsNoLink ending → Stops o o core core' unheard ending
+stops_here o core core' unheard ending may cause like none =
+    stops_there o core core core' unheard unheard ending (λ limits turns limit begin follows. follows) cause
+    may.unspoken may.client may.target like none
 
--- too many items wait
-pub floods : (o : Outside) (core there core' : Sight) (heard heard' : Heard)
-    → ((limits : Limits) (turns : ℕ) → core.limit ≡ limits.waiting → (log : List Entry) (messages : List Message)
-    → Session limits log messages turns (standing core heard)
-    → (later : List Message) × Session limits log later turns (standing there heard'))
-    → there.limit ≡ core.limit → IsOpen Client o → ((there.state.phase ≡ Gone → ⊥) → IsOpen Target o) → core' ≡ there
-    → there.limit < waiting_in there
-    → Stops o o core core' heard Flood
-floods o core there core' heard heard' comes same_limit client target is more =
-    subst (λ (c : Sight). Stops o o core c heard Flood) (sym is)
-    (stops_there o core there there heard heard' Flood comes
-    (λ limits turns limit. session.Stops.flood (omega (arith, same_limit, limit, more))) client target refl refl
-    refl tt)
-
--- Composites of a target that is gone --------------------------------------------------------------------------------
-
-drop_in : (limits : Limits) (core : Sight) (heard : Heard) (log : List Entry) (messages : List Message) (turns : ℕ)
-    (phase : Phase)
-    → core.state.phase ≡ phase → IsOn limits (standing core heard)
-    → Session limits log messages turns (standing core heard)
-    → Session limits log messages turns (standing (record core { raw = raw_in phase core.raw }) heard)
-drop_in limits core heard log messages turns Fresh is on s = s
-drop_in limits core heard log messages turns Attached is on s = s
-drop_in limits core heard log messages turns Gone is on s = Session.drops s on is
-
-fewer_raw : (phase : Phase) (raw : List Raw) → length (raw_in phase raw) ≤ length raw
-fewer_raw Fresh raw = omega arith
-fewer_raw Attached raw = omega arith
-fewer_raw Gone raw = omega arith
-
-none_of_gone : (phase : Phase) (raw : List Raw) → phase ≡ Gone → raw_in phase raw ≡ []
-none_of_gone Fresh raw gone = cc
-none_of_gone Attached raw gone = cc
-none_of_gone Gone raw gone = refl
-
--- where there is room, there is room still where they are passed over
-ready_dropped : (o : Outside) (there : Sight) → IsOpen Client o → ((there.state.phase ≡ Gone → ⊥) → IsOpen Target o)
-    → waiting_in there ≤ there.limit → CoreIsReady o (dropped there)
-ready_dropped o there client target room =
-    let fewer = fewer_raw there.state.phase there.raw in
-    record { client = client; target = target; room = omega (arith, room, fewer) }
-
--- What was taken up fits, and of a target that is gone composites are passed over.
-pub takes_up : (o : Outside) (core there middle : Sight) (heard heard' : Heard)
-    → ((limits : Limits) (turns : ℕ) → core.limit ≡ limits.waiting → (log : List Entry) (messages : List Message)
-    → Session limits log messages turns (standing core heard)
-    → (later : List Message) × Session limits log later turns (standing there heard'))
-    → there.limit ≡ core.limit → IsOpen Client o → ((there.state.phase ≡ Gone → ⊥) → IsOpen Target o)
-    → (there.state.greeted ≡ true → heard'.uncuts.target.greeted ≡ true) → SameEnds heard heard' → fits there middle
-    → TakesUp o core middle heard heard'
-takes_up o core there middle heard heard' comes same_limit client target shaken ends fitting =
-    let room = fitting.room in
-    subst (λ (c : Sight). TakesUp o core c heard heard') (sym fitting.is) (record {
-      leads = λ limits turns limit. leads_in_place limits o turns _ _ (λ log messages s.
-          let come = comes limits turns limit log messages s in (
-            come.0,
-            drop_in limits there heard' log come.0 turns there.state.phase refl
-                (is_on limits there heard' (same_limit ∙ limit) room) come.1,
-          ));
-      ready = ready_dropped o there client target room;
-      shaken = shaken;
-      none_raw = none_of_gone there.state.phase there.raw;
-      same_limit = same_limit;
-      ends = ends;
-    })
+-- too many items wait where something was taken up
+pub floods : (o : Outside) (core there core' : CoreState) (unheard unheard' : Unheard)
+    → ((limits : Limits) (turns : ℕ) → core.limit ≡ limits.waiting
+    → Leads limits o turns (session_in core unheard) o turns (session_in there unheard'))
+    → there.words ≡ None → IsOpen Client o → (is_gone there.machine.state.phase ≡ false → IsOpen Target o)
+    → there.limit ≡ core.limit → core' ≡ there → there.limit < length there.machine.waiting
+    → Stops o o core core' unheard Flood
+floods o core there core' unheard unheard' comes unspoken client target same_limit is more =
+    subst (λ (c : CoreState). Stops o o core c unheard Flood) (sym is)
+    (stops_there o core there there unheard unheard' Flood comes
+    (λ limits turns limit. Cause.flood (omega (arith, same_limit, limit, more))) unspoken client target (alike there) tt)
 
 -- The target's end ---------------------------------------------------------------------------------------------------
 
-gone_from : (phase : Phase) (s : State) → s.phase ≡ phase → (ended_from phase s).phase ≡ Gone
-gone_from Fresh s is = refl
-gone_from Attached s is = refl
-gone_from Gone s is = is
+-- what the end leaves
+record AtEnd (m next : Machine) : Type 0 where
+  gone : is_gone next.state.phase ≡ true
+  heard : next.state.greeting_heard ≡ m.state.greeting_heard
 
-greeted_from : (phase : Phase) (s : State) → (ended_from phase s).greeted ≡ s.greeted
-greeted_from Fresh s = refl
-greeted_from Attached s = refl
-greeted_from Gone s = refl
-
-pub gone_at_end : (s : State) → (target_ended s).phase ≡ Gone
-gone_at_end s = gone_from s.phase s refl
+at_end : (gone : Bool) (m : Machine) → is_gone m.state.phase ≡ gone → AtEnd m (ended gone m)
+at_end true m is = record { gone = is; heard = refl }
+at_end false m is = record { gone = refl; heard = refl }
 
 -- the end was taken up
-abbrev pub end_taken : Heard → Heard
-end_taken heard = record heard { uncuts = record heard.uncuts { ended = false } }
+abbrev pub end_taken : Unheard → Unheard
+end_taken unheard = record unheard { ended = false }
 
-end_comes : (o : Outside) (core : Sight) (heard : Heard) → IsReady o core heard → heard.uncuts.ended ≡ true
-    → (limits : Limits) (turns : ℕ) → core.limit ≡ limits.waiting → (log : List Entry) (messages : List Message)
-    → Session limits log messages turns (standing core heard)
-    → (later : List Message) × Session limits log later turns (standing (without_target core) (end_taken heard))
-end_comes o core heard ready is_ended limits turns limit log messages s =
-    (_, Session.hears s (on_in limits o core heard ready limit) (Allows.ends ready.nothing_due) (Brings.ends is_ended))
+end_leads : (o : Outside) (core : CoreState) (unheard : Unheard) → MayTake o core unheard → unheard.ended ≡ true
+    → (limits : Limits) (turns : ℕ) → core.limit ≡ limits.waiting
+    → Leads limits o turns (session_in core unheard) o turns (session_in (without_target core) (end_taken unheard))
+end_leads o core unheard may is_ended limits turns limit = leads_in_place limits o turns _ _ (λ log messages g. (
+  _,
+  Going.hears g (reads_on limits o core unheard may limit) (Allows.ends may.ready.sound.none_to_read)
+      (Brings.ends is_ended),
+))
 
-pub takes_end : (o : Outside) (core middle : Sight) (heard : Heard) → IsReady o core heard → heard.uncuts.ended ≡ true
-    → fits (without_target core) middle → TakesUp o core middle heard (end_taken heard)
-takes_end o core middle heard ready is_ended fitting =
-    takes_up o core (without_target core) middle heard (end_taken heard) (end_comes o core heard ready is_ended) refl
-    ready.opens.client
-    (λ here. absurd (here (gone_at_end core.state)))
-    (λ greeted. ready.shaken (sym (greeted_from core.state.phase core.state) ∙ greeted))
-    (record { client = refl; target = refl; quiets = refl }) fitting
+not_near : {gone : Bool} → gone ≡ true → gone ≡ false → ⊥
+not_near is near = cc
 
-pub refuses_end : (o : Outside) (core core' : Sight) (heard : Heard) (ending : Ending) → IsReady o core heard
-    → heard.uncuts.ended ≡ true
-    → RefusesEnd core core' ending → Stops o o core core' heard ending
-refuses_end o core core' heard ending ready is_ended RefusesEnd.no_memory = forgets o core core' heard
-refuses_end o core core' heard ending ready is_ended (RefusesEnd.floods over) =
-    floods o core (without_target core) core' heard (end_taken heard) (end_comes o core heard ready is_ended) refl
-    ready.opens.client
-    (λ here. absurd (here (gone_at_end core.state))) over.is over.no_room
-
--- Its handshake ------------------------------------------------------------------------------------------------------
-
-pub takes_greeting : (o : Outside) (core core' : Sight) (heard : Heard) → IsReady o core heard
-    → heard.uncuts.ended ≡ false
-    → core.state.greeted ≡ false → heard.uncuts.target.greeted ≡ true
-    → core' ≡ in_state core (record core.state { greeted = true })
-    → TakesUp o core core' heard heard
-takes_greeting o core core' heard ready not_ended first came is =
-    let now = core_ready o core heard ready not_ended in
-    subst (λ (c : Sight). TakesUp o core c heard heard) (sym is) (record {
-      leads = λ limits turns limit. leads_in_place limits o turns _ _ (λ log messages s. (
-        _,
-        Session.hears s (on_in limits o core heard ready limit) (Allows.greeted ready.nothing_due first)
-            (Brings.greeted came),
-      ));
-      ready = record { client = now.client; target = now.target; room = now.room };
-      shaken = λ _. came;
-      none_raw = ready.none_raw;
+pub takes_end : (o : Outside) (core middle : CoreState) (unheard : Unheard) → MayTake o core unheard
+    → unheard.ended ≡ true → middle ≡ without_target core → TakesUp o core middle unheard (end_taken unheard)
+takes_end o core middle unheard may is_ended is =
+    let left = at_end (is_gone core.machine.state.phase) core.machine refl in
+    subst (λ (c : CoreState). TakesUp o core c unheard (end_taken unheard)) (sym is) (record {
+      leads = end_leads o core unheard may is_ended;
+      shaken = λ heard. may.shaken (sym left.heard ∙ heard);
       same_limit = refl;
       ends = record { client = refl; target = refl; quiets = refl };
     })
 
--- Its packets --------------------------------------------------------------------------------------------------------
-
--- what a reply leaves
-record Answering (s next : State) : Type 0 where
-  pub greeted : next.greeted ≡ s.greeted
-  pub stays_gone : s.phase ≡ Gone → next.phase ≡ Gone
-
-settling : (s : State) (wish : Option Wish) (replied : Replied) → Answering s (wish_settled s wish replied)
-settling s None replied = record { greeted = refl; stays_gone = λ gone. gone }
-settling s (Some ThreadStart) replied = record { greeted = refl; stays_gone = λ gone. gone }
-settling s (Some ThreadDeath) replied = record { greeted = refl; stays_gone = λ gone. gone }
-
-noting : (s : State) (asked : Asked) (replied : Replied) → Answering s (noted s asked replied)
-noting s (a_question question) replied = record { greeted = refl; stays_gone = λ gone. gone }
-noting s (an_effect effect) replied = settling s (wish_of effect) replied
-
-ending_if : (is : Bool) (s next : State) → Answering s next → Answering s (if is then target_ended next else next)
-ending_if true s next h =
-    record { greeted = greeted_from next.phase next ∙ h.greeted; stays_gone = λ gone. gone_at_end next }
-ending_if false s next h = h
-
-answering : (s : State) (asked : Asked) (replied : Replied) → Answering s (answered s asked replied)
-answering s asked replied = ending_if (is_end asked replied) s (noted s asked replied) (noting s asked replied)
-
--- what a packet leaves
-record Moving (core there : Sight) : Type 0 where
-  pub greeted : there.state.greeted ≡ core.state.greeted
-  pub stays_gone : core.state.phase ≡ Gone → there.state.phase ≡ Gone
-  pub limit : there.limit ≡ core.limit
-
-moving : (core there : Sight) (at : ℕ) (packet : Packet) → Moves core at packet there → Moving core there
-moving core there at packet (Moves.raw keeps) =
-    subst (λ (c : Sight). Moving core c) (sym keeps.kept)
-    (record { greeted = refl; stays_gone = λ gone. gone; limit = refl })
-moving core there at packet (Moves.reply answers) =
-    let s = record core.state { pending = answers.before ++ answers.after } in
-    let left = answering s answers.asked answers.replied in
-    subst (λ (c : Sight). Moving core c) (sym answers.becomes)
-    (record { greeted = left.greeted; stays_gone = left.stays_gone; limit = refl })
-
--- the packet is cut
-abbrev pub packet_cut : Heard → ℕ → Heard
-packet_cut heard n =
-    record heard {
-      uncuts = record heard.uncuts
-          { target = record heard.uncuts.target { stream = past heard.uncuts.target.stream n } };
+-- behind it the core may tell and send
+pub tells_end : (o : Outside) (core middle : CoreState) (unheard : Unheard) → MayTake o core unheard
+    → middle ≡ without_target core → is_ready middle → MayTell o middle
+tells_end o core middle unheard may is ready =
+    let left = at_end (is_gone core.machine.state.phase) core.machine refl in
+    record {
+      ready = ready;
+      unspoken = ap (λ (c : CoreState). c.words) is ∙ may.unspoken;
+      client = may.client;
+      target = λ near. absurd (not_near (ap (λ (c : CoreState). is_gone c.machine.state.phase) is ∙ left.gone) near);
     }
 
--- The target's packets are read on.
-pub record IsReading (o : Outside) (core : Sight) (heard : Heard) : Type 0 where
-  pub ready : IsReady o core heard
-  pub taken_up : IsTakenUp core heard
+pub refuses_end : (o : Outside) (core core' : CoreState) (unheard : Unheard) (ending : Ending)
+    → MayTake o core unheard → unheard.ended ≡ true → RefusesEnd core core' ending → Stops o o core core' unheard ending
+refuses_end o core core' unheard ending may is_ended RefusesEnd.no_memory = forgets o core core' unheard
+refuses_end o core core' unheard ending may is_ended (RefusesEnd.floods is more) =
+    let left = at_end (is_gone core.machine.state.phase) core.machine refl in
+    floods o core (without_target core) core' unheard (end_taken unheard) (end_leads o core unheard may is_ended)
+    may.unspoken may.client (λ near. absurd (not_near left.gone near)) refl is
+    (subst (λ (c : CoreState). c.limit < length c.machine.waiting) is more)
 
-pub is_reading : {o : Outside} {core : Sight} {heard : Heard} → IsReady o core heard → IsTakenUp core heard
-    → IsReading o core heard
-is_reading ready taken_up = record { ready = ready; taken_up = taken_up }
+-- Its handshake ------------------------------------------------------------------------------------------------------
 
-reads_target : (limits : Limits) (o : Outside) (core : Sight) (heard : Heard) → IsReading o core heard
-    → core.limit ≡ limits.waiting
-    → ReadsTarget limits (standing core heard)
-reads_target limits o core heard reading limit = record {
-  nothing_due = reading.ready.nothing_due;
-  greeted = reading.taken_up.greeted;
-  on = on_in limits o core heard reading.ready limit;
+pub takes_greeting : (o : Outside) (core core' : CoreState) (unheard : Unheard) → MayTake o core unheard
+    → core.machine.state.greeting_heard ≡ false → unheard.target.greeted ≡ true
+    → core' ≡ with_machine core (greeting_heard core.machine) → TakesUp o core core' unheard unheard
+takes_greeting o core core' unheard may first came is =
+    subst (λ (c : CoreState). TakesUp o core c unheard unheard) (sym is) (record {
+      leads = λ limits turns limit. leads_in_place limits o turns _ _ (λ log messages g. (
+        _,
+        Going.hears g (reads_on limits o core unheard may limit)
+            (Allows.greeted may.ready.sound.none_to_read first) (Brings.greeted came),
+      ));
+      shaken = λ heard. came;
+      same_limit = refl;
+      ends = record { client = refl; target = refl; quiets = refl };
+    })
+
+-- behind it the core may tell and send
+pub tells_greeting : (o : Outside) (core core' : CoreState) (unheard : Unheard) → MayTake o core unheard
+    → unheard.ended ≡ false → core' ≡ with_machine core (greeting_heard core.machine) → is_ready core'
+    → MayTell o core'
+tells_greeting o core core' unheard may not_ended is ready = record {
+  ready = ready;
+  unspoken = ap (λ (c : CoreState). c.words) is ∙ may.unspoken;
+  client = may.client;
+  target = λ near. may.target (ap (λ (c : CoreState). is_gone c.machine.state.phase) (sym is) ∙ near) not_ended;
 }
 
-packet_comes : (o : Outside) (core there : Sight) (heard : Heard) (packet : Packet) (n : ℕ) → IsReading o core heard
-    → received_front heard.uncuts.target.greeted heard.uncuts.target.stream.pending ≡ whole packet n
-    → Moves core heard.uncuts.target.stream.at packet there
-    → (limits : Limits) (turns : ℕ) → core.limit ≡ limits.waiting → (log : List Entry) (messages : List Message)
-    → Session limits log messages turns (standing core heard)
-    → (later : List Message) × Session limits log later turns (standing there (packet_cut heard n))
-packet_comes o core there heard packet n reading front (Moves.raw keeps) limits turns limit log messages s = (
-  messages,
-  subst (λ (c : Sight). Session limits log messages turns (standing c (packet_cut heard n))) (sym keeps.kept)
-      (Session.keeps s (reads_target limits o core heard reading limit) front keeps.is_one keeps.unknown),
-)
-packet_comes o core there heard packet n reading front (Moves.reply answers) limits turns limit log messages s = (
-  messages ++ Message.answers answers.asked answers.replied ∷ [],
-  subst (λ (c : Sight). Session limits log (messages ++ Message.answers answers.asked answers.replied ∷ []) turns
-      (standing c (packet_cut heard n)))
-      (sym answers.becomes)
-      (Session.hears s (on_in limits o core heard reading.ready limit)
-      (Allows.answers answers.before answers.after reading.ready.nothing_due answers.pending)
-      (Brings.answers front answers.is_pending answers.serve answers.is_reply answers.measures answers.none_raw)),
-)
+-- Its packets --------------------------------------------------------------------------------------------------------
+
+-- what a packet may say
+abbrev is_packet : Message → Bool
+is_packet (Message.answers command replied) = true
+is_packet (Message.comes at composite) = true
+is_packet (Message.keeps at body) = true
+is_packet _ = false
+
+packet_says : {s : SessionState} {packet : Packet} {message : Message} {window : _}
+    → PacketSays s packet message window → is_packet message ≡ true
+packet_says (PacketSays.answers pending says) = refl
+packet_says (PacketSays.comes is_one serves reads) = refl
+packet_says (PacketSays.keeps is_one) = refl
+
+-- What it leaves: what was heard of the target; a target that is gone stays so; and no more items wait where a composite
+-- can be read then.
+pub record Taken (m next : Machine) : Type 0 where
+  heard : next.state.greeting_heard ≡ m.state.greeting_heard
+  gone : is_gone m.state.phase ≡ true → is_gone next.state.phase ≡ true
+  fewer : can_read next ≡ true → length next.waiting ≤ length m.waiting
+
+told_heard : (question : Question) (replied : Replied) (state : State)
+    → (told_by question replied state).greeting_heard ≡ state.greeting_heard
+told_heard question replied state = grind arith
+
+told_phase : (question : Question) (replied : Replied) (state : State)
+    → (told_by question replied state).phase ≡ state.phase
+told_phase question replied state = grind arith
+
+taken_by : {m next : Machine} {message : Message} → Moves m (Some message) next → is_packet message ≡ true
+    → Taken m next
+taken_by (Moves.responds free at is) says = cc
+taken_by (Moves.tells free at) says = cc
+taken_by (Moves.sends free at near) says = cc
+taken_by (Moves.updates free at is near) says = cc
+taken_by (Moves.greets free at is near) says = cc
+taken_by (Moves.asks free room is are) says = cc
+taken_by (Moves.hears read is) says = cc
+taken_by (Moves.greeted read is) says = cc
+taken_by {m} (Moves.answers {question} {replied} is waits reply lasts) says = record {
+  heard = told_heard question replied m.state;
+  gone = λ gone. ap is_gone (told_phase question replied m.state) ∙ gone;
+  fewer = λ read. omega arith;
+}
+taken_by (Moves.replies is flies reply lasts) says =
+    record { heard = refl; gone = λ gone. gone; fewer = λ read. omega arith }
+taken_by (Moves.late before after is reply) says =
+    record { heard = refl; gone = λ gone. gone; fewer = λ read. omega arith }
+taken_by (Moves.ends gone) says = cc
+taken_by (Moves.loses late near why) says = record { heard = refl; gone = λ gone. refl; fewer = λ read. cc }
+taken_by {m} (Moves.comes {composite = composite} read sized taken) says = record {
+  heard = refl;
+  gone = λ gone. gone;
+  fewer = λ reads. let served = taken.is_taken in grind (arith, served, reads);
+}
+taken_by {m} (Moves.keeps unsized) says =
+    record { heard = refl; gone = λ gone. gone; fewer = λ reads. grind (arith, unsized, reads) }
+taken_by (Moves.reads before after read is none taken) says = cc
+
+pub packet_left : (core middle : CoreState) (unheard : Unheard) (packet : Packet)
+    → TakesPacket core unheard.target.stream.at packet middle → Taken core.machine middle.machine
+packet_left core middle unheard packet takes =
+    taken_by (moved takes.allows) (packet_says (takes.says unheard refl))
+
+-- the packet is cut
+abbrev pub packet_cut : Unheard → ℕ → Unheard
+packet_cut unheard n =
+    record unheard { target = record unheard.target { stream = past unheard.target.stream n } }
+
+-- The target's packets are read on.
+pub record IsReading (o : Outside) (core : CoreState) (unheard : Unheard) : Type 0 where
+  pub may : MayTake o core unheard
+  pub taken_up : IsTakenUp core unheard
+
+pub is_reading : {o : Outside} {core : CoreState} {unheard : Unheard} → MayTake o core unheard
+    → IsTakenUp core unheard → IsReading o core unheard
+is_reading may taken_up = record { may = may; taken_up = taken_up }
+
+pub reads_target : (limits : Limits) (o : Outside) (core : CoreState) (unheard : Unheard) → IsReading o core unheard
+    → core.limit ≡ limits.waiting → ReadsTarget limits (session_in core unheard)
+reads_target limits o core unheard reading limit = record {
+  reads = reads_on limits o core unheard reading.may limit;
+  none_to_read = reading.may.ready.sound.none_to_read;
+  greeted = reading.taken_up.greeted;
+}
 
 -- a whole packet is one behind the handshake
-received_whole : (greeted : Bool) (bytes : List ℕ) (packet : Packet) (n : ℕ)
-    → received_front greeted bytes ≡ whole packet n
-    → packet_front bytes ≡ whole packet n
-received_whole true bytes packet n h = h
-received_whole false bytes packet n h = absurd (by (greeting_front bytes) h)
+front_greeted : (greeted : Bool) (bytes : List ℕ) (packet : Packet) (n : ℕ)
+    → received_front greeted bytes ≡ Front.whole packet n
+    → (greeted ≡ true) × (packet_front bytes ≡ Front.whole packet n)
+front_greeted true bytes packet n h = (refl, h)
+front_greeted false bytes packet n h = absurd (by (greeting_front bytes) h)
   where
-    by : (front : Front (Unit {0}) PacketFault) → before_greeting front ≡ whole packet n → ⊥
-    by waits h = cc
-    by (whole greeting k) h = cc
-    by (faulty fault place) h = cc
+    by : (front : Front (Unit {0}) PacketFault) → before_greeting front ≡ Front.whole packet n → ⊥
+    by Front.waits h = cc
+    by (Front.whole greeting k) h = cc
+    by (Front.faulty fault place) h = cc
+
+packet_leads : (o : Outside) (core middle : CoreState) (unheard : Unheard) (packet : Packet) (n : ℕ)
+    → IsReading o core unheard → target_front (streams_in core unheard) ≡ Front.whole packet n
+    → TakesPacket core unheard.target.stream.at packet middle → (limits : Limits) (turns : ℕ)
+    → core.limit ≡ limits.waiting
+    → Leads limits o turns (session_in core unheard) o turns (session_in middle (packet_cut unheard n))
+packet_leads o core middle unheard packet n reading front takes limits turns limit =
+    leads_in_place limits o turns _ _ (λ log messages g. (
+      _,
+      subst (λ (c : CoreState). Going limits log (messages ++ takes.message ∷ []) turns
+          (session_in c (packet_cut unheard n))) (sym takes.same)
+          (Going.hears g (reads_on limits o core unheard reading.may limit) takes.allows
+          (Brings.packet (reading.taken_up.greeted
+          ∙ (front_greeted unheard.target.greeted unheard.target.stream.pending packet n front).0) front
+          (takes.says unheard refl))),
+    ))
 
 -- what the cutter hands out
 pub record IsWhole (old : Received) (shown : Shown) : Type 0 where
   pub size : ℕ
-  pub front : received_front old.greeted old.stream.pending ≡ whole (packet_of shown) size
+  pub front : received_front old.greeted old.stream.pending ≡ Front.whole (packet_of shown) size
   pub at : offset_of shown ≡ old.stream.at
 
 shows_is : (shown : Shown) (at : ℕ) (packet : Packet) → Shows shown at packet
@@ -476,13 +419,13 @@ shows_is (Command at id set number body) offset packet h = h
 shows_is (Reply at id error body) offset packet h = h
 
 answer_whole : (front : Front Packet PacketFault) (at : ℕ) (shown : Shown) → IsAnswer front at (Ok (Some shown))
-    → (size : ℕ) × (front ≡ whole (packet_of shown) size) × (offset_of shown ≡ at)
-answer_whole waits at shown answer = cc
-answer_whole (whole packet size) at shown answer =
+    → (size : ℕ) × (front ≡ Front.whole (packet_of shown) size) × (offset_of shown ≡ at)
+answer_whole Front.waits at shown answer = cc
+answer_whole (Front.whole packet size) at shown answer =
     let is = shows_is shown at packet answer in
-    let front : Packet → Front Packet PacketFault = λ p. whole p size in
+    let front : Packet → Front Packet PacketFault = λ p. Front.whole p size in
     (size, ap front is.1, is.0)
-answer_whole (faulty fault distance) at shown answer = cc
+answer_whole (Front.faulty fault distance) at shown answer = cc
 
 taken_whole : (old : Received) (next : Option Shown) (shown : Shown) → IsTaken old (Ok next) → next ≡ Some shown
     → IsWhole old shown
@@ -490,94 +433,55 @@ taken_whole old next shown taken some =
     let found = answer_whole (received_front old.greeted old.stream.pending) old.stream.at shown (rw some at taken) in
     record { size = found.0; front = found.1; at = found.2 }
 
-answer_none : (front : Front Packet PacketFault) (at : ℕ) → IsAnswer front at (Ok None) → front ≡ waits
-answer_none waits at answer = refl
-answer_none (whole packet size) at answer = absurd answer
-answer_none (faulty fault distance) at answer = cc
+answer_none : (front : Front Packet PacketFault) (at : ℕ) → IsAnswer front at (Ok None) → front ≡ Front.waits
+answer_none Front.waits at answer = refl
+answer_none (Front.whole packet size) at answer = absurd answer
+answer_none (Front.faulty fault distance) at answer = cc
 
 pub taken_none : (old : Received) (next : Option Shown) → IsTaken old (Ok next) → next ≡ None
-    → received_front old.greeted old.stream.pending ≡ waits
+    → received_front old.greeted old.stream.pending ≡ Front.waits
 taken_none old next taken none =
     answer_none (received_front old.greeted old.stream.pending) old.stream.at (rw none at taken)
 
 answer_fault : (front : Front Packet PacketFault) (at : ℕ) (trouble : PacketTrouble) → IsAnswer front at (Err trouble)
-    → (distance : ℕ) × (front ≡ faulty trouble.fault distance) × (trouble.at ≡ at + distance)
-answer_fault waits at trouble answer = cc
-answer_fault (whole packet size) at trouble answer = absurd answer
-answer_fault (faulty fault distance) at trouble answer =
+    → (distance : ℕ) × (front ≡ Front.faulty trouble.fault distance) × (trouble.at ≡ at + distance)
+answer_fault Front.waits at trouble answer = cc
+answer_fault (Front.whole packet size) at trouble answer = absurd answer
+answer_fault (Front.faulty fault distance) at trouble answer =
     let e : trouble ≡ record { fault = fault; at = at + distance } = cc answer in
-    let stands : PacketTrouble → Front Packet PacketFault = λ t. faulty t.fault distance in
+    let stands : PacketTrouble → Front Packet PacketFault = λ t. Front.faulty t.fault distance in
     (distance, ap stands (sym e), ap (λ (t : PacketTrouble). t.at) e)
 
-pub taken_fault : (old : Received) (trouble : PacketTrouble) → IsTaken old (Err trouble)
-    → (distance : ℕ) × (received_front old.greeted old.stream.pending ≡ faulty trouble.fault distance)
-    × (trouble.at ≡ old.stream.at + distance)
-taken_fault old trouble taken = answer_fault (received_front old.greeted old.stream.pending) old.stream.at trouble taken
-
 -- What the taking of a packet found, and what is left then.
-pub record Next (heard heard' : Heard) (shown : Shown) : Type 0 where
-  pub found : IsWhole heard.uncuts.target shown
-  pub left : heard' ≡ packet_cut heard found.size
+pub record Next (unheard unheard' : Unheard) (shown : Shown) : Type 0 where
+  pub found : IsWhole unheard.target shown
+  pub left : unheard' ≡ packet_cut unheard found.size
 
 -- what is left, by what stands at the front
-abbrev left_by : Heard → Front Packet PacketFault → Heard
-left_by heard front = record heard {
-  uncuts = record heard.uncuts {
-    target = record heard.uncuts.target { stream = left front heard.uncuts.target.stream };
-  };
-}
+abbrev left_by : Unheard → Front Packet PacketFault → Unheard
+left_by unheard front =
+    record unheard { target = record unheard.target { stream = left front unheard.target.stream } }
 
-pub next_of : (heard : Heard) {heard' : Heard} {next : Option Shown} {shown : Shown}
-    → IsTaken heard.uncuts.target (Ok next) → next ≡ Some shown → heard' ≡ packet_taken heard → Next heard heard' shown
-next_of heard {heard'} {next} {shown} taken some is =
-    let found = taken_whole heard.uncuts.target next shown taken some in
-    record { found = found; left = is ∙ ap (left_by heard) found.front }
+pub next_of : (unheard : Unheard) {unheard' : Unheard} {next : Option Shown} {shown : Shown}
+    → IsTaken unheard.target (Ok next) → next ≡ Some shown → unheard' ≡ packet_taken unheard
+    → Next unheard unheard' shown
+next_of unheard {unheard'} {next} {shown} taken some is =
+    let found = taken_whole unheard.target next shown taken some in
+    record { found = found; left = is ∙ ap (left_by unheard) found.front }
 
 -- nothing was found
-pub none_left : (heard : Heard) {heard' : Heard}
-    → received_front heard.uncuts.target.greeted heard.uncuts.target.stream.pending ≡ waits
-    → heard' ≡ packet_taken heard → heard' ≡ heard
-none_left heard none is = is ∙ ap (left_by heard) none
-
--- the bytes of a packet's body
-abbrev body_in : Packet → List ℕ
-body_in (command_packet id set number body) = body
-body_in (reply_packet id error body) = body
-
-body_is : (shown : Shown) → body_of shown ≡ body_in (packet_of shown)
-body_is (Command at id set number body) = refl
-body_is (Reply at id error body) = refl
-
-body_if : (test : Bool) (a b : Packet) (body : List ℕ) → body_in a ≡ body → body_in b ≡ body
-    → body_in (if test then a else b) ≡ body
-body_if true a b body h k = h
-body_if false a b body h k = k
-
-pub short_body : {heard heard' : Heard} {shown : Shown} → Next heard heard' shown → length (body_of shown) ≤ 67108853
-short_body {heard} {heard'} {shown} next =
-    let old = heard.uncuts.target in
-    let found = next.found in
-    let bytes = old.stream.pending in
-    let is =
-    whole-is bytes (packet_of shown) found.size
-    (received_whole old.greeted bytes (packet_of shown) found.size found.front) in
-    let sized = is.sized in
-    let text = take (size_of bytes) bytes in
-    let body : body_in (packets.packet_of text) ≡ drop 11 text =
-    body_if (flags_of text == 0) _ _ (drop 11 text) refl refl in
-    let count = ap length (body_is shown ∙ sym (ap body_in is.is) ∙ body) in
-    let cut = length-drop 11 text in
-    let all = length-take-le (size_of bytes) bytes is.here in
-    let most = sized.2 in
-    omega (arith, count, cut, all, most)
+pub none_left : (unheard : Unheard) {unheard' : Unheard}
+    → received_front unheard.target.greeted unheard.target.stream.pending ≡ Front.waits
+    → unheard' ≡ packet_taken unheard → unheard' ≡ unheard
+none_left unheard none is = is ∙ ap (left_by unheard) none
 
 -- what is left of the bytes, which come no further
 fewer_left : (old : Received) (shown : Shown) (found : IsWhole old shown)
     → (length (past old.stream found.size).pending < length old.stream.pending)
-    × ((past old.stream found.size).at + length (past old.stream found.size).pending ≡ old.stream.at + length
-    old.stream.pending)
+    × ((past old.stream found.size).at + length (past old.stream found.size).pending
+    ≡ old.stream.at + length old.stream.pending)
 fewer_left old shown found =
-    let front = received_whole old.greeted old.stream.pending (packet_of shown) found.size found.front in
+    let front = (front_greeted old.greeted old.stream.pending (packet_of shown) found.size found.front).1 in
     let taken = packet-steady.takes old.stream.pending (packet_of shown) found.size front in
     let some = taken.0 in
     let most = taken.1 in
@@ -585,137 +489,139 @@ fewer_left old shown found =
     (omega (arith, some, most, cut), omega (arith, some, most, cut))
 
 -- a packet that was taken leaves fewer bytes
-pub fewer_behind : {heard heard' : Heard} {shown : Shown} → Next heard heard' shown
-    → length heard'.uncuts.target.stream.pending < length heard.uncuts.target.stream.pending
-fewer_behind {heard} {heard'} {shown} next =
-    subst (λ (h : Heard). length h.uncuts.target.stream.pending < length heard.uncuts.target.stream.pending)
-    (sym next.left)
-    (fewer_left heard.uncuts.target shown next.found).0
+pub fewer_behind : {unheard unheard' : Unheard} {shown : Shown} → Next unheard unheard' shown
+    → length unheard'.target.stream.pending < length unheard.target.stream.pending
+fewer_behind {unheard} {unheard'} {shown} next =
+    subst (λ (u : Unheard). length u.target.stream.pending < length unheard.target.stream.pending) (sym next.left)
+    (fewer_left unheard.target shown next.found).0
 
-pub takes_packet : {o : Outside} {core : Sight} {heard heard' : Heard} {shown : Shown} → IsReading o core heard
-    → Next heard heard' shown → (middle : Sight) → TakesPacket core (offset_of shown) (packet_of shown) middle
-    → TakesUp o core middle heard heard'
-takes_packet {o} {core} {heard} {heard'} {shown} reading next middle takes =
+pub takes_packet : {o : Outside} {core : CoreState} {unheard unheard' : Unheard} {shown : Shown}
+    → IsReading o core unheard → Next unheard unheard' shown → (middle : CoreState)
+    → TakesPacket core (offset_of shown) (packet_of shown) middle → TakesUp o core middle unheard unheard'
+takes_packet {o} {core} {unheard} {unheard'} {shown} reading next middle takes =
     let found = next.found in
-    let now = core_ready o core heard reading.ready reading.taken_up.not_ended in
-    let moves = subst (λ (at : ℕ). Moves core at (packet_of shown) takes.heard) found.at takes.moves in
-    let left = moving core takes.heard heard.uncuts.target.stream.at (packet_of shown) moves in
-    subst (λ (h : Heard). TakesUp o core middle heard h) (sym next.left)
-    (takes_up o core takes.heard middle heard (packet_cut heard found.size)
-    (packet_comes o core takes.heard heard (packet_of shown) found.size reading found.front moves) left.limit now.client
-    (λ here. now.target (λ gone. here (left.stays_gone gone)))
-    (λ greeted. reading.ready.shaken (sym left.greeted ∙ greeted))
-    (record { client = refl; target = (fewer_left heard.uncuts.target shown found).1; quiets = refl }) takes.goes_on)
+    let here = subst (λ (at : ℕ). TakesPacket core at (packet_of shown) middle) found.at takes in
+    let left = packet_left core middle unheard (packet_of shown) here in
+    subst (λ (u : Unheard). TakesUp o core middle unheard u) (sym next.left) (record {
+      leads = packet_leads o core middle unheard (packet_of shown) found.size reading found.front here;
+      shaken = λ heard. reading.may.shaken (sym left.heard ∙ heard);
+      same_limit = ap (λ (c : CoreState). c.limit) here.same;
+      ends = record { client = refl; target = (fewer_left unheard.target shown found).1; quiets = refl };
+    })
+
+still_near : {was now : Bool} → (was ≡ true → now ≡ true) → now ≡ false → was ≡ false
+still_near {was = true} stays near = let no = stays refl in cc
+still_near {was = false} stays near = refl
 
 -- behind a packet the core may tell and send
-pub ready_behind : (o : Outside) (core middle : Sight) (at : ℕ) (packet : Packet) → CoreIsReady o core
-    → TakesPacket core at packet middle → CoreIsReady o middle
-ready_behind o core middle at packet ready takes =
-    let left = moving core takes.heard at packet takes.moves in
-    subst (λ (c : Sight). CoreIsReady o c) (sym takes.goes_on.is)
-    (ready_dropped o takes.heard ready.client (λ here. ready.target (λ gone. here (left.stays_gone gone)))
-    takes.goes_on.room)
+pub tells_packet : (o : Outside) (core middle : CoreState) (at : ℕ) (packet : Packet) → MayTell o core
+    → is_ready middle → TakesPacket core at packet middle → MayTell o middle
+tells_packet o core middle at packet may ready takes =
+    let left = packet_left core middle
+    (record {
+      client = record { at = 0; pending = [] };
+      target = record {
+        greeted = true;
+        stream = record
+            { at = at; pending = [] };
+      };
+      ended = false;
+      quiets = 0;
+    }) packet takes in
+    record {
+      ready = ready;
+      unspoken = ap (λ (c : CoreState). c.words) takes.same ∙ may.unspoken;
+      client = may.client;
+      target = λ near. may.target (still_near left.gone near);
+    }
+
+-- a composite that can be read is read first
+busy_first : (gone reads : Bool) (other : Load) → cond gone false reads ≡ true
+    → cond gone Load.clear (cond (cond gone false reads) Load.busy other) ≡ Load.busy
+busy_first true reads other is = cc
+busy_first false true other is = refl
+busy_first false false other is = cc
+
+waits_to_read : (full : Bool) (m : Machine) → can_read m ≡ true → (due full m).act ≡ Act.Waits
+unfolding due load_of
+waits_to_read full m is = ap (λ (load : Load). (due_by (is_full full m) load m).act)
+    (busy_first (is_gone m.state.phase) (cond (is_some m.state.sizes) (has_raw m.waiting) false)
+    (hand_load m.state m.hand) is)
 
 -- A packet ends the session.
-no_link_of_body : (fault : BodyFault) (at : ℕ) → IsNoLink (body_ending fault at)
-no_link_of_body body_faults.NoMemory at = tt
-no_link_of_body body_faults.UnknownCommand at = tt
-no_link_of_body (body_faults.Short place) at = tt
-no_link_of_body (body_faults.BadTag place) at = tt
-no_link_of_body (body_faults.BadCount place) at = tt
-no_link_of_body (body_faults.Trailing place) at = tt
+kept_ends : (o : Outside) (core middle : CoreState) (unheard : Unheard) (packet : Packet) (n : ℕ) (fault : _)
+    (offset : ℕ) → IsReading o core unheard → target_front (streams_in core unheard) ≡ Front.whole packet n
+    → TakesPacket core unheard.target.stream.at packet middle → IsKeptFault middle.machine fault offset
+    → Stops o o core middle unheard (BadTarget fault offset 0)
+kept_ends o core middle unheard packet n fault offset reading front takes kept =
+    let may = may_tell o core unheard reading.may reading.taken_up.not_ended in
+    let left = packet_left core middle unheard packet takes in
+    let fewer = left.fewer kept.can_be_read in
+    let room = may.ready.room in
+    let same_limit = ap (λ (c : CoreState). c.limit) takes.same in
+    stops_there o core middle middle unheard (packet_cut unheard n) _
+    (packet_leads o core middle unheard packet n reading front takes)
+    (λ limits turns limit. Cause.misheard_kept (record {
+      nothing_due = waits_to_read (id_pending middle.commands) middle.machine kept.can_be_read;
+      on = is_on limits middle (packet_cut unheard n) (same_limit ∙ limit) (omega (arith, fewer, room, same_limit));
+    }) kept)
+    (ap (λ (c : CoreState). c.words) takes.same ∙ may.unspoken) may.client
+    (λ near. may.target (still_near left.gone near)) (alike middle) tt
 
-no_link_of_composite : (read : Result Composite CompositeFault) (at : ℕ) → IsNoLink (composite_ending read at)
-no_link_of_composite (Ok composite) at = tt
-no_link_of_composite (Err composite_faults.NoMemory) at = tt
-no_link_of_composite (Err (composite_faults.Short place)) at = tt
-no_link_of_composite (Err (composite_faults.BadKind place)) at = tt
-no_link_of_composite (Err (composite_faults.BadPolicy place)) at = tt
-no_link_of_composite (Err (composite_faults.BadCount place)) at = tt
-no_link_of_composite (Err (composite_faults.BadTag place)) at = tt
-no_link_of_composite (Err (composite_faults.Trailing place)) at = tt
+refused_by : (o : Outside) (core core' : CoreState) (unheard : Unheard) (packet : Packet) (n : ℕ) (ending : Ending)
+    → IsReading o core unheard → target_front (streams_in core unheard) ≡ Front.whole packet n
+    → RefusesPacket core unheard.target.stream.at packet core' ending → Stops o o core core' unheard ending
+refused_by o core core' unheard packet n ending reading front RefusesPacket.no_memory = forgets o core core' unheard
+refused_by o core core' unheard packet n ending reading front (RefusesPacket.faulty fault like) =
+    stops_here o core core' unheard _ (may_tell o core unheard reading.may reading.taken_up.not_ended)
+    (λ limits turns limit. Cause.misheard (reads_target limits o core unheard reading limit)
+    (fault unheard (record { taken = n; front = front; offset = refl }))) like tt
+refused_by o core core' unheard packet n ending reading front (RefusesPacket.refused reply is_error is_bad like) =
+    stops_here o core core' unheard _ (may_tell o core unheard reading.may reading.taken_up.not_ended)
+    (λ limits turns limit. Cause.refused (reads_target limits o core unheard reading limit)
+    (reply unheard (record { taken = n; front = front; offset = refl })) is_error is_bad) like tt
+refused_by o core core' unheard packet n ending reading front (RefusesPacket.kept {fault} {offset} takes kept) =
+    kept_ends o core core' unheard packet n fault offset reading front takes kept
+refused_by o core core' unheard packet n ending reading front (RefusesPacket.floods takes more) =
+    let may = may_tell o core unheard reading.may reading.taken_up.not_ended in
+    let left = packet_left core core' unheard packet takes in
+    floods o core core' core' unheard (packet_cut unheard n)
+    (packet_leads o core core' unheard packet n reading front takes)
+    (ap (λ (c : CoreState). c.words) takes.same ∙ may.unspoken) may.client
+    (λ near. may.target (still_near left.gone near)) (ap (λ (c : CoreState). c.limit) takes.same) refl more
 
-refused_by : (o : Outside) (core core' : Sight) (heard : Heard) (packet : Packet) (n : ℕ) (ending : Ending)
-    → IsReading o core heard
-    → received_front heard.uncuts.target.greeted heard.uncuts.target.stream.pending ≡ whole packet n
-    → RefusesPacket core heard.uncuts.target.stream.at packet core' ending → Stops o o core core' heard ending
-refused_by o core core' heard packet n ending reading front RefusesPacket.no_memory = forgets o core core' heard
-refused_by o core core' heard packet n ending reading front (RefusesPacket.floods {heard = there} moves over) =
-    let now = core_ready o core heard reading.ready reading.taken_up.not_ended in
-    let left = moving core there heard.uncuts.target.stream.at packet moves in
-    floods o core there core' heard (packet_cut heard n) (packet_comes o core there heard packet n reading front moves)
-    left.limit now.client
-    (λ here. now.target (λ gone. here (left.stays_gone gone))) over.is over.no_room
-refused_by o core core' heard packet n ending reading front (RefusesPacket.bad_command other like) =
-    stops_here o core core' heard _ (core_ready o core heard reading.ready reading.taken_up.not_ended) like
-    (λ limits turns limit. session.Stops.bad_command (reads_target limits o core heard reading limit) front other) tt
-refused_by o core core' heard packet n ending reading front
-    (RefusesPacket.bad_composite {body = body} {sizes = sizes} is_one known like) =
-    stops_here o core core' heard _ (core_ready o core heard reading.ready reading.taken_up.not_ended) like
-    (λ limits turns limit. session.Stops.bad_composite (reads_target limits o core heard reading limit) front is_one
-    known)
-    (no_link_of_composite (composite_at sizes body) heard.uncuts.target.stream.at)
-refused_by o core core' heard packet n ending reading front (RefusesPacket.unknown none like) =
-    stops_here o core core' heard _ (core_ready o core heard reading.ready reading.taken_up.not_ended) like
-    (λ limits turns limit. session.Stops.unknown (reads_target limits o core heard reading limit) front none) tt
-refused_by o core core' heard packet n ending reading front (RefusesPacket.refused is_pending is_error is_bad like) =
-    stops_here o core core' heard _ (core_ready o core heard reading.ready reading.taken_up.not_ended) like
-    (λ limits turns limit. session.Stops.refused (reads_target limits o core heard reading limit) front is_pending
-    is_error is_bad) tt
-refused_by o core core' heard packet n ending reading front (RefusesPacket.bad_answer {fault = fault} is like) =
-    stops_here o core core' heard _ (core_ready o core heard reading.ready reading.taken_up.not_ended) like
-    (λ limits turns limit. session.Stops.bad_answer (reads_target limits o core heard reading limit) front is.is_pending
-    is.serve is.reads)
-    (no_link_of_body fault heard.uncuts.target.stream.at)
-refused_by o core core' heard packet n ending reading front (RefusesPacket.bad_sizes is numbers place like) =
-    stops_here o core core' heard _ (core_ready o core heard reading.ready reading.taken_up.not_ended) like
-    (λ limits turns limit.
-    session.Stops.bad_sizes (reads_target limits o core heard reading limit) front is.is_pending is.serve is.reads
-    numbers place) tt
-refused_by o core core' heard packet n ending reading front
-    (RefusesPacket.bad_raw found {first = first} is numbers raw like) =
-    stops_here o core core' heard _ (core_ready o core heard reading.ready reading.taken_up.not_ended) like
-    (λ limits turns limit.
-    session.Stops.bad_raw found (reads_target limits o core heard reading limit) front is.is_pending is.serve is.reads
-    numbers raw)
-    (no_link_of_composite (composite_at found first.body) first.at)
-
-pub refuses_packet : {o : Outside} {core : Sight} {heard heard' : Heard} {shown : Shown} → IsReading o core heard
-    → Next heard heard' shown → (core' : Sight) (ending : Ending)
-    → RefusesPacket core (offset_of shown) (packet_of shown) core' ending → Stops o o core core' heard ending
-refuses_packet {o} {core} {heard} {heard'} {shown} reading next core' ending refuses =
+pub refuses_packet : {o : Outside} {core : CoreState} {unheard unheard' : Unheard} {shown : Shown}
+    → IsReading o core unheard → Next unheard unheard' shown → (core' : CoreState) (ending : Ending)
+    → RefusesPacket core (offset_of shown) (packet_of shown) core' ending → Stops o o core core' unheard ending
+refuses_packet {o} {core} {unheard} {unheard'} {shown} reading next core' ending refuses =
     let found = next.found in
-    refused_by o core core' heard (packet_of shown) found.size ending reading found.front
+    refused_by o core core' unheard (packet_of shown) found.size ending reading found.front
     (subst (λ (at : ℕ). RefusesPacket core at (packet_of shown) core' ending) found.at refuses)
 
 -- a byte that no packet has there
-pub mispacked : {o : Outside} {core : Sight} {heard : Heard} (ending : Ending) → IsReading o core heard
-    → IsMispacked heard ending → Stops o o core core heard ending
-mispacked {o} {core} {heard} ending reading (trouble, taken, is) =
-    let found = taken_fault heard.uncuts.target trouble taken in
-    let now = core_ready o core heard reading.ready reading.taken_up.not_ended in
-    subst (λ (e : Ending). Stops o o core core heard e) (sym is)
-    (subst (λ (at : ℕ). Stops o o core core heard (BadTarget (packet_fault trouble.fault) at 0)) (sym found.2)
-    (stops_there o core core core heard heard _ (λ limits turns limit log messages s. (messages, s))
-    (λ limits turns limit. session.Stops.mispacked (reads_target limits o core heard reading limit) found.1)
-    now.client now.target refl refl refl tt))
-
-same_greeting : (core middle : Sight) (at : ℕ) (packet : Packet) → TakesPacket core at packet middle
-    → middle.state.greeted ≡ core.state.greeted
-same_greeting core middle at packet takes =
-    ap (λ (c : Sight). c.state.greeted) takes.goes_on.is ∙ (moving core takes.heard at packet takes.moves).greeted
+pub mispacks : {o : Outside} {core : CoreState} {unheard : Unheard} (ending : Ending) → IsReading o core unheard
+    → IsMispacked unheard ending → Stops o o core core unheard ending
+mispacks {o} {core} {unheard} ending reading (trouble, taken, is) =
+    let found = answer_fault (received_front unheard.target.greeted unheard.target.stream.pending)
+    unheard.target.stream.at trouble taken in
+    subst (λ (e : Ending). Stops o o core core unheard e) (sym is)
+    (subst (λ (at : ℕ). Stops o o core core unheard (BadTarget (mispacked trouble.fault) at 0)) (sym found.2)
+    (stops_here o core core unheard _ (may_tell o core unheard reading.may reading.taken_up.not_ended)
+    (λ limits turns limit. Cause.misheard (reads_target limits o core unheard reading limit)
+    (IsTargetFault.bad_packet found.1)) (alike core) tt))
 
 -- what was taken up stays so
-pub taken_up_on : {old new : Outside} {core core' : Sight} {heard heard' : Heard} {shown : Shown} → IsTakenUp core heard
-    → Next heard heard' shown → Handles (TakesPacket core (offset_of shown) (packet_of shown)) old new core'
-    → IsTakenUp core' heard'
-taken_up_on {core = core} {shown = shown} taken next handles = record {
-  greeted =
-      handles.goes_on.framed.greeted
-      ∙ same_greeting core handles.middle (offset_of shown) (packet_of shown) handles.heard
-      ∙ taken.greeted ∙ sym (ap (λ (h : Heard). h.uncuts.target.greeted) next.left);
-  not_ended = ap (λ (h : Heard). h.uncuts.ended) next.left ∙ taken.not_ended;
-}
+pub taken_up_on : {old new : Outside} {core core' : CoreState} {unheard unheard' : Unheard} {shown : Shown}
+    → IsTakenUp core unheard → Next unheard unheard' shown
+    → Handles (TakesPacket core (offset_of shown) (packet_of shown)) old new core' → IsTakenUp core' unheard'
+taken_up_on {core = core} {unheard = unheard} {shown = shown} taken next handles =
+    let here = subst (λ (at : ℕ). TakesPacket core at (packet_of shown) handles.middle) next.found.at handles.heard in
+    record {
+      greeted = handles.goes_on.same_greeted
+          ∙ (packet_left core handles.middle unheard (packet_of shown) here).heard ∙ taken.greeted
+          ∙ sym (ap (λ (u : Unheard). u.target.greeted) next.left);
+      not_ended = ap (λ (u : Unheard). u.ended) next.left ∙ taken.not_ended;
+    }
 
 -- Results ------------------------------------------------------------------------------------------------------------
 
@@ -731,19 +637,11 @@ if_error (Err error) P Q h leads = leads error h
 
 -- What is kept of it --------------------------------------------------------------------------------------------------
 
-module _ (heard : Heard) (client : Uncut) (target : Received) (ended : Bool) (quiets : ℕ)
-    (view : (let it : Heard = record
-    { uncuts = record { client = client; target = target; ended = ended }; quiets = quiets } in it ≡ heard)) where
-  pub kept_taken :
-      (let it : Heard = record { uncuts = record { client = client; target = target; ended = false }; quiets = quiets }
-      in it ≡ end_taken heard)
-  kept_taken = ap (λ (h : Heard). end_taken h) view
-
 -- the same, said of what is kept
-pub goes_as : {old new : Outside} {core core' : Sight} {heard heard' kept : Heard} → heard' ≡ kept
-    → GoesOn old new core core' heard kept
-    → GoesOn old new core core' heard heard'
-goes_as {old} {new} {core} {core'} {heard} is h = subst (λ (k : Heard). GoesOn old new core core' heard k) (sym is) h
+pub goes_as : {old new : Outside} {core core' : CoreState} {unheard unheard' kept : Unheard} → unheard' ≡ kept
+    → GoesOn old new core core' unheard kept → GoesOn old new core core' unheard unheard'
+goes_as {old} {new} {core} {core'} {unheard} is h =
+    subst (λ (k : Unheard). GoesOn old new core core' unheard k) (sym is) h
 
 pub is_true : (inside now : Bool) → true ≡ inside → inside ≡ now → now ≡ true
 is_true inside now is view = sym view ∙ sym is

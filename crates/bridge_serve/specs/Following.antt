@@ -1,253 +1,253 @@
 -- How the loop over the wires follows the session relation: words for what each helper of the loop does.
-use Rattle.std.specs.Prelude.{ℕ, ◌≡◌, ◌+◌, ◌≤◌, ◌<◌, ◌⊎◌, true, false, List, [], length, None, Some, Err}
+use Rattle.std.specs.Prelude.{ℕ, ◌≡◌, ◌+◌, ◌<◌, Bool, true, false, List, length, None, Err}
 use Rattle.std.specs.List.{AllByRecursion}
-use Rattle.bridge_core.specs.Steps.{Sight, Uncuts, place_of, waiting_in}
+use Rattle.bridge_core.specs.Calls.{words_left}
+use Rattle.bridge_core.specs.Cores.{CoreState, Unheard, session_in}
+use Rattle.bridge_core.specs.Cores.{IsReady as is_ready}
+use Rattle.bridge_serve.specs.Serving.{Blames, Idles, Keeps}
 use Rattle.dap_frames.specs.Frames.{frame_front}
 use Rattle.dap_frames.specs.Taking.{IsTaken as IsBody}
 use Rattle.dap_frames.specs.declared.fault.FrameTrouble.{FrameTrouble}
-use Rattle.jdwp_packets.specs.Receiving.{nothing_received, left_behind}
+use Rattle.jdwp_packets.specs.Receiving.{left_behind, nothing_received}
 use Rattle.jdwp_packets.specs.Taking.{IsTaken as IsPacket}
 use Rattle.jdwp_packets.specs.declared.fault.PacketTrouble.{PacketTrouble}
-use Rattle.wire_core.specs.Outside.{Outside, Adds, IsOpen}
-use Rattle.wire_core.specs.Streams.{uncut, left}
-use Rattle.wire_core.specs.declared.outside.Entry.{Entry}
-use Rattle.wire_core.specs.declared.outside.Side.TheVariants.{Client, Target}
-use Rattle.world_model.specs.Machine.{Message, due, Due}
-use Rattle.bridge_serve.specs.Serving.{Keeps, Blames}
-use Rattle.world_model.specs.Session.{At, start, Place, Word, word_side, last_words, Session, Waits, IsSession}
-use Rattle.world_model.specs.declared.ending.ClientFault.TheVariants.{Frame as frame_fault}
-use Rattle.world_model.specs.declared.ending.Ending.{Ending}
-use Rattle.world_model.specs.declared.ending.Ending.TheVariants.{BadClient, BadTarget, NoMemory}
-use Rattle.world_model.specs.declared.ending.Limits.{Limits}
-use Rattle.world_model.specs.declared.ending.TargetFault.TheVariants.{Packet as packet_fault}
-use Rattle.world_model.specs.declared.machine.Phase.TheVariants.{Gone}
-
--- what came in and isn't handled yet, and how many waits in a row were in vain
-pub record Heard : Type 0 where
-  pub uncuts : Uncuts
-  pub quiets : ℕ
+use Rattle.machine_model.specs.Due.{due}
+use Rattle.machine_model.specs.Runs.{Message}
+use Rattle.machine_model.specs.State.{is_gone}
+use Rattle.machine_model.specs.declared.acts.Act.{Act}
+use Rattle.session_model.specs.Causes.{IsWaiting}
+use Rattle.session_model.specs.LastWords.{LastWord, word_side}
+use Rattle.bridge_serve.specs.Names.{BadClient, BadTarget, Client, Ending, Entry, Idle, Limits, NoMemory, Target}
+use Rattle.bridge_serve.specs.Names.{misframed, mispacked}
+use Rattle.session_model.specs.Session.{Ended, EndedState, Going, IsLeft, IsSession}
+use Rattle.session_model.specs.States.{SessionState, StreamState, id_pending}
+use Rattle.wire_core.specs.Outside.{Adds, IsOpen, Outside, StaysOpen, WasEmpty}
+use Rattle.wire_core.specs.Streams.{left, uncut}
 
 -- nothing came yet
-abbrev pub nothing_heard : Heard
-nothing_heard = record { uncuts = record { client = uncut; target = nothing_received; ended = false }; quiets = 0 }
+abbrev pub nothing_heard : Unheard
+nothing_heard = record { client = uncut; target = nothing_received; ended = false; quiets = 0 }
 
--- where the session of this core stands
-abbrev pub standing : Sight → Heard → At
-standing core heard = record {
-  state = core.state;
-  place = place_of core heard.uncuts;
-  quiets = heard.quiets;
-  ending = None;
-  said = [];
-  left = [];
-  broken = 0;
-}
+-- Where a core goes on ------------------------------------------------------------------------------------------------
 
--- both sides are open, but for a target that is gone or whose end came
-pub record Opens (o : Outside) (core : Sight) (heard : Heard) : Type 0 where
+-- Something may be due: the core is ready and has said no last word, and both sides are open, but for a target that is
+-- gone.
+pub record MayTell (o : Outside) (core : CoreState) : Type 0 where
+  pub ready : is_ready core
+  pub unspoken : core.words ≡ None
   pub client : IsOpen Client o
-  pub target : (core.state.phase ≡ Gone → ⊥) → heard.uncuts.ended ≡ false → IsOpen Target o
+  pub target : is_gone core.machine.state.phase ≡ false → IsOpen Target o
 
--- While something is due both sides are open, but for a target that is gone; and no more items wait than may.
-pub record CoreIsReady (o : Outside) (core : Sight) : Type 0 where
+-- Nothing is due, and what came may be taken up: the same holds, but that the target's end may have come; and a
+-- handshake that was taken up has come.
+pub record MayTake (o : Outside) (core : CoreState) (unheard : Unheard) : Type 0 where
+  pub ready : is_ready core
+  pub unspoken : core.words ≡ None
   pub client : IsOpen Client o
-  pub target : (core.state.phase ≡ Gone → ⊥) → IsOpen Target o
-  pub room : waiting_in core ≤ core.limit
-
--- What holds between two moves: sides are open, there is room, nothing is due, a handshake that was taken up has come,
--- and of a target that is gone no composite is left.
-pub record IsReady (o : Outside) (core : Sight) (heard : Heard) : Type 0 where
-  pub opens : Opens o core heard
-  pub room : waiting_in core ≤ core.limit
-  pub nothing_due : due core.state ≡ Due.waits
-  pub shaken : core.state.greeted ≡ true → heard.uncuts.target.greeted ≡ true
-  pub none_raw : core.state.phase ≡ Gone → core.raw ≡ []
+  pub target : is_gone core.machine.state.phase ≡ false → unheard.ended ≡ false → IsOpen Target o
+  pub nothing_due : (due (id_pending core.commands) core.machine).act ≡ Act.Waits
+  pub shaken : core.machine.state.greeting_heard ≡ true → unheard.target.greeted ≡ true
 
 -- the target's handshake and its end were taken up, where they came
-pub record IsTakenUp (core : Sight) (heard : Heard) : Type 0 where
-  pub greeted : core.state.greeted ≡ heard.uncuts.target.greeted
-  pub not_ended : heard.uncuts.ended ≡ false
+pub record IsTakenUp (core : CoreState) (unheard : Unheard) : Type 0 where
+  pub greeted : core.machine.state.greeting_heard ≡ unheard.target.greeted
+  pub not_ended : unheard.ended ≡ false
 
 -- how far the two streams came
-abbrev pub client_end : Heard → ℕ
-client_end heard = heard.uncuts.client.at + length heard.uncuts.client.pending
+abbrev pub client_end : Unheard → ℕ
+client_end unheard = unheard.client.at + length unheard.client.pending
 
-abbrev pub target_end : Heard → ℕ
-target_end heard = heard.uncuts.target.stream.at + length heard.uncuts.target.stream.pending
+abbrev pub target_end : Unheard → ℕ
+target_end unheard = unheard.target.stream.at + length unheard.target.stream.pending
+
+-- the streams came no further, and no wait was in vain
+pub record SameEnds (unheard unheard' : Unheard) : Type 0 where
+  pub client : client_end unheard' ≡ client_end unheard
+  pub target : target_end unheard' ≡ target_end unheard
+  pub quiets : unheard'.quiets ≡ unheard.quiets
 
 -- What is cut of what came -------------------------------------------------------------------------------------------
 
 -- the client's next body was handed out, where a whole frame was there
-abbrev pub body_taken : Heard → Heard
-body_taken heard = record heard {
-  uncuts = record heard.uncuts { client = left (frame_front heard.uncuts.client.pending) heard.uncuts.client };
-}
+abbrev pub body_taken : Unheard → Unheard
+body_taken unheard = record unheard { client = left (frame_front unheard.client.pending) unheard.client }
 
 -- a byte that no frame has there ends the session
-abbrev pub IsMisframed : Heard → Ending → Type 0
-IsMisframed heard ending =
-    (trouble : FrameTrouble) × IsBody heard.uncuts.client (Err trouble)
-    × (ending ≡ BadClient (frame_fault trouble.fault) trouble.at)
+abbrev pub IsMisframed : Unheard → Ending → Type 0
+IsMisframed unheard ending =
+    (trouble : FrameTrouble) × IsBody unheard.client (Err trouble)
+    × (ending ≡ BadClient (misframed trouble.fault) trouble.at)
 
 -- the target's next packet was handed out, where a whole one was there
-abbrev pub packet_taken : Heard → Heard
-packet_taken heard = record heard { uncuts = record heard.uncuts { target = left_behind heard.uncuts.target } }
+abbrev pub packet_taken : Unheard → Unheard
+packet_taken unheard = record unheard { target = left_behind unheard.target }
 
 -- a byte that no packet has there ends the session
-abbrev pub IsMispacked : Heard → Ending → Type 0
-IsMispacked heard ending =
-    (trouble : PacketTrouble) × IsPacket heard.uncuts.target (Err trouble)
-    × (ending ≡ BadTarget (packet_fault trouble.fault) trouble.at 0)
+abbrev pub IsMispacked : Unheard → Ending → Type 0
+IsMispacked unheard ending =
+    (trouble : PacketTrouble) × IsPacket unheard.target (Err trouble)
+    × (ending ≡ BadTarget (mispacked trouble.fault) trouble.at 0)
 
 -- Endings ------------------------------------------------------------------------------------------------------------
 
+-- memory ran out, and nothing is said
+abbrev pub lacks_memory : Ending → Bool
+lacks_memory NoMemory = true
+lacks_memory _ = false
+
+-- Sessions over a log ------------------------------------------------------------------------------------------------
+
 -- these words go to sides that are open
-abbrev pub Speakable : Outside → List Word → Type 0
-Speakable o words = AllByRecursion (λ (word : Word). IsOpen (word_side word) o) words
+abbrev pub Speakable : Outside → List LastWord → Type 0
+Speakable o words = AllByRecursion (λ (word : LastWord). IsOpen (word_side word) o) words
 
 -- the core counts on from here: what it tells gets the next number, and what it sends the next id
-abbrev pub IsCounted : Place → Sight → Word → Type 0
-IsCounted place core (Word.tells told) = place.told ≡ core.told
-IsCounted place core Word.disposes = place.commands.next ≡ core.commands.next
+abbrev pub IsCounted : StreamState → CoreState → LastWord → Type 0
+IsCounted streams core (LastWord.tells told) = streams.told ≡ core.told
+IsCounted streams core LastWord.disposes = streams.commands.next ≡ core.commands.next
 
--- The session has ended so, or memory ran out; this core has its last words to say, and they go to sides that are open.
-pub record IsLeft (o : Outside) (core : Sight) (to : At) (ending : Ending) : Type 0 where
-  pub is_ended : (to.ending ≡ Some ending) ⊎ (ending ≡ NoMemory)
-  pub words : to.left ≡ last_words ending core.state
-  pub counted : AllByRecursion (IsCounted to.place core) (last_words ending core.state)
-  pub speakable : Speakable o (last_words ending core.state)
+-- this core has the words to say that are left, and they go to sides that are open
+pub record HasWords (o : Outside) (core : CoreState) (e : EndedState) : Type 0 where
+  pub words : e.left ≡ words_left e.ending core
+  pub counted : AllByRecursion (IsCounted e.streams core) e.left
+  pub speakable : Speakable o e.left
 
 module _ (limits : Limits) where
-  -- from `begin` on, what was logged is a session that stands here after so many happenings
-  pub record Follows (begin now : Outside) (turns : ℕ) (at : At) : Type 0 where
+  -- from `begin` on, what was logged is a session that goes on, and stands here after so many turns
+  pub record Follows (begin now : Outside) (turns : ℕ) (s : SessionState) : Type 0 where
     pub added : List Entry
     pub messages : List Message
     pub log : Adds begin now added
-    pub session : Session limits added messages turns at
+    pub going : Going limits added messages turns s
 
   -- whatever was logged before, a session that stood at the one place stands at the other now
-  abbrev pub Leads : Outside → ℕ → At → Outside → ℕ → At → Type 0
+  abbrev pub Leads : Outside → ℕ → SessionState → Outside → ℕ → SessionState → Type 0
   Leads old before from new after to = (begin : Outside) → Follows begin old before from → Follows begin new after to
 
-  -- a session that stood here has ended so, after so many happenings
-  pub record Stopped (old : Outside) (before : ℕ) (from : At) (new : Outside) (after : ℕ) (core : Sight)
-      (ending : Ending) : Type 0 where
-    pub to : At
-    pub leads : Leads old before from new after to
-    pub is_left : IsLeft new core to ending
+  -- From `begin` on, what was logged is a session that has ended so, and this core has its last words to say; or memory
+  -- ran out while it went on.
+  pub data HasEnded (begin now : Outside) (turns : ℕ) (core : CoreState) : Ending → Type 0 where
+    ended : {added : List Entry} {messages : List Message} {e : EndedState} → Adds begin now added
+        → Ended limits added messages turns e → HasWords now core e → HasEnded begin now turns core e.ending
+    forgets : {s : SessionState} → Follows begin now turns s → HasEnded begin now turns core NoMemory
+
+  -- a session that stood here has ended so, after so many turns
+  abbrev pub Stopped : Outside → ℕ → SessionState → Outside → ℕ → CoreState → Ending → Type 0
+  Stopped old before from new after core ending =
+      (begin : Outside) → Follows begin old before from → HasEnded begin new after core ending
+
+  -- from `begin` on, what was logged is a session that was left so
+  pub record IsOver (begin now : Outside) (turns : ℕ) (ending : Ending) : Type 0 where
+    pub added : List Entry
+    pub messages : List Message
+    pub log : Adds begin now added
+    pub left : IsLeft limits added messages turns ending
 
   -- from the beginning of a call on, the session ended so, and the core has its last words to say
-  pub record Ran (old new : Outside) (core : Sight) (ending : Ending) : Type 0 where
+  pub record Ran (old new : Outside) (core : CoreState) (ending : Ending) : Type 0 where
     pub turns : ℕ
-    pub within : turns ≤ limits.turns
-    pub stopped : Stopped old 0 start new turns core ending
+    pub has_ended : HasEnded old new turns core ending
     pub keeps : Keeps old new
     pub blames : Blames old new ending
+    pub idles : Idles limits old new ending
 
 -- What the helpers of the loop do ------------------------------------------------------------------------------------
 
 -- the session went on, within one turn
-pub record GoesOn (old new : Outside) (core core' : Sight) (heard heard' : Heard) : Type 0 where
+pub record GoesOn (old new : Outside) (core core' : CoreState) (unheard unheard' : Unheard) : Type 0 where
   pub leads : (limits : Limits) (turns : ℕ) → core.limit ≡ limits.waiting
-      → Leads limits old turns (standing core heard) new turns (standing core' heard')
+      → Leads limits old turns (session_in core unheard) new turns (session_in core' unheard')
   pub keeps : Keeps old new
-  pub ready : IsReady new core' heard'
+  pub may_take : MayTake new core' unheard'
   pub same_limit : core'.limit ≡ core.limit
-  pub same_client_end : client_end heard' ≡ client_end heard
-  pub same_target_end : target_end heard' ≡ target_end heard
-  pub same_quiets : heard'.quiets ≡ heard.quiets
+  pub same_ends : SameEnds unheard unheard'
 
 -- it ended within the turn
-pub record Stops (old new : Outside) (core core' : Sight) (heard : Heard) (ending : Ending) : Type 0 where
+pub record Stops (old new : Outside) (core core' : CoreState) (unheard : Unheard) (ending : Ending) : Type 0 where
   pub stopped : (limits : Limits) (turns : ℕ) → core.limit ≡ limits.waiting
-      → Stopped limits old turns (standing core heard) new turns core' ending
+      → Stopped limits old turns (session_in core unheard) new turns core' ending
   pub keeps : Keeps old new
   pub blames : Blames old new ending
-
--- something came where the session waited
-pub record Hears (limits : Limits) (old new : Outside) (core : Sight) (heard heard' : Heard) : Type 0 where
-  pub leads : (turns : ℕ) → turns < limits.turns
-      → Leads limits old turns (standing core heard) new (turns + 1) (standing core heard')
-  pub ready : IsReady new core heard'
-
--- what came ended the session
-pub record HearsEnd (limits : Limits) (old new : Outside) (core : Sight) (heard : Heard) (ending : Ending) : Type 0
-  where
-    pub stopped : (turns : ℕ) → turns < limits.turns
-        → Stopped limits old turns (standing core heard) new (turns + 1) core ending
-    pub blames : Blames old new ending
+  pub awake : ending ≡ Idle → ⊥
 
 -- the session waits here, and may wait on
-pub record MayHear (limits : Limits) (o : Outside) (core : Sight) (heard : Heard) : Type 0 where
-  pub ready : IsReady o core heard
-  pub waits : Waits limits (standing core heard)
-  pub patient : heard.quiets < limits.quiet
+pub record MayHear (limits : Limits) (o : Outside) (core : CoreState) (unheard : Unheard) : Type 0 where
+  pub may_take : MayTake o core unheard
+  pub waits : IsWaiting limits (session_in core unheard)
+  pub patient : unheard.quiets < limits.quiet
 
--- what a step of the machine by itself leaves as it was
-pub record Framed (core core' : Sight) : Type 0 where
-  pub greeted : core'.state.greeted ≡ core.state.greeted
-  pub closing : core'.state.closing ≡ core.state.closing
-  pub was_gone : core'.state.phase ≡ Gone → core.state.phase ≡ Gone
-  pub stays_gone : core.state.phase ≡ Gone → core'.state.phase ≡ Gone
-  pub raw : core'.raw ≡ core.raw
-  pub limit : core'.limit ≡ core.limit
+-- Something came, and no wait in a row was in vain; or one more was, in which each side that is open had nothing.
+pub data Waits (old new : Outside) (quiets : ℕ) : ℕ → Type 0 where
+  came : Waits old new quiets 0
+  in_vain : StaysOpen old new → WasEmpty Client old new → WasEmpty Target old new → Waits old new quiets (quiets + 1)
 
--- all that was due, or some of it, was told and sent, whatever stands in the cutters
-pub record CoreGoesOn (old new : Outside) (core core' : Sight) : Type 0 where
-  pub leads : (limits : Limits) (heard : Heard) (turns : ℕ) → core.limit ≡ limits.waiting
-      → Leads limits old turns (standing core heard) new turns (standing core' heard)
+-- something came where the session waited
+pub record Hears (limits : Limits) (old new : Outside) (core : CoreState) (unheard unheard' : Unheard) : Type 0 where
+  pub leads : (turns : ℕ) → turns < limits.turns
+      → Leads limits old turns (session_in core unheard) new (turns + 1) (session_in core unheard')
+  pub may_take : MayTake new core unheard'
+  pub waited : Waits old new unheard.quiets unheard'.quiets
+
+-- what came ended the session
+pub record HearsEnd (limits : Limits) (old new : Outside) (core : CoreState) (unheard : Unheard) (ending : Ending)
+    : Type 0 where
+  pub stopped : (turns : ℕ) → turns < limits.turns
+      → Stopped limits old turns (session_in core unheard) new (turns + 1) core ending
+  pub blames : Blames old new ending
+  pub awake : ending ≡ Idle → ⊥
+
+-- All that was due, or some of it, was told and sent, whatever else came of the two sides.
+pub record CoreGoesOn (old new : Outside) (core core' : CoreState) : Type 0 where
+  pub leads : (limits : Limits) (unheard : Unheard) (turns : ℕ) → core.limit ≡ limits.waiting
+      → Leads limits old turns (session_in core unheard) new turns (session_in core' unheard)
   pub keeps : Keeps old new
-  pub ready : CoreIsReady new core'
-  pub framed : Framed core core'
+  pub may_tell : MayTell new core'
+  pub same_greeted : core'.machine.state.greeting_heard ≡ core.machine.state.greeting_heard
+  pub same_limit : core'.limit ≡ core.limit
 
 -- the session ended meanwhile
-pub record CoreStops (old new : Outside) (core core' : Sight) (ending : Ending) : Type 0 where
-  pub stopped : (limits : Limits) (heard : Heard) (turns : ℕ) → core.limit ≡ limits.waiting
-      → Stopped limits old turns (standing core heard) new turns core' ending
+pub record CoreStops (old new : Outside) (core core' : CoreState) (ending : Ending) : Type 0 where
+  pub stopped : (limits : Limits) (unheard : Unheard) (turns : ℕ) → core.limit ≡ limits.waiting
+      → Stopped limits old turns (session_in core unheard) new turns core' ending
   pub keeps : Keeps old new
   pub blames : Blames old new ending
+  pub awake : ending ≡ Idle → ⊥
 
 -- the core heard something, and told and sent what was due then
-pub record Handles (hears : Sight → Type 0) (old new : Outside) (core' : Sight) : Type 0 where
-  pub middle : Sight
+pub record Handles (hears : CoreState → Type 0) (old new : Outside) (core' : CoreState) : Type 0 where
+  pub middle : CoreState
   pub heard : hears middle
   pub goes_on : CoreGoesOn old new middle core'
-  pub nothing_due : due core'.state ≡ Due.waits
+  pub nothing_due : (due (id_pending core'.commands) core'.machine).act ≡ Act.Waits
 
 -- what it heard ended the session, or the session ended while that was told and sent
-pub data HandlesLast (hears : Sight → Type 0) (refuses : Sight → Ending → Type 0) (old : Outside)
-    : Outside → Sight → Ending → Type 0 where
-  refuses : {core' : Sight} {ending : Ending} → refuses core' ending → HandlesLast hears refuses old old core' ending
-  stops : {new : Outside} {middle core' : Sight} {ending : Ending} → hears middle
+pub data HandlesLast (hears : CoreState → Type 0) (refuses : CoreState → Ending → Type 0) (old : Outside)
+    : Outside → CoreState → Ending → Type 0 where
+  refuses : {core' : CoreState} {ending : Ending} → refuses core' ending → HandlesLast hears refuses old old core' ending
+  stops : {new : Outside} {middle core' : CoreState} {ending : Ending} → hears middle
       → CoreStops old new middle core' ending → HandlesLast hears refuses old new core' ending
 
 -- one of the last words was said
-pub record SaysOne (old new : Outside) (core core' : Sight) (ending : Ending) : Type 0 where
-  pub leads : (limits : Limits) (turns : ℕ) (at : At) → IsLeft old core at ending
-      → (to : At) × Leads limits old turns at new turns to × IsLeft new core' to ending
+pub record SaysOne (old new : Outside) (core core' : CoreState) (ending : Ending) : Type 0 where
+  pub leads : (limits : Limits) (begin : Outside) (turns : ℕ) → HasEnded limits begin old turns core ending
+      → HasEnded limits begin new turns core' ending
   pub keeps : Keeps old new
-  pub speakable : Speakable new (last_words ending core'.state)
+  pub speakable : Speakable new (words_left ending core')
 
--- all were said, up to the first that can't be
-pub record FallsSilent (old new : Outside) (core : Sight) (ending : Ending) : Type 0 where
-  pub leads : (limits : Limits) (turns : ℕ) (at : At) → IsLeft old core at ending
-      → (to : At) × Leads limits old turns at new turns to × ((to.ending ≡ Some ending) ⊎ (ending ≡ NoMemory))
-      × (to.left ≡ [])
-  pub keeps : Keeps old new
-
--- memory ran out on the way
-pub record Forgets (old new : Outside) (core : Sight) (ending : Ending) : Type 0 where
-  pub leads : (limits : Limits) (turns : ℕ) (at : At) → IsLeft old core at ending
-      → (to : At) × Leads limits old turns at new turns to
+-- all were said, up to the first that can't be, or memory ran out
+pub record FallsSilent (old new : Outside) (core : CoreState) (ending result : Ending) : Type 0 where
+  pub leads : (limits : Limits) (begin : Outside) (turns : ℕ) → HasEnded limits begin old turns core ending
+      → IsOver limits begin new turns result
   pub keeps : Keeps old new
 
 -- the ending stays, but for want of memory
-pub data Says (old new : Outside) (core : Sight) (ending : Ending) : Ending → Type 0 where
-  all : FallsSilent old new core ending → Says old new core ending ending
-  no_memory : Forgets old new core ending → Says old new core ending NoMemory
+pub data Says (old new : Outside) (core : CoreState) (ending : Ending) : Ending → Type 0 where
+  all : FallsSilent old new core ending ending → Says old new core ending ending
+  no_memory : FallsSilent old new core ending NoMemory → Says old new core ending NoMemory
 
 -- a call served a session within these limits, and it ended so
 pub record Served (old new : Outside) (limits : Limits) (ending : Ending) : Type 0 where
   pub session : IsSession old new limits ending
   pub keeps : Keeps old new
   pub blames : Blames old new ending
+  pub idles : Idles limits old new ending

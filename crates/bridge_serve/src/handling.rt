@@ -1,21 +1,21 @@
 ghost use Rattle.std.specs.Prelude.{◌≡◌, ◌^◌, ◌<◌, ◌≤◌, ◌⊎◌, length, IfErr, OnOk, Ok, true, false};
-ghost use Rattle.bridge_serve.specs.Following.{standing, IsReady, IsTakenUp, GoesOn, Stops, target_end};
-ghost use Rattle.bridge_serve.specs.Following.{CoreIsReady, Handles, HandlesLast};
-ghost use Rattle.bridge_core.specs.Steps.{place_of, offset_of, packet_of, body_of, Takes, Refuses, TakesPacket};
-ghost use Rattle.bridge_core.specs.Steps.{RefusesPacket};
+ghost use Rattle.bridge_core.specs.Calls.{Refuses, RefusesPacket, Takes, TakesPacket, offset_of, packet_of};
+ghost use Rattle.bridge_core.specs.Cores.{session_in, streams_in};
+ghost use Rattle.bridge_serve.specs.Following.{GoesOn, Handles, HandlesLast, IsTakenUp, MayTake, MayTell, Stops};
 ghost use Rattle.dap_frames.specs.Frames.{frame_front};
-ghost use Rattle.wire_core.specs.Streams.{waits};
-ghost use Rattle.world_model.specs.Session.{Waits, target_front};
-ghost use Rattle.world_model.specs.declared.ending.Limits.{Limits};
+ghost use Rattle.session_model.specs.Causes.{IsWaiting};
+ghost use Rattle.session_model.specs.States.{target_front};
+ghost use Rattle.session_model.specs.declared.ending.Limits.{Limits};
+ghost use Rattle.wire_core.specs.Streams.{Front};
 
 use crate::inputs::Inputs;
 use crate::telling::tell;
 use bridge_core::Core;
 use dap_frames::Body;
 use jdwp_packets::Packet;
+use session_model::Ending;
 use std::alloc::Global;
 use wire_core::Wires;
-use world_model::Ending;
 
 /// Handles all that came, message by message, each as far as possible before the next one is cut.
 pub(crate) fn handle<W: Wires>(
@@ -24,12 +24,11 @@ pub(crate) fn handle<W: Wires>(
     inputs: &mut Inputs,
     core: &mut Core,
 ) -> Result<(), Ending>
-    requires ready { IsReady (W.outside wires.old) core.old inputs.old }
-    requires small { target_end inputs.old < 2 ^ 62 }
+    requires { MayTake (W.outside wires.old) core.old inputs.old }
     ensures ok { OnOk result
         (GoesOn (W.outside wires.old) (W.outside wires.new) core.old core.new inputs.old inputs.new) }
     ensures waits { OnOk result
-        ((limits : Limits) → core.old.limit ≡ limits.waiting → Waits limits (standing core.new inputs.new)) }
+        ((limits : Limits) → core.old.limit ≡ limits.waiting → IsWaiting limits (session_in core.new inputs.new)) }
     ensures err { IfErr result (Stops (W.outside wires.old) (W.outside wires.new) core.old core.new inputs.old) }
 {
     take_end(alloc, wires, inputs, core)?;
@@ -45,10 +44,10 @@ fn take_end<W: Wires>(
     inputs: &mut Inputs,
     core: &mut Core,
 ) -> Result<(), Ending>
-    requires { IsReady (W.outside wires.old) core.old inputs.old }
+    requires { MayTake (W.outside wires.old) core.old inputs.old }
     ensures ok { OnOk result
         (GoesOn (W.outside wires.old) (W.outside wires.new) core.old core.new inputs.old inputs.new) }
-    ensures not_ended { OnOk result (inputs.new.uncuts.ended ≡ false) }
+    ensures not_ended { OnOk result (inputs.new.ended ≡ false) }
     ensures err { IfErr result (Stops (W.outside wires.old) (W.outside wires.new) core.old core.new inputs.old) }
 {
     if !inputs.ended {
@@ -66,8 +65,8 @@ fn take_greeting<W: Wires>(
     inputs: &Inputs,
     core: &mut Core,
 ) -> Result<(), Ending>
-    requires ready { IsReady (W.outside wires.old) core.old inputs.now }
-    requires not_ended { inputs.now.uncuts.ended ≡ false }
+    requires ready { MayTake (W.outside wires.old) core.old inputs.now }
+    requires not_ended { inputs.now.ended ≡ false }
     ensures ok { OnOk result
         (GoesOn (W.outside wires.old) (W.outside wires.new) core.old core.new inputs.now inputs.now) }
     ensures taken_up { OnOk result (IsTakenUp core.new inputs.now) }
@@ -87,13 +86,12 @@ fn take_packets<W: Wires>(
     inputs: &mut Inputs,
     core: &mut Core,
 ) -> Result<(), Ending>
-    requires ready { IsReady (W.outside wires.old) core.old inputs.old }
+    requires ready { MayTake (W.outside wires.old) core.old inputs.old }
     requires taken_up { IsTakenUp core.old inputs.old }
-    requires small { target_end inputs.old < 2 ^ 62 }
     ensures ok { OnOk result
         (GoesOn (W.outside wires.old) (W.outside wires.new) core.old core.new inputs.old inputs.new) }
     ensures taken_up { OnOk result (IsTakenUp core.new inputs.new) }
-    ensures no_packet { OnOk result (target_front (place_of core.new inputs.new.uncuts) ≡ waits) }
+    ensures no_packet { OnOk result (target_front (streams_in core.new inputs.new) ≡ Front.waits) }
     ensures err { IfErr result (Stops (W.outside wires.old) (W.outside wires.new) core.old core.new inputs.old) }
 {
     while take_packet(alloc, wires, inputs, core)? {}
@@ -107,15 +105,14 @@ fn take_packet<W: Wires>(
     inputs: &mut Inputs,
     core: &mut Core,
 ) -> Result<bool, Ending>
-    requires ready { IsReady (W.outside wires.old) core.old inputs.old }
+    requires ready { MayTake (W.outside wires.old) core.old inputs.old }
     requires taken_up { IsTakenUp core.old inputs.old }
-    requires small { target_end inputs.old < 2 ^ 62 }
     ensures ok { OnOk result
         (GoesOn (W.outside wires.old) (W.outside wires.new) core.old core.new inputs.old inputs.new) }
     ensures taken_up { OnOk result (IsTakenUp core.new inputs.new) }
     ensures more { result ≡ Ok true
-        → length inputs.new.uncuts.target.stream.pending < length inputs.old.uncuts.target.stream.pending }
-    ensures no_packet { result ≡ Ok false → target_front (place_of core.new inputs.new.uncuts) ≡ waits }
+        → length inputs.new.target.stream.pending < length inputs.old.target.stream.pending }
+    ensures no_packet { result ≡ Ok false → target_front (streams_in core.new inputs.new) ≡ Front.waits }
     ensures err { IfErr result (Stops (W.outside wires.old) (W.outside wires.new) core.old core.new inputs.old) }
 {
     let Some(packet) = inputs.next_packet()? else {
@@ -132,9 +129,7 @@ fn hear_packet<W: Wires>(
     core: &mut Core,
     packet: Packet<'_>,
 ) -> Result<(), Ending>
-    requires ready { CoreIsReady (W.outside wires.old) core.old }
-    requires small { offset_of packet < 2 ^ 62 }
-    requires short { length (body_of packet) ≤ 67108853 }
+    requires { MayTell (W.outside wires.old) core.old }
     ensures ok { OnOk result
         (Handles (TakesPacket core.old (offset_of packet.entry) (packet_of packet.entry))
         (W.outside wires.old) (W.outside wires.new) core.new) }
@@ -154,13 +149,13 @@ fn take_bodies<W: Wires>(
     inputs: &mut Inputs,
     core: &mut Core,
 ) -> Result<(), Ending>
-    requires ready { IsReady (W.outside wires.old) core.old inputs.old }
+    requires ready { MayTake (W.outside wires.old) core.old inputs.old }
     requires taken_up { IsTakenUp core.old inputs.old }
-    requires no_packet { target_front (place_of core.old inputs.old.uncuts) ≡ waits }
+    requires no_packet { target_front (streams_in core.old inputs.old) ≡ Front.waits }
     ensures ok { OnOk result
         (GoesOn (W.outside wires.old) (W.outside wires.new) core.old core.new inputs.old inputs.new) }
     ensures waits { OnOk result
-        ((limits : Limits) → core.old.limit ≡ limits.waiting → Waits limits (standing core.new inputs.new)) }
+        ((limits : Limits) → core.old.limit ≡ limits.waiting → IsWaiting limits (session_in core.new inputs.new)) }
     ensures err { IfErr result (Stops (W.outside wires.old) (W.outside wires.new) core.old core.new inputs.old) }
 {
     while take_body(alloc, wires, inputs, core)? {}
@@ -174,16 +169,16 @@ fn take_body<W: Wires>(
     inputs: &mut Inputs,
     core: &mut Core,
 ) -> Result<bool, Ending>
-    requires ready { IsReady (W.outside wires.old) core.old inputs.old }
+    requires ready { MayTake (W.outside wires.old) core.old inputs.old }
     requires taken_up { IsTakenUp core.old inputs.old }
     ensures ok { OnOk result
         (GoesOn (W.outside wires.old) (W.outside wires.new) core.old core.new inputs.old inputs.new) }
     ensures more { result ≡ Ok true
-        → length inputs.new.uncuts.client.pending < length inputs.old.uncuts.client.pending }
+        → length inputs.new.client.pending < length inputs.old.client.pending }
     ensures waits { result ≡ Ok false
-        → (core.new.state.closing ≡ true) ⊎ (frame_front inputs.new.uncuts.client.pending ≡ waits) }
+        → (core.new.machine.closing ≡ true) ⊎ (frame_front inputs.new.client.pending ≡ Front.waits) }
     ensures taken_up { OnOk result (IsTakenUp core.new inputs.new) }
-    ensures target { OnOk result (inputs.new.uncuts.target ≡ inputs.old.uncuts.target) }
+    ensures target { OnOk result (inputs.new.target ≡ inputs.old.target) }
     ensures err { IfErr result (Stops (W.outside wires.old) (W.outside wires.new) core.old core.new inputs.old) }
 {
     if core.is_closing() {
@@ -203,7 +198,7 @@ fn hear_body<W: Wires>(
     core: &mut Core,
     body: Body<'_>,
 ) -> Result<(), Ending>
-    requires { CoreIsReady (W.outside wires.old) core.old }
+    requires { MayTell (W.outside wires.old) core.old }
     ensures ok { OnOk result
         (Handles (Takes core.old body.entry.bytes.now) (W.outside wires.old) (W.outside wires.new) core.new) }
     ensures err { IfErr result

@@ -1,17 +1,18 @@
 ghost use Rattle.std.specs.Prelude.{◌≡◌, ◌+◌, ◌^◌, ◌<◌, ◌≤◌, length, OnOk, IfErr};
-ghost use Rattle.bridge_core.specs.Steps.{Sight};
+ghost use Rattle.bridge_core.specs.Cores.{CoreState};
 ghost use Rattle.bridge_serve.specs.Serving.{Keeps};
 ghost use Rattle.bridge_serve.specs.Following.{MayHear, Hears, HearsEnd, client_end, target_end};
 ghost use Rattle.wire_core.specs.Outside.{IsOpen};
 ghost use Rattle.wire_core.specs.declared.outside.Side.TheVariants.{Client};
-ghost use Rattle.world_model.specs.declared.ending.Limits.{Limits};
+ghost use Rattle.session_model.specs.declared.ending.Limits.{Limits};
 
 use crate::inputs::Inputs;
+use session_model::Ending;
 use wire_core::{Happening, Side, Wires};
-use world_model::Ending;
 
 /// Waits for what comes next. Bytes are fed to their side's cutter; the client's end and the failure of a link end the
 /// session.
+#[tactic(auto, using(crate::proofs::Logs::keeps_heard))]
 pub(crate) fn hear<W: Wires>(
     wires: &mut W,
     buffer: &mut [u8],
@@ -22,14 +23,14 @@ pub(crate) fn hear<W: Wires>(
     requires client_small { client_end inputs.old + 65536 < 2 ^ 63 }
     requires target_small { target_end inputs.old + 65536 < 2 ^ 63 }
     requires few { inputs.old.quiets < 2 ^ 63 }
-    ensures ok { OnOk result ((limits : Limits) (core : Sight) → MayHear limits (W.outside wires.old) core inputs.old
+    ensures ok { OnOk result ((limits : Limits) (core : CoreState) → MayHear limits (W.outside wires.old) core inputs.old
         → Hears limits (W.outside wires.old) (W.outside wires.new) core inputs.old inputs.new) }
     ensures client_grows { OnOk result (client_end inputs.new ≤ client_end inputs.old + 65536) }
     ensures target_grows { OnOk result (target_end inputs.new ≤ target_end inputs.old + 65536) }
     ensures quiets { inputs.new.quiets ≤ inputs.old.quiets + 1 }
     ensures keeps { Keeps (W.outside wires.old) (W.outside wires.new) }
     ensures err { IfErr result
-        (λ ending. (limits : Limits) (core : Sight) → MayHear limits (W.outside wires.old) core inputs.old
+        (λ ending. (limits : Limits) (core : CoreState) → MayHear limits (W.outside wires.old) core inputs.old
         → HearsEnd limits (W.outside wires.old) (W.outside wires.new) core inputs.old ending) }
 {
     let quiets = inputs.quiets;

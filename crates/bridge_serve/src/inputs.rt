@@ -8,9 +8,9 @@ ghost use Rattle.jdwp_packets.specs.Taking.{IsTaken as IsPacket};
 
 use dap_frames::{Body, Cutter};
 use jdwp_packets::{Packet, PacketCutter};
+use session_model::{ClientFault, Ending, TargetFault};
 use std::alloc::Global;
 use std::marker::Model;
-use world_model::{ClientFault, Ending, TargetFault};
 
 /// What came in and isn't handled yet: the client's bytes, the target's, whether the end of the target's stream has
 /// still to be taken up; and how many waits in a row were in vain.
@@ -23,14 +23,11 @@ pub(crate) struct Inputs {
 }
 
 impl Model for Inputs {
-    ghost use Rattle.bridge_serve.specs.Following.{Heard};
+    ghost use Rattle.bridge_core.specs.Cores.{Unheard};
 
-    ghost Value = { Heard };
+    ghost Value = { Unheard };
 
-    ghost view = { λ i. record {
-      uncuts = record { client = i.cutter; target = i.packets; ended = i.ended };
-      quiets = i.quiets;
-    } };
+    ghost view = { λ i. record { client = i.cutter; target = i.packets; ended = i.ended; quiets = i.quiets } };
 }
 
 impl Inputs {
@@ -47,7 +44,7 @@ impl Inputs {
     }
     /// Hands out the client's next body, where a whole frame is there.
     pub(crate) fn next_body(&mut self) -> Result<Option<Body<'_>>, Ending>
-        ensures ok { IfOk result (λ next. IsBody self.old.uncuts.client (Ok next)) }
+        ensures ok { IfOk result (λ next. IsBody self.old.client (Ok next)) }
         ensures err { IfErr result (IsMisframed self.old) }
         ensures* after_borrow { sem 𝓛 (Rests the_row self.entry (λ new. new ≡ body_taken self.old)) }
     {
@@ -62,7 +59,7 @@ impl Inputs {
 
     /// Hands out the target's next packet, where a whole one is there.
     pub(crate) fn next_packet(&mut self) -> Result<Option<Packet<'_>>, Ending>
-        ensures ok { IfOk result (λ next. IsPacket self.old.uncuts.target (Ok next)) }
+        ensures ok { IfOk result (λ next. IsPacket self.old.target (Ok next)) }
         ensures err { IfErr result (IsMispacked self.old) }
         ensures* after_borrow { sem 𝓛 (Rests the_row self.entry (λ new. new ≡ packet_taken self.old)) }
     {

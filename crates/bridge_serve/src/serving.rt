@@ -1,19 +1,20 @@
 ghost use Rattle.std.specs.Prelude.{◌≡◌, length, replicate, vec_len, IfOk, OnOk, IfErr};
-ghost use Rattle.bridge_core.specs.Steps.{fresh_core};
-ghost use Rattle.bridge_serve.specs.Serving.{Keeps, Blames};
+ghost use Rattle.bridge_core.specs.Cores.{fresh_core};
+ghost use Rattle.bridge_serve.specs.Serving.{Blames, Idles, Keeps};
 ghost use Rattle.bridge_serve.specs.Following.{Served, Ran};
 ghost use Rattle.wire_core.specs.Outside.{IsOpen};
 ghost use Rattle.wire_core.specs.declared.outside.Side.TheVariants.{Client, Target};
-ghost use Rattle.world_model.specs.Session.{AreLimits, IsSession};
+ghost use Rattle.session_model.specs.Session.{IsSession};
+ghost use Rattle.session_model.specs.States.{AreLimits};
 
 use crate::handling::handle;
 use crate::hearing::hear;
 use crate::inputs::Inputs;
 use crate::saying::say;
 use bridge_core::Core;
+use session_model::{Ending, Limits};
 use std::alloc::Global;
 use wire_core::{NoMemory, Wires};
-use world_model::{Ending, Limits};
 
 // The bytes that are asked for at a time.
 const PIECE: usize = 65_536;
@@ -27,9 +28,11 @@ pub fn serve<W: Wires>(alloc: Global, limits: &Limits, wires: &mut W) -> Ending
     // What this call did to the wires is a session of the bridge that ended so.
     ensures session { IsSession (W.outside wires.old) (W.outside wires.new) limits.now result }
 
-    // No count fell, and a link is blamed only where the count of its faults rose.
+    // No count fell, and no side was opened. A link is blamed only where the count of its faults rose and it is closed,
+    // as the client is that has left. Nothing came from a side that is still open for as long as `Idle` says.
     ensures keeps { Keeps (W.outside wires.old) (W.outside wires.new) }
     ensures blames { Blames (W.outside wires.old) (W.outside wires.new) result }
+    ensures idles { Idles limits.now (W.outside wires.old) (W.outside wires.new) result }
 {
     match Core::new(alloc, limits) {
         Ok(core) => serve_with(alloc, limits, wires, core),

@@ -1,19 +1,21 @@
 ghost use Rattle.std.specs.Prelude.{◌≡◌, ◌<◌, Ok, true, false, OnOk, IfErr};
-ghost use Rattle.bridge_core.specs.Steps.{work};
-ghost use Rattle.bridge_serve.specs.Following.{CoreGoesOn, CoreStops, CoreIsReady};
-ghost use Rattle.world_model.specs.Machine.{due, Due};
-ghost use Rattle.world_model.specs.Session.{link_ending};
+ghost use Rattle.bridge_core.specs.Working.{work};
+ghost use Rattle.bridge_serve.specs.Following.{CoreGoesOn, CoreStops, MayTell};
+ghost use Rattle.machine_model.specs.Due.{due};
+ghost use Rattle.machine_model.specs.declared.acts.Act.{Act};
+ghost use Rattle.session_model.specs.Causes.{link_ending};
+ghost use Rattle.session_model.specs.States.{id_pending};
 
 use bridge_core::Core;
+use session_model::Ending;
 use std::alloc::Global;
 use wire_core::{Side, Wires};
-use world_model::Ending;
 
 /// Sends all that is due, in order.
 pub(crate) fn tell<W: Wires>(alloc: Global, wires: &mut W, core: &mut Core) -> Result<(), Ending>
-    requires { CoreIsReady (W.outside wires.old) core.old }
+    requires { MayTell (W.outside wires.old) core.old }
     ensures ok { OnOk result (CoreGoesOn (W.outside wires.old) (W.outside wires.new) core.old core.new) }
-    ensures nothing_due { OnOk result (due core.new.state ≡ Due.waits) }
+    ensures nothing_due { OnOk result ((due (id_pending core.new.commands) core.new.machine).act ≡ Act.Waits) }
     ensures err { IfErr result (CoreStops (W.outside wires.old) (W.outside wires.new) core.old core.new) }
 {
     while tell_next(alloc, wires, core)? {}
@@ -22,16 +24,20 @@ pub(crate) fn tell<W: Wires>(alloc: Global, wires: &mut W, core: &mut Core) -> R
 
 // Sends the next message, and says whether there was one.
 fn tell_next<W: Wires>(alloc: Global, wires: &mut W, core: &mut Core) -> Result<bool, Ending>
-    requires { CoreIsReady (W.outside wires.old) core.old }
+    requires { MayTell (W.outside wires.old) core.old }
     ensures ok { OnOk result (CoreGoesOn (W.outside wires.old) (W.outside wires.new) core.old core.new) }
-    ensures more { result ≡ Ok true → work core.new.state < work core.old.state }
-    ensures nothing_due { result ≡ Ok false → due core.new.state ≡ Due.waits }
+    ensures more { result ≡ Ok true → work core.new.machine < work core.old.machine }
+    ensures nothing_due { result ≡ Ok false → (due (id_pending core.new.commands) core.new.machine).act ≡ Act.Waits }
     ensures err { IfErr result (CoreStops (W.outside wires.old) (W.outside wires.new) core.old core.new) }
 {
+    let before = core.phase();
     match core.out(alloc) {
         Ok(Some(out)) => match wires.send(out.side, out.bytes.as_slice()) {
             Ok(()) => Ok(true),
-            Err(_) => Err(link_ending(out.side)),
+            Err(_) => {
+                core.unsent(before);
+                Err(link_ending(out.side))
+            }
         },
         Ok(None) => Ok(false),
         Err(ending) => Err(ending),

@@ -1,16 +1,16 @@
 ghost use Rattle.std.specs.Prelude.{IfOk, IfSome};
+ghost use Rattle.session_model.specs.States.{AreLimits};
 ghost use Rattle.wire_core.specs.MemoryWires.{outside_of};
 ghost use Rattle.wire_core.specs.Outside.{IsOpen};
 ghost use Rattle.wire_core.specs.declared.outside.Side.TheVariants.{Client, Target};
-ghost use Rattle.world_model.specs.Session.{AreLimits};
 
 use crate::serve;
 use dap_frames::FrameFault;
 use jdwp_packets::PacketFault;
+use session_model::{ClientFault, Ending, Limits, TargetFault};
 use std::alloc::Global;
 use std::test::Fail;
 use wire_core::{Cut, Entry, List, MemoryWires, Side, Step};
-use world_model::{ClientFault, Ending, Limits, TargetFault};
 
 const CAPABILITIES: &[u8] =
     b"Content-Length: 424\r\n\r\n{\"body\":{\"exceptionBreakpointFilters\":[{\"filter\":\"caught\",\"label\":\"Caught exceptions\"},{\"filter\":\"uncaught\",\"label\":\"Uncaught exceptions\"}],\"supportTerminateDebuggee\":true,\"supportsConfigurationDoneRequest\":true,\"supportsEvaluateForHovers\":true,\"supportsExceptionInfoRequest\":true,\"supportsFunctionBreakpoints\":true,\"supportsSetVariable\":true},\"command\":\"initialize\",\"request_seq\":1,\"seq\":1,\"success\":true,\"type\":\"response\"}";
@@ -264,6 +264,68 @@ const ATTACHED: &[Course<'static>] = &[
     },
 ];
 
+// A reply of twenty threads, with the ids 1 to 20.
+const TWENTY: &[u8] = b"\x00\x00\x00\xaf\x00\x00\x00\x04\x80\x00\x00\x00\x00\x00\x14\
+    \x00\x00\x00\x00\x00\x00\x00\x01\x00\x00\x00\x00\x00\x00\x00\x02\x00\x00\x00\x00\x00\x00\x00\x03\x00\x00\x00\x00\x00\x00\x00\x04\
+    \x00\x00\x00\x00\x00\x00\x00\x05\x00\x00\x00\x00\x00\x00\x00\x06\x00\x00\x00\x00\x00\x00\x00\x07\x00\x00\x00\x00\x00\x00\x00\x08\
+    \x00\x00\x00\x00\x00\x00\x00\x09\x00\x00\x00\x00\x00\x00\x00\x0a\x00\x00\x00\x00\x00\x00\x00\x0b\x00\x00\x00\x00\x00\x00\x00\x0c\
+    \x00\x00\x00\x00\x00\x00\x00\x0d\x00\x00\x00\x00\x00\x00\x00\x0e\x00\x00\x00\x00\x00\x00\x00\x0f\x00\x00\x00\x00\x00\x00\x00\x10\
+    \x00\x00\x00\x00\x00\x00\x00\x11\x00\x00\x00\x00\x00\x00\x00\x12\x00\x00\x00\x00\x00\x00\x00\x13\x00\x00\x00\x00\x00\x00\x00\x14";
+
+// The names of the first sixteen threads are asked.
+const SIXTEEN_ASKED: &[u8] =
+    b"\x00\x00\x00\x13\x00\x00\x00\x05\x00\x0b\x01\x00\x00\x00\x00\x00\x00\x00\x01\
+    \x00\x00\x00\x13\x00\x00\x00\x06\x00\x0b\x01\x00\x00\x00\x00\x00\x00\x00\x02\
+    \x00\x00\x00\x13\x00\x00\x00\x07\x00\x0b\x01\x00\x00\x00\x00\x00\x00\x00\x03\
+    \x00\x00\x00\x13\x00\x00\x00\x08\x00\x0b\x01\x00\x00\x00\x00\x00\x00\x00\x04\
+    \x00\x00\x00\x13\x00\x00\x00\x09\x00\x0b\x01\x00\x00\x00\x00\x00\x00\x00\x05\
+    \x00\x00\x00\x13\x00\x00\x00\x0a\x00\x0b\x01\x00\x00\x00\x00\x00\x00\x00\x06\
+    \x00\x00\x00\x13\x00\x00\x00\x0b\x00\x0b\x01\x00\x00\x00\x00\x00\x00\x00\x07\
+    \x00\x00\x00\x13\x00\x00\x00\x0c\x00\x0b\x01\x00\x00\x00\x00\x00\x00\x00\x08\
+    \x00\x00\x00\x13\x00\x00\x00\x0d\x00\x0b\x01\x00\x00\x00\x00\x00\x00\x00\x09\
+    \x00\x00\x00\x13\x00\x00\x00\x0e\x00\x0b\x01\x00\x00\x00\x00\x00\x00\x00\x0a\
+    \x00\x00\x00\x13\x00\x00\x00\x0f\x00\x0b\x01\x00\x00\x00\x00\x00\x00\x00\x0b\
+    \x00\x00\x00\x13\x00\x00\x00\x10\x00\x0b\x01\x00\x00\x00\x00\x00\x00\x00\x0c\
+    \x00\x00\x00\x13\x00\x00\x00\x11\x00\x0b\x01\x00\x00\x00\x00\x00\x00\x00\x0d\
+    \x00\x00\x00\x13\x00\x00\x00\x12\x00\x0b\x01\x00\x00\x00\x00\x00\x00\x00\x0e\
+    \x00\x00\x00\x13\x00\x00\x00\x13\x00\x0b\x01\x00\x00\x00\x00\x00\x00\x00\x0f\
+    \x00\x00\x00\x13\x00\x00\x00\x14\x00\x0b\x01\x00\x00\x00\x00\x00\x00\x00\x10";
+
+// Their names come, the last one first.
+const SIXTEEN_NAMED: &[u8] = b"\x00\x00\x00\x10\x00\x00\x00\x14\x80\x00\x00\x00\x00\x00\x01p\
+    \x00\x00\x00\x10\x00\x00\x00\x13\x80\x00\x00\x00\x00\x00\x01o\
+    \x00\x00\x00\x10\x00\x00\x00\x12\x80\x00\x00\x00\x00\x00\x01n\
+    \x00\x00\x00\x10\x00\x00\x00\x11\x80\x00\x00\x00\x00\x00\x01m\
+    \x00\x00\x00\x10\x00\x00\x00\x10\x80\x00\x00\x00\x00\x00\x01l\
+    \x00\x00\x00\x10\x00\x00\x00\x0f\x80\x00\x00\x00\x00\x00\x01k\
+    \x00\x00\x00\x10\x00\x00\x00\x0e\x80\x00\x00\x00\x00\x00\x01j\
+    \x00\x00\x00\x10\x00\x00\x00\x0d\x80\x00\x00\x00\x00\x00\x01i\
+    \x00\x00\x00\x10\x00\x00\x00\x0c\x80\x00\x00\x00\x00\x00\x01h\
+    \x00\x00\x00\x10\x00\x00\x00\x0b\x80\x00\x00\x00\x00\x00\x01g\
+    \x00\x00\x00\x10\x00\x00\x00\x0a\x80\x00\x00\x00\x00\x00\x01f\
+    \x00\x00\x00\x10\x00\x00\x00\x09\x80\x00\x00\x00\x00\x00\x01e\
+    \x00\x00\x00\x10\x00\x00\x00\x08\x80\x00\x00\x00\x00\x00\x01d\
+    \x00\x00\x00\x10\x00\x00\x00\x07\x80\x00\x00\x00\x00\x00\x01c\
+    \x00\x00\x00\x10\x00\x00\x00\x06\x80\x00\x00\x00\x00\x00\x01b\
+    \x00\x00\x00\x10\x00\x00\x00\x05\x80\x00\x00\x00\x00\x00\x01a";
+
+// The names of the other four are asked.
+const FOUR_ASKED: &[u8] =
+    b"\x00\x00\x00\x13\x00\x00\x00\x15\x00\x0b\x01\x00\x00\x00\x00\x00\x00\x00\x11\
+    \x00\x00\x00\x13\x00\x00\x00\x16\x00\x0b\x01\x00\x00\x00\x00\x00\x00\x00\x12\
+    \x00\x00\x00\x13\x00\x00\x00\x17\x00\x0b\x01\x00\x00\x00\x00\x00\x00\x00\x13\
+    \x00\x00\x00\x13\x00\x00\x00\x18\x00\x0b\x01\x00\x00\x00\x00\x00\x00\x00\x14";
+
+// These come, the last one first, too.
+const FOUR_NAMED: &[u8] = b"\x00\x00\x00\x10\x00\x00\x00\x18\x80\x00\x00\x00\x00\x00\x01t\
+    \x00\x00\x00\x10\x00\x00\x00\x17\x80\x00\x00\x00\x00\x00\x01s\
+    \x00\x00\x00\x10\x00\x00\x00\x16\x80\x00\x00\x00\x00\x00\x01r\
+    \x00\x00\x00\x10\x00\x00\x00\x15\x80\x00\x00\x00\x00\x00\x01q";
+
+// What the client is told of the twenty.
+const TOLD_TWENTY: &[u8] =
+    b"Content-Length: 510\r\n\r\n{\"body\":{\"threads\":[{\"id\":1,\"name\":\"a\"},{\"id\":2,\"name\":\"b\"},{\"id\":3,\"name\":\"c\"},{\"id\":4,\"name\":\"d\"},{\"id\":5,\"name\":\"e\"},{\"id\":6,\"name\":\"f\"},{\"id\":7,\"name\":\"g\"},{\"id\":8,\"name\":\"h\"},{\"id\":9,\"name\":\"i\"},{\"id\":10,\"name\":\"j\"},{\"id\":11,\"name\":\"k\"},{\"id\":12,\"name\":\"l\"},{\"id\":13,\"name\":\"m\"},{\"id\":14,\"name\":\"n\"},{\"id\":15,\"name\":\"o\"},{\"id\":16,\"name\":\"p\"},{\"id\":17,\"name\":\"q\"},{\"id\":18,\"name\":\"r\"},{\"id\":19,\"name\":\"s\"},{\"id\":20,\"name\":\"t\"}]},\"command\":\"threads\",\"request_seq\":2,\"seq\":3,\"success\":true,\"type\":\"response\"}";
+
 const THREADS: &[Course<'static>] = &[
     // two threads, of which one has no name any more; then the target is left
     Course {
@@ -354,6 +416,60 @@ const THREADS: &[Course<'static>] = &[
         ],
         ending: Ending::Left,
     },
+    // sixteen names are asked at once, the others as replies come
+    Course {
+        attached: true,
+        steps: &[
+            Came::Bytes(
+                Side::Client,
+                b"Content-Length: 46\r\n\r\n{\"seq\":2,\"type\":\"request\",\"command\":\"threads\"}",
+            ),
+            Came::Bytes(Side::Target, TWENTY),
+            Came::Bytes(
+                Side::Client,
+                b"Content-Length: 49\r\n\r\n{\"seq\":3,\"type\":\"request\",\"command\":\"disconnect\"}",
+            ),
+            Came::Bytes(Side::Target, SIXTEEN_NAMED),
+            Came::Bytes(Side::Target, FOUR_NAMED),
+            Came::Bytes(
+                Side::Target,
+                b"\x00\x00\x00\x0b\x00\x00\x00\x19\x80\x00\x00",
+            ),
+        ],
+        limits: USUAL,
+        failing: &[],
+        told: &[
+            TOLD_TWENTY,
+            b"Content-Length: 81\r\n\r\n{\"command\":\"disconnect\",\"request_seq\":3,\"seq\":4,\"success\":true,\"type\":\"response\"}",
+        ],
+        sent: &[
+            b"\x00\x00\x00\x0b\x00\x00\x00\x04\x00\x01\x04",
+            SIXTEEN_ASKED,
+            FOUR_ASKED,
+            b"\x00\x00\x00\x0b\x00\x00\x00\x19\x00\x01\x06",
+        ],
+        ending: Ending::Done,
+    },
+    // no more than sixteen are asked before a reply
+    Course {
+        attached: true,
+        steps: &[
+            Came::Bytes(
+                Side::Client,
+                b"Content-Length: 46\r\n\r\n{\"seq\":2,\"type\":\"request\",\"command\":\"threads\"}",
+            ),
+            Came::Bytes(Side::Target, TWENTY),
+        ],
+        limits: USUAL,
+        failing: &[],
+        told: &[],
+        sent: &[
+            b"\x00\x00\x00\x0b\x00\x00\x00\x04\x00\x01\x04",
+            SIXTEEN_ASKED,
+            b"\x00\x00\x00\x0b\x00\x00\x00\x15\x00\x01\x06",
+        ],
+        ending: Ending::Left,
+    },
 ];
 
 const ENDS: &[Course<'static>] = &[
@@ -383,7 +499,7 @@ const ENDS: &[Course<'static>] = &[
         sent: &[b"\x00\x00\x00\x0b\x00\x00\x00\x04\x00\x01\x04"],
         ending: Ending::Done,
     },
-    // an error of a dead target is its end, once
+    // an error of a dead target is its end, once; what comes of it later changes nothing
     Course {
         attached: true,
         steps: &[
@@ -391,7 +507,19 @@ const ENDS: &[Course<'static>] = &[
                 Side::Client,
                 b"Content-Length: 46\r\n\r\n{\"seq\":2,\"type\":\"request\",\"command\":\"threads\"}",
             ),
-            Came::Bytes(Side::Target, b"\x00\x00\x00\x0b\x00\x00\x00\x04\x80\x00p"),
+            Came::Bytes(
+                Side::Target,
+                b"\x00\x00\x00\x1f\x00\x00\x00\x04\x80\x00\x00\x00\x00\x00\x02\x00\x00\x00\x00\x00\x00\x00\x01\x00\x00\x00\x00\x00\x00\x00\x02",
+            ),
+            Came::Bytes(Side::Target, b"\x00\x00\x00\x0b\x00\x00\x00\x06\x80\x00p"),
+            Came::Bytes(
+                Side::Target,
+                b"\x00\x00\x00\x13\x00\x00\x00\x05\x80\x00\x00\x00\x00\x00\x04main",
+            ),
+            Came::Bytes(
+                Side::Target,
+                b"\x00\x00\x00\x1d\x00\x00\x00\x01\x00\x40\x64\x00\x00\x00\x00\x01\x06\x00\x00\x00\x01\x00\x00\x00\x00\x00\x00\x00\x01",
+            ),
             Came::Shut(Side::Target),
             Came::Bytes(
                 Side::Client,
@@ -405,7 +533,11 @@ const ENDS: &[Course<'static>] = &[
             b"Content-Length: 45\r\n\r\n{\"event\":\"terminated\",\"seq\":4,\"type\":\"event\"}",
             b"Content-Length: 150\r\n\r\n{\"body\":{\"error\":{\"format\":\"targetGone\",\"id\":10}},\"command\":\"attach\",\"message\":\"targetGone\",\"request_seq\":3,\"seq\":5,\"success\":false,\"type\":\"response\"}",
         ],
-        sent: &[b"\x00\x00\x00\x0b\x00\x00\x00\x04\x00\x01\x04"],
+        sent: &[
+            b"\x00\x00\x00\x0b\x00\x00\x00\x04\x00\x01\x04",
+            b"\x00\x00\x00\x13\x00\x00\x00\x05\x00\x0b\x01\x00\x00\x00\x00\x00\x00\x00\x01",
+            b"\x00\x00\x00\x13\x00\x00\x00\x06\x00\x0b\x01\x00\x00\x00\x00\x00\x00\x00\x02",
+        ],
         ending: Ending::Left,
     },
     // which threads there are is refused
@@ -707,6 +839,32 @@ const LINKS: &[Course<'static>] = &[
         told: &[ATTACH_FAILED, b"Con"],
         sent: &[b"JDWP-"],
         ending: Ending::TargetLink,
+    },
+    // it fails inside `initialized`, before the target counts as attached
+    Course {
+        attached: false,
+        steps: &ATTACHING,
+        limits: USUAL,
+        failing: &[(Side::Client, 1, 45)],
+        told: &[
+            b"Content-Length: 77\r\n\r\n{\"command\":\"attach\",\"request_seq\":1,\"seq\":1,\"success\":true,\"type\":\"response\"}",
+            b"Content-Length: 46\r\n\r\n{\"event\":\"initialized\",",
+        ],
+        sent: &SENT_ATTACHED,
+        ending: Ending::ClientLink,
+    },
+    // and inside what is told next: the target is left to run on
+    Course {
+        attached: true,
+        steps: &[Came::Bytes(
+            Side::Client,
+            b"Content-Length: 84\r\n\r\n{\"seq\":2,\"type\":\"request\",\"command\":\"attach\",\"arguments\":{\"sourceRoots\":[\"/p/src\"]}}",
+        )],
+        limits: USUAL,
+        failing: &[(Side::Client, 2, 5)],
+        told: &[b"Conte"],
+        sent: &[b"\x00\x00\x00\x0b\x00\x00\x00\x04\x00\x01\x06"],
+        ending: Ending::ClientLink,
     },
     // the target's link fails
     Course {

@@ -149,6 +149,13 @@ impl State {
         self.phase = Phase::Gone;
     }
 
+    /// The session stands with its target as before a message that couldn't be told.
+    pub fn return_to(&mut self, phase: Phase)
+        ensures { self.new ≡ record self.old { phase = phase } }
+    {
+        self.phase = phase;
+    }
+
     // What the telling of an event changes.
     pub(crate) fn tell(&mut self, event: Event)
         ensures { self.new ≡ after_event event self.old }

@@ -8,6 +8,7 @@ returns-in-Ok-connect g c = Does.serves c.in-Ok.ensures (record {
   session = rw c.standard.ensures.values at c.serve.ensures.session;
   keeps = c.serve.ensures.keeps;
   blames = c.serve.ensures.blames;
+  idles = rw c.standard.ensures.values at c.serve.ensures.idles;
 })
 
 pub returns-in-Err : goal.returns-in-Err

@@ -1,11 +1,11 @@
 use Rattle.std.proofs.lemmas.Result.{err_from_is_err_and}
 use Rattle.bridge_serve.specs.Following.{HandlesLast}
-use Rattle.bridge_serve.proofs.Cutting.{ready_behind}
+use Rattle.bridge_serve.proofs.Cutting.{tells_body}
 use Rattle.bridge_serve.proofs.Taking.{on_both, if_error}
 use Rattle.bridge_serve.proofs.handling.hear_body.Goals as goal
 
 pub tell-requires : goal.tell-requires
-tell-requires g c = ready_behind _ _ _ _ c.requires c.in_ok-client_body.ensures.ok
+tell-requires g c = tells_body _ _ _ _ c.requires c.in_ok-client_body.ensures.ready c.in_ok-client_body.ensures.ok
 
 pub returns-in_err-client_body-clause-err : goal.returns-in_err-client_body-clause-err
 returns-in_err-client_body-clause-err g c =

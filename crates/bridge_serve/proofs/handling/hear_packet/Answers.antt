@@ -1,10 +1,10 @@
 use Rattle.std.proofs.lemmas.Result.{err_from_is_err_and}
 use Rattle.bridge_serve.specs.Following.{HandlesLast}
-use Rattle.bridge_serve.proofs.Taking.{ready_behind, if_error}
+use Rattle.bridge_serve.proofs.Taking.{if_error, tells_packet}
 use Rattle.bridge_serve.proofs.handling.hear_packet.Goals as goal
 
 pub tell-requires : goal.tell-requires
-tell-requires g c = ready_behind _ _ _ _ _ c.requires.ready c.in_ok-target_packet.ensures.ok
+tell-requires g c = tells_packet _ _ _ _ _ c.requires c.in_ok-target_packet.ensures.ready c.in_ok-target_packet.ensures.ok
 
 pub returns-in_err-target_packet-clause-err : goal.returns-in_err-target_packet-clause-err
 returns-in_err-target_packet-clause-err g c =

@@ -10,7 +10,7 @@ loop-init g c =
     record { goes_on = stays _ _ _ c.requires.ready; taken_up = c.requires.taken_up; no_packet = c.requires.no_packet }
 
 pub take_body-requires-clause-ready : goal.take_body-requires-clause-ready
-take_body-requires-clause-ready g c = c.loop.invariant.goes_on.ready
+take_body-requires-clause-ready g c = c.loop.invariant.goes_on.may_take
 
 pub loop-preserved : goal.loop-preserved
 loop-preserved g c = record {
@@ -34,7 +34,7 @@ pub returns-clause-waits : goal.returns-clause-waits
 returns-clause-waits g c limits limit =
     let now = on_and_on _ _ _ _ _ _ _ _ _ c.loop.invariant.goes_on c.in_ok-take_body.ensures.ok in
     let last = c.if-branch.false in
-    waits_on limits _ _ _ now.ready c.in_ok-take_body.ensures.taken_up
+    waits_on limits _ _ _ now.may_take c.in_ok-take_body.ensures.taken_up
     (ap (λ (r : Received). received_front r.greeted r.stream.pending) c.in_ok-take_body.ensures.target ∙
     c.loop.invariant.no_packet)
     (c.in_ok-take_body.ensures.waits cc) (now.same_limit ∙ limit)

@@ -1,8 +1,8 @@
 use Rattle.std.proofs.Common.{◌≡◌, length}
-use Rattle.bridge_core.specs.Steps.{place_of}
+use Rattle.bridge_core.specs.Cores.{streams_in}
 use Rattle.bridge_serve.specs.Following.{GoesOn, IsTakenUp}
-use Rattle.wire_core.specs.Streams.{waits}
-use Rattle.world_model.specs.Session.{target_front}
+use Rattle.session_model.specs.States.{target_front}
+use Rattle.wire_core.specs.Streams.{Front}
 use Rattle.bridge_serve.proofs.handling.take_bodies.Given as goal
 
 -- the session has gone on from where it stood, over the same bytes, and the target's are those that were left
@@ -12,9 +12,9 @@ invariant-loop g l =
     record {
       goes_on : GoesOn (outside l.initial.wires) (outside l.wires) l.initial.core l.core l.initial.inputs l.inputs;
       taken_up : IsTakenUp l.core l.inputs;
-      no_packet : target_front (place_of l.core l.inputs.uncuts) ≡ waits;
+      no_packet : target_front (streams_in l.core l.inputs) ≡ Front.waits;
     }
 
 -- each body takes bytes
 abbrev pub decreases-loop : goal.decreases-loop
-decreases-loop g l = length l.inputs.uncuts.client.pending
+decreases-loop g l = length l.inputs.client.pending

@@ -1,14 +1,17 @@
 use Rattle.std.proofs.Common.{sym}
 use Rattle.std.proofs.lemmas.Result.{err_from_is_err_and}
-use Rattle.bridge_serve.proofs.Cutting.{next_of, takes_body, refuses_body, misframed, fewer_behind}
-use Rattle.bridge_serve.proofs.Taking.{is_reading, handles_on, handles_last}
+use Rattle.bridge_serve.proofs.Cutting.{fewer_behind, misframes, next_of, refuses_body, takes_body}
+use Rattle.bridge_serve.proofs.Taking.{handles_last, handles_on, is_reading, may_tell}
 use Rattle.bridge_serve.proofs.handling.take_body.Goals as goal
 
 pub returns-in_err-body-clause-err : goal.returns-in_err-body-clause-err
 returns-in_err-body-clause-err g c =
     let reading = is_reading c.requires.ready c.requires.taken_up in
     let gives = err_from_is_err_and c.from_residual.result c.from_residual.ensures.1 in
-    rw (gives.1, gives.2) (misframed _ reading (sym c.if-is_closing.ensures) c.in_err-body.ensures.err)
+    rw (gives.1, gives.2) (misframes _ reading (sym c.if-is_closing.ensures) c.in_err-body.ensures.err)
+
+pub hear_body-requires : goal.hear_body-requires
+hear_body-requires g c = may_tell _ _ c.args.inputs.now c.requires.ready c.requires.taken_up.not_ended
 
 pub returns-in_err-hear_body-clause-err : goal.returns-in_err-hear_body-clause-err
 returns-in_err-hear_body-clause-err g c =

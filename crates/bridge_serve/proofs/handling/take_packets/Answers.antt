@@ -1,4 +1,3 @@
-use Rattle.std.proofs.Common.{arith}
 use Rattle.std.proofs.lemmas.Result.{err_from_is_err_and}
 use Rattle.bridge_serve.proofs.Taking.{stays, on_and_on, on_and_stops}
 use Rattle.bridge_serve.proofs.handling.take_packets.Goals as goal
@@ -7,13 +6,7 @@ pub loop-init : goal.loop-init
 loop-init g c = record { goes_on = stays _ _ _ c.requires.ready; taken_up = c.requires.taken_up }
 
 pub take_packet-requires-clause-ready : goal.take_packet-requires-clause-ready
-take_packet-requires-clause-ready g c = c.loop.invariant.goes_on.ready
-
-pub take_packet-requires-clause-small : goal.take_packet-requires-clause-small
-take_packet-requires-clause-small g c =
-    let same = c.loop.invariant.goes_on.same_target_end in
-    let small = c.requires.small in
-    omega (arith, same, small)
+take_packet-requires-clause-ready g c = c.loop.invariant.goes_on.may_take
 
 pub loop-preserved : goal.loop-preserved
 loop-preserved g c = record {

@@ -13,4 +13,4 @@ invariant-loop g l =
 
 -- each packet takes bytes
 abbrev pub decreases-loop : goal.decreases-loop
-decreases-loop g l = length l.inputs.uncuts.target.stream.pending
+decreases-loop g l = length l.inputs.target.stream.pending

@@ -11,7 +11,7 @@ returns-after-feed-clause-ok g c =
     let hears = rw arm.field-0-is at arm.ensures in
     elim c.match-feed.branch [
       | in-Ok w ↦ rw w.result-is (λ limits core may.
-          let kept = kept_piece c.args.inputs.now _ _ _ _ c.inputs.view_is _ _ _ w.in-Ok.ensures.ok refl in
+          let kept = kept_piece c.args.inputs.now c.inputs.view_is _ w.in-Ok.ensures.ok refl in
           hears_as kept (piece_comes limits _ _ _ _ core c.args.inputs.now may hears))
       | in-Err w ↦ rw w.result-is tt
     ]
@@ -31,7 +31,7 @@ returns-after-feed-2-clause-ok g c =
     let hears = rw arm.field-0-is at arm.ensures in
     elim c.match-feed-2.branch [
       | in-Ok-feed w ↦ rw w.result-is (λ limits core may.
-          let kept = kept_packets c.args.inputs.now _ _ _ _ c.inputs.view_is _ _ _ w.in-Ok-feed.ensures.ok refl in
+          let kept = kept_packets c.args.inputs.now c.inputs.view_is _ w.in-Ok-feed.ensures.ok refl in
           hears_as kept (packets_come limits _ _ _ _ core c.args.inputs.now may hears))
       | in-Err-feed w ↦ rw w.result-is tt
     ]
@@ -68,7 +68,7 @@ pub returns-in-Shut-Target-clause-ok : goal.returns-in-Shut-Target-clause-ok
 returns-in-Shut-Target-clause-ok g c limits core may =
     let arm = c.in-Shut-Target in
     let hears = rw arm.field-0-is at arm.ensures in
-    let kept = kept_end c.args.inputs.now _ _ _ _ c.inputs.view_is _ refl in
+    let kept = kept_end c.args.inputs.now c.inputs.view_is refl in
     hears_as kept (end_comes limits _ _ _ core c.args.inputs.now may hears)
 
 pub returns-in-Failed-Client-clause-err : goal.returns-in-Failed-Client-clause-err
@@ -83,5 +83,5 @@ returns-in-Failed-Target-clause-err g c limits core may =
 
 pub returns-in-Quiet-clause-ok : goal.returns-in-Quiet-clause-ok
 returns-in-Quiet-clause-ok g c limits core may =
-    let kept = kept_quiet c.args.inputs.now _ _ _ _ c.inputs.view_is _ refl in
+    let kept = kept_quiet c.args.inputs.now c.inputs.view_is refl in
     hears_as kept (quiet_comes limits _ _ _ core c.args.inputs.now may c.in-Quiet.ensures)

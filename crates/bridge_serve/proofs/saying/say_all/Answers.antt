@@ -1,12 +1,12 @@
 use Rattle.std.proofs.lemmas.Result.{err_from_is_err_and}
-use Rattle.bridge_serve.proofs.Words.{speaks_none, speaks_on, silent_on, forgets_on}
+use Rattle.bridge_serve.proofs.Words.{silent_on, speaks_none, speaks_on}
 use Rattle.bridge_serve.proofs.saying.say_all.Goals as goal
 
 pub loop-init : goal.loop-init
-loop-init g c = speaks_none _ _ _ c.requires
+loop-init g c = speaks_none _ _ _ c.requires.open
 
-pub say_next-requires : goal.say_next-requires
-say_next-requires g c = c.loop.invariant.speakable
+pub say_next-requires-clause-open : goal.say_next-requires-clause-open
+say_next-requires-clause-open g c = c.loop.invariant.speakable
 
 pub loop-preserved : goal.loop-preserved
 loop-preserved g c =
@@ -16,9 +16,9 @@ loop-preserved g c =
 pub returns-clause-ok : goal.returns-clause-ok
 returns-clause-ok g c =
     let last = c.if-branch.false in
-    silent_on _ _ _ _ _ _ c.loop.invariant (c.in_ok-say_next.ensures.silent cc)
+    silent_on _ _ _ _ _ _ _ c.loop.invariant (c.in_ok-say_next.ensures.silent cc)
 
 pub returns-in_err-say_next-clause-err : goal.returns-in_err-say_next-clause-err
 returns-in_err-say_next-clause-err g c =
     let gives = err_from_is_err_and c.from_residual.result c.from_residual.ensures.1 in
-    rw gives.1 (forgets_on _ _ _ _ _ _ c.loop.invariant c.in_err-say_next.ensures.err)
+    rw gives.1 (silent_on _ _ _ _ _ _ _ c.loop.invariant c.in_err-say_next.ensures.err)

@@ -1,6 +1,6 @@
 use Rattle.std.proofs.Common.{length}
+use Rattle.bridge_core.specs.Calls.{words_left}
 use Rattle.bridge_serve.specs.Following.{SaysOne}
-use Rattle.world_model.specs.Session.{last_words}
 use Rattle.bridge_serve.proofs.saying.say_all.Given as goal
 
 -- some of the words were said
@@ -11,4 +11,4 @@ invariant-loop g l =
 
 -- each takes one
 abbrev pub decreases-loop : goal.decreases-loop
-decreases-loop g l = length (last_words l.ending l.core.state)
+decreases-loop g l = length (words_left l.ending l.core)

@@ -4,36 +4,31 @@ use Rattle.bridge_serve.proofs.saying.say_next.Goals as goal
 
 pub send-requires-clause-is_open : goal.send-requires-clause-is_open
 send-requires-clause-is_open g c =
-    let out = c.in-Ok-Some.out in
-    word_open _ _ _ out.side out.bytes (rw c.in-Ok-Some.field-0-is at c.in-Ok-Some.ensures.says) _ c.requires
+    word_open (rw c.in-Ok-Some.field-0-is at c.in-Ok-Some.ensures.says) _ c.requires.open
 
 pub send-requires-clause-some_bytes : goal.send-requires-clause-some_bytes
 send-requires-clause-some_bytes g c =
-    let out = c.in-Ok-Some.out in
     rw c.as_slice.ensures
-    (word_bytes_some _ _ _ out.side out.bytes (rw c.in-Ok-Some.field-0-is at c.in-Ok-Some.ensures.says))
+    (word_bytes_some (rw c.in-Ok-Some.field-0-is at c.in-Ok-Some.ensures.says))
 
 pub returns-in-Ok-clause-more : goal.returns-in-Ok-clause-more
 returns-in-Ok-clause-more g c is_more =
-    let out = c.in-Ok-Some.out in
     let says = rw c.in-Ok-Some.field-0-is at c.in-Ok-Some.ensures.says in
     let sent = rw c.as_slice.ensures at c.in-Ok.ensures.ok in
-    says_one _ _ _ out.side out.bytes says _ _ c.requires sent
+    says_one says _ _ c.requires.caused c.requires.open sent
 
 pub returns-in-Ok-clause-fewer : goal.returns-in-Ok-clause-fewer
 returns-in-Ok-clause-fewer g c is_more =
-    let out = c.in-Ok-Some.out in
-    fewer_words _ _ _ out.side out.bytes (rw c.in-Ok-Some.field-0-is at c.in-Ok-Some.ensures.says)
+    fewer_words (rw c.in-Ok-Some.field-0-is at c.in-Ok-Some.ensures.says)
 
 pub returns-in-Ok-Some-clause-silent : goal.returns-in-Ok-Some-clause-silent
 returns-in-Ok-Some-clause-silent g c is_last =
-    let out = c.in-Ok-Some.out in
     let says = rw c.in-Ok-Some.field-0-is at c.in-Ok-Some.ensures.says in
     let failed = rw c.as_slice.ensures at c.in-Err-send.ensures.err in
-    falls_silent _ _ c.last_words.new.self out.side out.bytes says _ _ failed
+    falls_silent says _ _ c.requires.caused failed
 
 pub returns-in-Ok-None-clause-silent : goal.returns-in-Ok-None-clause-silent
-returns-in-Ok-None-clause-silent g c is_last = none_left _ _ _ (rw c.in-Ok-None.field-0-is at c.in-Ok-None.ensures.none)
+returns-in-Ok-None-clause-silent g c is_last = none_left _ _ _ _ c.requires.caused (rw c.in-Ok-None.field-0-is at c.in-Ok-None.ensures.none)
 
 pub returns-clause-err : goal.returns-clause-err
 returns-clause-err g c = forgets _ _ _

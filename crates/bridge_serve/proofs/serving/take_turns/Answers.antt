@@ -20,7 +20,7 @@ loop-turn-init g c = record {
 }
 
 pub hear-requires-clause-is_open : goal.hear-requires-clause-is_open
-hear-requires-clause-is_open g c = c.loop-turn.invariant.now.ready.opens.client
+hear-requires-clause-is_open g c = c.loop-turn.invariant.now.may_take.client
 
 pub hear-requires-clause-client_small : goal.hear-requires-clause-client_small
 hear-requires-clause-client_small g c =
@@ -43,19 +43,11 @@ hear-requires-clause-few g c =
     let few = c.requires.limits.few_turns in
     omega (arith, small, more, few)
 
-pub handle-requires-clause-ready : goal.handle-requires-clause-ready
-handle-requires-clause-ready g c =
+pub handle-requires : goal.handle-requires
+handle-requires g c =
     let now = c.loop-turn.invariant in
     (c.in_ok-hear.ensures.ok _ _
-    (may_hear _ _ _ _ _ _ now.now (quiets_less _ c.inputs-in-loop-turn.view_is c.if-inputs-limits.false))).ready
-
-pub handle-requires-clause-small : goal.handle-requires-clause-small
-handle-requires-clause-small g c =
-    let small = c.loop-turn.invariant.target_small in
-    let more = c.loop-turn-test.true in
-    let few = c.requires.limits.few_turns in
-    let grows = c.in_ok-hear.ensures.target_grows in
-    omega (arith, small, more, few, grows)
+    (may_hear _ _ _ _ _ _ now.now (quiets_less _ c.inputs-in-loop-turn.view_is c.if-inputs-limits.false))).may_take
 
 pub returns-in_err-hear-clause-err : goal.returns-in_err-hear-clause-err
 returns-in_err-hear-clause-err g c =
@@ -85,9 +77,9 @@ loop-turn-preserved g c =
     let may = may_hear _ _ _ _ _ _ now.now less in
     let heard = c.in_ok-hear.ensures in
     let handled = c.in_ok-handle.ensures in
-    let same_quiets = handled.ok.same_quiets in
-    let same_client = handled.ok.same_client_end in
-    let same_target = handled.ok.same_target_end in
+    let same_quiets = handled.ok.same_ends.quiets in
+    let same_client = handled.ok.same_ends.client in
+    let same_target = handled.ok.same_ends.target in
     let few = now.few in
     let client = now.client_small in
     let target = now.target_small in

@@ -15,4 +15,4 @@ returns-in_err-tell_next-clause-err g c =
     (core_stops_on _ _ _ _ _ _ c.in_err-tell_next.field-0.0 c.loop.invariant c.in_err-tell_next.ensures.err)
 
 pub tell_next-requires : goal.tell_next-requires
-tell_next-requires g c = c.loop.invariant.ready
+tell_next-requires g c = c.loop.invariant.may_tell

@@ -1,4 +1,4 @@
-use Rattle.bridge_core.specs.Steps.{work}
+use Rattle.bridge_core.specs.Working.{work}
 use Rattle.bridge_serve.specs.Following.{CoreGoesOn}
 use Rattle.bridge_serve.proofs.telling.tell.Given as goal
 
@@ -10,4 +10,4 @@ invariant-loop g l =
 
 -- each message lessens what the machine can still do by itself
 abbrev pub decreases-loop : goal.decreases-loop
-decreases-loop g l = work l.core.state
+decreases-loop g l = work l.core.machine

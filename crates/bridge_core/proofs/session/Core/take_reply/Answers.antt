@@ -1,93 +1,39 @@
-use Rattle.std.proofs.Common.{◌^◌, ℕ, subst}
-use Rattle.std.proofs.lemmas.Result.{err_from_is_err_and}
-use Rattle.bridge_core.specs.Fitting.{Gives}
-use Rattle.bridge_core.specs.Raws.{raw_seen}
-use Rattle.bridge_core.specs.Steps.{RefusesPacket}
-use Rattle.bridge_core.proofs.FitLaws.{gives, is_anew, settled_sound, settles_alone, replied_sound}
-use Rattle.bridge_core.proofs.PacketLaws.{refuses_body, refuses_sizes, settled_like, unsettled_like, answers}
+use Rattle.std.proofs.Common.{IfErr, refl, sym, ap, subst, ◌∙◌}
+use Rattle.std.proofs.lemmas.Result.{err_from_is_err_and, on_ok_weaker}
+use Rattle.machine_model.specs.Due.{can_read}
+use Rattle.pending_table.specs.Windows.{place_under}
+use Rattle.bridge_core.specs.Cores.{CoreState}
+use Rattle.bridge_core.specs.Moving.{RefusesKept}
+use Rattle.bridge_core.proofs.SettleLaws.{none_under, refuses_behind_so, refuses_reply, refuses_unknown, settles_so}
 use Rattle.bridge_core.proofs.session.Core.take_reply.Goals as goal
 
-pub returns-in_err-said-in-Ok-clause-err : goal.returns-in_err-said-in-Ok-clause-err
-returns-in_err-said-in-Ok-clause-err c =
-    let self = c.self.inside in
+pub returns-in_err-settle-in-Some-clause-err : goal.returns-in_err-settle-in-Some-clause-err
+returns-in_err-settle-in-Some-clause-err c =
     let gives = err_from_is_err_and c.from_residual.result c.from_residual.ensures.1 in
-    rw (gives.1, gives.2, ← c.self.view_is)
-    (refuses_body _ _ c.args.at c.args.id c.args.error c.args.body.now c.in-Ok.asked c.serving.result
-    c.in_err-said-in-Ok.field-0.0
-    c.in-Ok.ensures.asked c.serving.ensures.serve
-    (settled_like self.machine self.told self.commands c.settle.new.self self.sizes (raw_seen self.raw) self.limit
-    c.args.id c.in-Ok.ensures.ok)
-    c.in_err-said-in-Ok.ensures.err)
+    rw (gives.1, gives.2)
+    (refuses_reply c.args.self.now _ c.args.at c.args.id c.args.error c.args.body.now _ c.requires
+    c.in_err-settle-in-Some.ensures.err)
 
-pub returns-in_err-sizes-in-Ok-clause-err : goal.returns-in_err-sizes-in-Ok-clause-err
-returns-in_err-sizes-in-Ok-clause-err c =
-    let self = c.self.inside in
-    let exit = c.from_residual-in_err-sizes-in-Ok in
-    let gives = err_from_is_err_and exit.result exit.ensures.1 in
-    rw (gives.1, gives.2, ← c.self.view_is)
-    (refuses_sizes _ _ c.args.at c.args.id c.args.error c.args.body.now c.in-Ok.asked c.serving.result
-    c.in_ok-said-in-Ok.said
-    c.in_err-sizes-in-Ok.field-0.0 c.in-Ok.ensures.asked c.serving.ensures.serve
-    (settled_like self.machine self.told self.commands c.settle.new.self self.sizes (raw_seen self.raw) self.limit
-    c.args.id c.in-Ok.ensures.ok)
-    c.in_ok-said-in-Ok.ensures.ok (rw c.as_slice.ensures at c.in_err-sizes-in-Ok.ensures.err))
+pub returns-in-None-clause-err : goal.returns-in-None-clause-err
+returns-in-None-clause-err c =
+    rw c.target_fault.ensures
+    (refuses_unknown c.args.self.now c.args.self.now c.args.id c.args.error c.args.at c.args.body.now
+    (none_under c.args.id _ (ap (λ (core : CoreState). place_under c.args.id core.commands.sent) (sym c.self.view_is)
+    ∙ sym c.in-None.ensures)) refl)
 
-pub returns-in_err-answer-in-Ok-clause-err : goal.returns-in_err-answer-in-Ok-clause-err
-returns-in_err-answer-in-Ok-clause-err c =
-    let exit = c.from_residual-in_err-answer-in-Ok in
-    let gives = err_from_is_err_and exit.result exit.ensures.1 in
-    rw (gives.1, gives.2) RefusesPacket.no_memory
+pub returns-in_ok-settle-in-Some-clause-ok : goal.returns-in_ok-settle-in-Some-clause-ok
+returns-in_ok-settle-in-Some-clause-ok c =
+    on_ok_weaker c.read_kept.result (λ none.
+    settles_so c.args.self.now c.args.id c.in-Some.place c.args.error c.args.at c.args.body.now c.settle.new.self
+    c.requires (ap (λ (core : CoreState). place_under c.args.id core.commands.sent) (sym c.self.view_is)
+    ∙ sym c.in-Some.ensures) c.in_ok-settle-in-Some.ensures.ok
+    (ap (λ (core : CoreState). can_read core.machine) (sym c.self-in-Some.view_is) ∙ none)) c.read_kept.ensures.ok
 
-pub returns-in_ok-answer-in-Ok-clause-ok : goal.returns-in_ok-answer-in-Ok-clause-ok
-returns-in_ok-answer-in-Ok-clause-ok c =
-    let self = c.self.inside in
-    rw (← c.self.view_is)
-    (answers self.machine c.answer.new.self self.told self.commands c.settle.new.self self.sizes
-    c.in_ok-sizes-in-Ok.sizes c.serving.result
-    (raw_seen self.raw) self.limit c.args.id c.args.error c.args.body.now c.in-Ok.asked c.in_ok-said-in-Ok.said
-    c.in-Ok.ensures.asked
-    c.in-Ok.ensures.ok c.serving.ensures.serve c.in_ok-said-in-Ok.ensures.ok
-    (rw c.as_slice.ensures at c.in_ok-sizes-in-Ok.ensures.ok)
-    c.in_ok-answer-in-Ok.ensures.answered)
-
-pub returns-in-Err-clause-err : goal.returns-in-Err-clause-err
-returns-in-Err-clause-err c =
-    let self = c.self.inside in
-    rw (← c.self.view_is) (RefusesPacket.unknown c.in-Err.ensures.asked.0
-    (unsettled_like self.machine self.told self.commands c.settle.new.self self.sizes (raw_seen self.raw) self.limit
-    c.in-Err.ensures.err))
-
-pub invariant_of-self : goal.invariant_of-self
-invariant_of-self c =
-    let self = c.self.inside in
-    rw c.in-Ok.ensures.ok (settled_sound _ self.machine.hand c.args.id self.commands.sent c.self.invariant)
-
-pub invariant_of-self-in_err-sizes-in-Ok : goal.invariant_of-self-in_err-sizes-in-Ok
-invariant_of-self-in_err-sizes-in-Ok c =
-    let self = c.self.inside in
-    rw c.in-Ok.ensures.ok (settled_sound _ self.machine.hand c.args.id self.commands.sent c.self.invariant)
-
-pub invariant_of-self-in_err-answer-in-Ok : goal.invariant_of-self-in_err-answer-in-Ok
-invariant_of-self-in_err-answer-in-Ok c =
-    let self = c.self.inside in
-    let said = c.in_ok-said-in-Ok.said in
-    let alone =
-    settles_alone self.machine.hand c.args.id self.commands.sent c.in-Ok.asked c.in-Ok.ensures.asked
-    c.self.invariant.beside in
-    let reply = subst (λ (n : ℕ). Gives (256 ^ n) c.in-Ok.asked said) c.serving.ensures.object
-    (gives c.serving.result c.in-Ok.asked said c.in_ok-said-in-Ok.ensures.suits) in
-    rw c.in-Ok.ensures.ok (replied_sound _ self.machine.hand c.answer.new.self.hand c.in-Ok.asked said _ alone.1 alone.0
-    c.answer.ensures.sound reply c.self.invariant.in_hand)
-
-pub invariant_of-self-in-Ok : goal.invariant_of-self-in-Ok
-invariant_of-self-in-Ok c =
-    let self = c.self.inside in
-    let said = c.in_ok-said-in-Ok.said in
-    let alone =
-    settles_alone self.machine.hand c.args.id self.commands.sent c.in-Ok.asked c.in-Ok.ensures.asked
-    c.self.invariant.beside in
-    let anew = is_anew self.sizes c.in_ok-sizes-in-Ok.sizes c.serving.result self.machine.hand c.in-Ok.asked said
-    c.serving.ensures.object c.in_ok-said-in-Ok.ensures.suits c.in_ok-sizes-in-Ok.ensures.ok.measures alone.0
-    c.self.invariant.in_hand in
-    rw c.in-Ok.ensures.ok (replied_sound _ self.machine.hand c.answer.new.self.hand c.in-Ok.asked said _ alone.1 alone.0
-    c.answer.ensures.sound anew.reply anew.in_hand)
+pub returns-in_ok-settle-in-Some-clause-err : goal.returns-in_ok-settle-in-Some-clause-err
+returns-in_ok-settle-in-Some-clause-err c =
+    refuses_behind_so c.read_kept.result c.args.self.now c.args.id c.in-Some.place c.args.error c.args.at
+    c.args.body.now c.settle.new.self c.requires
+    (ap (λ (core : CoreState). place_under c.args.id core.commands.sent) (sym c.self.view_is)
+    ∙ sym c.in-Some.ensures) c.in_ok-settle-in-Some.ensures.ok
+    (subst (λ (core : CoreState). IfErr c.read_kept.result (RefusesKept core.machine)) c.self-in-Some.view_is
+    c.read_kept.ensures.err)

@@ -1,8 +1,0 @@
-use Rattle.std.proofs.Common.{◌≡◌, drop}
-use Rattle.world_model.specs.Machine.{threads_reply, reply_among}
-use Rattle.bridge_core.proofs.threads.threads_reply.Given as goal
-
--- the first reply stands among the answers that are left
-abbrev pub invariant-loop-answered : goal.invariant-loop-answered
-invariant-loop-answered l =
-    reply_among threads_reply l.answers ≡ reply_among threads_reply (drop l.answered-index l.answers)
