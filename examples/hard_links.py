@@ -27,7 +27,7 @@ import threading
 import time
 
 from building import PATIENCE, USAGE
-from many_threads import ATTACH, HANDSHAKE, receive, reply_to_one
+from many_threads import ATTACH, HANDSHAKE, receive, reply
 from over_tcp import INITIALIZED, DISCONNECTED, Bridge, Client, built, dial, request
 
 TERMINATED = b'{"event":"terminated","seq":2,"type":"event"}'
@@ -138,10 +138,17 @@ def attached(bridge):
     client.send(request(2, "attach", ATTACH))
     bridge.target.sendall(receive(bridge.target, len(HANDSHAKE)))
     for _ in range(3):
-        reply_to_one(bridge.target, 1)
+        answer_next(bridge.target)
     for _ in range(2):
         client.receive()
     return client
+
+
+def answer_next(target):
+    """Replies to the next command, as a target of one thread does."""
+    packet = receive(target, 11)
+    packet += receive(target, struct.unpack_from(">I", packet)[0] - 11)
+    target.sendall(reply(packet, 1))
 
 
 def send_until(stream, is_over, piece):
