@@ -1,49 +1,23 @@
 #!/usr/bin/env python3
 """Attaches the program to a Java machine, asks for its threads and leaves it, and prints what goes over both wires.
 
-The Java program that it compiles and runs has two threads with names, and ends some seconds later with status 0. Its
-threads are asked for twice: by `jdb`, which attaches first and quits, and by a client of the program. The status of the
-script is 0 where both show the same names, the program's status is 0, and the Java program ran on to its end. Where no
-JDK is there it says `skipped`.
+The Java program that it compiles and runs, Workers.java, has threads with names. They are asked for twice: by `jdb`,
+which attaches first and quits, and by a client of the program. The status of the script is 0 where both show the same
+names, the program's status is 0, and the Java program ran on to its end. Where no JDK is there it says `skipped`.
 
 usage: examples/attach.py [PROGRAM]
 """
 import json
-import os
 import re
-import shutil
 import socket
 import subprocess
 import sys
 import tempfile
 import threading
 
-from building import TOP, plainly, program_of
-from over_tcp import PATIENCE, Client, dial, free_port, request
-
-SOURCE = """
-public class Main {
-    public static void main(String[] words) throws Exception {
-        Thread first = new Thread(Main::rest, "first worker");
-        Thread second = new Thread(Main::rest, "second worker");
-        first.start();
-        second.start();
-        System.out.println("up");
-        first.join();
-        second.join();
-        System.out.println("down");
-    }
-
-    static void rest() {
-        try {
-            Thread.sleep(Long.getLong("rest"));
-        } catch (InterruptedException e) {
-            throw new IllegalStateException(e);
-        }
-    }
-}
-"""
-REST = 15
+from building import PATIENCE, TOP, plainly, program_of
+from java_machine import DOWN, THREADS, JavaProgram, compiled, lacking, tool
+from over_tcp import Program, dial, request
 
 # A line of jdb's `threads`: `(CLASS)ID NAME STATE`, NAME padded with blanks.
 STATES = "unknown|not started|running|sleeping|waiting in a monitor|cond. waiting|zombie"
@@ -78,27 +52,11 @@ class Tap:
             pass
 
 
-def compiled(folder):
-    path = os.path.join(folder, "Main.java")
-    with open(path, "w", encoding="utf-8") as file:
-        file.write(SOURCE)
-    subprocess.run(["javac", "-d", folder, path], check=True)
-
-
-def started(folder, port):
-    agent = "-agentlib:jdwp=transport=dt_socket,server=y,suspend=n,address=127.0.0.1:%d" % port
-    words = ["java", "-Drest=%d" % (REST * 1000), agent, "-cp", folder, "Main"]
-    java = subprocess.Popen(words, stdout=subprocess.PIPE, text=True)
-    for line in java.stdout:
-        if line == "up\n":
-            return java
-    raise EOFError("the Java program ended before it was up")
-
-
 def threads_of_jdb(port):
     """The names that jdb shows. It attaches and leaves, and the Java machine listens again."""
-    words = ["jdb", "-connect", "com.sun.jdi.SocketAttach:hostname=127.0.0.1,port=%d" % port]
-    jdb = subprocess.Popen(words, stdin=subprocess.PIPE, stdout=subprocess.PIPE, text=True)
+    words = [tool("jdb"), "-J-Dfile.encoding=UTF-8", "-J-Dstdout.encoding=UTF-8"]
+    words += ["-connect", "com.sun.jdi.SocketAttach:hostname=127.0.0.1,port=%d" % port]
+    jdb = subprocess.Popen(words, stdin=subprocess.PIPE, stdout=subprocess.PIPE, encoding="utf-8")
     while jdb.stdout.read(1) not in (">", ""):
         pass
     said, _ = jdb.communicate("threads\nquit\n", PATIENCE)
@@ -109,16 +67,9 @@ def threads_of_jdb(port):
 def threads_of_bridge(program, port):
     """The names that the program shows, and its status."""
     tap = Tap(port)
-    listen = free_port()
-    words = ["serve", "--listen", "127.0.0.1:%d" % listen, "--target", "127.0.0.1:%d" % tap.port]
-    bridge = subprocess.Popen([program, *words])
-    try:
-        client = Client(dial(listen))
-        names = asked(client)
-        status = bridge.wait(PATIENCE)
-    finally:
-        bridge.kill()
-        bridge.wait()
+    with Program(program, tap.port) as bridge:
+        names = asked(bridge.client())
+        status = bridge.status()
     tap.worker.join(PATIENCE)
     return names, status
 
@@ -157,26 +108,22 @@ def received(client):
 
 
 def main():
-    if not all(shutil.which(tool) for tool in ("java", "javac", "jdb")):
-        print("skipped: no JDK")
+    why = lacking("java", "javac", "jdb")
+    if why:
+        print("skipped: %s" % why)
         return 0
     program = program_of(sys.argv[1:])
-    with tempfile.TemporaryDirectory() as folder:
-        compiled(folder)
-        port = free_port()
-        java = started(folder, port)
-        try:
-            shown = threads_of_jdb(port)
-            names, status = threads_of_bridge(program, port)
-            ran_on = java.stdout.read().endswith("down\n") and java.wait(PATIENCE) == 0
-        finally:
-            java.kill()
-            java.wait()
+    with tempfile.TemporaryDirectory() as folder, JavaProgram(compiled(folder)) as java:
+        java.wait_until_up()
+        shown = threads_of_jdb(java.port)
+        names, status = threads_of_bridge(program, java.port)
+        java.go_on()
+        ran_on = java.end() == (DOWN, 0)
     print("threads by jdb:", shown)
     print("threads by the program:", names)
     print("status", status)
     print("the Java program", "ran on to its end" if ran_on else "did NOT end by itself")
-    same = sorted(names) == sorted(shown) and {"first worker", "second worker"} <= set(names)
+    same = sorted(names) == sorted(shown) and set(THREADS) <= set(names)
     print("attach", "kept" if same and status == 0 and ran_on else "BROKEN")
     return 0 if same and status == 0 and ran_on else 1
 

@@ -13,7 +13,7 @@ CRATES = os.path.join(TOP, "crates")
 PROGRAM = os.path.join(CRATES, "bridge_cmd", "out", "bridge_cmd")
 LOG = os.path.join(TOP, "build.log")
 USAGE = "usage: bridge serve --listen A --target B\n"
-PATIENCE = 20
+PATIENCE = 60
 
 
 def stop(text):

@@ -19,7 +19,6 @@ import contextlib
 import json
 import os
 import re
-import shutil
 import signal
 import socket
 import subprocess
@@ -31,6 +30,7 @@ if sys.version_info < (3, 8):
     sys.exit("debug.py: Python 3.8 or later is needed, and this is %d.%d" % sys.version_info[:2])
 
 from building import PATIENCE, PROGRAM, plainly, program_of, stop
+from java_machine import AGENT, tool
 from over_tcp import free_port
 
 # How long an editor has to disconnect once the Java program has ended, in seconds.
@@ -55,10 +55,7 @@ def options():
 
 
 def jdk_tool(name):
-    """The path of a tool of the JDK: of JAVA_HOME, else of the path."""
-    home = os.environ.get("JAVA_HOME")
-    found = home and shutil.which(name, path=os.path.join(home, "bin")) or shutil.which(name)
-    return found or stop("there is no %s: a JDK has to be in the path, or named by JAVA_HOME" % name)
+    return tool(name) or stop("there is no %s: a JDK has to be in the path, or named by JAVA_HOME" % name)
 
 
 def read_source(path):
@@ -102,8 +99,7 @@ def is_free(port):
 
 
 def started(main, words, class_path, suspend, port):
-    agent = "-agentlib:jdwp=transport=dt_socket,server=y,quiet=y,suspend=%s,address=127.0.0.1:%d"
-    java = [jdk_tool("java"), agent % ("y" if suspend else "n", port), "-cp", class_path]
+    java = [jdk_tool("java"), AGENT % ("y" if suspend else "n", port), "-cp", class_path]
     return subprocess.Popen([*java, main, *words])
 
 

@@ -38,6 +38,17 @@ def response(seq, request_seq, command, body=None):
     return compact(message)
 
 
+def unsupported(seq, request_seq, command):
+    """The response to a request that isn't served."""
+    error = {"format": "unsupported", "id": 1}
+    return compact({"seq": seq, "type": "response", "request_seq": request_seq, "command": command, "success": False,
+                    "message": "unsupported", "body": {"error": error}})
+
+
+def event(seq, name):
+    return compact({"seq": seq, "type": "event", "event": name})
+
+
 INITIALIZED = response(1, 1, "initialize", CAPABILITIES)
 DISCONNECTED = response(2, 2, "disconnect")
 
@@ -48,14 +59,14 @@ def free_port():
         return probe.getsockname()[1]
 
 
-def dial(port):
-    """A connection to a port that is bound before long."""
+def dial(port, process=None):
+    """A connection to a port that is bound before long, by a process that is named or by another."""
     end = time.monotonic() + PATIENCE
     while True:
         try:
             return socket.create_connection(("127.0.0.1", port), timeout=PATIENCE)
         except ConnectionRefusedError:
-            if time.monotonic() > end:
+            if time.monotonic() > end or process and process.poll() is not None:
                 raise
             time.sleep(0.02)
 
@@ -94,18 +105,14 @@ class Client:
         self.stream.close()
 
 
-class Bridge:
-    """The program, run with a listener of this script as its target."""
+class Program:
+    """The program, run for the target at a port. What it prints goes where a script's own does, or all of it to one
+    place that is named."""
 
-    def __init__(self, program):
-        self.listener = socket.create_server(("127.0.0.1", 0))
-        self.listener.settimeout(PATIENCE)
+    def __init__(self, program, target, output=None):
         self.port = free_port()
-        target = self.listener.getsockname()[1]
         words = ["serve", "--listen", "127.0.0.1:%d" % self.port, "--target", "127.0.0.1:%d" % target]
-        self.process = subprocess.Popen([program, *words])
-        self.target, _ = self.listener.accept()
-        self.target.settimeout(PATIENCE)
+        self.process = subprocess.Popen([program, *words], stdout=output, stderr=output and subprocess.STDOUT)
 
     def __enter__(self):
         return self
@@ -114,14 +121,28 @@ class Bridge:
         if self.process.poll() is None:
             self.process.kill()
             self.process.wait()
-        self.target.close()
-        self.listener.close()
 
     def client(self):
-        return Client(dial(self.port))
+        return Client(dial(self.port, self.process))
 
     def status(self):
         return self.process.wait(PATIENCE)
+
+
+class Bridge(Program):
+    """The program, run with a listener of this script as its target."""
+
+    def __init__(self, program):
+        self.listener = socket.create_server(("127.0.0.1", 0))
+        self.listener.settimeout(PATIENCE)
+        super().__init__(program, self.listener.getsockname()[1])
+        self.target, _ = self.listener.accept()
+        self.target.settimeout(PATIENCE)
+
+    def __exit__(self, *_):
+        super().__exit__()
+        self.target.close()
+        self.listener.close()
 
     def heard_by_target(self):
         """All bytes that the target was sent on its link, up to the link's end."""
