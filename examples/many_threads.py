@@ -2,7 +2,8 @@
 """Measures `threads` over a target of many threads, beside a plain loop that asks the same target the same questions.
 
 Printed are the seconds until all names are there, of the plain loop and of the bridge, and the processor time that
-the bridge took for it. The target is a process of this script. Both keep sixteen questions in flight.
+the bridge took for it: the least of five runs in turn. The target is a process of this script. Both keep sixteen
+questions in flight.
 
 usage: examples/many_threads.py [PROGRAM]
 """
@@ -19,6 +20,7 @@ from round_trips import processor_seconds
 
 COUNTS = (100, 1000, 5000, 40000)
 IN_FLIGHT = 16
+RUNS = 5
 PIECE = 65536
 HANDSHAKE = b"JDWP-Handshake"
 SIZES = struct.pack(">5I", 8, 8, 8, 8, 8)
@@ -159,11 +161,17 @@ def bridged(program, count):
 
 def main():
     program = program_of(sys.argv[1:])
+    least = {}
     for count in COUNTS:
-        plain = plain_loop(count)
-        took, spent = bridged(program, count)
+        plain, bridge = [], []
+        for _ in range(RUNS):
+            plain.append(plain_loop(count))
+            bridge.append(bridged(program, count))
+        took, spent = least[count] = min(bridge)
         print("%5d threads: plain loop %7.3f s, bridge %7.3f s, which is %.2f of it; its processor time %7.3f s"
-              % (count, plain, took, took / plain, spent))
+              % (count, min(plain), took, took / min(plain), spent))
+    most, fewer = COUNTS[-1], COUNTS[-2]
+    print("%d threads take %.1f times as long as %d" % (most, least[most][0] / least[fewer][0], fewer))
 
 
 if __name__ == "__main__":
