@@ -19,11 +19,11 @@ use Rattle.machine_model.specs.declared.parts.Finish.{Finish}
 use Rattle.machine_model.specs.declared.parts.Finish.TheVariants.{Done as finish_done}
 use Rattle.machine_model.proofs.PendingLaws.{in_window}
 use Rattle.pending_table.specs.Windows.{Window, id_of, is_full, pending_under, with_sent}
-use Rattle.bridge_core.specs.Aligning.{Aligned, sent_by}
-use Rattle.bridge_core.specs.Calls.{Finds, Goes, IsIdle}
+use Rattle.bridge_core.specs.Aligning.{Aligned}
+use Rattle.bridge_core.proofs.Pending.{sent_by}
+use Rattle.bridge_core.specs.Calls.{Finds, Goes, IsIdle, Sends}
 use Rattle.bridge_core.specs.Cores.{CoreState, IsReady, fresh_core, with_machine}
 use Rattle.bridge_core.specs.Going.{Comes, IsSent, IsStep, IsTold, MaySend, is_hidden}
-use Rattle.bridge_core.specs.Sent.{GoesOut}
 use Rattle.bridge_core.specs.Names.{Act, Effect, Question, a_question, an_effect}
 use Rattle.bridge_core.specs.Working.{is_wait, is_work, work}
 use Rattle.bridge_core.proofs.FrameLaws.{due_framed}
@@ -38,6 +38,11 @@ use Rattle.talk_plans.specs.declared.next.Next.{Next}
 use Rattle.talk_plans.specs.declared.next.Next.TheVariants as nexts
 use Rattle.wire_core.specs.declared.outside.Side.{Side}
 use Rattle.wire_core.specs.declared.outside.Side.TheVariants.{Client, Target}
+
+-- a message goes out, and the core is ready behind it
+pub record GoesOut (old : CoreState) (side : Side) (bytes : List ℕ) (new : CoreState) : Type 0 where
+  pub sends : Sends old side bytes new
+  pub ready : IsReady new
 
 -- Steps ---------------------------------------------------------------------------------------------------------------
 

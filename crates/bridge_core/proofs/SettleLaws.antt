@@ -18,8 +18,9 @@ use Rattle.machine_model.specs.Runs.{Allows, Message, Run}
 use Rattle.machine_model.specs.State.{Hand, Machine, is_gone}
 use Rattle.machine_model.specs.declared.acts.TargetCommand.{TargetCommand}
 use Rattle.pending_table.specs.Windows.{Window, pending_under, place_under, settled, without}
-use Rattle.bridge_core.specs.Aligning as aligning
-use Rattle.bridge_core.specs.Aligning.{Aligned, has_id}
+use Rattle.bridge_core.specs.Aligning.{Aligned}
+use Rattle.bridge_core.proofs.Pending as pending
+use Rattle.bridge_core.proofs.Pending.{has_id}
 use Rattle.bridge_core.specs.Calls.{IsAtFront, IsLike, RefusesPacket, TakesPacket}
 use Rattle.bridge_core.specs.Cores.{CoreState, IsReady, Unheard, session_in}
 use Rattle.bridge_core.specs.Hearing.{HasBadSizes, IsJudged, IsRefused, is_tolerated_asked}
@@ -39,7 +40,7 @@ use Rattle.session_model.specs.declared.ending.TargetFault.TheVariants.{BadSizes
 
 -- the place under an id is the first that has it
 placed : (id : ℕ) (sent : List (ℕ × Asked)) (place : ℕ) → place_under id sent ≡ Some place
-    → aligning.place_under id sent ≡ place
+    → pending.place_under id sent ≡ place
 placed id [] place is = cc
 placed id (s ∷ sent) place is =
     by_id (has_id id s) refl is (λ at found. placed id sent at found)
@@ -96,7 +97,7 @@ replied_late : (old : CoreState) (id place : ℕ) (asked : Asked) (replied : Rep
     → next ≡ record old.machine { late = remove old.machine.late place } → IsReplied old id asked replied next
 replied_late old id place asked replied next ready has at gone is =
     let l = late_under ready.sound.run gone old.commands.sent ready.sound.aligned id asked has in
-    let there : aligning.place_under id old.commands.sent ≡ place = placed id old.commands.sent place at in
+    let there : pending.place_under id old.commands.sent ≡ place = placed id old.commands.sent place at in
     let now : record old.machine { late = l.before ++ l.after } ≡ next =
     ap (λ (late : List TargetCommand). record old.machine { late = late })
     (l.removed ∙ ap (remove old.machine.late) there) ∙ sym is in

@@ -24,7 +24,8 @@ use Rattle.machine_model.proofs.Standing.{asked_in}
 use Rattle.machine_model.proofs.Stepping.{Moves, by_runs}
 use Rattle.machine_model.proofs.TurnLaws.{Turns, is_beside, turned}
 use Rattle.pending_table.specs.Windows.{Window, id_of, is_full as is_window_full, pending_under, without}
-use Rattle.bridge_core.specs.Aligning.{Aligned, IsEffect, IsLate, IsQuestion, commands_of, place_under, sent_by}
+use Rattle.bridge_core.specs.Aligning.{Aligned, commands_of}
+use Rattle.bridge_core.proofs.Pending.{IsEffect, IsLate, IsQuestion, place_under, sent_by}
 use Rattle.bridge_core.specs.Names.{Act, Asked, Doing, Effect, Item, Question, Replied, Request, Sent, TargetCommand}
 use Rattle.bridge_core.specs.Names.{Want, WireEffect, a_question, an_effect}
 use Rattle.bridge_core.specs.Working.{is_work}

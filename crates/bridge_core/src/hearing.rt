@@ -1,14 +1,14 @@
 //! What the target's packets say, and how they end a session.
-ghost use Rattle.std.specs.Prelude.{◌≡◌, ◌+◌, ◌<◌, Err, false, true, IfErr, IfNone, IfOk, IfSome, MatchOption, OnOk};
+ghost use Rattle.std.specs.Prelude.{◌≡◌, ◌+◌, ◌<◌, Err, false, true, IfErr, IfOk, MatchOption, OnOk};
 ghost use Rattle.std.specs.Prelude.{position, ℕ, List, Ok, Some};
-ghost use Rattle.jdwp_commands.specs.Answers.{IsAnswerTo, answer_at};
+ghost use Rattle.jdwp_commands.specs.Answers.{answer_at};
 ghost use Rattle.jdwp_commands.specs.Bodies.{IsRead as AreReadSo};
 ghost use Rattle.jdwp_commands.specs.declared.asked.Asked.{Asked as AnAsked};
 ghost use Rattle.jdwp_commands.specs.Commands.{number_of};
 ghost use Rattle.jdwp_events.specs.Composites.{composite_at, IsRead};
 ghost use Rattle.jdwp_values.specs.Sizes.{is_no_size};
 ghost use Rattle.jdwp_values.specs.declared.sizes.IdSizes.{IdSizes as Sizes};
-ghost use Rattle.machine_model.specs.Replying.{has_good_sizes};
+ghost use Rattle.machine_model.specs.Replying.{has_good_sizes, is_dead};
 ghost use Rattle.machine_model.specs.State.{has_raw, is_raw};
 ghost use Rattle.bridge_core.specs.Hearing.{IsBadBody, IsJudged, IsRefused, IsUnserved, MayBe, MayBeKept};
 ghost use Rattle.bridge_core.specs.Hearing.{is_essential_asked, is_tolerated_asked};
@@ -163,6 +163,16 @@ fn is_tolerated(asked: &Asked, error: u16) -> bool
     ensures { result ≡ is_tolerated_asked asked.now error }
 {
     !is_essential(asked) || error == VM_DEAD
+}
+
+/// Whether the error tells that the target has ended.
+pub(crate) fn is_dead(replied: &Replied) -> bool
+    ensures { result ≡ is_dead replied.now }
+{
+    match replied {
+        Replied::Answer(_) => false,
+        Replied::Error(code) => *code == VM_DEAD,
+    }
 }
 
 // The ending by a refusal.

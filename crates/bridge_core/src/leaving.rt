@@ -1,5 +1,5 @@
 //! The last words of a session.
-ghost use Rattle.std.specs.Prelude.{◌≡◌, ◌∷◌, [], List, Some, IfNone, IfOk, IfSome, MatchOption, OnOk};
+ghost use Rattle.std.specs.Prelude.{◌≡◌, ◌∷◌, [], List, Some, IfNone, IfOk, IfSome, MatchOption, OnErr, OnOk};
 ghost use Rattle.machine_model.specs.State.{Machine as AMachine};
 ghost use Rattle.bridge_core.specs.Calls.{SaysNoMore, SaysWord, words_of};
 ghost use Rattle.bridge_core.specs.Going.{HasNext, IsSaid};
@@ -46,11 +46,12 @@ fn next_of(words: &mut Option<Words>) -> Option<Word>
 }
 
 impl Core {
-    /// The next of an ending's last words, or nothing where all were handed out. Where memory is refused nothing more is
-    /// told.
+    /// The next of an ending's last words, or nothing where all were handed out. Where memory is refused nothing was
+    /// numbered.
     pub fn last_words(&mut self, alloc: Global, ending: &Ending) -> Result<Option<Out>, NoMemory>
         ensures none { IfOk result (λ out. IfNone out (SaysNoMore ending.now self.old self.new)) }
         ensures says { IfOk result (λ out. IfSome out (λ o. SaysWord ending.now self.old o.side o.bytes self.new)) }
+        ensures err { OnErr result (self.new ≡ record self.old { words = self.new.words }) }
     {
         match self.next_word(alloc, ending)? {
             None => Ok(None),
@@ -62,6 +63,7 @@ impl Core {
     fn next_word(&mut self, alloc: Global, ending: &Ending) -> Result<Option<Word>, NoMemory>
         ensures none { IfOk result (λ word. IfNone word (SaysNoMore ending.now self.old self.new)) }
         ensures some { IfOk result (λ word. IfSome word (λ w. HasNext ending.now self.old (word_seen w) self.new)) }
+        ensures err { OnErr result (self.new ≡ record self.old { words = self.new.words }) }
     {
         fill(alloc, &mut self.words, &self.machine, ending)?;
         Ok(next_of(&mut self.words))
@@ -69,7 +71,8 @@ impl Core {
 
     /// Says one of the last words.
     pub(crate) fn say(&mut self, alloc: Global, word: &Word) -> Result<Out, NoMemory>
-        ensures { IfOk result (λ out. IsSaid self.old (word_seen word.now) out.side out.bytes self.new) }
+        ensures ok { IfOk result (λ out. IsSaid self.old (word_seen word.now) out.side out.bytes self.new) }
+        ensures err { OnErr result (self.new ≡ self.old) }
     {
         match word {
             Word::Tells(told) => self.tell(alloc, told),

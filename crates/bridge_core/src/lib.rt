@@ -2,6 +2,7 @@
 #![tactic(auto)]
 
 mod client;
+mod hand;
 mod hearing;
 mod leaving;
 mod machine;

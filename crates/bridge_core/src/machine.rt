@@ -1,21 +1,20 @@
 //! The machine: what is known, the items that wait, the one in hand, and the commands that were left without a reply.
-ghost use Rattle.std.specs.Prelude.{◌≡◌, ◌<◌, ◌++◌, Bool, false, None, Some, length, remove, IfErr, IfOk, OnOk, option_map};
+ghost use Rattle.std.specs.Prelude.{◌≡◌, ◌<◌, Bool, false, None, Some, length, remove, IfErr, IfOk, OnOk, option_map};
 ghost use Rattle.machine_model.specs.Due.{can_read, due, due_as, is_full};
-ghost use Rattle.machine_model.specs.Replying.{answered, done_by, ended, ended_with, given_up};
-ghost use Rattle.machine_model.specs.Replying.{hand_replied, is_dead, is_leaving, pending_in, told_by};
+ghost use Rattle.machine_model.specs.Replying.{answered, ended, ended_with, pending_in};
 ghost use Rattle.machine_model.specs.Rest.{awaits_greeting};
 ghost use Rattle.machine_model.specs.Runs.{greeting_heard, heard, with_item};
 ghost use Rattle.machine_model.specs.State.{Hand, Machine as AMachine, fresh, is_gone};
 ghost use Rattle.machine_model.specs.declared.acts.Effect.{Effect as AnEffect};
 ghost use Rattle.machine_model.specs.declared.acts.TargetCommand.TheVariants.{Effect as an_effect};
 ghost use Rattle.machine_model.specs.declared.acts.TargetCommand.TheVariants.{Question as a_question};
-ghost use Rattle.bridge_core.specs.Moving.{IsFlight, RefusesKept, StepsTo};
+ghost use Rattle.bridge_core.specs.Moving.{IsFlight, RefusesKept};
 ghost use Rattle.bridge_core.specs.Packets.{CanReply, Replies};
-ghost use Rattle.talk_plans.specs.Replies.{IsInFlight};
 ghost use Rattle.talk_plans.specs.Sizes.{sizes_seen};
-ghost use Rattle.talk_plans.specs.Talking.{AreSized, IsNext, act_of, hand_after, talk_due};
+ghost use Rattle.talk_plans.specs.Talking.{AreSized, IsNext, act_of};
 
-use crate::hearing::read_kept;
+use crate::hand::{answered, done, give_up, go_on, hold, is_leaving, note_done, note_reply};
+use crate::hearing::{is_dead, read_kept};
 use crate::sizes::known;
 use crate::waiting::{is_disconnect, take_next};
 use dap_messages::Request;
@@ -27,9 +26,6 @@ use std::collections::VecDeque;
 use std::marker::Model;
 use talk_plans::{Next, SizesRead, State, Talk};
 use wire_core::NoMemory;
-
-// The error of a target that has ended (JDWP, Error Constants, VM_DEAD).
-const VM_DEAD: u16 = 112;
 
 /// The translation machine. Contracts see it as the machine's own state.
 #[derive(Debug, Drop)]
@@ -53,145 +49,6 @@ impl Model for Machine {
       late = m.late.items;
       closing = m.closing;
     } };
-}
-
-// The item in hand is given up; its commands without a reply stand behind those that were left so.
-fn give_up(
-    alloc: Global,
-    hand: &mut Option<Talk>,
-    late: &mut VecDeque<TargetCommand>,
-) -> Result<(), NoMemory>
-    ensures late { OnOk result (late.new.items ≡ late.old.items ++ pending_in hand.old) }
-    ensures hand { OnOk result (hand.new ≡ option_map given_up hand.old) }
-{
-    match hand {
-        None => Ok(()),
-        Some(talk) => {
-            let mut commands = talk.give_up(alloc)?;
-            late.append(&mut commands)?;
-            Ok(())
-        }
-    }
-}
-
-// A question of the item in hand is replied to, by which nothing more is known.
-fn note_reply(
-    alloc: Global,
-    hand: &mut Option<Talk>,
-    question: Question,
-    replied: Replied,
-) -> Result<(), NoMemory>
-    ensures { OnOk result (hand.new ≡ option_map (hand_replied (a_question question) replied) hand.old) }
-{
-    match hand {
-        None => Ok(()),
-        Some(talk) => talk.note_reply(alloc, question, replied),
-    }
-}
-
-// A question of the item in hand is replied to.
-fn answered(
-    alloc: Global,
-    hand: &mut Option<Talk>,
-    state: &mut State,
-    question: Question,
-    replied: Replied,
-) -> Result<(), NoMemory>
-    ensures hand { OnOk result (hand.new ≡ option_map (hand_replied (a_question question) replied) hand.old) }
-    ensures state { (talk : Hand) → hand.old ≡ Some talk
-        → OnOk result (state.new ≡ told_by question replied state.old) }
-{
-    match hand {
-        None => Ok(()),
-        Some(talk) => talk.answered(alloc, state, question, replied),
-    }
-}
-
-// The effect of the item in hand that is in flight is replied to, by which nothing more is known.
-fn note_done(hand: &mut Option<Talk>, replied: Replied)
-    ensures { (talk : Hand) (effect : AnEffect) → hand.old ≡ Some talk → IsInFlight effect talk.effect
-        → hand.new ≡ Some (hand_replied (an_effect effect) replied talk) }
-{
-    if let Some(talk) = hand {
-        talk.note_done(replied);
-    }
-}
-
-// The effect of the item in hand that is in flight is replied to.
-fn done(hand: &mut Option<Talk>, state: &mut State, replied: Replied)
-    requires { (talk : Hand) (effect : AnEffect) → hand.old ≡ Some talk → IsInFlight effect talk.effect
-        → IsNext effect state.old.wishes }
-    ensures hand { (talk : Hand) (effect : AnEffect) → hand.old ≡ Some talk → IsInFlight effect talk.effect
-        → hand.new ≡ Some (hand_replied (an_effect effect) replied talk) }
-    ensures state { (talk : Hand) (effect : AnEffect) → hand.old ≡ Some talk → IsInFlight effect talk.effect
-        → state.new ≡ done_by effect replied state.old }
-{
-    if let Some(talk) = hand {
-        talk.done(state, replied);
-    }
-}
-
-// Whether the effect of the item in hand that is in flight leaves the target.
-fn is_leaving(hand: &Option<Talk>) -> bool
-    ensures { (talk : Hand) (effect : AnEffect) → hand.now ≡ Some talk → IsInFlight effect talk.effect
-        → result ≡ is_leaving (an_effect effect) }
-{
-    match hand {
-        None => false,
-        Some(talk) => talk.is_leaving(),
-    }
-}
-
-// What the talk in hand has next.
-fn step_in(
-    alloc: Global,
-    hand: &mut Option<Talk>,
-    state: &mut State,
-    full: bool,
-) -> Result<Next, NoMemory>
-    requires { (talk : Hand) → hand.old ≡ Some talk → AreSized state.old talk }
-    ensures { (talk : Hand) → hand.old ≡ Some talk
-        → IfOk result (λ next. StepsTo next full state.old talk state.new hand.new) }
-{
-    match hand {
-        None => Ok(Next::Wait),
-        Some(talk) => talk.step(alloc, state, full),
-    }
-}
-
-fn drop_talk(_talk: Option<Talk>) {}
-
-// This is in hand now.
-fn hold(hand: &mut Option<Talk>, talk: Talk)
-    ensures { hand.new ≡ Some talk }
-{
-    drop_talk(hand.replace(talk));
-}
-
-// A talk that is done is in hand no more.
-fn let_go(hand: &mut Option<Talk>, next: &Next)
-    ensures { (later : Hand) → hand.old ≡ Some later → hand.new ≡ hand_after next.now later }
-{
-    if let Next::Done = next {
-        drop_talk(hand.take());
-    }
-}
-
-// What the talk in hand has next; one that is done is in hand no more.
-fn go_on(
-    alloc: Global,
-    hand: &mut Option<Talk>,
-    state: &mut State,
-    full: bool,
-) -> Result<Next, NoMemory>
-    requires { (talk : Hand) → hand.old ≡ Some talk → AreSized state.old talk }
-    ensures { (talk : Hand) (m : AMachine) → hand.old ≡ Some talk
-        → IfOk result (λ next. due_as (act_of next) (record m { state = state.new; hand = hand.new })
-        ≡ talk_due full m state.old talk) }
-{
-    let next = step_in(alloc, hand, state, full)?;
-    let_go(hand, &next);
-    Ok(next)
 }
 
 impl Machine {
@@ -393,15 +250,5 @@ impl Machine {
         ensures { result ≡ awaits_greeting self.now.state }
     {
         self.state.awaits_greeting()
-    }
-}
-
-// The error that tells that the target has ended.
-fn is_dead(replied: &Replied) -> bool
-    ensures { result ≡ is_dead replied.now }
-{
-    match replied {
-        Replied::Answer(_) => false,
-        Replied::Error(code) => *code == VM_DEAD,
     }
 }

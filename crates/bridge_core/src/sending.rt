@@ -1,5 +1,5 @@
 //! What goes out: the machine's next message, as bytes.
-ghost use Rattle.std.specs.Prelude.{◌≡◌, [], false, IfErr, IfNone, IfOk, IfSome, OnOk};
+ghost use Rattle.std.specs.Prelude.{◌≡◌, [], false, IfErr, IfNone, IfOk, IfSome, OnErr, OnOk};
 ghost use Rattle.jdwp_packets.specs.Packets.{command_packet, handshake, packet_bytes};
 ghost use Rattle.bridge_core.specs.Cores.{IsReady};
 ghost use Rattle.bridge_core.specs.Going.{Comes, IsSent, IsStep, IsTold, MaySend, is_hidden};
@@ -63,7 +63,8 @@ impl Core {
 
     /// Tells the client the next message (DAP overview, Base protocol).
     pub(crate) fn tell(&mut self, alloc: Global, told: &Told) -> Result<Out, NoMemory>
-        ensures { IfOk result (λ out. IsTold self.old told.now out.side out.bytes self.new) }
+        ensures ok { IfOk result (λ out. IsTold self.old told.now out.side out.bytes self.new) }
+        ensures err { OnErr result (self.new ≡ self.old) }
     {
         let bytes = framed(alloc, self.told, told)?;
         self.told += 1;

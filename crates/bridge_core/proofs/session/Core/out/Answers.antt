@@ -53,12 +53,12 @@ returns-in-Wait-clause-ready c =
 pub returns-in_ok-tell-in-Tell-clause-sends : goal.returns-in_ok-tell-in-Tell-clause-sends
 returns-in_ok-tell-in-Tell-clause-sends c =
     (tells_out c.args.self.now c.go.new.core c.tell.new.self c.in-Tell.told c.in_ok-tell-in-Tell.field-0.side
-    c.in_ok-tell-in-Tell.field-0.bytes (rw c.in-Tell.is at c.in_ok-go.ensures.comes) c.in_ok-tell-in-Tell.ensures).sends
+    c.in_ok-tell-in-Tell.field-0.bytes (rw c.in-Tell.is at c.in_ok-go.ensures.comes) c.in_ok-tell-in-Tell.ensures.ok).sends
 
 pub returns-in_ok-tell-in-Tell-clause-ready : goal.returns-in_ok-tell-in-Tell-clause-ready
 returns-in_ok-tell-in-Tell-clause-ready c =
     (tells_out c.args.self.now c.go.new.core c.tell.new.self c.in-Tell.told c.in_ok-tell-in-Tell.field-0.side
-    c.in_ok-tell-in-Tell.field-0.bytes (rw c.in-Tell.is at c.in_ok-go.ensures.comes) c.in_ok-tell-in-Tell.ensures).ready
+    c.in_ok-tell-in-Tell.field-0.bytes (rw c.in-Tell.is at c.in_ok-go.ensures.comes) c.in_ok-tell-in-Tell.ensures.ok).ready
 
 pub returns-in_ok-greeting-in-Greet-clause-sends : goal.returns-in_ok-greeting-in-Greet-clause-sends
 returns-in_ok-greeting-in-Greet-clause-sends c =

@@ -1,5 +1,5 @@
 use Rattle.bridge_core.proofs.TalkLaws.{steps_so}
-use Rattle.bridge_core.proofs.machine.go_on.Goals as goal
+use Rattle.bridge_core.proofs.hand.go_on.Goals as goal
 
 pub returns : goal.returns
 returns c = λ talk m is.
