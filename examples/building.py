@@ -57,7 +57,7 @@ def built():
         stop("there is no command rt in the path: README.md says under Set up what the Rattle kit is")
     names = crates_below("bridge_cmd")
     print("Proving and building the program: %d crates, one line each." % len(names))
-    print("From nothing this takes five minutes or more on four processors; later only what changed is proved again.")
+    print("From nothing this takes up to an hour on four processors; later only what changed is proved again.")
     print("What the prover says goes to %s" % LOG, flush=True)
     start = time.monotonic()
     with open(LOG, "wb") as log:
