@@ -7,7 +7,8 @@ use Rattle.wire_core.specs.Outside.{Counts, IsOpen, Outside, Rose, last_count, l
 abbrev pub IsClosed : Side → Outside → Type 0
 IsClosed side o = (link_of side o).is_open ≡ false
 
--- no count fell, no other name was asked for, and a side that was closed is closed
+-- No count fell, no other name was asked for, and a side that was closed is closed. The last says something of the calls
+-- inside a session alone, since both sides are open where it begins.
 pub record Keeps (old new : Outside) : Type 0 where
   pub counts : Counts old new
   pub asked : new.asked ≡ old.asked
@@ -26,11 +27,11 @@ pub record Blames (old new : Outside) (ending : Ending) : Type 0 where
 abbrev pub RoseBy : ℕ → ℕ → ℕ → Type 0
 RoseBy n old new = (old + n ≤ new) ⊎ (last_count ≤ new)
 
--- each side that is open was asked so often and had nothing
+-- each side that is still open was asked so often and had nothing, whatever else came in between
 pub record WasQuiet (n : ℕ) (old new : Outside) : Type 0 where
   pub client : IsOpen Client new → RoseBy n old.client.empties new.client.empties
   pub target : IsOpen Target new → RoseBy n old.target.empties new.target.empties
 
--- nothing came for as many waits as the limit says, where the session ended for that
+-- where the session ended so, each side that is still open was asked in vain as often as the limit says
 abbrev pub Idles : Limits → Outside → Outside → Ending → Type 0
 Idles limits old new ending = ending ≡ Idle → WasQuiet limits.quiet old new
