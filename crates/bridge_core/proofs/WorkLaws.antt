@@ -154,8 +154,8 @@ leaves_light exits state = grind arith
 chosen_light : (choice : Choice) (state : State) (hand : Hand) → weights (chosen choice state hand) < 10
 chosen_light choice state hand = grind arith
 
-row_light : (command : Command) → weights (row_of command) < 60
-row_light command = grind arith
+row_light : (command : Command) (state : State) → weights (row_of command state) < 60
+row_light command state = grind arith
 
 parts_light : (failure : Option Failure) (row : List Part) → weights row < 60 → weights (parts_by failure row) < 60
 parts_light None row light = light
@@ -167,7 +167,8 @@ end_light false = omega arith
 
 begun_light : (state : State) (item : Item) → weights (parts_of state item) < 60
 begun_light state (a_request request) =
-    parts_light (failure_of (wanting request.command) state) (row_of request.command) (row_light request.command)
+    parts_light (failure_of (wanting request.command) state) (row_of request.command state)
+    (row_light request.command state)
 begun_light state (a_composite at composite) = omega arith
 begun_light state (a_raw at body) = omega arith
 begun_light state target_end = end_light state.terminated

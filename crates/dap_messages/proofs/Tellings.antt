@@ -1,15 +1,32 @@
 -- No told message has a float, so its text is the compact one.
-use Rattle.std.proofs.Common.{◌≡◌, ℕ, List, [], ◌∷◌, map, false, ◌||◌, Some, refl, ap, ◌∙◌}
+use Rattle.std.proofs.Common.{◌≡◌, ℕ, List, [], ◌∷◌, map, false, ◌||◌, Option, Some, None, refl, ap, ◌∙◌}
 use Rattle.serde_json.specs.Data.{Data}
 use Rattle.serde_json.specs.View.{items_of}
 use Rattle.serde_json.specs.Written.{compact_text, has_float, items_have_float}
-use Rattle.dap_messages.specs.Telling.{answer_data, outcome_data, thread_data, threads_data, told_data, told_text}
+use Rattle.dap_messages.specs.Telling.{answer_data, breakpoint_data, breakpoints_data, outcome_data, reason_of}
+use Rattle.dap_messages.specs.Telling.{standing_data, thread_data, threads_data, told_data, told_text}
 use Rattle.dap_messages.specs.declared.told.Told.{Told}
 use Rattle.dap_messages.specs.declared.told.Told.TheVariants as told
 use Rattle.dap_messages.specs.declared.told.Outcome.{Outcome}
 use Rattle.dap_messages.specs.declared.told.Outcome.TheVariants.{Success, Failure as Failed}
-use Rattle.dap_messages.specs.declared.told.Shape.TheVariants.{Nothing, Capabilities, Threads}
+use Rattle.dap_messages.specs.declared.told.Shape.TheVariants.{Nothing, Capabilities, Breakpoints, Threads}
+use Rattle.dap_messages.specs.declared.told.Breakpoint.{Breakpoint}
 use Rattle.dap_messages.specs.declared.told.Thread.{Thread}
+
+has_float-standing_data : (id line : ℕ) (reason : Option (List ℕ)) → has_float (standing_data id line reason) ≡ false
+has_float-standing_data id line None = refl
+has_float-standing_data id line (Some reason) = refl
+
+items_have_float-breakpoints : (breakpoints : List Breakpoint) →
+    items_have_float (items_of (map breakpoint_data breakpoints)) ≡ false
+items_have_float-breakpoints [] = refl
+items_have_float-breakpoints (breakpoint ∷ breakpoints) =
+    ap (λ found. found || items_have_float (items_of (map breakpoint_data breakpoints)))
+    (has_float-standing_data breakpoint.id breakpoint.line (reason_of breakpoint.status))
+    ∙ items_have_float-breakpoints breakpoints
+
+has_float-breakpoints_data : (breakpoints : List Breakpoint) → has_float (breakpoints_data breakpoints) ≡ false
+has_float-breakpoints_data breakpoints = ap (λ found. found || false) (items_have_float-breakpoints breakpoints)
 
 items_have_float-threads : (threads : List Thread) → items_have_float (items_of (map thread_data threads)) ≡ false
 items_have_float-threads [] = refl
@@ -26,6 +43,10 @@ has_float-outcome_data : (seq request_seq : ℕ) (command : List ℕ) (outcome :
     has_float (outcome_data seq request_seq command outcome) ≡ false
 has_float-outcome_data seq request_seq command (Success Nothing) = refl
 has_float-outcome_data seq request_seq command (Success Capabilities) = refl
+has_float-outcome_data seq request_seq command (Success (Breakpoints breakpoints)) =
+    has_float-answer_data seq request_seq command
+    (breakpoints_data breakpoints)
+    (has_float-breakpoints_data breakpoints)
 has_float-outcome_data seq request_seq command (Success (Threads threads)) =
     has_float-answer_data seq request_seq command (threads_data threads) (has_float-threads_data threads)
 has_float-outcome_data seq request_seq command (Failed failure) = refl

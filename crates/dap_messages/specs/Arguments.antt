@@ -7,7 +7,7 @@ use Rattle.dap_messages.specs.declared.arguments.Argument.{Argument}
 use Rattle.dap_messages.specs.declared.arguments.Argument.TheVariants.{Arguments, AdapterId, LinesStartAt1}
 use Rattle.dap_messages.specs.declared.arguments.Argument.TheVariants.{ColumnsStartAt1, PathFormat}
 use Rattle.dap_messages.specs.declared.arguments.Argument.TheVariants.{SupportsVariableType, SourceRoots}
-use Rattle.dap_messages.specs.declared.arguments.Argument.TheVariants.{TerminateDebuggee}
+use Rattle.dap_messages.specs.declared.arguments.Argument.TheVariants.{Source, Breakpoints, TerminateDebuggee}
 use Rattle.dap_messages.specs.declared.arguments.Refused.{Refused}
 use Rattle.dap_messages.specs.declared.arguments.Refused.TheVariants.{NoMemory, Broken}
 use Rattle.dap_messages.specs.declared.requests.InitializeArguments.{InitializeArguments}
@@ -23,6 +23,8 @@ argument_name ColumnsStartAt1 = codes "columnsStartAt1"
 argument_name PathFormat = codes "pathFormat"
 argument_name SupportsVariableType = codes "supportsVariableType"
 argument_name SourceRoots = codes "sourceRoots"
+argument_name Source = codes "source"
+argument_name Breakpoints = codes "breakpoints"
 argument_name TerminateDebuggee = codes "terminateDebuggee"
 
 -- null counts as missing
@@ -52,10 +54,10 @@ or_missing missing read (Some value) = read value
 abbrev pub text_at : Argument → Data → Result (List ℕ) Argument
 text_at argument arguments = unless_broken argument (option_and_then as_str (given argument arguments))
 
--- a list whose items are all texts
-abbrev pub texts_in : Items → Option (List (List ℕ))
-texts_in no_items = Some []
-texts_in (item d ds) = option_and_then (λ text. option_map (λ texts. text ∷ texts) (texts_in ds)) (as_str d)
+-- each item is read, or none is
+abbrev pub each_in : {A : Type 0} → (Data → Option A) → Items → Option (List A)
+each_in read no_items = Some []
+each_in read (item d ds) = option_and_then (λ x. option_map (λ xs. x ∷ xs) (each_in read ds)) (read d)
 
 -- a list that has an item
 abbrev pub unless_empty : List (List ℕ) → Option (List (List ℕ))
@@ -64,7 +66,7 @@ unless_empty (text ∷ texts) = Some (text ∷ texts)
 
 -- a value that is a list of texts and has one
 abbrev pub as_texts : Data → Option (List (List ℕ))
-as_texts value = option_and_then unless_empty (option_and_then texts_in (as_array value))
+as_texts value = option_and_then unless_empty (option_and_then (each_in as_str) (as_array value))
 
 -- a list of texts that must be there and have one
 abbrev pub texts_at : Argument → Data → Result (List (List ℕ)) Argument

@@ -6,12 +6,14 @@ use Rattle.serde_json.specs.Data.{Data, null}
 use Rattle.serde_json.specs.Read.{read}
 use Rattle.serde_json.specs.Find.{get, as_null, as_number, as_object, as_str, as_u64}
 use Rattle.dap_messages.specs.Arguments.{◌>>=◌, argument_name, initialize_of, attach_of, disconnect_of}
+use Rattle.dap_messages.specs.Breakpoints.{set_breakpoints_of}
 use Rattle.dap_messages.specs.declared.arguments.Argument.{Argument}
 use Rattle.dap_messages.specs.declared.arguments.Argument.TheVariants.{Arguments}
 use Rattle.dap_messages.specs.declared.rows.Row.{Row}
 use Rattle.dap_messages.specs.declared.rows.Row.TheVariants as row
 use Rattle.dap_messages.specs.declared.requests.Command.{Command}
-use Rattle.dap_messages.specs.declared.requests.Command.TheVariants.{Initialize, Attach, Threads, Disconnect}
+use Rattle.dap_messages.specs.declared.requests.Command.TheVariants.{Initialize, Attach, ConfigurationDone}
+use Rattle.dap_messages.specs.declared.requests.Command.TheVariants.{SetBreakpoints, Threads, Disconnect}
 use Rattle.dap_messages.specs.declared.requests.Command.TheVariants.{Unsupported, BadArguments}
 use Rattle.dap_messages.specs.declared.requests.Incoming.{Incoming}
 use Rattle.dap_messages.specs.declared.requests.Incoming.TheVariants.{Request, Ignored}
@@ -23,9 +25,11 @@ abbrev pub row_of : List ℕ → Row
 row_of name =
     if bytes_eq name (codes "initialize") then row.Initialize else
     (if bytes_eq name (codes "attach") then row.Attach else
+    (if bytes_eq name (codes "configurationDone") then row.ConfigurationDone else
+    (if bytes_eq name (codes "setBreakpoints") then row.SetBreakpoints else
     (if bytes_eq name (codes "threads") then row.Threads else
     (if bytes_eq name (codes "disconnect") then row.Disconnect else
-    row.Unsupported)))
+    row.Unsupported)))))
 
 -- arguments are an object or null
 abbrev pub object_or_null : Data → Result Data Argument
@@ -45,6 +49,13 @@ row_command row.Attach request = do
   arguments ← arguments_of request
   attach ← attach_of arguments
   Ok (Attach attach)
+row_command row.ConfigurationDone request = do
+  arguments ← arguments_of request
+  Ok ConfigurationDone
+row_command row.SetBreakpoints request = do
+  arguments ← arguments_of request
+  set_breakpoints ← set_breakpoints_of arguments
+  Ok (SetBreakpoints set_breakpoints)
 row_command row.Threads request = do
   arguments ← arguments_of request
   Ok Threads

@@ -10,7 +10,12 @@ use Rattle.dap_messages.specs.declared.told.Response.{Response}
 use Rattle.dap_messages.specs.declared.told.Outcome.{Outcome}
 use Rattle.dap_messages.specs.declared.told.Outcome.TheVariants.{Success, Failure as Failed}
 use Rattle.dap_messages.specs.declared.told.Shape.{Shape}
-use Rattle.dap_messages.specs.declared.told.Shape.TheVariants.{Nothing, Capabilities, Threads}
+use Rattle.dap_messages.specs.declared.told.Shape.TheVariants.{Nothing, Capabilities, Breakpoints, Threads}
+use Rattle.dap_messages.specs.declared.told.Breakpoint.{Breakpoint}
+use Rattle.dap_messages.specs.declared.told.BreakpointStatus.{BreakpointStatus}
+use Rattle.dap_messages.specs.declared.told.BreakpointStatus.TheVariants.{Verified, NoSourceRoot}
+use Rattle.dap_messages.specs.declared.told.BreakpointStatus.TheVariants.{ConditionsUnsupported, RefusedByTarget}
+use Rattle.dap_messages.specs.declared.told.BreakpointStatus.TheVariants.{NotBoundYet}
 use Rattle.dap_messages.specs.declared.told.Thread.{Thread}
 use Rattle.dap_messages.specs.declared.told.Failure.{Failure}
 use Rattle.dap_messages.specs.declared.told.Detail.{Detail}
@@ -76,6 +81,33 @@ capabilities_data = object_of (
     (codes "supportsFunctionBreakpoints", boolean true) ∷
     (codes "supportsSetVariable", boolean true) ∷ [])
 
+-- why a breakpoint isn't verified, where it isn't: the adapter's own words (DAP specification, Types, Breakpoint)
+abbrev pub reason_of : BreakpointStatus → Option (List ℕ)
+reason_of Verified = None
+reason_of NoSourceRoot = Some (codes "no source root")
+reason_of ConditionsUnsupported = Some (codes "conditions are not supported")
+reason_of RefusedByTarget = Some (codes "refused by the target")
+reason_of NotBoundYet = Some (codes "not bound yet")
+
+-- the members that say how a breakpoint stands (DAP specification, Types, Breakpoint, `message` and `verified`)
+abbrev pub standing_members : Option (List ℕ) → List (List ℕ × Data)
+standing_members None = (codes "verified", boolean true) ∷ []
+standing_members (Some reason) = (codes "message", string reason) ∷ (codes "verified", boolean false) ∷ []
+
+-- a breakpoint of this number and line, verified where nothing is said against it
+abbrev pub standing_data : ℕ → ℕ → Option (List ℕ) → Data
+standing_data id line reason =
+    object_of ((codes "id", count id) ∷ (codes "line", count line) ∷ standing_members reason)
+
+-- a breakpoint (DAP specification, Types, Breakpoint)
+abbrev pub breakpoint_data : Breakpoint → Data
+breakpoint_data breakpoint = standing_data breakpoint.id breakpoint.line (reason_of breakpoint.status)
+
+-- the body of the response to `setBreakpoints` (DAP specification, SetBreakpoints request)
+abbrev pub breakpoints_data : List Breakpoint → Data
+breakpoints_data breakpoints =
+    object_of ((codes "breakpoints", array (items_of (map breakpoint_data breakpoints))) ∷ [])
+
 -- a thread (DAP specification, Types, Thread)
 abbrev pub thread_data : Thread → Data
 thread_data thread = object_of ((codes "id", count thread.id) ∷ (codes "name", string thread.name) ∷ [])
@@ -88,6 +120,7 @@ threads_data threads = object_of ((codes "threads", array (items_of (map thread_
 abbrev pub shape_data : Shape → Option Data
 shape_data Nothing = None
 shape_data Capabilities = Some capabilities_data
+shape_data (Breakpoints breakpoints) = Some (breakpoints_data breakpoints)
 shape_data (Threads threads) = Some (threads_data threads)
 
 -- the member `body`, which stands before all others of a message

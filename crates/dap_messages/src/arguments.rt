@@ -1,7 +1,8 @@
 ghost use Rattle.std.specs.Prelude.{◌≡◌, option_map};
+ghost use Rattle.serde_json.specs.Find.{as_str};
 ghost use Rattle.serde_json.specs.View.{view, items_view};
-ghost use Rattle.dap_messages.specs.Arguments.{argument_name, given, text_at, texts_at, texts_in};
-ghost use Rattle.dap_messages.specs.Arguments.{flag_at, path_format_at, unless_broken, IsRead};
+ghost use Rattle.dap_messages.specs.Arguments.{argument_name, given, text_at, texts_at};
+ghost use Rattle.dap_messages.specs.Arguments.{each_in, flag_at, path_format_at, unless_broken, IsRead};
 
 use serde_json::Value;
 use std::alloc::Global;
@@ -17,6 +18,8 @@ pub(crate) enum Argument {
     PathFormat,
     SupportsVariableType,
     SourceRoots,
+    Source,
+    Breakpoints,
     TerminateDebuggee,
 }
 
@@ -32,6 +35,8 @@ impl Argument {
             Argument::PathFormat => "pathFormat",
             Argument::SupportsVariableType => "supportsVariableType",
             Argument::SourceRoots => "sourceRoots",
+            Argument::Source => "source",
+            Argument::Breakpoints => "breakpoints",
             Argument::TerminateDebuggee => "terminateDebuggee",
         }
     }
@@ -56,7 +61,7 @@ impl From<NoMemory> for Refused {
 }
 
 /// The argument, unless it is missing or null.
-fn given<'v>(arguments: &'v Value, argument: Argument) -> Option<&'v Value>
+pub(crate) fn given<'v>(arguments: &'v Value, argument: Argument) -> Option<&'v Value>
     ensures { option_map (λ v. view v.now) result ≡ given argument (view arguments.now) }
 {
     match arguments.get(argument.name()) {
@@ -98,7 +103,7 @@ pub(crate) fn texts_at(
 }
 
 fn texts_in(alloc: Global, argument: Argument, items: &[Value]) -> Result<List<Text>, Refused>
-    ensures { IsRead result (unless_broken argument (texts_in (items_view items.now))) }
+    ensures { IsRead result (unless_broken argument (each_in as_str (items_view items.now))) }
 {
     let mut texts = List::new(alloc);
     for item in items {

@@ -2,6 +2,7 @@
 #![tactic(auto)]
 
 mod arguments;
+mod breakpoints;
 mod read;
 mod requests;
 mod rows;
@@ -13,7 +14,9 @@ mod write;
 pub use read::read_request;
 pub use requests::{
     AttachArguments, Command, DisconnectArguments, Incoming, InitializeArguments, ReadFault,
-    Request,
+    Request, SetBreakpointsArguments, SourceBreakpoint,
 };
-pub use told::{Detail, Event, Failure, Outcome, Response, Shape, Thread, Told};
+pub use told::{
+    Breakpoint, BreakpointStatus, Detail, Event, Failure, Outcome, Response, Shape, Thread, Told,
+};
 pub use write::text_of;

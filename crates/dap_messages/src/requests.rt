@@ -43,6 +43,8 @@ pub struct Request {
 pub enum Command {
     Initialize(InitializeArguments),
     Attach(AttachArguments),
+    ConfigurationDone,
+    SetBreakpoints(SetBreakpointsArguments),
     Threads,
     Disconnect(DisconnectArguments),
     /// A command that this adapter doesn't have.
@@ -66,6 +68,22 @@ pub struct InitializeArguments {
 #[derive(Debug, Drop)]
 pub struct AttachArguments {
     pub source_roots: List<Text>,
+}
+
+/// Arguments of `setBreakpoints`: the source's path as the client wrote it, and its breakpoints in the client's order,
+/// which take the place of all that it had there. (DAP specification, SetBreakpoints request)
+#[derive(Debug, Drop)]
+pub struct SetBreakpointsArguments {
+    pub path: Text,
+    pub breakpoints: List<SourceBreakpoint>,
+}
+
+/// A breakpoint that is asked for: its line, from 0 to 2^31 - 1 in the client's counting, and whether it is plain,
+/// that is without a condition, a hit condition and a log message. (DAP specification, Types, SourceBreakpoint)
+#[derive(Clone, Copy, Debug, Drop, PartialEq, Eq)]
+pub struct SourceBreakpoint {
+    pub line: u32,
+    pub plain: bool,
 }
 
 /// Arguments of `disconnect`: whether the target has to end, which it doesn't where that is missing.

@@ -1,10 +1,14 @@
 ghost use Rattle.std.specs.Prelude.{◌≡◌, IfOk};
 ghost use Rattle.serde_json.specs.View.{view};
 ghost use Rattle.dap_messages.specs.Arguments.{initialize_of, attach_of, disconnect_of, IsRead};
+ghost use Rattle.dap_messages.specs.Breakpoints.{set_breakpoints_of};
 ghost use Rattle.dap_messages.specs.Reading.{row_of, row_command, command_of};
 
 use crate::arguments::{Argument, Refused, flag_at, path_format_at, text_at, texts_at};
-use crate::requests::{AttachArguments, Command, DisconnectArguments, InitializeArguments};
+use crate::breakpoints::{breakpoints_at, path_at};
+use crate::requests::{
+    AttachArguments, Command, DisconnectArguments, InitializeArguments, SetBreakpointsArguments,
+};
 use serde_json::Value;
 use std::alloc::Global;
 use wire_core::{NoMemory, Text};
@@ -14,6 +18,8 @@ use wire_core::{NoMemory, Text};
 pub(crate) enum Row {
     Initialize,
     Attach,
+    ConfigurationDone,
+    SetBreakpoints,
     Threads,
     Disconnect,
     Unsupported,
@@ -26,6 +32,10 @@ fn row_of(name: &str) -> Row
         Row::Initialize
     } else if name == "attach" {
         Row::Attach
+    } else if name == "configurationDone" {
+        Row::ConfigurationDone
+    } else if name == "setBreakpoints" {
+        Row::SetBreakpoints
     } else if name == "threads" {
         Row::Threads
     } else if name == "disconnect" {
@@ -63,6 +73,8 @@ fn row_command(alloc: Global, row: Row, request: &Value) -> Result<Command, Refu
     match row {
         Row::Initialize => Ok(Command::Initialize(initialize_of(alloc, arguments)?)),
         Row::Attach => Ok(Command::Attach(attach_of(alloc, arguments)?)),
+        Row::ConfigurationDone => Ok(Command::ConfigurationDone),
+        Row::SetBreakpoints => Ok(Command::SetBreakpoints(set_breakpoints_of(alloc, arguments)?)),
         Row::Threads => Ok(Command::Threads),
         Row::Disconnect => Ok(Command::Disconnect(disconnect_of(arguments)?)),
         Row::Unsupported => Ok(Command::Unsupported),
@@ -90,6 +102,14 @@ fn attach_of(alloc: Global, arguments: &Value) -> Result<AttachArguments, Refuse
 {
     let source_roots = texts_at(alloc, arguments, Argument::SourceRoots)?;
     Ok(AttachArguments { source_roots })
+}
+
+fn set_breakpoints_of(alloc: Global, arguments: &Value) -> Result<SetBreakpointsArguments, Refused>
+    ensures { IsRead result (set_breakpoints_of (view arguments.now)) }
+{
+    let path = path_at(alloc, arguments)?;
+    let breakpoints = breakpoints_at(alloc, arguments)?;
+    Ok(SetBreakpointsArguments { path, breakpoints })
 }
 
 fn disconnect_of(arguments: &Value) -> Result<DisconnectArguments, Refused>

@@ -1,6 +1,6 @@
 use crate::{
-    Command, Event, Failure, Incoming, Outcome, ReadFault, Request, Response, Shape, Thread, Told,
-    read_request, text_of,
+    Breakpoint, BreakpointStatus, Command, Event, Failure, Incoming, Outcome, ReadFault, Request,
+    Response, Shape, SourceBreakpoint, Thread, Told, read_request, text_of,
 };
 use std::alloc::{AllocError, Global};
 use std::test::Fail;
@@ -32,6 +32,12 @@ fn request_summary(alloc: Global, request: Request) -> Result<String, AllocError
             let roots = joined(alloc, arguments.source_roots.as_slice())?;
             format!(in alloc; "{seq} {name} {roots}")
         }
+        Command::ConfigurationDone => format!(in alloc; "{seq} {name}"),
+        Command::SetBreakpoints(arguments) => {
+            let path = arguments.path.as_str();
+            let breakpoints = listed(alloc, arguments.breakpoints.as_slice())?;
+            format!(in alloc; "{seq} {name} {path}:{breakpoints}")
+        }
         Command::Threads => format!(in alloc; "{seq} {name}"),
         Command::Disconnect(arguments) => {
             let terminate = arguments.terminate_debuggee;
@@ -51,6 +57,17 @@ fn joined(alloc: Global, texts: &[Text]) -> Result<String, AllocError> {
     for text in texts {
         all.push_str(text.as_str())?;
         all.push_str(";")?;
+    }
+    Ok(all)
+}
+
+// Breakpoints, each with ` ` before it, and with `?` behind it where it isn't plain.
+fn listed(alloc: Global, breakpoints: &[SourceBreakpoint]) -> Result<String, AllocError> {
+    let mut all = String::new(alloc);
+    for breakpoint in breakpoints {
+        let line = breakpoint.line;
+        let mark = if breakpoint.plain { "" } else { "?" };
+        all.push_str(format!(in alloc; " {line}{mark}")?.as_str())?;
     }
     Ok(all)
 }
@@ -224,6 +241,13 @@ fn arguments_are_judged_in_order(rt: HostRuntime) -> Result<(), Fail> {
             "1 attach bad sourceRoots",
         ),
         ("attach", "[\"/p/src\"]", "1 attach bad arguments"),
+        ("configurationDone", "null", "1 configurationDone"),
+        ("configurationDone", "{\"a\":1}", "1 configurationDone"),
+        (
+            "configurationDone",
+            "\"\"",
+            "1 configurationDone bad arguments",
+        ),
         ("threads", "null", "1 threads"),
         ("threads", "{\"threadId\":\"x\"}", "1 threads"),
         ("threads", "7", "1 threads bad arguments"),
@@ -242,12 +266,101 @@ fn arguments_are_judged_in_order(rt: HostRuntime) -> Result<(), Fail> {
         ("launch", "false", "1 launch unsupported"),
     ];
     for (command, arguments, wanted) in table {
-        let alloc = rt.alloc();
-        let body = format!(in alloc;
-            "{{\"arguments\":{arguments},\"command\":\"{command}\",\"seq\":1,\"type\":\"request\"}}"
-        )?;
-        let said = summary(alloc, body.as_bytes())?;
+        let said = arguments_summary(rt.alloc(), command, arguments)?;
         assert!(rt; said.as_str() == wanted, "{command} {arguments}: {said}");
+    }
+    Ok(())
+}
+
+// What a request with these arguments says, in a few words.
+fn arguments_summary(alloc: Global, command: &str, arguments: &str) -> Result<String, AllocError> {
+    let body = format!(in alloc;
+        "{{\"arguments\":{arguments},\"command\":\"{command}\",\"seq\":1,\"type\":\"request\"}}"
+    )?;
+    summary(alloc, body.as_bytes())
+}
+
+#[test]
+fn breakpoints_are_judged(rt: HostRuntime) -> Result<(), Fail> {
+    let table = [
+        // the source
+        ("null", "bad source"),
+        ("[]", "bad arguments"),
+        ("{\"breakpoints\":7}", "bad source"),
+        ("{\"source\":null,\"breakpoints\":[]}", "bad source"),
+        ("{\"source\":\"/a\"}", "bad source"),
+        ("{\"source\":{}}", "bad source"),
+        ("{\"source\":{\"path\":null}}", "bad source"),
+        ("{\"source\":{\"path\":7}}", "bad source"),
+        ("{\"source\":{\"path\":\"\"}}", ":"),
+        (
+            "{\"lines\":7,\"source\":{\"path\":\"/p/\\u00e9.java\",\"name\":7}}",
+            "/p/é.java:",
+        ),
+        // the list
+        ("{\"source\":{\"path\":\"/a\"},\"breakpoints\":null}", "/a:"),
+        ("{\"source\":{\"path\":\"/a\"},\"breakpoints\":[]}", "/a:"),
+        (
+            "{\"source\":{\"path\":\"/a\"},\"breakpoints\":{}}",
+            "bad breakpoints",
+        ),
+        (
+            "{\"source\":{\"path\":\"/a\"},\"breakpoints\":false}",
+            "bad breakpoints",
+        ),
+        (
+            "{\"source\":{\"path\":\"/a\"},\"breakpoints\":[{\"line\":7,\"column\":\"x\"},{\"line\":7},\
+            {\"line\":3}]}",
+            "/a: 7 7 3",
+        ),
+    ];
+    for (arguments, wanted) in table {
+        let said = arguments_summary(rt.alloc(), "setBreakpoints", arguments)?;
+        let wanted = format!(in rt.alloc(); "1 setBreakpoints {wanted}")?;
+        assert!(rt; said.as_str() == wanted.as_str(), "{arguments}: {said}");
+    }
+    Ok(())
+}
+
+#[test]
+fn lines_and_conditions_are_judged(rt: HostRuntime) -> Result<(), Fail> {
+    let table = [
+        // lines
+        ("{\"line\":0}", "/a: 1 0"),
+        ("{\"line\":2147483647}", "/a: 1 2147483647"),
+        ("{\"line\":2147483648}", "bad breakpoints"),
+        ("{\"line\":18446744073709551617}", "bad breakpoints"),
+        ("{\"line\":-1}", "bad breakpoints"),
+        ("{\"line\":-0}", "bad breakpoints"),
+        ("{\"line\":1.0}", "bad breakpoints"),
+        ("{\"line\":1e0}", "bad breakpoints"),
+        ("{\"line\":\"1\"}", "bad breakpoints"),
+        ("{\"line\":null}", "bad breakpoints"),
+        ("{}", "bad breakpoints"),
+        ("null", "bad breakpoints"),
+        ("7", "bad breakpoints"),
+        ("[]", "bad breakpoints"),
+        // conditions
+        ("{\"line\":2,\"condition\":\"x > 1\"}", "/a: 1 2?"),
+        ("{\"line\":2,\"hitCondition\":\"5\"}", "/a: 1 2?"),
+        ("{\"line\":2,\"logMessage\":\" \"}", "/a: 1 2?"),
+        (
+            "{\"line\":2,\"condition\":\"\",\"hitCondition\":\"\",\"logMessage\":\"\"}",
+            "/a: 1 2",
+        ),
+        (
+            "{\"line\":2,\"condition\":null,\"hitCondition\":5,\"logMessage\":[\"x\"]}",
+            "/a: 1 2",
+        ),
+        ("{\"line\":2,\"Condition\":\"x\"}", "/a: 1 2"),
+    ];
+    for (breakpoint, wanted) in table {
+        let arguments = format!(in rt.alloc();
+            "{{\"source\":{{\"path\":\"/a\"}},\"breakpoints\":[{{\"line\":1}},{breakpoint}]}}"
+        )?;
+        let said = arguments_summary(rt.alloc(), "setBreakpoints", arguments.as_str())?;
+        let wanted = format!(in rt.alloc(); "1 setBreakpoints {wanted}")?;
+        assert!(rt; said.as_str() == wanted.as_str(), "{breakpoint}: {said}");
     }
     Ok(())
 }
@@ -359,6 +472,33 @@ fn messages_are_told(rt: HostRuntime) -> Result<(), Fail> {
         let text = text_of(alloc, seq, &told)?;
         assert!(rt; text.as_slice() == wanted.as_bytes(), "{wanted}");
     }
+    Ok(())
+}
+
+#[test]
+fn breakpoints_are_told(rt: HostRuntime) -> Result<(), Fail> {
+    let alloc = rt.alloc();
+    let mut breakpoints = List::new(alloc);
+    let table = [
+        (1, 10, BreakpointStatus::Verified),
+        (2, 11, BreakpointStatus::NoSourceRoot),
+        (3, 12, BreakpointStatus::ConditionsUnsupported),
+        (4, 13, BreakpointStatus::RefusedByTarget),
+        (5, 14, BreakpointStatus::NotBoundYet),
+    ];
+    for (id, line, status) in table {
+        breakpoints.push(Breakpoint { id, line, status })?;
+    }
+    let outcome = Outcome::Success(Shape::Breakpoints(breakpoints));
+    let told = response(alloc, 5, "setBreakpoints", outcome)?;
+    let text = text_of(alloc, 4, &told)?;
+    let wanted = "{\"body\":{\"breakpoints\":[{\"id\":1,\"line\":10,\"verified\":true},\
+        {\"id\":2,\"line\":11,\"message\":\"no source root\",\"verified\":false},\
+        {\"id\":3,\"line\":12,\"message\":\"conditions are not supported\",\"verified\":false},\
+        {\"id\":4,\"line\":13,\"message\":\"refused by the target\",\"verified\":false},\
+        {\"id\":5,\"line\":14,\"message\":\"not bound yet\",\"verified\":false}]},\
+        \"command\":\"setBreakpoints\",\"request_seq\":5,\"seq\":4,\"success\":true,\"type\":\"response\"}";
+    assert!(rt; text.as_slice() == wanted.as_bytes(), "{wanted}");
     Ok(())
 }
 

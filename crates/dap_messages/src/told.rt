@@ -30,6 +30,9 @@ pub enum Shape {
     Nothing,
     /// What the adapter can do, the body of `initialize`. (DAP specification, Types, Capabilities)
     Capabilities,
+    /// The breakpoints of a source, in the order in which they were asked for, the body of `setBreakpoints`.
+    /// (DAP specification, SetBreakpoints request)
+    Breakpoints(List<Breakpoint>),
     /// The threads of the target, the body of `threads`. (DAP specification, Threads request)
     Threads(List<Thread>),
 }
@@ -39,6 +42,31 @@ pub enum Shape {
 pub struct Thread {
     pub id: u64,
     pub name: Text,
+}
+
+/// A breakpoint: the number that the client knows it by, its line in the client's counting, and how it stands.
+/// (DAP specification, Types, Breakpoint)
+#[derive(Clone, Copy, Debug, Drop, PartialEq, Eq)]
+pub struct Breakpoint {
+    pub id: u64,
+    pub line: u32,
+    pub status: BreakpointStatus,
+}
+
+/// How a breakpoint stands: the target stops at it, or why it doesn't.
+/// (DAP specification, Types, Breakpoint, `verified` and `message`)
+#[derive(Clone, Copy, Debug, Drop, PartialEq, Eq)]
+pub enum BreakpointStatus {
+    /// The target stops there.
+    Verified,
+    /// Its source stands in none of the folders that `attach` named.
+    NoSourceRoot,
+    /// It has a condition, a hit condition or a log message, and the adapter takes none.
+    ConditionsUnsupported,
+    /// The target answered its event request with an error.
+    RefusedByTarget,
+    /// No class that is loaded has code at its line yet.
+    NotBoundYet,
 }
 
 /// Why a request failed: its code, which decides the message, and what the message is followed by. A code that none of

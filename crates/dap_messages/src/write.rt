@@ -3,9 +3,12 @@ ghost use Rattle.serde_json.specs.View.{view};
 ghost use Rattle.dap_messages.specs.Telling.{capabilities_data, detail_text, error_data, event_data, event_name};
 ghost use Rattle.dap_messages.specs.Telling.{format_of, message_of, told_data, told_text};
 ghost use Rattle.dap_messages.specs.Telling.{answer_data, failure_data, response_data, shape_data};
+ghost use Rattle.dap_messages.specs.Telling.{breakpoint_data, breakpoints_data, reason_of, standing_data};
 ghost use Rattle.dap_messages.specs.Telling.{thread_data, threads_data};
 
-use crate::told::{Detail, Event, Failure, Outcome, Response, Shape, Thread, Told};
+use crate::told::{
+    Breakpoint, BreakpointStatus, Detail, Event, Failure, Outcome, Response, Shape, Thread, Told,
+};
 use serde_json::{Value, json};
 use std::alloc::{AllocError, Global};
 use wire_core::{Blob, List, NoMemory};
@@ -150,6 +153,9 @@ fn shape_value(alloc: Global, shape: &Shape) -> Result<Option<Value>, AllocError
     match shape {
         Shape::Nothing => Ok(None),
         Shape::Capabilities => Ok(Some(capabilities_value(alloc)?)),
+        Shape::Breakpoints(breakpoints) => {
+            Ok(Some(breakpoints_value(alloc, breakpoints.as_slice())?))
+        }
         Shape::Threads(threads) => Ok(Some(threads_value(alloc, threads.as_slice())?)),
     }
 }
@@ -169,6 +175,49 @@ fn capabilities_value(alloc: Global) -> Result<Value, AllocError>
         "supportsFunctionBreakpoints": true,
         "supportsSetVariable": true
     })
+}
+
+fn breakpoints_value(alloc: Global, breakpoints: &[Breakpoint]) -> Result<Value, AllocError>
+    ensures { IfOk result (λ value. view value ≡ breakpoints_data breakpoints.now) }
+{
+    let mut items = Vec::new(alloc);
+    for breakpoint in breakpoints {
+        items.push(breakpoint_value(alloc, *breakpoint)?)?;
+    }
+    json!(in alloc; {"breakpoints": Value::Array(items)})
+}
+
+fn breakpoint_value(alloc: Global, breakpoint: Breakpoint) -> Result<Value, AllocError>
+    ensures { IfOk result (λ value. view value ≡ breakpoint_data breakpoint) }
+{
+    match reason_of(breakpoint.status) {
+        Some(reason) => unverified_value(alloc, breakpoint.id, breakpoint.line, reason),
+        None => verified_value(alloc, breakpoint.id, breakpoint.line),
+    }
+}
+
+fn verified_value(alloc: Global, id: u64, line: u32) -> Result<Value, AllocError>
+    ensures { IfOk result (λ value. view value ≡ standing_data id line None) }
+{
+    json!(in alloc; {"id": id, "line": line, "verified": true})
+}
+
+fn unverified_value(alloc: Global, id: u64, line: u32, reason: &str) -> Result<Value, AllocError>
+    ensures { IfOk result (λ value. view value ≡ standing_data id line (Some reason.now)) }
+{
+    json!(in alloc; {"id": id, "line": line, "message": reason, "verified": false})
+}
+
+fn reason_of(status: BreakpointStatus) -> Option<&'static str>
+    ensures { option_map (λ reason. reason.now) result ≡ reason_of status }
+{
+    match status {
+        BreakpointStatus::Verified => None,
+        BreakpointStatus::NoSourceRoot => Some("no source root"),
+        BreakpointStatus::ConditionsUnsupported => Some("conditions are not supported"),
+        BreakpointStatus::RefusedByTarget => Some("refused by the target"),
+        BreakpointStatus::NotBoundYet => Some("not bound yet"),
+    }
 }
 
 fn threads_value(alloc: Global, threads: &[Thread]) -> Result<Value, AllocError>

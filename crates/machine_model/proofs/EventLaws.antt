@@ -54,13 +54,13 @@ item_attaches target_end = false
 abbrev fits : Item → List Part → Bool
 fits item parts = cond (item_attaches item) (attach_tail parts) (not (has_attach parts))
 
-row_fits : (failure : Option Failure) (command : Command)
-    → cond (is_attach command) (attach_tail (parts_by failure (row_of command)))
-    (not (has_attach (parts_by failure (row_of command)))) ≡ true
-row_fits failure command = grind arith
+row_fits : (failure : Option Failure) (command : Command) (state : State)
+    → cond (is_attach command) (attach_tail (parts_by failure (row_of command state)))
+    (not (has_attach (parts_by failure (row_of command state)))) ≡ true
+row_fits failure command state = grind arith
 
 begun_fits : (state : State) (item : Item) → fits item (parts_of state item) ≡ true
-begun_fits state (a_request request) = row_fits (failure_of (wanting request.command) state) request.command
+begun_fits state (a_request request) = row_fits (failure_of (wanting request.command) state) request.command state
 begun_fits state target_end = grind arith
 begun_fits state (a_composite at composite) = grind arith
 begun_fits state (a_raw at body) = refl
@@ -218,8 +218,8 @@ replied_owes (an_effect effect) replied (Some hand) = refl
 
 -- an item that is begun owes no event
 begun_owes : (state : State) (item : Item) → owes_event (parts_of state item) ≡ false
-begun_owes state (a_request request) = rw (row_is (failure_of
-    (wanting request.command) state) request.command).responds refl
+begun_owes state (a_request request) =
+    rw (row_is (failure_of (wanting request.command) state) request.command state).responds refl
 begun_owes state target_end = grind arith
 begun_owes state (a_composite at composite) = grind arith
 begun_owes state (a_raw at body) = refl

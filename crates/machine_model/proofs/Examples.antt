@@ -23,33 +23,33 @@ use Rattle.wish_sets.specs.Wishes.{next_change}
 use Rattle.wish_sets.specs.declared.wish.Wish.TheVariants as wishes
 
 -- the machine goes so many steps, or until something must come
-abbrev drive : ℕ → Machine → Machine
+abbrev pub drive : ℕ → Machine → Machine
 drive zero m = m
 drive (suc n) m = drive n (due false m).next
 
-abbrev said_first : Option Message → List Message → List Message
+abbrev pub said_first : Option Message → List Message → List Message
 said_first None messages = messages
 said_first (Some message) messages = message ∷ messages
 
 -- what it says on the way
-abbrev said_on : ℕ → Machine → List Message
+abbrev pub said_on : ℕ → Machine → List Message
 said_on zero m = []
 said_on (suc n) m = said_first (said (due false m).act) (said_on n (due false m).next)
 
-abbrev request : ℕ → Command → Request
+abbrev pub request : ℕ → Command → Request
 request seq command = record { seq = seq; name = seq ∷ []; command = command }
 
 -- a question is answered, and the machine goes on
-abbrev answers_with : ℕ → Question → Answer → Machine → Machine
+abbrev pub answers_with : ℕ → Question → Answer → Machine → Machine
 answers_with n question answer m = drive n (answered m (a_question question) (an_answer answer))
 
-abbrev asks : Question → Message
+abbrev pub asks : Question → Message
 asks question = Message.sends (a_question question)
 
-abbrev changes : Effect → Message
+abbrev pub changes : Effect → Message
 changes effect = Message.sends (an_effect effect)
 
-abbrev responds : Request → outcomes.the_data → Message
+abbrev pub responds : Request → outcomes.the_data → Message
 responds request outcome = Message.tells (response_to request outcome)
 
 abbrev succeeds : Request → Message
@@ -94,7 +94,7 @@ attaches_then : said_on 8 one_refused ≡ succeeds attach ∷ Message.tells (an_
 unfolding due wanted load_of newly_lacked next_change wished
 attaches_then = refl
 
-abbrev attached : Machine
+abbrev pub attached : Machine
 attached = drive 8 one_refused
 
 is_attached_now : (attached.state.phase ≡ Attached) × (attached.hand ≡ None)

@@ -6,28 +6,28 @@ use Rattle.std.specs.Option.{option_or}
 use Rattle.std.proofs.lemmas.List.Concat.{flat_map-append}
 use Rattle.std.proofs.lemmas.List.Elements.{Contains-append_left, Contains-append_right, Contains-get_or}
 use Rattle.std.proofs.lemmas.List.Elements.{recursion_from_All}
-use Rattle.jdwp_commands.specs.Commands.{FitsCommand, told_question}
+use Rattle.jdwp_commands.specs.Commands.{told_question}
 use Rattle.jdwp_commands.specs.declared.asked.Asked.TheVariants as commands
-use Rattle.jdwp_values.specs.declared.sizes.IdSizes.{IdSizes}
 use Rattle.machine_model.specs.Ids.{HasReadIds, Id, IsNull, WasRead, class, ids_asked, ids_given, ids_read}
 use Rattle.machine_model.specs.Names.{Want, Deed, Dispose, Does, Effect, Exit, Part, Question, Sent, TargetCommand}
-use Rattle.machine_model.specs.Names.{a_question, an_effect, Clear, Set, Success, thread_list}
+use Rattle.machine_model.specs.Names.{a_question, an_effect, Clear, Set, Success, thread_list, Lines, Classes}
 use Rattle.machine_model.specs.Plans.{question_of}
-use Rattle.machine_model.specs.Replying.{wire}
 use Rattle.machine_model.specs.Requests.{Wishes, effect_due, effect_of}
 use Rattle.machine_model.specs.Runs.{Message, Run}
-use Rattle.machine_model.specs.State.{State, Machine, is_empty, is_gone, is_some, fresh}
-use Rattle.wish_sets.specs.Wanted.{Wanted, nothing_wanted}
+use Rattle.machine_model.specs.State.{State, Machine, is_empty, is_gone, is_some, fresh, is_attached}
 use Rattle.wish_sets.specs.Wished.{wished}
 use Rattle.wish_sets.specs.Wishes.{EventRequest, clears, is_missing, is_surplus, next_change, sets}
 use Rattle.wish_sets.specs.declared.wish.Wish.{Wish}
-use Rattle.wish_sets.specs.declared.wish.Wish.TheVariants as wishes
-use Rattle.machine_model.proofs.IdRows.{FitsId, all_weak, plain_fits}
+use Rattle.machine_model.proofs.IdRows.{all_weak, plain_fits}
 use Rattle.machine_model.proofs.PlanIds.{IsAskable, IsAsked, IsReplied, IsWanted, OfNamed, OfThread, OnSome, is_sizes}
-use Rattle.machine_model.proofs.Standing.{IsKept, Near, PartStands, asked_in, left_in, queue_in}
+use Rattle.machine_model.proofs.PlanIds.{OfClass}
+use Rattle.machine_model.proofs.Standing.{IsKept, Near, PartStands, asked_in, left_in, queue_in, at_front}
 use Rattle.machine_model.proofs.StandingReplies.{queued_near, sizes_is}
 use Rattle.machine_model.proofs.StandingWalk.{kept_on}
 use Rattle.machine_model.proofs.Stepping.{Loses, Moves, by_moves, with_said}
+use Rattle.machine_model.proofs.WishIds.{AreWished, MaySend, SetMay, find_some, nothing_wished, weak_wished}
+use Rattle.machine_model.proofs.WishIds.{wished_may}
+use Rattle.machine_model.proofs.StandingMoves.{sized_by}
 
 -- A weaker test -------------------------------------------------------------------------------------------------------
 
@@ -38,6 +38,8 @@ module _ (P Q : Id → Type 0) (k : (id : Id) → P id → Q id) where
   weak_part : (part : Part) → PartStands P part → PartStands Q part
   weak_part (Part.Responds (Success (thread_list named))) h =
       all_weak (OfNamed P) (OfNamed Q) (λ one. k _) named h
+  weak_part (Part.Notes (Lines key entries)) h = h
+  weak_part (Part.Notes (Classes classes)) h = all_weak (OfClass P) (OfClass Q) (λ one. k _) classes h
   weak_part _ h = tt
 
   weak_sent : (sized : Bool) (sent : Sent) → IsAsked P sized sent → IsAsked Q sized sent
@@ -52,11 +54,12 @@ module _ (P Q : Id → Type 0) (k : (id : Id) → P id → Q id) where
   weak_near state left queue asked n = record {
     threads = all_weak (OfThread P) (OfThread Q) (λ thread. k _) state.threads n.threads;
     classes = record {
+      loaded = all_weak _ _ (λ entry. k _) state.classes.loaded n.classes.loaded;
       methods = all_weak _ _ (λ entry. weak_ids _) state.classes.methods n.classes.methods;
       fields = all_weak _ _ (λ entry. weak_ids _) state.classes.fields n.classes.fields;
       supers = all_weak _ _ (λ entry. k _) state.classes.supers n.classes.supers;
     };
-    wanted = n.wanted;
+    wanted = weak_wished P Q k state.wishes.wanted n.wanted;
     order = n.order;
     parts = all_weak (PartStands P) (PartStands Q) weak_part left n.parts;
     wants = all_weak (IsWanted P (is_some state.sizes)) (IsWanted Q (is_some state.sizes))
@@ -99,8 +102,8 @@ none_yet P = record {
   none_late = λ near. refl;
   near = λ near. record {
     threads = tt;
-    classes = record { methods = tt; fields = tt; supers = tt };
-    wanted = refl;
+    classes = record { loaded = tt; methods = tt; fields = tt; supers = tt };
+    wanted = nothing_wished P;
     order = refl;
     parts = tt;
     wants = tt;
@@ -119,66 +122,30 @@ always_kept {P} t r = by_moves {Holds = λ (messages : List Message) (m : Machin
 
 -- What is sent --------------------------------------------------------------------------------------------------------
 
--- a command that may be sent: its ids pass, it has a spelling by them, and it has none where no sizes are known
-pub record MaySend (P : Id → Type 0) (sized : Bool) (command : TargetCommand) : Type 0 where
-  pub ids : All P (ids_asked (wire command))
-  pub sized_first : cond (is_empty (ids_asked (wire command))) true sized ≡ true
-  pub fits : (used : IdSizes) → All (FitsId used) (ids_asked (wire command)) → FitsCommand used (wire command)
-
 deed_may : (P : Id → Type 0) (sized : Bool) (deed : Deed) → MaySend P sized (an_effect (Does deed))
 deed_may P sized Dispose = record { ids = tt; sized_first = refl; fits = λ used h. tt }
 deed_may P sized Exit = record { ids = tt; sized_first = refl; fits = λ used h. (tt, tt) }
 
--- While nothing is wanted but the starts and ends of threads, no event request has an id.
+-- a command that clears has no id of the target's objects
 clear_may : (P : Id → Type 0) (sized : Bool) (wish : Wish) (request : ℕ) → MaySend P sized (an_effect
     (Clear wish request))
 clear_may P sized wish request = record { ids = tt; sized_first = refl; fits = λ used h. (tt, (tt, tt)) }
 
-abbrev SetMay : (Id → Type 0) → Bool → Wish → Type 0
-SetMay P sized wish = MaySend P sized (an_effect (Set wish))
-
-start_may : (P : Id → Type 0) (sized : Bool) → SetMay P sized wishes.ThreadStart
-start_may P sized = record {
-  ids = tt;
-  sized_first = refl;
-  fits = λ used h. (tt, (tt, ((record { count = omega arith; each = tt }, refl), tt)));
-}
-
-death_may : (P : Id → Type 0) (sized : Bool) → SetMay P sized wishes.ThreadDeath
-death_may P sized = record {
-  ids = tt;
-  sized_first = refl;
-  fits = λ used h. (tt, (tt, ((record { count = omega arith; each = tt }, refl), tt)));
-}
-
-wish_may : (P : Id → Type 0) (sized : Bool) (test : Wish → Bool) (wanted : Wanted) → wanted ≡ nothing_wanted
-    → OnSome (SetMay P sized) (find test (wished wanted))
-unfolding wished
-wish_may P sized test wanted is =
-    subst (λ (wanted : Wanted). OnSome (SetMay P sized) (find test (wished wanted))) (sym is)
-    (by_tests (test wishes.ThreadStart) (test wishes.ThreadDeath))
-  where
-    by_tests : (start death : Bool) → OnSome (SetMay P sized)
-        (cond start (Some wishes.ThreadStart) (cond death (Some wishes.ThreadDeath) None))
-    by_tests true death = start_may P sized
-    by_tests false true = death_may P sized
-    by_tests false false = tt
-
-effect_may : (P : Id → Type 0) (sized : Bool) (w : Wishes) (effect : Effect) → w.wanted ≡ nothing_wanted
-    → effect_due w ≡ Some effect → MaySend P sized (an_effect effect)
+effect_may : (P : Id → Type 0) (w : Wishes) (effect : Effect) → AreWished P w.wanted → effect_due w ≡ Some effect
+    → MaySend P true (an_effect effect)
 unfolding next_change
-effect_may P sized w effect is due =
+effect_may P w effect h due =
     by_found (find (is_surplus (wished w.wanted)) w.installed)
     (find (is_missing w.installed w.refused) (wished w.wanted)) due
-    (wish_may P sized (is_missing w.installed w.refused) w.wanted is)
+    (find_some (SetMay P) (is_missing w.installed w.refused) (wished w.wanted) (wished_may P w.wanted h))
   where
     by_found : (cleared : Option EventRequest) (set : Option Wish)
         → option_map effect_of (option_or (option_map clears cleared) (option_map sets set)) ≡ Some effect
-        → OnSome (SetMay P sized) set → MaySend P sized (an_effect effect)
+        → OnSome (SetMay P) set → MaySend P true (an_effect effect)
     by_found (Some one) set due h = let same : Clear one.wish one.request ≡ effect = cc in
-        subst (λ (effect : Effect). MaySend P sized (an_effect effect)) same (clear_may P sized one.wish one.request)
+        subst (λ (effect : Effect). MaySend P true (an_effect effect)) same (clear_may P true one.wish one.request)
     by_found None (Some wish) due h = let same : Set wish ≡ effect = cc in
-        subst (λ (effect : Effect). MaySend P sized (an_effect effect)) same h
+        subst (λ (effect : Effect). MaySend P true (an_effect effect)) same h
     by_found None None due h = cc
 
 question_may : (P : Id → Type 0) (sized : Bool) (question : Question) → IsAskable P sized question
@@ -214,11 +181,15 @@ sends_may {P} {messages} {m} command k move = by_move command (Some (Message.sen
           subst (λ command. MaySend P (is_some m.state.sizes) command) same (deed_may P
               (is_some m.state.sizes) deed),
         )
-    by_move command said is (Moves.updates {effect = effect} free at due near) =
-        let same : an_effect effect ≡ command = cc in (
+    by_move command said is (Moves.updates {effect = effect} {rest} free at due near) =
+        let same : an_effect effect ≡ command = cc in
+        let n = (at_front k at).near near in
+        let sized : is_some m.state.sizes ≡ true =
+        sized_by (is_some m.state.sizes) (is_attached m.state.phase) Part.Updates rest n.order refl refl in (
           near,
           subst (λ command. MaySend P (is_some m.state.sizes) command) same
-              (effect_may P (is_some m.state.sizes) m.state.wishes effect (k.near near).wanted due),
+              (subst (λ sized. MaySend P sized (an_effect effect)) (sym sized)
+              (effect_may P m.state.wishes effect n.wanted due)),
         )
     by_move command said is (Moves.asks {want = want} {wants} free room held are) =
         let same : a_question (question_of want) ≡ command = cc in

@@ -5,14 +5,14 @@ use Rattle.std.proofs.lemmas.Grind.{flat_map-append}
 use Rattle.jdwp_commands.specs.declared.question.Question.TheVariants as questions
 use Rattle.machine_model.specs.Knowing.{AreInOrder, AreSaid, IsKnown, View, closes, is_farewell, is_fresh, learnt_view}
 use Rattle.machine_model.specs.Knowing.{may_be, may_tell, numbers_by, numbers_in_outcome, says, says_dead, sizes_said}
-use Rattle.machine_model.specs.Knowing.{thread_numbers, told_view, view_of}
+use Rattle.machine_model.specs.Knowing.{thread_numbers, told_view, view_of, class_said, with_facts, watch_set}
 use Rattle.jdwp_commands.specs.Answers.{kind_of_answer}
 use Rattle.jdwp_commands.specs.Commands.{kind_of}
 use Rattle.machine_model.specs.Names.{Answer, Attached, Clear, Command, Options, Roots, Set, ThreadId, Capabilities}
 use Rattle.machine_model.specs.Names.{Does, Event, Failed, Gone, Initialized, Note, Nothing, Outcome, Part, Phase}
 use Rattle.machine_model.specs.Names.{Question, Replied, Success, TargetCommand, Terminated, a_question, an_answer}
-use Rattle.machine_model.specs.Names.{an_effect, an_event, thread_list}
-use Rattle.machine_model.specs.Replying.{IsReply, is_end, replied_machine, replied_to, sizes_in, wire}
+use Rattle.machine_model.specs.Names.{an_effect, an_event, thread_list, breakpoint_list, Lines, Classes, Effect}
+use Rattle.machine_model.specs.Replying.{IsReply, is_end, replied_machine, replied_to, sizes_in, wire, unlisted_by}
 use Rattle.machine_model.specs.Rows.{noted}
 use Rattle.machine_model.specs.Runs.{Message, Run, is_disconnect}
 use Rattle.machine_model.specs.State.{Hand, Machine, SizesRead, State, is_gone}
@@ -24,6 +24,11 @@ use Rattle.machine_model.proofs.QuietLaws.{IsKept, IsQuiet, kept_on, near_flies,
 use Rattle.machine_model.proofs.RestLaws.{late_gone, near_asks, no_late}
 use Rattle.machine_model.proofs.Stepping.{IsAt, Loses, Moves, by_runs, with_said}
 use Rattle.machine_model.proofs.Testing.{tested}
+use Rattle.machine_model.specs.Classes.{classes_in, with_listed}
+use Rattle.machine_model.specs.Plans.{answer_in}
+use Rattle.class_tables.specs.Facts.{Known}
+use Rattle.jdwp_commands.specs.declared.listed.LoadedClass.{LoadedClass}
+use Rattle.std.specs.Prelude.{fold, map}
 
 -- Replies -------------------------------------------------------------------------------------------------------------
 
@@ -46,15 +51,29 @@ sizes_are sizes before replied (IsReply.with_answer {answer} used serves is good
 sizes_are sizes before replied (IsReply.with_error {code} some tolerated) here =
     let no : false ≡ true = sym here ∙ tolerated in cc
 
+-- the classes of a list are learnt one by one
+listed_is : (known : Known) (classes : List LoadedClass)
+    → fold with_listed known classes ≡ with_facts (map class_said classes) known
+listed_is known [] = refl
+listed_is known (class ∷ classes) = listed_is (with_listed known class) classes
+
 -- what a question's reply makes known
 learnt_is : (m : Machine) (question : Question) (replied : Replied)
     → IsReply m.state.sizes (a_question question) replied
     → is_end (a_question question) replied ≡ false
     → view_of (replied_machine m (a_question question) replied) ≡ learnt_view (a_question question) replied (view_of m)
+learnt_is m questions.AllClasses replied reply here =
+    ap (λ (known : Known). record (view_of m) { classes = known; unlisted = false })
+    (listed_is m.state.classes (classes_in (answer_in replied)))
 learnt_is m questions.IdSizes replied reply here =
     ap (λ (sizes : Option SizesRead). record (view_of m) { sizes = sizes })
     (sizes_are m.state.sizes m.state.sizes replied reply here)
 learnt_is m question replied reply here = refl
+
+-- and what an effect's does
+watch_is : (effect : Effect) (replied : Replied) (unlisted : Bool)
+    → unlisted_by effect replied unlisted ≡ watch_set effect replied unlisted
+watch_is effect replied unlisted = grind arith
 
 -- The view ------------------------------------------------------------------------------------------------------------
 
@@ -129,7 +148,8 @@ view_on m next said q k h (Moves.answers {question} {replied} {hand} is waits re
 view_on m next said q k h (Moves.replies {effect} {replied} {hand} is flies reply stays) =
     let near = near_flies m hand effect q is flies in
     let here = stays_here (is_gone m.state.phase) (is_end (an_effect effect) replied) near stays in
-    replied_is m (an_effect effect) replied (view_of next) near here refl
+    replied_is m (an_effect effect) replied (view_of next) near here
+    (ap (λ (unlisted : Bool). record (view_of m) { unlisted = unlisted }) (watch_is effect replied m.state.unlisted))
 view_on m next said q k h (Moves.late {command} {replied} before after is reply) =
     rw (late_gone m before after command k is) refl
 view_on m next said q k h (Moves.ends gone) =
@@ -180,6 +200,7 @@ outcome_numbers : (numbers : List ℕ) (outcome : Outcome) (state : State)
 outcome_numbers numbers (Failed failure) state = no_numbers numbers state.threads
 outcome_numbers numbers (Success Nothing) state = no_numbers numbers state.threads
 outcome_numbers numbers (Success Capabilities) state = no_numbers numbers state.threads
+outcome_numbers numbers (Success (breakpoint_list rooted listed)) state = no_numbers numbers state.threads
 outcome_numbers numbers (Success (thread_list named)) state = record {
   distinct = distinct_with state.threads named;
   in_order = in_order_with numbers state.threads named;
@@ -194,6 +215,8 @@ note_numbers : (numbers : List ℕ) (note : Note) (state : State)
     → Numbers numbers state.threads (noted note state).threads []
 note_numbers numbers (Options options) state = no_numbers numbers state.threads
 note_numbers numbers (Roots roots) state = no_numbers numbers state.threads
+note_numbers numbers (Lines key entries) state = no_numbers numbers state.threads
+note_numbers numbers (Classes classes) state = no_numbers numbers state.threads
 
 same_threads : (command : TargetCommand) (replied : Replied) (state : State)
     → (replied_to command replied state).threads ≡ state.threads

@@ -1,4 +1,12 @@
 pub mod AskedLaws
+pub mod BindingFacts
+pub mod BindingHands
+pub mod BindingLaws
+pub mod BindingParts
+pub mod BindingPlans
+pub mod BindingReplies
+pub mod BindingWatches
+pub mod BreakpointExamples
 pub mod CommandLemmas
 pub mod EventLaws
 mod Examples
@@ -8,6 +16,9 @@ pub mod IdRows
 pub mod KeptLaws
 pub mod KeyLaws
 pub mod KnowingLaws
+pub mod LeavingLaws
+pub mod LeavingParts
+pub mod LeavingWalk
 pub mod MarkLaws
 pub mod NotingLaws
 pub mod NumberLaws
@@ -34,5 +45,6 @@ pub mod Tables
 pub mod Testing
 pub mod TurnLaws
 pub mod WaitingLaws
+pub mod WishIds
 pub mod WishLemmas
 pub mod WorldLaws

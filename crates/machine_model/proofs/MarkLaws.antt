@@ -42,11 +42,11 @@ none_once (part ∷ parts) is = grind (arith, is, none_once parts)
 once_tail : (part : Part) (rest : List Part) → stand_once (part ∷ rest) ≡ true → stand_once rest ≡ true
 once_tail part rest is = grind (arith, is, none_once rest)
 
-row_once : (failure : Option Failure) (command : Command) → stand_once (parts_by failure (row_of command)) ≡ true
-row_once failure command = grind arith
+row_once : (failure : Option Failure) (command : Command) (state : State) → stand_once (parts_by failure (row_of command state)) ≡ true
+row_once failure command state = grind arith
 
 begun_once : (state : State) (item : Item) → stand_once (parts_of state item) ≡ true
-begun_once state (a_request request) = row_once (failure_of (wanting request.command) state) request.command
+begun_once state (a_request request) = row_once (failure_of (wanting request.command) state) request.command state
 begun_once state target_end = grind arith
 begun_once state (a_composite at composite) = grind arith
 begun_once state (a_raw at body) = refl

@@ -5,7 +5,7 @@ use Rattle.machine_model.specs.Lookups.{finished}
 use Rattle.machine_model.specs.Names.{Choice, ClientOptions, Command, Event, Failure, Finding, Initialized, Item}
 use Rattle.machine_model.specs.Names.{Lookup, Note, Options, Outcome, Part, Replied, Request, Roots, TargetCommand}
 use Rattle.machine_model.specs.Names.{Terminated, Want, a_composite, a_question, a_raw, a_request, a_response}
-use Rattle.machine_model.specs.Names.{an_effect, target_end}
+use Rattle.machine_model.specs.Names.{an_effect, target_end, Lines, Classes}
 use Rattle.machine_model.specs.Due.{asked_hand}
 use Rattle.machine_model.specs.Noting.{AreOptions, asked_options, options_in, options_noted, part_options}
 use Rattle.machine_model.specs.Outcomes.{result_of}
@@ -74,11 +74,11 @@ none_same parts options none =
     sym (ap (λ (all : List Part). options_noted all options) (append-nil parts)) ∙ none_noted parts [] options none
 
 -- The tables
-row_last : (failure : Option Failure) (command : Command) → stand_last (parts_by failure (row_of command)) ≡ true
-row_last failure command = grind arith
+row_last : (failure : Option Failure) (command : Command) (state : State) → stand_last (parts_by failure (row_of command state)) ≡ true
+row_last failure command state = grind arith
 
 begun_last : (state : State) (item : Item) → stand_last (parts_of state item) ≡ true
-begun_last state (a_request request) = row_last (failure_of (wanting request.command) state) request.command
+begun_last state (a_request request) = row_last (failure_of (wanting request.command) state) request.command state
 begun_last state target_end = grind arith
 begun_last state (a_composite at composite) = grind arith
 begun_last state (a_raw at body) = refl
@@ -292,7 +292,7 @@ replied_on m command replied =
 begun_options : (state : State) (item : Item) (options : ClientOptions)
     → cond (has_response (parts_of state item)) options (options_noted (parts_of state item) options) ≡ options
 begun_options state (a_request request) options =
-    rw (row_is (failure_of (wanting request.command) state) request.command).responds refl
+    rw (row_is (failure_of (wanting request.command) state) request.command state).responds refl
 begun_options state target_end options = grind arith
 begun_options state (a_composite at composite) options = grind arith
 begun_options state (a_raw at body) options = refl
@@ -338,6 +338,8 @@ noted_same : (note : Note) (state : State) (rest : List Part) → stand_last (Pa
     → cond (has_response rest) (noted note state).options (options_noted rest (noted note state).options)
     ≡ cond (has_response rest) state.options (options_noted (Part.Notes note ∷ rest) state.options)
 noted_same (Roots roots) state rest last = refl
+noted_same (Lines key entries) state rest last = refl
+noted_same (Classes classes) state rest last = refl
 noted_same (Options options) state rest last = by_bool (has_response rest) last
   where
     by_bool : (has : Bool) → cond (not has) (stand_last rest) false ≡ true

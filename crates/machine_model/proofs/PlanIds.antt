@@ -4,7 +4,7 @@ use Rattle.std.proofs.Common.{sym, subst, ◌∙◌, option_map}
 use Rattle.std.specs.List.{AllByRecursion as All, flat_map}
 use Rattle.class_tables.specs.Facts.{Known, same_class}
 use Rattle.class_tables.specs.Lookups.{found_in}
-use Rattle.class_tables.specs.Tables.{put, under}
+use Rattle.class_tables.specs.Tables.{put, under, keys}
 use Rattle.jdwp_commands.specs.Commands.{told_question}
 use Rattle.jdwp_commands.specs.declared.asked.Asked.TheVariants as commands
 use Rattle.jdwp_commands.specs.declared.answer.Answer.TheVariants as answers
@@ -13,17 +13,24 @@ use Rattle.jdwp_values.specs.Classes.{field_row, method_row}
 use Rattle.jdwp_values.specs.declared.class.Field.{Field}
 use Rattle.jdwp_values.specs.declared.class.Method.{Method}
 use Rattle.jdwp_values.specs.declared.id.ClassId.{ClassId}
-use Rattle.machine_model.specs.Facts.{fact_known, fact_of}
-use Rattle.machine_model.specs.Ids.{Id, class, ids_answered, ids_asked, ids_of, ids_replied, object}
+use Rattle.machine_model.specs.Facts.{fact_known, fact_of, methods_in, source_in}
+use Rattle.machine_model.specs.Ids.{Id, class, ids_answered, ids_asked, ids_of, ids_replied, method, object}
 use Rattle.machine_model.specs.Keys.{same_question}
-use Rattle.machine_model.specs.Lookups.{joined, name_plan, named_by, names_plan, plan, threads_in, threads_plan}
+use Rattle.machine_model.specs.Lookups.{name_plan, named_by, names_plan, plan, threads_in, threads_plan}
 use Rattle.machine_model.specs.Names.{Answer, Finding, Lookup, NamedThread, Question, Replied, Sent, ThreadId, Want}
-use Rattle.machine_model.specs.Names.{all_threads, an_answer, an_error, threads_found}
+use Rattle.machine_model.specs.Names.{all_threads, an_answer, an_error, threads_found, classes_found, class_facts}
 use Rattle.machine_model.specs.Plans.{Found, Need, Plan, Sight, after, answer_in, asking, asks_for, beside, chained}
 use Rattle.machine_model.specs.Plans.{each, fact_heard, fails, found_at, found_from, gives, has, heard_of, lacks}
-use Rattle.machine_model.specs.Plans.{made_with, may_hear, must_hear, need, pairs, question_of, wants}
+use Rattle.machine_model.specs.Plans.{made_with, may_hear, must_hear, need, pairs, question_of, wants, joined}
 use Rattle.machine_model.specs.State.{State}
 use Rattle.machine_model.proofs.IdRows.{all_joined, are_plain, none_in}
+use Rattle.class_tables.specs.declared.loaded.Loaded.{Loaded}
+use Rattle.machine_model.specs.Classes.{class_plan, classes_plan, is_keyed, keyed_plan, lines_plan, methods_plan}
+use Rattle.machine_model.specs.Classes.{package_plan, prepared_plan, source_plan, watched_plan}
+use Rattle.class_tables.specs.Signatures.{package_in}
+use Rattle.wish_sets.specs.Places.{key_by}
+use Rattle.wish_sets.specs.Wanted.{Wanted}
+use Rattle.wish_sets.specs.Wished.{is_watched}
 
 -- What may be asked, and what was heard -------------------------------------------------------------------------------
 
@@ -52,11 +59,12 @@ IsReplied P reply = OnSome (λ replied. All P (ids_replied replied)) reply
 
 -- the facts of classes have ids that pass
 pub record AreKnown (P : Id → Type 0) (known : Known) : Type 0 where
+  pub loaded : All (λ (entry : ClassId × Loaded). P (class entry.0.0)) known.loaded
   pub methods : All (λ entry. All P (flat_map (ids_of method_row) entry.1)) known.methods
   pub fields : All (λ entry. All P (flat_map (ids_of field_row) entry.1)) known.fields
   pub supers : All (λ (entry : ClassId × ClassId). P (class entry.1.0)) known.supers
 
-under_some : {K V : Type 0} (Q : V → Type 0) (same : K → K → Bool) (key : K) (entries : List (K × V))
+pub under_some : {K V : Type 0} (Q : V → Type 0) (same : K → K → Bool) (key : K) (entries : List (K × V))
     → All (λ (entry : K × V). Q entry.1) entries → OnSome Q (under same key entries)
 under_some Q same key [] h = tt
 under_some {K} {V} Q same key (entry ∷ entries) h = by_key (same key entry.0) (under_some Q same key entries h.1)
@@ -76,6 +84,18 @@ put_all {K} {V} Q same key value (entry ∷ entries) k h = by_key (same key entr
     by_key : (is : Bool) → All (λ (entry : K × V). Q entry.1) (put same key value entries)
         → All (λ (entry : K × V). Q entry.1) (cond is ((entry.0, value) ∷ entries) (entry ∷ put same key value entries))
     by_key true rest = (k, h.1)
+    by_key false rest = (h.0, rest)
+
+pub put_key : {K V : Type 0} (Q : K → Type 0) (same : K → K → Bool) (key : K) (value : V) (entries : List (K × V))
+    → Q key → All (λ (entry : K × V). Q entry.0) entries → All (λ (entry : K × V). Q entry.0)
+    (put same key value entries)
+put_key Q same key value [] k h = (k, tt)
+put_key {K} {V} Q same key value (entry ∷ entries) k h = by_key (same key entry.0)
+    (put_key Q same key value entries k h.1)
+  where
+    by_key : (is : Bool) → All (λ (entry : K × V). Q entry.0) (put same key value entries)
+        → All (λ (entry : K × V). Q entry.0) (cond is ((entry.0, value) ∷ entries) (entry ∷ put same key value entries))
+    by_key true rest = h
     by_key false rest = (h.0, rest)
 
 mapped : {A B : Type 0} (P : A → Type 0) (Q : B → Type 0) (f : A → B) → ((a : A) → P a → Q (f a)) → (found : Option A)
@@ -106,14 +126,14 @@ fact_some P known (questions.Fields c) h = mapped (λ (found : List Field). All 
     (under_some _ same_class c known.fields h.fields)
 fact_some P known (questions.Superclass c) h = mapped (λ (above : ClassId). P (class above.0))
     (IsHeard P) _ (λ above k. (k, tt)) ((found_in known).above c) (under_some _ same_class c known.supers h.supers)
-fact_some P known (questions.LineTable c method) h = mapped Any (IsHeard P) _
+fact_some P known (questions.LineTable c m) h = mapped Any (IsHeard P) _
     (λ table k. mapped Any _ answers.LineTable (λ lines k. all_joined P (flat_map (λ line. []) lines.lines) []
     (none_in P lines.lines) tt)
-    table (any table)) ((found_in known).lines c method) (any _)
-fact_some P known (questions.VariableTable c method) h = mapped Any (IsHeard P) _
+    table (any table)) ((found_in known).lines c m) (any _)
+fact_some P known (questions.VariableTable c m) h = mapped Any (IsHeard P) _
     (λ table k. mapped Any _ _ (λ found k. all_joined P (flat_map (λ one. []) found) [] (none_in P found) tt) table
     (any table))
-    ((found_in known).variables c method) (any _)
+    ((found_in known).variables c m) (any _)
 fact_some P known _ h = tt
 
 -- and so has a fact that was replied
@@ -128,10 +148,10 @@ fact_good P null (questions.Fields c) (Some (answers.Fields found)) h = h
 fact_good P null (questions.Fields c) _ h = tt
 fact_good P null (questions.Superclass c) (Some (answers.Superclass above)) h = h
 fact_good P null (questions.Superclass c) _ h = (null, tt)
-fact_good P null (questions.LineTable c method) (Some (answers.LineTable table)) h = h
-fact_good P null (questions.LineTable c method) _ h = tt
-fact_good P null (questions.VariableTable c method) (Some (answers.VariableTable count found)) h = h
-fact_good P null (questions.VariableTable c method) _ h = tt
+fact_good P null (questions.LineTable c m) (Some (answers.LineTable table)) h = h
+fact_good P null (questions.LineTable c m) _ h = tt
+fact_good P null (questions.VariableTable c m) (Some (answers.VariableTable count found)) h = h
+fact_good P null (questions.VariableTable c m) _ h = tt
 fact_good P null _ heard h = h
 
 -- what was asked so far, and its reply: before the sizes are known nothing else is asked
@@ -192,12 +212,12 @@ after_after (has a) f g = refl
 after_after (fails fault) f g = refl
 after_after (lacks want others) f g = refl
 
-after_like : {A B : Type 0} (n : Need A) (f g : A → Need B) → ((a : A) → f a ≡ g a) → after n f ≡ after n g
+pub after_like : {A B : Type 0} (n : Need A) (f g : A → Need B) → ((a : A) → f a ≡ g a) → after n f ≡ after n g
 after_like (has a) f g like = like a
 after_like (fails fault) f g like = refl
 after_like (lacks want others) f g like = refl
 
-need_chained : {A B : Type 0} (sight : Sight) (p : Plan A) (f : A → Plan B)
+pub need_chained : {A B : Type 0} (sight : Sight) (p : Plan A) (f : A → Plan B)
     → need sight (chained p f) ≡ after (need sight p) (λ a. need sight (f a))
 unfolding need chained
 need_chained sight (gives a) f = refl
@@ -224,12 +244,19 @@ need_made sight f (pairs p q rest) =
 abbrev pub OfThread : (Id → Type 0) → ThreadId → Type 0
 OfThread P thread = P (object thread.0)
 
+abbrev pub OfClass : (Id → Type 0) → ClassId → Type 0
+OfClass P c = P (class c.0)
+
+abbrev pub OfMethod : (Id → Type 0) → Method → Type 0
+OfMethod P one = P (method one.id.0)
+
 abbrev pub OfNamed : (Id → Type 0) → NamedThread → Type 0
 OfNamed P named = P (object named.thread.0)
 
 -- what a look-up finds has ids that pass
 abbrev pub IsGood : (Id → Type 0) → Finding → Type 0
 IsGood P (threads_found named) = All (OfNamed P) named
+IsGood P (classes_found classes) = All (OfClass P) classes
 
 module _ (P : Id → Type 0) (null : P (class 0)) (sight : Sight) (known : Known) (facts : AreKnown P known)
     (asked : All (IsAsked P true) sight.asked) (sees : sight.classes ≡ found_in known) where
@@ -322,6 +349,80 @@ module _ (P : Id → Type 0) (null : P (class 0)) (sight : Sight) (known : Known
       (record { ids = (k, tt); plain = refl; first = refl }) (λ heard any. name_heard thread k heard)) threads h)
       named_joined)
 
+  -- a class is asked by its id and those of its methods
+  methods_heard : (heard : Option Answer) → IsHeard P heard → All (OfMethod P) (methods_in heard)
+  methods_heard (Some (answers.Methods [])) k = tt
+  methods_heard (Some (answers.Methods (one ∷ others))) k = (k.0, methods_heard (Some (answers.Methods others)) k.1)
+  methods_heard _ k = tt
+
+  lines_row : (c : ClassId) → OfClass P c → (one : Method) → OfMethod P one → Row Any (lines_plan c one)
+  lines_row c k one h = asks Any (λ heard. heard) (Want.Fact (questions.LineTable c one.id))
+      (record { ids = (k, (h, tt)); plain = refl; first = refl }) (λ heard any. tt)
+
+  keyed_row : (keyed : Bool) (c : ClassId) → OfClass P c → Row (All (OfClass P)) (keyed_plan keyed c)
+  unfolding need
+  keyed_row false c k = tt
+  keyed_row true c k =
+      chains (All (OfMethod P)) (All (OfClass P)) (asking methods_in (Want.Fact (questions.Methods c)))
+      (methods_plan c)
+      (asks (All (OfMethod P)) methods_in (Want.Fact (questions.Methods c))
+      (record { ids = (k, tt); plain = refl; first = refl }) methods_heard)
+      (λ methods h. makes (All Any) (All (OfClass P)) (λ heard. c ∷ []) (each (lines_plan c) methods)
+      (every (OfMethod P) Any (lines_plan c) (lines_row c k) methods h) (λ heard any. (k, tt)))
+
+  source_row : (wanted : Wanted) (c : ClassId) (signature : List ℕ) → OfClass P c
+      → Row (All (OfClass P)) (source_plan wanted c signature)
+  source_row wanted c signature k =
+      chains Any (All (OfClass P)) (asking source_in (Want.Fact (questions.SourceFile c)))
+      (λ source. keyed_plan (is_keyed wanted (key_by signature source)) c)
+      (asks Any source_in (Want.Fact (questions.SourceFile c))
+      (record { ids = (k, tt); plain = refl; first = refl }) (λ heard any. tt))
+      (λ source any. keyed_row (is_keyed wanted (key_by signature source)) c k)
+
+  class_row : (wanted : Wanted) (c : ClassId) (loaded : Option Loaded) → OfClass P c
+      → Row (All (OfClass P)) (class_plan wanted c loaded)
+  unfolding need
+  class_row wanted c None k = tt
+  class_row wanted c (Some loaded) k = by_prepared loaded.prepared
+    where
+      by_watched : (watched : Bool) → Row (All (OfClass P)) (watched_plan watched wanted c loaded.signature)
+      by_watched false = tt
+      by_watched true = source_row wanted c loaded.signature k
+
+      by_package : (path : Option (List ℕ)) → Row (All (OfClass P)) (package_plan wanted c loaded.signature path)
+      by_package None = tt
+      by_package (Some path) = by_watched (is_watched wanted path)
+
+      by_prepared : (prepared : Bool) → Row (All (OfClass P)) (prepared_plan prepared wanted c loaded.signature)
+      by_prepared false = tt
+      by_prepared true = by_package (package_in loaded.signature)
+
+  classes_joined : (lists : List (List ClassId)) → All (All (OfClass P)) lists → All (OfClass P) (joined lists)
+  classes_joined [] h = tt
+  classes_joined (classes ∷ lists) h = all_joined (OfClass P) classes (joined lists) h.0 (classes_joined lists h.1)
+
+  keys_known : (entries : List (ClassId × Loaded)) → All (λ (entry : ClassId × Loaded). P (class entry.0.0)) entries
+      → All (OfClass P) (keys entries)
+  keys_known [] h = tt
+  keys_known (entry ∷ entries) h = (h.0, keys_known entries h.1)
+
+  classes_row : (unlisted : Bool) (wanted : Wanted)
+      → Row (All (OfClass P)) (classes_plan unlisted wanted (found_in known))
+  classes_row true wanted = asks (All (OfClass P)) (λ heard. []) (Want.Must questions.AllClasses)
+      (record { ids = tt; plain = refl; first = refl }) (λ heard any. tt)
+  classes_row false wanted = makes (All (All (OfClass P))) (All (OfClass P)) joined
+      (each (λ c. class_plan wanted c ((found_in known).loaded c)) (keys known.loaded))
+      (every (OfClass P) (All (OfClass P)) (λ c. class_plan wanted c ((found_in known).loaded c))
+      (λ c k. class_row wanted c ((found_in known).loaded c) k) (keys known.loaded)
+      (keys_known known.loaded facts.loaded))
+      classes_joined
+
   -- all rows
-  pub rows_stand : (lookup : Lookup) (state : State) → Row (IsGood P) (plan lookup state)
-  rows_stand all_threads state = threads_row
+  pub rows_stand : (lookup : Lookup) (state : State) → state.classes ≡ known → Row (IsGood P) (plan lookup state)
+  rows_stand all_threads state same = threads_row
+  rows_stand class_facts state same =
+      subst (λ (k : Known). Row (IsGood P) (made_with classes_found
+      (classes_plan state.unlisted state.wishes.wanted (found_in k)))) (sym same)
+      (makes (All (OfClass P)) (IsGood P) classes_found
+      (classes_plan state.unlisted state.wishes.wanted (found_in known))
+      (classes_row state.unlisted state.wishes.wanted) (λ classes good. good))

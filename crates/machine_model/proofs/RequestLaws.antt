@@ -1,30 +1,33 @@
 -- The effect in flight is the one that is due, what stands is tidy, and at rest nothing is to be cleared or set.
-use Rattle.std.proofs.Common.{◌≡◌, ℕ, Bool, true, false, cond, List, [], ◌∷◌, ◌++◌, Option, Some, None, refl}
+use Rattle.std.proofs.Common.{◌≡◌, ℕ, Bool, true, false, List, [], ◌∷◌, ◌++◌, Option, Some, None, refl}
 use Rattle.std.proofs.Common.{sym, ap, subst, ◌∙◌, inl, inr, arith}
 use Rattle.machine_model.specs.EventRequests.{IsSettled}
 use Rattle.machine_model.specs.Lookups.{finished}
-use Rattle.machine_model.specs.Names.{Attached, Clear, Command, Does, Failure, Effect, Fresh, Initialized, Item, Part}
+use Rattle.machine_model.specs.Names.{Attached, Clear, Command, Does, Effect, Fresh, Initialized, Item, Part}
 use Rattle.machine_model.specs.Names.{Phase, Replied, Set, Terminated, a_composite, a_question, a_raw, a_request}
-use Rattle.machine_model.specs.Names.{an_answer, an_effect, an_error, target_end}
+use Rattle.machine_model.specs.Names.{an_answer, an_effect, an_error, target_end, Choice, Finding, Lookup, Note}
 use Rattle.machine_model.specs.Outcomes.{result_of}
 use Rattle.machine_model.specs.Replying.{replied_to}
 use Rattle.machine_model.specs.Requests.{Wishes, effect_due, request_in, set_to, wishes_after}
 use Rattle.machine_model.specs.Rest.{IsAtRest}
-use Rattle.machine_model.specs.Rows.{chosen, failure_of, parts_by, parts_of, row_of, wanting}
+use Rattle.machine_model.specs.Rows.{chosen, parts_of, request_parts, noted}
 use Rattle.machine_model.specs.Runs.{Message, Run}
 use Rattle.machine_model.specs.State.{Hand, Machine, State, is_attached, is_gone}
 use Rattle.machine_model.proofs.RestLaws.{no_late}
 use Rattle.machine_model.proofs.SizeLaws.{is_idle}
 use Rattle.machine_model.proofs.Stepping.{IsAt, Moves, Skips, by_runs}
-use Rattle.machine_model.proofs.Tables.{are_plain, attaches, chosen_is, finished_is, is_updates}
-use Rattle.machine_model.proofs.Testing.{same_noted, same_numbered, same_replied}
+use Rattle.machine_model.proofs.Tables.{are_followed}
+use Rattle.machine_model.proofs.Tables.{followed, followed_test, rewants, starts_updates}
+use Rattle.machine_model.proofs.Testing.{same_noted, same_numbered, same_replied, Passed, passed_on, whole}
 use Rattle.machine_model.proofs.WishLemmas.{new_set_due, none_due_change}
 use Rattle.wish_sets.proofs.LeftLaws.{at_rest}
 use Rattle.wish_sets.proofs.TidyLaws.{cleared_is_tidy, installed_is_tidy, new_is_tidy, refused_is_tidy}
+use Rattle.wish_sets.proofs.TidyLaws.{rewished_is_tidy}
 use Rattle.wish_sets.specs.Tidy.{IsNewSet, IsTidy}
 use Rattle.machine_model.proofs.RequestSteps.{Step, asked_left, flying_in, flying_of, is_deed, learnt_wishes}
 use Rattle.machine_model.proofs.RequestSteps.{near_before, noted_wishes, numbered_wishes, parts_left, replied_left}
-use Rattle.machine_model.proofs.RequestSteps.{starts_updates, steps}
+use Rattle.machine_model.proofs.RequestSteps.{steps, needs_set}
+use Rattle.machine_model.specs.Plans.{Result}
 
 -- What is in flight is still due --------------------------------------------------------------------------------------
 
@@ -43,6 +46,7 @@ none_due w parts (Some effect) is = cc
 awaited_on : (m next : Machine) (said : Option Message) → IsAwaited m → Step m next said → IsAwaited next
 awaited_on m next said h (Step.aside quiet same flew (inl none)) = none_due _ _ (flying_in next.hand) (flew ∙ none)
 awaited_on m next said h (Step.aside quiet same flew (inr left)) = rw (same, flew, left) h
+awaited_on m next said h (Step.wants wanted same none now needs) = none_due _ _ (flying_in next.hand) now
 awaited_on m next said h (Step.sends {effect} same none flies due) = rw (same, flies) due
 awaited_on m next said h (Step.replies same flew none reply) = none_due _ _ (flying_in next.hand) none
 
@@ -67,6 +71,8 @@ tidy_replied w parts (Clear wish request) (an_error code) due tidy = tidy
 tidy_on : (m next : Machine) (said : Option Message) → IsAwaited m → IsTidy m.state.wishes → Step m next said
     → IsTidy next.state.wishes
 tidy_on m next said h tidy (Step.aside quiet same flew left) = subst (λ (w : Wishes). IsTidy w) (sym same) tidy
+tidy_on m next said h tidy (Step.wants wanted same none now needs) =
+    subst (λ (w : Wishes). IsTidy w) (sym same) (rewished_is_tidy wanted m.state.wishes tidy)
 tidy_on m next said h tidy (Step.sends same none flies due) = subst (λ (w : Wishes). IsTidy w) (sym same) tidy
 tidy_on m next said h tidy (Step.replies {effect} {replied} same flew none reply) =
     subst (λ (w : Wishes). IsTidy w) (sym same)
@@ -74,36 +80,35 @@ tidy_on m next said h tidy (Step.replies {effect} {replied} same flew none reply
 
 -- All that is wished is set -------------------------------------------------------------------------------------------
 
--- all that is wished has to be set by now: the session is attached, or it is before `updates`
-abbrev needs_set : Bool → List Part → Bool
-needs_set attached [] = attached
-needs_set attached (part ∷ parts) = cond (is_updates part) false (cond (attaches part) true (needs_set attached parts))
-
-abbrev IsSet : Machine → Type 0
+abbrev pub IsSet : Machine → Type 0
 IsSet m = needs_set (is_attached m.state.phase) (parts_left m.hand) ≡ true → effect_due m.state.wishes ≡ None
 
 -- each row that attaches the session updates first
-begun_needs : (attached : Bool) (state : State) (item : Item) → needs_set attached (parts_of state item) ≡ true
-    → attached ≡ true
-begun_needs attached state (a_request request) is =
-    row_needs attached (failure_of (wanting request.command) state) request.command is
+begun_needs : (state : State) (item : Item) → needs_set (is_attached state.phase) (parts_of state item) ≡ true
+    → is_attached state.phase ≡ true
+begun_needs state (a_request request) is = row_needs state request.command is
   where
-    row_needs : (attached : Bool) (failure : Option Failure) (command : Command)
-        → needs_set attached (parts_by failure (row_of command)) ≡ true → attached ≡ true
-    row_needs attached failure command is = grind (arith, is)
-begun_needs attached state target_end is = grind (arith, is)
-begun_needs attached state (a_composite at composite) is = grind (arith, is)
-begun_needs attached state (a_raw at body) is = is
+    row_needs : (state : State) (command : Command)
+        → needs_set (is_attached state.phase) (request_parts command state) ≡ true → is_attached state.phase ≡ true
+    row_needs state command is = grind (arith, is)
+begun_needs state target_end is = grind (arith, is)
+begun_needs state (a_composite at composite) is = grind (arith, is)
+begun_needs state (a_raw at body) is = is
 
-plain_needs : (attached : Bool) (parts rest : List Part) → are_plain parts ≡ true
-    → needs_set attached (parts ++ rest) ≡ needs_set attached rest
-plain_needs attached [] rest is = refl
-plain_needs attached (part ∷ parts) rest is = grind (arith, is, plain_needs attached parts rest)
+-- what a part becomes changes what is wanted only where it does
+found_needs : (attached : Bool) (lookup : Lookup) (result : Result Finding) (state : State) (rest : List Part)
+    → needs_set attached (finished lookup result state ++ rest) ≡ true
+    → needs_set attached (Part.Looks lookup ∷ rest) ≡ true
+found_needs attached lookup result state rest is = grind (arith, is)
+
+chosen_needs : (attached : Bool) (choice : Choice) (state : State) (hand : Hand) (rest : List Part)
+    → needs_set attached (chosen choice state hand ++ rest) ≡ true
+    → needs_set attached (Part.Unfolds choice ∷ rest) ≡ true
+chosen_needs attached choice state hand rest is = grind (arith, is)
 
 -- a part in front that isn't `updates` is done
 front_set : (m : Machine) (hand : Hand) (part : Part) (rest : List Part) → IsSet m → IsAt m hand part rest
-    → cond (is_updates part) false (cond (attaches part) true (needs_set (is_attached m.state.phase) rest)) ≡ true
-    → effect_due m.state.wishes ≡ None
+    → needs_set (is_attached m.state.phase) (part ∷ rest) ≡ true → effect_due m.state.wishes ≡ None
 front_set m hand part rest h at needs =
     h (ap (needs_set (is_attached m.state.phase)) (ap parts_left at.in_hand ∙ at.parts) ∙ needs)
 
@@ -122,68 +127,75 @@ replied_set m (Set wish) replied h due needs =
 replied_set m (Clear wish request) replied h due needs =
     absurd (in_front (is_attached m.state.phase) (parts_left m.hand) (due refl).1 needs)
 
-set_on : (m next : Machine) (said : Option Message) → IsAwaited m → IsSet m → Moves m said next
+-- behind a note that changes what is wanted stands `updates`
+noted_set : (m : Machine) (hand : Hand) (note : Note) (rest : List Part) (changes : Bool) → IsSet m
+    → IsAt m hand (Part.Notes note) rest → are_followed (Part.Notes note ∷ rest) ≡ true
+    → rewants (Part.Notes note) ≡ changes → needs_set (is_attached m.state.phase) rest ≡ true
+    → effect_due (noted note m.state).wishes ≡ None
+noted_set m hand note rest true h at followed changes needs =
+    absurd (in_front (is_attached m.state.phase) rest (grind (arith, followed, changes)) needs)
+noted_set m hand note rest false h at followed changes needs = ap effect_due (noted_wishes note m.state changes)
+    ∙ front_set m hand (Part.Notes note) rest h at (grind (arith, changes, needs))
+
+set_on : (m next : Machine) (said : Option Message) → IsAwaited m → Passed followed m → IsSet m → Moves m said next
     → is_gone next.state.phase ≡ false → IsSet next
-set_on m next said a h (Moves.begins picked free none is) here = λ needs.
-    h (ap (needs_set (is_attached m.state.phase)) (ap parts_left none)
-    ∙ begun_needs (is_attached m.state.phase) m.state picked.item needs)
-set_on m next said a h (Moves.drops {hand} free is none) here = λ needs.
+set_on m next said a f h (Moves.begins picked free none is) here = λ needs.
+    h (ap (needs_set (is_attached m.state.phase)) (ap parts_left none) ∙ begun_needs m.state picked.item needs)
+set_on m next said a f h (Moves.drops {hand} free is none) here = λ needs.
     h (ap (needs_set (is_attached m.state.phase)) (ap parts_left is ∙ none) ∙ needs)
-set_on m next said a h (Moves.responds {hand} {rest} {outcome = outcome} free at is) here = λ needs.
+set_on m next said a f h (Moves.responds {hand} {rest} {outcome = outcome} free at is) here = λ needs.
     ap effect_due (numbered_wishes outcome m.state)
     ∙ front_set m hand (Part.Responds outcome) rest h at
     (ap (λ (phase : Phase). needs_set (is_attached phase) rest) (sym (same_numbered outcome m.state)) ∙ needs)
-set_on m next said a h (Moves.finds {hand} {rest} {lookup} found free at is done_now) here = λ needs.
+set_on m next said a f h (Moves.finds {hand} {rest} {lookup} found free at is done_now) here = λ needs.
     front_set m hand (Part.Looks lookup) rest h at
-    (sym (plain_needs (is_attached m.state.phase) (finished lookup (result_of found) m.state) rest
-    (finished_is lookup (result_of found) m.state).plain) ∙ needs)
-set_on m next said a h (Moves.passes_over {hand} {rest = rest} free at (Skips.by_guard {guard} is)) here = λ needs.
+    (found_needs (is_attached m.state.phase) lookup (result_of found) m.state rest needs)
+set_on m next said a f h (Moves.passes_over {hand} {rest = rest} free at (Skips.by_guard {guard} is)) here = λ needs.
     front_set m hand (Part.Awaits guard) rest h at needs
-set_on m next said a h (Moves.passes_over free at (Skips.by_wishes is)) here = λ needs. is
-set_on m next said a h (Moves.passes_over {hand} {rest = rest} free at (Skips.no_request {outcome} is)) here = λ needs.
+set_on m next said a f h (Moves.passes_over free at (Skips.by_wishes is)) here = λ needs. is
+set_on m next said a f h (Moves.passes_over {hand} {rest = rest} free at (Skips.no_request {outcome} is)) here = λ needs.
     front_set m hand (Part.Responds outcome) rest h at needs
-set_on m next said a h (Moves.tells {hand} {rest} {event = Initialized} free at) here = λ needs.
+set_on m next said a f h (Moves.tells {hand} {rest} {event = Initialized} free at) here = λ needs.
     front_set m hand (Part.Tells Initialized) rest h at refl
-set_on m next said a h (Moves.tells {event = Terminated} free at) here = cc
-set_on m next said a h (Moves.sends {hand} {rest} {deed} free at is) here = λ needs.
+set_on m next said a f h (Moves.tells {event = Terminated} free at) here = cc
+set_on m next said a f h (Moves.sends {hand} {rest} {deed} free at is) here = λ needs.
     front_set m hand (Part.Sends deed) rest h at needs
-set_on m next said a h (Moves.updates free at is away) here = λ needs. cc
-set_on m next said a h (Moves.greets free at is away) here = h
-set_on m next said a h (Moves.notes {hand} {note} {rest} free at) here = λ needs.
-    ap effect_due (noted_wishes note m.state)
-    ∙ front_set m hand (Part.Notes note) rest h at
+set_on m next said a f h (Moves.updates free at is away) here = λ needs. cc
+set_on m next said a f h (Moves.greets free at is away) here = h
+set_on m next said a f h (Moves.notes {hand} {note} {rest} free at) here = λ needs.
+    noted_set m hand note rest (rewants (Part.Notes note)) h at (whole followed f at) refl
     (ap (λ (phase : Phase). needs_set (is_attached phase) rest) (sym (same_noted note m.state)) ∙ needs)
-set_on m next said a h (Moves.unfolds {hand} {choice} {rest} free at) here = λ needs.
+set_on m next said a f h (Moves.unfolds {hand} {choice} {rest} free at) here = λ needs.
     front_set m hand (Part.Unfolds choice) rest h at
-    (sym (plain_needs (is_attached m.state.phase) (chosen choice m.state hand) rest
-    (chosen_is choice m.state hand).plain) ∙ needs)
-set_on m next said a h (Moves.queues free is) here = λ needs.
+    (chosen_needs (is_attached m.state.phase) choice m.state hand rest needs)
+set_on m next said a f h (Moves.queues free is) here = λ needs.
     h (ap (needs_set (is_attached m.state.phase)) (ap parts_left is) ∙ needs)
-set_on m next said a h (Moves.asks {want = want} free room is are) here = λ needs.
+set_on m next said a f h (Moves.asks {want = want} free room is are) here = λ needs.
     h (ap (needs_set (is_attached m.state.phase)) (sym (asked_left want m.hand)) ∙ needs)
-set_on m next said a h (Moves.hears read is) here = h
-set_on m next said a h (Moves.greeted read is) here = h
-set_on m next said a h (Moves.answers {question} {replied} is waits reply stays) here = λ needs.
+set_on m next said a f h (Moves.hears read is) here = h
+set_on m next said a f h (Moves.greeted read is) here = h
+set_on m next said a f h (Moves.answers {question} {replied} is waits reply stays) here = λ needs.
     ap effect_due (learnt_wishes question replied m.state)
     ∙ h (ap (λ (phase : Phase). needs_set (is_attached phase) (parts_left m.hand))
     (sym (same_replied (a_question question) replied m.state))
     ∙ ap (needs_set (is_attached (replied_to (a_question question) replied m.state).phase))
     (sym (replied_left (a_question question) replied m.hand)) ∙ needs)
-set_on m next said a h (Moves.replies {effect} {replied} is flying reply stays) here = λ needs.
+set_on m next said a f h (Moves.replies {effect} {replied} is flying reply stays) here = λ needs.
     replied_set m effect replied h (was_due m effect a (ap flying_in is ∙ ap flying_of flying))
     (ap (needs_set (is_attached m.state.phase)) (sym (replied_left (an_effect effect) replied m.hand)) ∙ needs)
-set_on m next said a h (Moves.late before after is reply) here = h
-set_on m next said a h (Moves.ends gone) here = h
-set_on m next said a h (Moves.loses late near why) here = cc
-set_on m next said a h (Moves.comes read sized taken) here = h
-set_on m next said a h (Moves.keeps is) here = h
-set_on m next said a h (Moves.reads before after read is none taken) here = h
+set_on m next said a f h (Moves.late before after is reply) here = h
+set_on m next said a f h (Moves.ends gone) here = h
+set_on m next said a f h (Moves.loses late near why) here = cc
+set_on m next said a f h (Moves.comes read sized taken) here = h
+set_on m next said a f h (Moves.keeps is) here = h
+set_on m next said a f h (Moves.reads before after read is none taken) here = h
 
 -- All of it -----------------------------------------------------------------------------------------------------------
 
 pub record Settling (m : Machine) : Type 0 where
   pub awaited : IsAwaited m
   pub tidy : IsTidy m.state.wishes
+  pub followed : Passed followed m
   pub set : IsSet m
 
 pub settling_on : (m next : Machine) (said : Option Message) → Settling m → Moves m said next → Step m next said
@@ -191,7 +203,8 @@ pub settling_on : (m next : Machine) (said : Option Message) → Settling m → 
 settling_on m next said h moved step here = record {
   awaited = awaited_on m next said h.awaited step;
   tidy = tidy_on m next said h.awaited h.tidy step;
-  set = set_on m next said h.awaited h.set moved here;
+  followed = passed_on followed_test m next said h.followed moved;
+  set = set_on m next said h.awaited h.followed h.set moved here;
 }
 
 -- each move of a run is a step, while there is a target
@@ -206,7 +219,7 @@ Near m = is_gone m.state.phase ≡ false → Settling m
 
 pub settling : {messages : List Message} {m : Machine} → Run messages m → Near m
 settling r = by_runs {Holds = λ (messages : List Message) (m : Machine). Near m} (record {
-  starts = λ near. record { awaited = tt; tidy = new_is_tidy; set = λ needs. cc };
+  starts = λ near. record { awaited = tt; tidy = new_is_tidy; followed = refl; set = λ needs. cc };
   moves = λ messages m next said r h moved after here.
       settling_on m next said (h (near_before m next said moved here)) moved (step_of r next said moved here) here;
 }) r

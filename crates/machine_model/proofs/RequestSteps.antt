@@ -1,21 +1,24 @@
 -- What each move is to the event requests: nothing, an effect that is sent, or the reply to one.
-use Rattle.std.proofs.Common.{◌≡◌, Bool, true, false, cond, List, [], ◌∷◌, ◌++◌, Option, Some, None, refl}
-use Rattle.std.proofs.Common.{sym, ap, ◌∙◌, ◌⊎◌, inl, inr, option_map, arith}
+use Rattle.std.proofs.Common.{◌≡◌, Bool, true, false, cond, List, [], ◌∷◌, ◌++◌, Option, Some, None, refl, sym, ap}
+use Rattle.std.proofs.Common.{◌∙◌, ◌⊎◌, inl, inr, option_map, arith, ◌||◌}
 use Rattle.machine_model.specs.Due.{asked_hand, clear, load_of}
 use Rattle.machine_model.specs.Lookups.{finished}
 use Rattle.machine_model.specs.Names.{Clear, Does, Doing, Effect, Event, Note, Outcome, Part, Phase, Question, Replied}
-use Rattle.machine_model.specs.Names.{Set, TargetCommand, Want, a_question, an_effect}
+use Rattle.machine_model.specs.Names.{Set, TargetCommand, Want, a_question, an_effect, Options, Roots, Lines, Classes}
 use Rattle.machine_model.specs.Outcomes.{result_of}
 use Rattle.machine_model.specs.Replying.{IsReply, hand_replied, told_by}
 use Rattle.machine_model.specs.Requests.{effect_due, wishes_after}
 use Rattle.machine_model.specs.Rows.{chosen, noted}
 use Rattle.machine_model.specs.Runs.{Message}
-use Rattle.machine_model.specs.State.{Hand, Machine, State, is_empty, is_flying, is_gone, is_none}
+use Rattle.machine_model.specs.State.{Hand, Machine, State, is_empty, is_flying, is_gone, is_none, is_attached}
 use Rattle.machine_model.specs.Telling.{after_event, numbered_by}
 use Rattle.machine_model.proofs.RestLaws.{is_free}
 use Rattle.machine_model.proofs.Stepping.{Moves}
-use Rattle.machine_model.proofs.Tables.{is_updates}
+use Rattle.machine_model.proofs.Tables.{is_updates, attaches, rewants, starts_updates}
 use Rattle.machine_model.proofs.Testing.{same_noted, same_numbered, same_replied}
+use Rattle.wish_sets.specs.Wanted.{Wanted, with_known, with_lines}
+use Rattle.wish_sets.specs.Wishes.{rewished}
+use Rattle.class_tables.specs.Lookups.{found_in}
 
 -- In flight -----------------------------------------------------------------------------------------------------------
 
@@ -90,8 +93,23 @@ numbered_wishes outcome state = grind arith
 told_wishes : (event : Event) (state : State) → (after_event event state).wishes ≡ state.wishes
 told_wishes event state = grind arith
 
-pub noted_wishes : (note : Note) (state : State) → (noted note state).wishes ≡ state.wishes
-noted_wishes note state = grind arith
+pub noted_wishes : (note : Note) (state : State) → rewants (Part.Notes note) ≡ false
+    → (noted note state).wishes ≡ state.wishes
+noted_wishes note state is = grind (arith, is)
+
+-- a note changes nothing of the event requests, or what is wanted
+data Noted (note : Note) (state : State) : Type 0 where
+  leaves_all : (noted note state).wishes ≡ state.wishes → Noted note state
+  rewishes : (wanted : Wanted) → (noted note state).wishes ≡ rewished wanted state.wishes
+      → rewants (Part.Notes note) ≡ true → Noted note state
+
+noted_by : (note : Note) (state : State) → Noted note state
+noted_by (Options options) state = Noted.leaves_all refl
+noted_by (Roots roots) state = Noted.leaves_all refl
+noted_by (Lines None entries) state = Noted.leaves_all refl
+noted_by (Lines (Some key) entries) state = Noted.rewishes (with_lines key entries state.wishes.wanted) refl refl
+noted_by (Classes classes) state =
+    Noted.rewishes (with_known (found_in state.classes) classes state.wishes.wanted) refl refl
 
 pub learnt_wishes : (question : Question) (replied : Replied) (state : State)
     → (told_by question replied state).wishes ≡ state.wishes
@@ -118,16 +136,22 @@ is_deed (Does deed) = true
 is_deed (Set wish) = false
 is_deed (Clear wish request) = false
 
-abbrev pub starts_updates : List Part → Bool
-starts_updates [] = false
-starts_updates (part ∷ parts) = is_updates part
+-- all that is wished has to be set by now: the session is attached, or it is before `updates`
+abbrev pub needs_set : Bool → List Part → Bool
+needs_set attached [] = attached
+needs_set attached (part ∷ parts) =
+    cond (is_updates part) false (cond (attaches part || rewants part) true (needs_set attached parts))
 
 -- What a move is to the event requests: nothing, where the parts that are left are the same, or no effect is in flight;
--- an effect is sent, of `updates` the one that is due; or it is replied to.
+-- something else is wanted, where all that was wished has to be set; an effect is sent, of `updates` the one that is
+-- due; or it is replied to.
 pub data Step (m next : Machine) : Option Message → Type 0 where
   aside : {said : Option Message} → says_aside said ≡ true → next.state.wishes ≡ m.state.wishes
       → flying_in next.hand ≡ flying_in m.hand
       → (flying_in m.hand ≡ None) ⊎ (parts_left next.hand ≡ parts_left m.hand) → Step m next said
+  wants : (wanted : Wanted) → next.state.wishes ≡ rewished wanted m.state.wishes → flying_in m.hand ≡ None
+      → flying_in next.hand ≡ None → needs_set (is_attached m.state.phase) (parts_left m.hand) ≡ true
+      → Step m next None
   sends : {effect : Effect} → next.state.wishes ≡ m.state.wishes → flying_in m.hand ≡ None
       → flying_in next.hand ≡ Some effect
       → (is_deed effect ≡ false
@@ -175,8 +199,13 @@ steps m next said late (Moves.sends {hand} {rest} {deed} free at is) near here =
 steps m next said late (Moves.updates {hand} {effect} {rest} free at is away) near here =
     Step.sends refl (lands m hand free near at.in_hand) refl (λ no. (is, refl))
 steps m next said late (Moves.greets free at is away) near here = still m next _ refl refl refl
-steps m next said late (Moves.notes {hand} {note} {rest} free at) near here =
-    done m next _ hand rest free near at.in_hand refl (noted_wishes note m.state) refl
+steps m next said late (Moves.notes {hand} {note} {rest} free at) near here = by_note (noted_by note m.state)
+  where
+    by_note : Noted note m.state → Step m next None
+    by_note (Noted.leaves_all is) = done m next _ hand rest free near at.in_hand refl is refl
+    by_note (Noted.rewishes wanted is changes) = let none = lands m hand free near at.in_hand in
+        Step.wants wanted is none (sym (ap flying_in at.in_hand) ∙ none)
+        (ap (needs_set (is_attached m.state.phase)) (ap parts_left at.in_hand ∙ at.parts) ∙ grind (arith, changes))
 steps m next said late (Moves.unfolds {hand} {choice} {rest} free at) near here =
     done m next _ hand (chosen choice m.state hand ++ rest) free near at.in_hand refl refl refl
 steps m next said late (Moves.queues free is) near here =

@@ -30,7 +30,7 @@ no_item item b is = grind (arith, is)
 pub begun_item : (state : State) (item : Item)
     → unanswered_item (has_response (parts_of state item)) item ≡ request_in item
 begun_item state (a_request request) =
-    rw (row_is (failure_of (wanting request.command) state) request.command).responds refl
+    rw (row_is (failure_of (wanting request.command) state) request.command state).responds refl
 begun_item state target_end = no_item target_end (has_response (parts_of state target_end)) refl
 begun_item state (a_composite at composite) = grind arith
 begun_item state (a_raw at body) = refl

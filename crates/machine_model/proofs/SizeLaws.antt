@@ -42,13 +42,13 @@ parts_in (Some hand) = hand.parts
 abbrev IsSized : Machine → Type 0
 IsSized m = parts_sized m.state.phase m.state.sizes (parts_in m.hand) ≡ true
 
-row_sized : (failure : Option Failure) (command : Command)
-    → cond (has_attach (parts_by failure (row_of command))) (has_sizes (parts_by failure (row_of command))) true ≡ true
-row_sized failure command = grind arith
+row_sized : (failure : Option Failure) (command : Command) (state : State)
+    → cond (has_attach (parts_by failure (row_of command state))) (has_sizes (parts_by failure (row_of command state))) true ≡ true
+row_sized failure command state = grind arith
 
 begun_sized : (state : State) (item : Item) → cond (has_attach (parts_of state item)) (has_sizes
     (parts_of state item)) true ≡ true
-begun_sized state (a_request request) = row_sized (failure_of (wanting request.command) state) request.command
+begun_sized state (a_request request) = row_sized (failure_of (wanting request.command) state) request.command state
 begun_sized state target_end = grind arith
 begun_sized state (a_composite at composite) = grind arith
 begun_sized state (a_raw at body) = refl

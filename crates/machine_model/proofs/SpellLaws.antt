@@ -12,19 +12,20 @@ use Rattle.machine_model.specs.Due.{Load, asked_first, asked_next, busy, can_rea
 use Rattle.machine_model.specs.Due.{lacking_more, load_of, queued, waiting}
 use Rattle.machine_model.specs.Ids.{Id, class, field, frame, ids_answered, ids_given, ids_replied, method}
 use Rattle.machine_model.specs.Ids.{ids_asked, ids_of_composite, object}
-use Rattle.machine_model.specs.Names.{Answer, Composite, Effect, Phase, Question, Replied, TargetCommand, Want}
+use Rattle.machine_model.specs.Names.{Answer, Composite, Effect, Question, Replied, TargetCommand, Want}
 use Rattle.machine_model.specs.Names.{a_question, an_effect}
 use Rattle.machine_model.specs.Replying.{IsReply, SizesFor, any_sizes, is_waiting, sizes_of, sizes_read, wire}
 use Rattle.machine_model.specs.Runs.{Allows, Message, Run, Takes, said}
 use Rattle.machine_model.specs.Spelling.{AreSpelled, IsSpelled, all_sizes, first_sizes, sizes_replied}
 use Rattle.machine_model.specs.State.{Hand, Machine, SizesRead, is_empty, is_gone, is_some}
-use Rattle.machine_model.proofs.IdLaws.{IsIdTest, MaySend, Sends, all_sent, sends_may}
+use Rattle.machine_model.proofs.IdLaws.{IsIdTest, Sends, all_sent, sends_may}
 use Rattle.machine_model.proofs.IdRows.{FitsId, all_weak, composite_ids, fitting_ids, same_ids}
 use Rattle.machine_model.proofs.PlanIds.{IsAsked}
 use Rattle.machine_model.proofs.Standing.{IsKept, asked_in, sizes_more}
 use Rattle.machine_model.proofs.StandingReplies.{not_empty, only_sizes, sizes_is}
 use Rattle.machine_model.proofs.Stepping.{Moves, moved}
 use Rattle.machine_model.proofs.Testing.{same_replied}
+use Rattle.machine_model.proofs.WishIds.{MaySend}
 
 -- The ids that an answer brings ---------------------------------------------------------------------------------------
 

@@ -1,6 +1,6 @@
 -- Event requests stand as the messages say, each is set and cleared once, and at rest each is as the target replied.
-use Rattle.std.proofs.Common.{◌≡◌, Bool, true, false, cond, not, ◌||◌, List, [], ◌∷◌, Option, Some, None, refl}
-use Rattle.std.proofs.Common.{sym, ap, subst, ◌∙◌, arith}
+use Rattle.std.proofs.Common.{◌≡◌, Bool, true, false, cond, not, ◌||◌, List, [], ◌∷◌, Option, Some, None, refl, sym}
+use Rattle.std.proofs.Common.{ap, subst, ◌∙◌, arith, ◌&&◌}
 use Rattle.std.specs.Prelude.{◌&&◌}
 use Rattle.std.specs.List.{list_any}
 use Rattle.std.proofs.lemmas.List.Sums.{fold-append}
@@ -29,6 +29,7 @@ use Rattle.wish_sets.specs.Tidy.{IsNewSet, IsTidy}
 use Rattle.wish_sets.specs.Wished.{wished}
 use Rattle.wish_sets.specs.Wishes.{EventRequest, is_surplus}
 use Rattle.wish_sets.specs.declared.wish.Wish.{Wish}
+use Rattle.wish_sets.proofs.TidyLaws.{kept_refusals}
 
 -- One message more ----------------------------------------------------------------------------------------------------
 
@@ -79,6 +80,8 @@ same_on : (m next : Machine) (said : Option Message) (c : Counted) → Settling 
 same_on m next said c s (Step.aside quiet same flew left) h test =
     ap (λ (w : Wishes). list_any test w.installed) same ∙ h test
     ∙ sym (ap (λ (c : Counted). list_any test c.installed) (count_aside said c quiet))
+same_on m next said c s (Step.wants wanted same none now needs) h test =
+    ap (λ (w : Wishes). list_any test w.installed) same ∙ h test
 same_on m next said c s (Step.sends same none flies due) h test =
     ap (λ (w : Wishes). list_any test w.installed) same ∙ h test
 same_on m next said c s (Step.replies {effect} {replied} same flew none reply) h test =
@@ -91,6 +94,7 @@ flying_on : (m next : Machine) (said : Option Message) (c : Counted) → Step m 
     → (count_said said c).flying ≡ flying_in next.hand
 flying_on m next said c (Step.aside quiet same flew left) h =
     ap (λ (c : Counted). c.flying) (count_aside said c quiet) ∙ h ∙ sym flew
+flying_on m next said c (Step.wants wanted same none now needs) h = h ∙ none ∙ sym now
 flying_on m next said c (Step.sends same none flies due) h = sym flies
 flying_on m next said c (Step.replies same flew none reply) h = sym none
 
@@ -125,6 +129,10 @@ refused_replied sizes w parts (Set other) replied wish due (IsReply.with_error s
 refused_replied sizes w parts (Clear other request) (an_answer answer) wish due reply = refl
 refused_replied sizes w parts (Clear other request) (an_error code) wish due reply = refl
 
+and_cond : (a b : Bool) → (a && b) ≡ cond a b false
+and_cond true b = refl
+and_cond false b = refl
+
 abbrev pub refused_said : Wish → Option Message → Bool → Bool
 refused_said wish None was = was
 refused_said wish (Some message) was = refused_after wish message was
@@ -132,17 +140,6 @@ refused_said wish (Some message) was = refused_after wish message was
 refused_aside : (wish : Wish) (said : Option Message) (was : Bool) → says_aside said ≡ true
     → refused_said wish said was ≡ was
 refused_aside wish said was is = grind (arith, is)
-
-refused_step : (wish : Wish) (m next : Machine) (said : Option Message) → Settling m → Step m next said
-    → has_wish next.state.wishes.refused wish ≡ refused_said wish said (has_wish m.state.wishes.refused wish)
-refused_step wish m next said s (Step.aside quiet same flew left) =
-    ap (λ (w : Wishes). has_wish w.refused wish) same
-    ∙ sym (refused_aside wish said (has_wish m.state.wishes.refused wish) quiet)
-refused_step wish m next said s (Step.sends same none flies due) = ap (λ (w : Wishes). has_wish w.refused wish) same
-refused_step wish m next said s (Step.replies {effect} {replied} same flew none reply) =
-    ap (λ (w : Wishes). has_wish w.refused wish) same
-    ∙ refused_replied m.state.sizes m.state.wishes (parts_left m.hand) effect replied wish
-    (was_due m effect s.awaited flew) reply
 
 -- what was refused is wished
 kept_so : (wish : Wish) (w : Wishes) (was : Bool) → IsTidy w → has_wish w.refused wish ≡ was
@@ -160,14 +157,32 @@ refused_on : {messages : List Message} {m : Machine} (r : Run messages m) (wish 
     → has_wish m.state.wishes.refused wish ≡ was
     → has_wish next.state.wishes.refused wish
     ≡ cond (has_wish (wished next.state.wishes.wanted) wish) (refused_said wish said was) false
-refused_on {messages} {m} r wish next said was moved here is =
-    let s = settling r (near_before m next said moved here) in
-    let step = step_of r next said moved here in
-    kept_so wish next.state.wishes (refused_said wish said was) (settling_on m next said s moved step here).tidy
-    (refused_step wish m next said s step ∙ ap (refused_said wish said) is)
+refused_on {messages} {m} r wish next said was moved here is = by_step said (step_of r next said moved here)
+    (settling_on m next said s moved (step_of r next said moved here) here).tidy
+  where
+    s : Settling m
+    s = settling r (near_before m next said moved here)
+
+    by_step : (said : Option Message) → Step m next said → IsTidy next.state.wishes
+        → has_wish next.state.wishes.refused wish
+        ≡ cond (has_wish (wished next.state.wishes.wanted) wish) (refused_said wish said was) false
+    by_step said (Step.aside quiet same flew left) tidy = kept_so wish next.state.wishes (refused_said wish said was)
+        tidy (ap (λ (w : Wishes). has_wish w.refused wish) same ∙ is ∙ sym (refused_aside wish said was quiet))
+    by_step said (Step.wants wanted same none now needs) tidy =
+        ap (λ (w : Wishes). has_wish w.refused wish) same ∙ kept_refusals wanted m.state.wishes wish
+        ∙ and_cond (has_wish (wished wanted) wish) (has_wish m.state.wishes.refused wish)
+        ∙ ap (λ b. cond (has_wish (wished wanted) wish) b false) is
+        ∙ ap (λ (w : Wishes). cond (has_wish (wished w.wanted) wish) was false) (sym same)
+    by_step said (Step.sends same none flies due) tidy = kept_so wish next.state.wishes was tidy
+        (ap (λ (w : Wishes). has_wish w.refused wish) same ∙ is)
+    by_step said (Step.replies {effect} {replied} same flew none reply) tidy =
+        kept_so wish next.state.wishes (refused_said wish said was) tidy
+        (ap (λ (w : Wishes). has_wish w.refused wish) same
+        ∙ refused_replied m.state.sizes m.state.wishes (parts_left m.hand) effect replied wish
+        (was_due m effect s.awaited flew) reply ∙ ap (refused_said wish said) is)
 
 -- a silent step of a run is a move
-goes_on : {m : Machine} → (due false m).act ≡ Act.Goes → Moves m None (due false m).next
+pub goes_on : {m : Machine} → (due false m).act ≡ Act.Goes → Moves m None (due false m).next
 goes_on {m} is = rw is at (walks_due m)
 
 are_refused : {messages : List Message} {m : Machine} (r : Run messages m) → is_gone m.state.phase ≡ false

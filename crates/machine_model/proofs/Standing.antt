@@ -7,15 +7,15 @@ use Rattle.std.proofs.lemmas.List.Concat.{flat_map-append}
 use Rattle.jdwp_commands.specs.declared.question.Question.TheVariants as questions
 use Rattle.machine_model.specs.Ids.{Id}
 use Rattle.machine_model.specs.Names.{IdSizes, Initialized, Part, Sent, Success, TargetCommand, Want, a_question}
-use Rattle.machine_model.specs.Names.{an_effect, thread_list}
+use Rattle.machine_model.specs.Names.{an_effect, thread_list, Lines, Classes}
 use Rattle.machine_model.specs.Plans.{question_of}
 use Rattle.machine_model.specs.Replying.{waits_for}
 use Rattle.machine_model.specs.Runs.{Message}
 use Rattle.machine_model.specs.Spelling.{all_sizes, first_sizes, sizes_by, sizes_replied}
 use Rattle.machine_model.specs.State.{State, Hand, Machine, SizesRead, is_attached, is_gone, is_some}
-use Rattle.wish_sets.specs.Wanted.{nothing_wanted}
-use Rattle.machine_model.proofs.PlanIds.{AreKnown, IsAsked, IsWanted, OfNamed, OfThread, is_sizes}
+use Rattle.machine_model.proofs.PlanIds.{AreKnown, IsAsked, IsWanted, OfNamed, OfThread, is_sizes, OfClass}
 use Rattle.machine_model.proofs.Stepping.{IsAt, with_said}
+use Rattle.machine_model.proofs.WishIds.{AreWished, IsShortKey}
 
 -- The item in hand ----------------------------------------------------------------------------------------------------
 
@@ -34,6 +34,8 @@ asked_in (Some hand) = hand.asked
 -- what a part has of ids passes
 abbrev pub PartStands : (Id → Type 0) → Part → Type 0
 PartStands P (Part.Responds (Success (thread_list named))) = All (OfNamed P) named
+PartStands P (Part.Notes (Lines key entries)) = IsShortKey key
+PartStands P (Part.Notes (Classes classes)) = All (OfClass P) classes
 PartStands P _ = Unit {0}
 
 -- What needs the sizes of ids stands behind what awaits them ----------------------------------------------------------
@@ -82,17 +84,16 @@ pub record Near (P : Id → Type 0) (state : State) (left : List Part) (queue : 
     (asked : List Sent) : Type 0 where
   pub threads : All (OfThread P) state.threads
   pub classes : AreKnown P state.classes
-  pub wanted : state.wishes.wanted ≡ nothing_wanted
+  pub wanted : AreWished P state.wishes.wanted
   pub order : in_order (is_some state.sizes) (is_attached state.phase) left ≡ true
   pub parts : All (PartStands P) left
   pub wants : All (IsWanted P (is_some state.sizes)) queue
   pub replies : All (IsAsked P (is_some state.sizes)) asked
 
--- what the next state keeps of one, if only what is left and the threads change
+-- what the next state keeps of one, if only what is left, the threads and what is wished change
 pub record Same (next state : State) : Type 0 where
   pub sizes : next.sizes ≡ state.sizes
   pub classes : next.classes ≡ state.classes
-  pub wanted : next.wishes.wanted ≡ state.wishes.wanted
   pub back : is_gone next.phase ≡ false → is_gone state.phase ≡ false
 
 -- The sizes that were replied are those that are known, and they are asked or replied at most once; a target that isn't
@@ -146,6 +147,7 @@ same_sizes messages said quiet = sizes_more messages said ∙ ap (λ more. all_s
 -- what isn't as it was
 pub record Passes (P : Id → Type 0) (sized : Bool) (next : State) (left : List Part) : Type 0 where
   pub threads : All (OfThread P) next.threads
+  pub wanted : AreWished P next.wishes.wanted
   pub order : in_order sized (is_attached next.phase) left ≡ true
   pub parts : All (PartStands P) left
 
@@ -161,7 +163,7 @@ stays {P} {messages} next left said k same quiet passes = record {
   near = λ near. let n = k.near (same.back near) in let p = passes near n in record {
     threads = p.threads;
     classes = subst (λ known. AreKnown P known) (sym same.classes) n.classes;
-    wanted = same.wanted ∙ n.wanted;
+    wanted = p.wanted;
     order = rw same.sizes p.order;
     parts = p.parts;
     wants = rw same.sizes n.wants;
@@ -170,12 +172,18 @@ stays {P} {messages} next left said k same quiet passes = record {
 }
 
 pub same_state : (state : State) → Same state state
-same_state state = record { sizes = refl; classes = refl; wanted = refl; back = λ near. near }
+same_state state = record { sizes = refl; classes = refl; back = λ near. near }
 
 -- all stands as it did
 pub quiet_kept : {P : Id → Type 0} {messages : List Message} {state : State} {left : List Part} {queue : List Want}
     {asked : List Sent} {late : List TargetCommand} (next : State) (said : Option Message)
     → Kept P messages state left queue asked late → Same next state → sizes_said said ≡ [] → next.phase ≡ state.phase
-    → next.threads ≡ state.threads → Kept P (with_said messages said) next left queue asked late
-quiet_kept {left = left} next said k same quiet phase threads = stays next left said k same quiet
-    (λ near n. record { threads = rw threads n.threads; order = rw phase n.order; parts = n.parts })
+    → next.threads ≡ state.threads → next.wishes.wanted ≡ state.wishes.wanted
+    → Kept P (with_said messages said) next left queue asked late
+quiet_kept {P} {left = left} next said k same quiet phase threads wanted = stays next left said k same quiet
+    (λ near n. record {
+      threads = rw threads n.threads;
+      wanted = rw wanted n.wanted;
+      order = rw phase n.order;
+      parts = n.parts;
+    })

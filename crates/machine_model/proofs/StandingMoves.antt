@@ -7,10 +7,12 @@ use Rattle.machine_model.specs.Lookups.{finished, found_for, sight_of}
 use Rattle.machine_model.specs.Names.{Attached, Capabilities, Choice, Command, Effect, Event, Failed, Failure, Finding}
 use Rattle.machine_model.specs.Names.{Fresh, Gone, Initialized, Item, Leaves, Lookup, Note, Nothing, Outcome, Part}
 use Rattle.machine_model.specs.Names.{Phase, Replied, Success, Terminated, ThreadId, NamedThread, a_composite, a_raw}
-use Rattle.machine_model.specs.Names.{a_request, threads_found, all_threads, target_end, thread_list}
+use Rattle.machine_model.specs.Names.{a_request, threads_found, all_threads, target_end, thread_list, Sent}
+use Rattle.machine_model.specs.Names.{TargetCommand, Want, breakpoint_list, classes_found, class_facts, Lines, Classes}
+use Rattle.machine_model.specs.Names.{Options, Roots, Initialize, Attach, ConfigurationDone, SetBreakpoints, Threads}
+use Rattle.machine_model.specs.Names.{Disconnect, Unsupported, BadArguments}
 use Rattle.machine_model.specs.Plans.{Need, fails, has, lacks}
 use Rattle.machine_model.specs.Replying.{done_by}
-use Rattle.machine_model.specs.Names.{Sent, TargetCommand, Want}
 use Rattle.machine_model.proofs.Testing.{same_numbered}
 use Rattle.machine_model.specs.Rows.{chosen, failure_of, leaves, noted, parts_by, parts_of, request_parts, row_of}
 use Rattle.machine_model.specs.Rows.{wanting}
@@ -18,34 +20,54 @@ use Rattle.machine_model.specs.Runs.{Message}
 use Rattle.machine_model.specs.State.{Hand, Machine, State, is_attached, is_gone, is_some, left}
 use Rattle.machine_model.specs.Telling.{after_event, is_among, numbered_by, with_thread, with_threads}
 use Rattle.machine_model.proofs.IdRows.{all_joined}
-use Rattle.machine_model.proofs.PlanIds.{IsAsked, IsGood, NeedStands, OfNamed, OfThread, rows_stand}
+use Rattle.machine_model.proofs.PlanIds.{IsAsked, IsGood, NeedStands, OfNamed, OfThread, rows_stand, AreKnown}
 use Rattle.machine_model.proofs.Stepping.{IsAt, Skips}
 use Rattle.machine_model.specs.Outcomes.{result_of}
 use Rattle.machine_model.proofs.Standing.{IsKept, Kept, Near, PartStands, Same, at_front, same_state, in_order}
 use Rattle.machine_model.proofs.Standing.{awaits_sizes, needs_sizes, stays}
+use Rattle.machine_model.specs.Breakpoints.{behind_roots, key_of, longest_key, short_key, slashed}
+use Rattle.std.specs.Prelude.{ℕ, nat_le, length}
+use Rattle.machine_model.proofs.WishIds.{AreWished, IsShortKey, classes_stand, lines_stand}
 
 -- Tables --------------------------------------------------------------------------------------------------------------
 
--- a telling, a note and a reply to an effect keep sizes, classes and what is wanted
+-- a telling, a note and a reply to an effect keep sizes and classes
 pub told_same : (outcome : Outcome) (state : State) → Same (numbered_by outcome state) state
 told_same outcome state = record {
   sizes = grind arith;
   classes = grind arith;
-  wanted = grind arith;
   back = λ near. ap is_gone (sym (same_numbered outcome state)) ∙ near;
 }
 
 pub event_same : (event : Event) (state : State) → Same (after_event event state) state
-event_same event state =
-    record { sizes = grind arith; classes = grind arith; wanted = grind arith; back = λ near. grind (arith, near) }
+event_same event state = record { sizes = grind arith; classes = grind arith; back = λ near. grind (arith, near) }
 
 pub note_same : (note : Note) (state : State) → Same (noted note state) state
-note_same note state =
-    record { sizes = grind arith; classes = grind arith; wanted = grind arith; back = λ near. grind (arith, near) }
+note_same note state = record { sizes = grind arith; classes = grind arith; back = λ near. grind (arith, near) }
 
 pub effect_same : (effect : Effect) (replied : Replied) (state : State) → Same (done_by effect replied state) state
-effect_same effect replied state =
-    record { sizes = refl; classes = refl; wanted = grind arith; back = λ near. near }
+effect_same effect replied state = record { sizes = refl; classes = refl; back = λ near. near }
+
+-- what is wanted changes at notes alone
+pub told_wanted : (outcome : Outcome) (state : State)
+    → (numbered_by outcome state).wishes.wanted ≡ state.wishes.wanted
+told_wanted outcome state = grind arith
+
+pub event_wanted : (event : Event) (state : State) → (after_event event state).wishes.wanted ≡ state.wishes.wanted
+event_wanted event state = grind arith
+
+pub effect_wanted : (effect : Effect) (replied : Replied) (state : State)
+    → (done_by effect replied state).wishes.wanted ≡ state.wishes.wanted
+effect_wanted effect replied state = grind arith
+
+pub note_wished : (P : Id → Type 0) (note : Note) (state : State) → PartStands P (Part.Notes note)
+    → AreKnown P state.classes → AreWished P state.wishes.wanted → AreWished P (noted note state).wishes.wanted
+note_wished P (Options options) state k facts h = h
+note_wished P (Roots roots) state k facts h = h
+note_wished P (Lines None entries) state k facts h = h
+note_wished P (Lines (Some key) entries) state k facts h = lines_stand P key entries state.wishes.wanted k h
+note_wished P (Classes classes) state k facts h =
+    classes_stand P state.classes classes state.wishes.wanted k facts h
 
 pub note_threads : (note : Note) (state : State) → (noted note state).threads ≡ state.threads
 note_threads note state = grind arith
@@ -73,6 +95,7 @@ pub told_threads : (P : Id → Type 0) (outcome : Outcome) (state : State) → A
 told_threads P (Success (thread_list named)) state h k = threads_told P state.threads named h k
 told_threads P (Success Nothing) state h k = h
 told_threads P (Success Capabilities) state h k = h
+told_threads P (Success (breakpoint_list rooted listed)) state h k = h
 told_threads P (Failed failure) state h k = h
 
 -- rows, results and choices
@@ -87,16 +110,38 @@ begun_order state sized target_end h = grind (arith, h)
 begun_order state sized (a_composite at composite) h = grind (arith, h)
 begun_order state sized (a_raw at body) h = h
 
-row_parts : (P : Id → Type 0) (failure : Option Failure) (command : Command)
-    → All (PartStands P) (parts_by failure (row_of command))
-row_parts P (Some failure) command = (tt, tt)
-row_parts P None command = by_command command
+key_is_short : (roots : List (List ℕ)) (path : List ℕ) → IsShortKey (key_of roots path)
+unfolding key_of
+key_is_short roots path = by_key (behind_roots roots (slashed path))
   where
-    by_command : (command : Command) → All (PartStands P) (row_of command)
-    by_command command = grind arith
+    by_test : (key : List ℕ) (short : Bool) → nat_le (length key) longest_key ≡ short
+        → IsShortKey (cond short (Some key) None)
+    by_test key true is = grind (arith, is)
+    by_test key false is = tt
+
+    by_key : (key : Option (List ℕ)) → IsShortKey (short_key key)
+    by_key None = tt
+    by_key (Some key) = by_test key (nat_le (length key) longest_key) refl
+
+row_parts : (P : Id → Type 0) (command : Command) (state : State) → All (PartStands P) (row_of command state)
+row_parts P (Initialize arguments) state = (tt, (tt, tt))
+row_parts P (Attach arguments) state = (tt, (tt, (tt, (tt, (tt, (tt, tt))))))
+row_parts P ConfigurationDone state = (tt, tt)
+row_parts P (SetBreakpoints arguments) state =
+    (key_is_short state.roots arguments.path, (tt, (tt, (tt, (tt, tt)))))
+row_parts P Threads state = (tt, tt)
+row_parts P (Disconnect arguments) state = (tt, (tt, (tt, tt)))
+row_parts P Unsupported state = (tt, tt)
+row_parts P (BadArguments name) state = (tt, tt)
+
+unless_fails : (P : Id → Type 0) (failure : Option Failure) (row : List Part) → All (PartStands P) row
+    → All (PartStands P) (parts_by failure row)
+unless_fails P (Some failure) row h = (tt, tt)
+unless_fails P None row h = h
 
 pub begun_parts : (P : Id → Type 0) (state : State) (item : Item) → All (PartStands P) (parts_of state item)
-begun_parts P state (a_request request) = row_parts P (failure_of (wanting request.command) state) request.command
+begun_parts P state (a_request request) = unless_fails P (failure_of (wanting request.command) state)
+    (row_of request.command state) (row_parts P request.command state)
 begun_parts P state target_end = by_end state.terminated
   where
     by_end : (told : Bool) → All (PartStands P) (parts_of (record state { terminated = told }) target_end)
@@ -121,6 +166,11 @@ chosen_parts P (Leaves exits) state hand rest h = by_phase state.phase
 found_parts : (P : Id → Type 0) (lookup : Lookup) (found : Need Finding) (state : State) → NeedStands P (IsGood P) found
     → All (PartStands P) (finished lookup (result_of found) state)
 found_parts P all_threads (has (threads_found named)) state h = (h, tt)
+found_parts P all_threads (has (classes_found classes)) state h = (tt, tt)
+found_parts P class_facts (has (threads_found named)) state h = (tt, tt)
+found_parts P class_facts (has (classes_found classes)) state h = (h, tt)
+found_parts P class_facts (fails fault) state h = (tt, tt)
+found_parts P class_facts (lacks want others) state h = (tt, tt)
 found_parts P all_threads (fails fault) state h = (tt, tt)
 found_parts P all_threads (lacks want others) state h = (tt, tt)
 
@@ -158,7 +208,7 @@ pub looks_stand : {P : Id → Type 0} {state : State} {left : List Part} {queue 
     → NeedStands P (IsGood P) (found_for lookup state hand)
 looks_stand {P} {state} hand lookup null n sized =
     rows_stand P null (sight_of state hand) state.classes n.classes
-    (subst (λ sized. All (IsAsked P sized) hand.asked) sized n.replies) refl lookup state
+    (subst (λ sized. All (IsAsked P sized) hand.asked) sized n.replies) refl lookup state refl
 
 pub found_kept : {P : Id
     → Type 0} {messages : List Message} {m : Machine} {hand : Hand} {rest : List Part} {lookup : Lookup}
@@ -170,6 +220,7 @@ found_kept {P} {m = m} {hand} {rest} {lookup} found null k at is =
     (λ near n. let sized = sized_by (is_some m.state.sizes) (is_attached m.state.phase) (Part.Looks lookup) rest n.order
     refl refl in record {
       threads = n.threads;
+      wanted = n.wanted;
       order = in_any_order _ _ (finished lookup (result_of found) m.state ++ rest) sized;
       parts = all_joined (PartStands P) (finished lookup (result_of found) m.state) rest
           (found_parts P lookup found m.state

@@ -21,13 +21,13 @@ use Rattle.machine_model.specs.Names.{TargetCommand, Want, a_question, an_answer
 use Rattle.machine_model.specs.Plans.{Need, answer_in, asks_for, fails, has, lacking, lacks, question_of}
 use Rattle.machine_model.specs.Replying.{wire, replied_machine, is_failed, IsReply, ended_with, filled, given_up}
 use Rattle.machine_model.specs.Replying.{hand_replied, is_waiting, learnt, pending_in, shows_end, sizes_in, told_by}
-use Rattle.machine_model.specs.Replying.{unanswered, unless_failed, unanswered_effect, waits_for}
+use Rattle.machine_model.specs.Replying.{unanswered, unless_failed, unanswered_effect, waits_for, still_unlisted}
 use Rattle.machine_model.specs.Runs.{Message}
 use Rattle.machine_model.specs.Spelling.{listed, all_sizes, first_sizes, sizes_by, sizes_replied}
 use Rattle.machine_model.specs.State.{Hand, Machine, SizesRead, State, is_attached, is_gone, is_none, is_some}
 use Rattle.machine_model.proofs.IdRows.{all_front, all_joined, all_weak}
-use Rattle.machine_model.proofs.PlanIds.{AreKnown, IsAsked, IsGood, IsHeard, IsWanted, NeedStands}
-use Rattle.machine_model.proofs.PlanIds.{reply_heard, is_sizes, put_all}
+use Rattle.machine_model.proofs.PlanIds.{AreKnown, IsAsked, IsGood, IsHeard, IsWanted, NeedStands, reply_heard}
+use Rattle.machine_model.proofs.PlanIds.{is_sizes, put_all, put_key}
 use Rattle.machine_model.proofs.Stepping.{Loses}
 use Rattle.machine_model.proofs.Testing.{same_replied}
 use Rattle.machine_model.specs.Keys.{same_question}
@@ -35,6 +35,10 @@ use Rattle.machine_model.specs.Due.{asked_now, behind_first, Load, clear, greete
 use Rattle.machine_model.proofs.StandingMoves.{in_any_order, looks_stand, sized_by}
 use Rattle.machine_model.proofs.Standing.{IsKept, Kept, KeptHand, Near, asked_in, by_command, by_sent, by_want, one_if}
 use Rattle.machine_model.proofs.Standing.{put_back, queue_in, same_sizes, sizes_more, taken_out, total}
+use Rattle.class_tables.specs.declared.loaded.Loaded.{Loaded}
+use Rattle.jdwp_commands.specs.declared.listed.LoadedClass.{LoadedClass}
+use Rattle.machine_model.specs.Classes.{classes_in, with_listed}
+use Rattle.std.specs.Prelude.{fold}
 
 -- Numbers -------------------------------------------------------------------------------------------------------------
 
@@ -287,10 +291,37 @@ unless_all : (Good : Want → Type 0) (failed : Bool) (queue : List Want) → Al
 unless_all Good true queue h = tt
 unless_all Good false queue h = h
 
+-- a list of all classes says nothing else of them
+pub only_loaded : (classes : List LoadedClass) (known : Known)
+    → fold with_listed known classes ≡ record known { loaded = (fold with_listed known classes).loaded }
+only_loaded [] known = refl
+only_loaded (c ∷ classes) known = only_loaded classes (with_listed known c)
+
 -- the facts of classes that an answer tells
 learnt_known : (P : Id → Type 0) → P (class 0) → (question : Question) (heard : Option Answer) (known : Known)
     → IsHeard P heard → AreKnown P known → AreKnown P (learnt question heard known)
+learnt_known P null questions.AllClasses heard known r h =
+    subst (AreKnown P) (sym (only_loaded (classes_in heard) known)) (record {
+      loaded = listed_known (classes_in heard) known (by_heard heard r) h.loaded;
+      methods = h.methods;
+      fields = h.fields;
+      supers = h.supers;
+    })
+  where
+    by_heard : (heard : Option Answer) → IsHeard P heard → All (λ (c : LoadedClass). P (class c.class.0))
+        (classes_in heard)
+    by_heard (Some (answers.AllClasses [])) r = tt
+    by_heard (Some (answers.AllClasses (c ∷ classes))) r = (r.0, by_heard (Some (answers.AllClasses classes)) r.1)
+    by_heard _ r = tt
+
+    listed_known : (classes : List LoadedClass) (known : Known) → All (λ (c : LoadedClass). P (class c.class.0)) classes
+        → All (λ (entry : ClassId × Loaded). P (class entry.0.0)) known.loaded
+        → All (λ (entry : ClassId × Loaded). P (class entry.0.0)) (fold with_listed known classes).loaded
+    listed_known [] known r h = h
+    listed_known (c ∷ classes) known r h = listed_known classes (with_listed known c) r.1
+        (put_key (λ (c : ClassId). P (class c.0)) same_class c.class _ known.loaded r.0 h)
 learnt_known P null (questions.Methods c) heard known r h = record {
+  loaded = h.loaded;
   methods = put_all (λ (found : List Method). All P (flat_map (ids_of method_row) found)) same_class c
       (methods_in heard)
       known.methods (by_heard heard r) h.methods;
@@ -302,6 +333,7 @@ learnt_known P null (questions.Methods c) heard known r h = record {
     by_heard (Some (answers.Methods found)) r = all_front P (flat_map (ids_of method_row) found) [] r
     by_heard _ r = tt
 learnt_known P null (questions.Fields c) heard known r h = record {
+  loaded = h.loaded;
   methods = h.methods;
   fields = put_all (λ (found : List Field). All P (flat_map (ids_of field_row) found)) same_class c (fields_in heard)
       known.fields (by_heard heard r) h.fields;
@@ -312,6 +344,7 @@ learnt_known P null (questions.Fields c) heard known r h = record {
     by_heard (Some (answers.Fields found)) r = all_front P (flat_map (ids_of field_row) found) [] r
     by_heard _ r = tt
 learnt_known P null (questions.Superclass c) heard known r h = record {
+  loaded = h.loaded;
   methods = h.methods;
   fields = h.fields;
   supers = put_all (λ (above : ClassId). P (class above.0)) same_class c (above_in heard) known.supers
@@ -323,15 +356,18 @@ learnt_known P null (questions.Superclass c) heard known r h = record {
     by_heard (Some (answers.Superclass above)) r = r.0
     by_heard _ r = null
 learnt_known P null (questions.SourceFile c) heard known r h =
-    record { methods = h.methods; fields = h.fields; supers = h.supers }
+    record { loaded = h.loaded; methods = h.methods; fields = h.fields; supers = h.supers }
 learnt_known P null (questions.LineTable c method) heard known r h =
-    record { methods = h.methods; fields = h.fields; supers = h.supers }
+    record { loaded = h.loaded; methods = h.methods; fields = h.fields; supers = h.supers }
 learnt_known P null (questions.VariableTable c method) heard known r h =
-    record { methods = h.methods; fields = h.fields; supers = h.supers }
+    record { loaded = h.loaded; methods = h.methods; fields = h.fields; supers = h.supers }
 learnt_known P null _ heard known r h = h
 
 told_learns : (question : Question) (replied : Replied) (state : State) → is_sizes question ≡ false
-    → told_by question replied state ≡ record state { classes = learnt question (answer_in replied) state.classes }
+    → told_by question replied state ≡ record state {
+      classes = learnt question (answer_in replied) state.classes;
+      unlisted = still_unlisted question state.unlisted;
+    }
 told_learns questions.IdSizes replied state is = cc
 told_learns _ replied state is = refl
 

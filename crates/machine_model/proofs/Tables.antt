@@ -2,7 +2,8 @@
 use Rattle.std.proofs.Common.{◌≡◌, Bool, true, false, cond, not, ◌||◌, List, [], ◌∷◌, ◌++◌, Option, refl, arith}
 use Rattle.machine_model.specs.Lookups.{finished, lookup_responds}
 use Rattle.machine_model.specs.Names.{Choice, Command, Failure, Finding, Initialized, Item, Leaves, Lookup, Part}
-use Rattle.machine_model.specs.Names.{Terminated, a_composite, a_raw, a_request, target_end}
+use Rattle.machine_model.specs.Names.{Terminated, a_composite, a_raw, a_request, target_end, Lines, Classes}
+use Rattle.machine_model.specs.Names.{class_facts}
 use Rattle.machine_model.specs.Plans.{Result}
 use Rattle.machine_model.specs.Rows.{choice_responds, chosen, failure_of, gone_parts, has_response}
 use Rattle.machine_model.specs.Rows.{is_response, parts_by, parts_of, request_parts, row_of, wanting}
@@ -40,6 +41,13 @@ abbrev pub is_last : Part → Bool
 is_last (Part.Tells Terminated) = true
 is_last _ = false
 
+-- it changes what is wanted, or becomes what does
+abbrev pub rewants : Part → Bool
+rewants (Part.Notes (Lines key entries)) = true
+rewants (Part.Notes (Classes classes)) = true
+rewants (Part.Looks class_facts) = true
+rewants _ = false
+
 -- Tests of lists ------------------------------------------------------------------------------------------------------
 
 -- in a target that is gone, nothing needs the target
@@ -51,6 +59,15 @@ free_once gone (part ∷ parts) = cond (cond gone (is_free part) true) (free_onc
 abbrev pub once_in : List Part → Bool
 once_in [] = true
 once_in (part ∷ parts) = cond (is_response part) (not (has_response parts)) (once_in parts)
+
+abbrev pub starts_updates : List Part → Bool
+starts_updates [] = false
+starts_updates (part ∷ parts) = is_updates part
+
+-- `updates` stands behind each part that changes what is wanted
+abbrev pub are_followed : List Part → Bool
+are_followed [] = true
+are_followed (part ∷ parts) = cond (cond (rewants part) (starts_updates parts) true) (are_followed parts) false
 
 abbrev pub has_updates : List Part → Bool
 has_updates [] = false
@@ -80,8 +97,8 @@ is_block responds parts =
 
 -- The tables ----------------------------------------------------------------------------------------------------------
 
-pub row_sound : (failure : Option Failure) (command : Command) → is_row (parts_by failure (row_of command)) ≡ true
-row_sound failure command = grind arith
+pub row_sound : (failure : Option Failure) (command : Command) (state : State) → is_row (parts_by failure (row_of command state)) ≡ true
+row_sound failure command state = grind arith
 
 pub chosen_block : (choice : Choice) (state : State) (hand : Hand)
     → is_block (choice_responds choice) (chosen choice state hand) ≡ true
@@ -91,8 +108,8 @@ pub finished_block : (lookup : Lookup) (result : Result Finding) (state : State)
     → is_block (lookup_responds lookup) (finished lookup result state) ≡ true
 finished_block lookup result state = grind arith
 
-row_near : (failure : Option Failure) (command : Command) → free_once false (parts_by failure (row_of command)) ≡ true
-row_near failure command = grind arith
+row_near : (failure : Option Failure) (command : Command) (state : State) → free_once false (parts_by failure (row_of command state)) ≡ true
+row_near failure command state = grind arith
 
 row_gone : (state : State) (command : Command) → is_gone state.phase ≡ true
     → free_once true (request_parts command state) ≡ true
@@ -101,7 +118,7 @@ row_gone state command is = grind (arith, is)
 pub row_free : (state : State) (command : Command) (gone : Bool) → is_gone state.phase ≡ gone
     → free_once gone (request_parts command state) ≡ true
 row_free state command true is = row_gone state command is
-row_free state command false is = row_near (failure_of (wanting command) state) command
+row_free state command false is = row_near (failure_of (wanting command) state) command state
 
 pub gone_free : (responds : Bool) (item : Item) → free_once true (gone_parts responds item) ≡ true
 gone_free responds item = grind arith
@@ -137,8 +154,8 @@ pub record IsRow (parts : List Part) : Type 0 where
 row_facts : (parts : List Part) → is_row parts ≡ true → IsRow parts
 row_facts parts is = record { responds = grind arith; once = grind arith; attaches = grind arith }
 
-pub row_is : (failure : Option Failure) (command : Command) → IsRow (parts_by failure (row_of command))
-row_is failure command = row_facts (parts_by failure (row_of command)) (row_sound failure command)
+pub row_is : (failure : Option Failure) (command : Command) (state : State) → IsRow (parts_by failure (row_of command state))
+row_is failure command state = row_facts (parts_by failure (row_of command state)) (row_sound failure command state)
 
 -- Lists that are joined -----------------------------------------------------------------------------------------------
 
@@ -185,7 +202,7 @@ abbrev pub responds_once : Bool → List Part → Bool
 responds_once gone parts = once_in parts
 
 once_begun : (state : State) (item : Item) → once_in (parts_of state item) ≡ true
-once_begun state (a_request request) = (row_is (failure_of (wanting request.command) state) request.command).once
+once_begun state (a_request request) = (row_is (failure_of (wanting request.command) state) request.command state).once
 once_begun state target_end = grind arith
 once_begun state (a_composite at composite) = grind arith
 once_begun state (a_raw at body) = refl
@@ -250,11 +267,11 @@ last_silent (part ∷ parts) = cond (cond (is_last part) (not (has_response part
 abbrev pub silent_last : Bool → List Part → Bool
 silent_last gone parts = last_silent parts
 
-row_silent : (failure : Option Failure) (command : Command) → last_silent (parts_by failure (row_of command)) ≡ true
-row_silent failure command = grind arith
+row_silent : (failure : Option Failure) (command : Command) (state : State) → last_silent (parts_by failure (row_of command state)) ≡ true
+row_silent failure command state = grind arith
 
 silent_begun : (state : State) (item : Item) → last_silent (parts_of state item) ≡ true
-silent_begun state (a_request request) = row_silent (failure_of (wanting request.command) state) request.command
+silent_begun state (a_request request) = row_silent (failure_of (wanting request.command) state) request.command state
 silent_begun state target_end = grind arith
 silent_begun state (a_composite at composite) = grind arith
 silent_begun state (a_raw at body) = refl
@@ -282,6 +299,30 @@ silent_test = record {
       silent_joined (finished lookup result state) rest (finished_is lookup result state).plain
       (silent_tail (Part.Looks lookup) rest is);
   gives_up = gone_silent;
+}
+
+abbrev pub followed : Bool → List Part → Bool
+followed gone parts = are_followed parts
+
+row_followed : (failure : Option Failure) (command : Command) (state : State)
+    → are_followed (parts_by failure (row_of command state)) ≡ true
+row_followed failure command state = grind arith
+
+followed_begun : (state : State) (item : Item) → are_followed (parts_of state item) ≡ true
+followed_begun state (a_request request) =
+    row_followed (failure_of (wanting request.command) state) request.command state
+followed_begun state target_end = grind arith
+followed_begun state (a_composite at composite) = grind arith
+followed_begun state (a_raw at body) = refl
+
+pub followed_test : IsTest followed
+followed_test = record {
+  none = λ gone. refl;
+  tail = λ gone part rest is. grind (arith, is);
+  begins = followed_begun;
+  unfolds = λ choice state hand rest is. grind (arith, is);
+  finds = λ lookup result state rest is. grind (arith, is);
+  gives_up = λ responds item. grind arith;
 }
 
 -- in a target that is gone nothing attaches the session

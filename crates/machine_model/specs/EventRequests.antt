@@ -1,6 +1,6 @@
 -- Event requests by the messages: which stand and which were refused, which is set or cleared next, and where all are
 -- settled (JDWP, EventRequest command set, Set and Clear).
-use Rattle.std.specs.Prelude.{ℕ, ◌≡◌, ◌==◌, ◌∷◌, ◌&&◌, Bool, true, false, not, cond, List, [], filter, fold}
+use Rattle.std.specs.Prelude.{ℕ, ◌≡◌, ◌==◌, ◌∷◌, ◌++◌, ◌&&◌, Bool, true, false, not, cond, List, [], filter, fold}
 use Rattle.std.specs.Prelude.{Option, None, Some}
 use Rattle.std.specs.List.{list_any}
 use Rattle.jdwp_commands.specs.declared.answer.Answer.TheVariants as answers
@@ -149,9 +149,21 @@ is_about_set wish (Message.sends command) = is_set_command wish command
 is_about_set wish (Message.answers command replied) = is_set_command wish command
 is_about_set wish _ = false
 
--- the Set of a wish was sent, once, and later the target replied to it, once
-abbrev pub IsReplied : List Message → Wish → Replied → Type 0
-IsReplied messages wish replied = filter (is_about_set wish) messages
+-- the message, where it is about the Set of a wish
+abbrev pub about_set : Wish → Message → List Message
+about_set wish message = cond (is_about_set wish message) (message ∷ []) []
+
+-- the messages about the Set of a wish since it is wished
+unfoldable pub set_since : (wish : Wish) {messages : List Message} {m : Machine} → Run messages m → List Message
+set_since wish Run.starts = []
+set_since wish (Run.goes {m} r is) =
+    cond (has_wish (wished (due false m).next.state.wishes.wanted) wish) (set_since wish r) []
+set_since wish (Run.moves {next} {message} r allows) =
+    cond (has_wish (wished next.state.wishes.wanted) wish) (set_since wish r ++ about_set wish message) []
+
+-- since a wish is wished its Set was sent, once, and later the target replied to it, once
+abbrev pub IsReplied : {messages : List Message} {m : Machine} → Run messages m → Wish → Replied → Type 0
+IsReplied r wish replied = set_since wish r
     ≡ Message.sends (an_effect (Set wish)) ∷ Message.answers (an_effect (Set wish)) replied ∷ []
 
 -- the event requests of a wish
@@ -166,11 +178,11 @@ pub data IsAsReplied (w : Wishes) (wish : Wish) : Replied → Type 0 where
   refused : {code : ℕ} → requests_of wish w.installed ≡ [] → has_wish w.refused wish ≡ true
       → IsAsReplied w wish (an_error code)
 
--- the wish was set, and stands as the target replied
-pub record StandsAsReplied (messages : List Message) (w : Wishes) (wish : Wish) : Type 0 where
+-- the wish was set since it is wished, and stands as the target replied
+pub record StandsAsReplied {messages : List Message} {m : Machine} (r : Run messages m) (wish : Wish) : Type 0 where
   pub reply : Replied
-  pub is_replied : IsReplied messages wish reply
-  pub says : IsAsReplied w wish reply
+  pub is_replied : IsReplied r wish reply
+  pub says : IsAsReplied m.state.wishes wish reply
 
 -- The laws ------------------------------------------------------------------------------------------------------------
 
@@ -189,8 +201,7 @@ abbrev pub Settles : Type 0
 Settles = (messages : List Message) (m : Machine) → Run messages m → IsAtRest m → m.state.phase ≡ Attached
     → IsSettled m
 
--- At rest, once the session is attached, each wish was set once, and stands as the target replied.
+-- At rest, once the session is attached, each wish was set once since it is wished, and stands as the target replied.
 abbrev pub AsReplied : Type 0
-AsReplied = (messages : List Message) (m : Machine) → Run messages m → IsAtRest m → m.state.phase ≡ Attached
-    → (wish : Wish) → has_wish (wished m.state.wishes.wanted) wish ≡ true
-    → StandsAsReplied messages m.state.wishes wish
+AsReplied = (messages : List Message) (m : Machine) (r : Run messages m) → IsAtRest m → m.state.phase ≡ Attached
+    → (wish : Wish) → has_wish (wished m.state.wishes.wanted) wish ≡ true → StandsAsReplied r wish

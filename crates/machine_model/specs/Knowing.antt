@@ -1,9 +1,9 @@
 -- What is known is what the messages say.
 use Rattle.std.specs.Prelude.{ℕ, ◌≡◌, ◌≤◌, ◌<◌, ◌+◌, ◌==◌, ◌∷◌, ◌++◌, Bool, true, false, not, cond, List, [], length}
-use Rattle.std.specs.Prelude.{map, Option, None, Some}
+use Rattle.std.specs.Prelude.{map, Option, None, Some, ◌||◌}
 use Rattle.std.specs.List.{flat_map}
 use Rattle.class_tables.specs.Facts.{Fact, Known, has_fields, has_lines, has_methods, has_source, has_variables}
-use Rattle.class_tables.specs.Facts.{is_below, nothing, with_fact}
+use Rattle.class_tables.specs.Facts.{is_below, is_loaded, nothing, with_fact}
 use Rattle.dap_messages.specs.declared.told.Event.{Event as EventTold}
 use Rattle.dap_messages.specs.declared.told.Event.TheVariants as events
 use Rattle.dap_messages.specs.declared.told.Outcome.{Outcome as OutcomeTold}
@@ -13,13 +13,17 @@ use Rattle.dap_messages.specs.declared.told.Shape.TheVariants as shapes
 use Rattle.dap_messages.specs.declared.told.Thread.{Thread}
 use Rattle.jdwp_commands.specs.declared.answer.Answer.TheVariants as answers
 use Rattle.jdwp_commands.specs.declared.question.Question.TheVariants as questions
+use Rattle.jdwp_commands.specs.declared.listed.LoadedClass.{LoadedClass}
+use Rattle.machine_model.specs.Classes.{classes_in, has_prepared}
 use Rattle.machine_model.specs.Facts.{above_in, fields_in, lines_in, methods_in, source_in, variables_in}
-use Rattle.machine_model.specs.Names.{Answer, Attached, Command, Disconnect, Dispose, Does, Exit, Fresh, Gone}
-use Rattle.machine_model.specs.Names.{Phase, Question, Replied, TargetCommand, ThreadId, Told, a_question, a_response}
-use Rattle.machine_model.specs.Names.{an_answer, an_effect, an_error, an_event}
+use Rattle.machine_model.specs.Names.{Answer, Attached, Command, Disconnect, Dispose, Does, Exit, Fresh, Gone, Phase}
+use Rattle.machine_model.specs.Names.{Question, Replied, TargetCommand, ThreadId, Told, a_question, a_response}
+use Rattle.machine_model.specs.Names.{an_answer, an_effect, an_error, an_event, Clear, Effect, Set}
 use Rattle.machine_model.specs.Plans.{answer_in}
 use Rattle.machine_model.specs.Runs.{Message, Run}
 use Rattle.machine_model.specs.State.{Machine, SizesRead, is_gone}
+use Rattle.wish_sets.specs.declared.wish.Wish.{Wish}
+use Rattle.wish_sets.specs.declared.wish.Wish.TheVariants as wishes
 
 -- what anybody knows who reads the messages
 pub record View : Type 0 where
@@ -28,6 +32,7 @@ pub record View : Type 0 where
   pub greeting_heard : Bool
   pub sizes : Option SizesRead
   pub classes : Known
+  pub unlisted : Bool
   pub terminated : Bool
   pub closing : Bool
 
@@ -38,6 +43,7 @@ nothing_said = record {
   greeting_heard = false;
   sizes = None;
   classes = nothing;
+  unlisted = false;
   terminated = false;
   closing = false;
 }
@@ -62,25 +68,53 @@ sizes_said (an_answer (answers.IdSizes field method object class frame)) sizes =
     Some (record { field = field; method = method; object = object; class = class; frame = frame })
 sizes_said _ sizes = sizes
 
--- the fact of a class that is replied (JDWP, ReferenceType, ClassType and Method command sets)
-abbrev pub fact_said : Question → Option Answer → Option Fact
-fact_said (questions.SourceFile class) heard = Some (has_source class (source_in heard))
-fact_said (questions.Methods class) heard = Some (has_methods class (methods_in heard))
-fact_said (questions.Fields class) heard = Some (has_fields class (fields_in heard))
-fact_said (questions.Superclass class) heard = Some (is_below class (above_in heard))
-fact_said (questions.LineTable class method) heard = Some (has_lines class method (lines_in heard))
-fact_said (questions.VariableTable class method) heard = Some (has_variables class method (variables_in heard))
-fact_said _ heard = None
+-- a class that is listed (JDWP, VirtualMachine command set, AllClasses; JDWP, Constants, ClassStatus)
+abbrev pub class_said : LoadedClass → Fact
+class_said class = is_loaded class.class class.tag class.signature (has_prepared class.status)
 
-abbrev pub with_said_fact : Option Fact → Known → Known
-with_said_fact None known = known
-with_said_fact (Some fact) known = with_fact fact known
+-- the facts of classes that are replied (JDWP, VirtualMachine, ReferenceType, ClassType and Method command sets)
+abbrev pub facts_said : Question → Option Answer → List Fact
+facts_said questions.AllClasses heard = map class_said (classes_in heard)
+facts_said (questions.SourceFile class) heard = has_source class (source_in heard) ∷ []
+facts_said (questions.Methods class) heard = has_methods class (methods_in heard) ∷ []
+facts_said (questions.Fields class) heard = has_fields class (fields_in heard) ∷ []
+facts_said (questions.Superclass class) heard = is_below class (above_in heard) ∷ []
+facts_said (questions.LineTable class method) heard = has_lines class method (lines_in heard) ∷ []
+facts_said (questions.VariableTable class method) heard = has_variables class method (variables_in heard) ∷ []
+facts_said _ heard = []
+
+abbrev pub with_facts : List Fact → Known → Known
+with_facts [] known = known
+with_facts (fact ∷ facts) known = with_facts facts (with_fact fact known)
+
+-- all classes were listed
+abbrev pub lists_all : Question → Bool
+lists_all questions.AllClasses = true
+lists_all _ = false
+
+-- a watch has an event request now (JDWP, EventRequest command set, Set, ClassMatch)
+abbrev pub is_watch : Wish → Bool
+is_watch (wishes.Watch path) = true
+is_watch _ = false
+
+abbrev pub has_request : Replied → Bool
+has_request (an_answer (answers.Set request)) = true
+has_request _ = false
+
+-- a watch was set since all classes were listed
+abbrev pub watch_set : Effect → Replied → Bool → Bool
+watch_set (Set wish) replied unlisted = cond (is_watch wish) (has_request replied || unlisted) unlisted
+watch_set (Clear wish request) replied unlisted = unlisted
+watch_set (Does deed) replied unlisted = unlisted
 
 abbrev pub learnt_view : TargetCommand → Replied → View → View
 learnt_view (a_question questions.IdSizes) replied view = record view { sizes = sizes_said replied view.sizes }
-learnt_view (a_question question) replied view =
-    record view { classes = with_said_fact (fact_said question (answer_in replied)) view.classes }
-learnt_view (an_effect effect) replied view = view
+learnt_view (a_question question) replied view = record view {
+  classes = with_facts (facts_said question (answer_in replied)) view.classes;
+  unlisted = cond (lists_all question) false view.unlisted;
+}
+learnt_view (an_effect effect) replied view =
+    record view { unlisted = watch_set effect replied view.unlisted }
 
 -- until the target is gone, a reply tells something, or that it is gone
 abbrev pub replied_view : Bool → Bool → TargetCommand → Replied → View → View
@@ -150,6 +184,7 @@ view_of m = record {
   greeting_heard = m.state.greeting_heard;
   sizes = m.state.sizes;
   classes = m.state.classes;
+  unlisted = m.state.unlisted;
   terminated = m.state.terminated;
   closing = m.closing;
 }
@@ -186,6 +221,7 @@ thread_number thread = thread.id
 abbrev pub numbers_in_shape : Shape → List ℕ
 numbers_in_shape shapes.Nothing = []
 numbers_in_shape shapes.Capabilities = []
+numbers_in_shape (shapes.Breakpoints breakpoints) = []
 numbers_in_shape (shapes.Threads threads) = map thread_number threads
 
 abbrev pub numbers_in_outcome : OutcomeTold → List ℕ

@@ -1,4 +1,7 @@
 pub mod Asking
+pub mod Binding
+pub mod Breakpoints
+pub mod Classes
 pub mod Due
 pub mod EventRequests
 pub mod Events
@@ -6,6 +9,7 @@ pub mod Facts
 pub mod Ids
 pub mod Keys
 pub mod Knowing
+pub mod Leaving
 pub mod Lookups
 pub mod Names
 pub mod Noting

@@ -1,12 +1,15 @@
 -- What each look-up asks of the target, and what its result becomes.
-use Rattle.std.specs.Prelude.{ℕ, ◌==◌, ◌∷◌, ◌++◌, Bool, true, cond, List, [], Option, Some}
+use Rattle.std.specs.Prelude.{ℕ, ◌==◌, ◌∷◌, Bool, true, false, cond, List, [], Option, Some}
 use Rattle.class_tables.specs.Lookups.{found_in}
 use Rattle.dap_messages.specs.Telling.{target_error, unknown_thread}
 use Rattle.jdwp_commands.specs.declared.answer.Answer.TheVariants as answers
 use Rattle.jdwp_commands.specs.declared.question.Question.TheVariants as questions
-use Rattle.machine_model.specs.Names.{Answer, Body, Failed, Failure, Finding, Lookup, NamedThread, Outcome, Part}
-use Rattle.machine_model.specs.Names.{Success, ThreadId, Want, all_threads, thread_list, threads_found}
-use Rattle.machine_model.specs.Plans.{Need, Plan, Result, Sight, asking, chained, each, gave, made_with, need, refused}
+use Rattle.machine_model.specs.Classes.{classes_plan}
+use Rattle.machine_model.specs.Names.{Answer, Classes, ClassId, Failed, Failure, Finding, Lookup, NamedThread, Nothing}
+use Rattle.machine_model.specs.Names.{Outcome, Part, Success, ThreadId, Want, all_threads, class_facts, classes_found}
+use Rattle.machine_model.specs.Names.{thread_list, threads_found}
+use Rattle.machine_model.specs.Plans.{Need, Plan, Result, Sight, asking, chained, each, gave, joined, made_with}
+use Rattle.machine_model.specs.Plans.{need, refused}
 use Rattle.machine_model.specs.State.{Hand, State}
 
 -- what an item sees: the facts that were learnt, and what was asked for it
@@ -24,10 +27,6 @@ named_by thread _ = []
 abbrev pub name_plan : ThreadId → Plan (List NamedThread)
 name_plan thread = asking (named_by thread) (Want.May (questions.ThreadName thread))
 
-abbrev pub joined : {A : Type 0} → List (List A) → List A
-joined [] = []
-joined (first ∷ others) = first ++ joined others
-
 abbrev pub names_plan : List ThreadId → Plan Finding
 names_plan threads = made_with (λ named. threads_found (joined named)) (each name_plan threads)
 
@@ -43,6 +42,8 @@ threads_plan = chained (asking threads_in (Want.Must questions.AllThreads)) name
 -- the plan of a look-up
 abbrev pub plan : Lookup → State → Plan Finding
 plan all_threads state = threads_plan
+plan class_facts state =
+    made_with classes_found (classes_plan state.unlisted state.wishes.wanted (found_in state.classes))
 
 -- what a look-up comes to by what was replied so far
 abbrev pub found_for : Lookup → State → Hand → Need Finding
@@ -52,17 +53,27 @@ found_for lookup state hand = need (sight_of state hand) (plan lookup state)
 abbrev pub refusal : ℕ → Failure
 refusal code = cond (code == 10) unknown_thread (target_error code)
 
-abbrev pub body_of : Finding → Body
-body_of (threads_found named) = thread_list named
+-- the response that shows threads
+abbrev pub threads_shown : Finding → Outcome
+threads_shown (threads_found named) = Success (thread_list named)
+threads_shown (classes_found classes) = Success Nothing
 
-abbrev pub outcome_of : Result Finding → Outcome
-outcome_of (gave finding) = Success (body_of finding)
-outcome_of (refused code) = Failed (refusal code)
+abbrev pub threads_outcome : Result Finding → Outcome
+threads_outcome (gave finding) = threads_shown finding
+threads_outcome (refused code) = Failed (refusal code)
+
+-- the classes that were found
+abbrev pub classes_of : Result Finding → List ClassId
+classes_of (gave (threads_found named)) = []
+classes_of (gave (classes_found classes)) = classes
+classes_of (refused code) = []
 
 -- the parts that a result becomes
 abbrev pub finished : Lookup → Result Finding → State → List Part
-finished all_threads result state = Part.Responds (outcome_of result) ∷ []
+finished all_threads result state = Part.Responds (threads_outcome result) ∷ []
+finished class_facts result state = Part.Notes (Classes (classes_of result)) ∷ []
 
 -- whether they bring the response
 abbrev pub lookup_responds : Lookup → Bool
 lookup_responds all_threads = true
+lookup_responds class_facts = false

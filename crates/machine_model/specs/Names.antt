@@ -1,6 +1,7 @@
 -- The words of the machine and of what it speaks to, under the names that the definitions use.
 pub use Rattle.dap_messages.specs.declared.requests.Command.{Command}
-pub use Rattle.dap_messages.specs.declared.requests.Command.TheVariants.{Initialize, Attach, Threads, Disconnect}
+pub use Rattle.dap_messages.specs.declared.requests.Command.TheVariants.{Initialize, Attach, ConfigurationDone}
+pub use Rattle.dap_messages.specs.declared.requests.Command.TheVariants.{SetBreakpoints, Threads, Disconnect}
 pub use Rattle.dap_messages.specs.declared.requests.Command.TheVariants.{Unsupported, BadArguments}
 pub use Rattle.dap_messages.specs.declared.requests.Request.{Request}
 pub use Rattle.dap_messages.specs.declared.told.Failure.{Failure}
@@ -11,6 +12,7 @@ pub use Rattle.jdwp_commands.specs.declared.asked.Replied.{Replied}
 pub use Rattle.jdwp_commands.specs.declared.asked.Replied.TheVariants.{Answer as an_answer, Error as an_error}
 pub use Rattle.jdwp_commands.specs.declared.question.Question.{Question}
 pub use Rattle.jdwp_events.specs.declared.composite.Composite.{Composite}
+pub use Rattle.jdwp_values.specs.declared.id.ClassId.{ClassId}
 pub use Rattle.jdwp_values.specs.declared.id.ThreadId.{ThreadId}
 pub use Rattle.machine_model.specs.declared.acts.Act.{Act}
 pub use Rattle.machine_model.specs.declared.acts.Doing.{Doing}
@@ -27,7 +29,9 @@ pub use Rattle.machine_model.specs.declared.items.Phase.{Phase}
 pub use Rattle.machine_model.specs.declared.items.Phase.TheVariants.{Fresh, Attached, Gone}
 pub use Rattle.machine_model.specs.declared.options.ClientOptions.{ClientOptions}
 pub use Rattle.machine_model.specs.declared.parts.Body.{Body}
-pub use Rattle.machine_model.specs.declared.parts.Body.TheVariants.{Nothing, Capabilities, Threads as thread_list}
+pub use Rattle.machine_model.specs.declared.parts.Body.TheVariants.{Nothing, Capabilities}
+pub use Rattle.machine_model.specs.declared.parts.Body.TheVariants.{Breakpoints as breakpoint_list}
+pub use Rattle.machine_model.specs.declared.parts.Body.TheVariants.{Threads as thread_list}
 pub use Rattle.machine_model.specs.declared.parts.Choice.{Choice}
 pub use Rattle.machine_model.specs.declared.parts.Choice.TheVariants.{Leaves}
 pub use Rattle.machine_model.specs.declared.parts.Deed.{Deed}
@@ -36,15 +40,18 @@ pub use Rattle.machine_model.specs.declared.parts.Event.{Event}
 pub use Rattle.machine_model.specs.declared.parts.Event.TheVariants.{Initialized, Terminated}
 pub use Rattle.machine_model.specs.declared.parts.Finding.{Finding}
 pub use Rattle.machine_model.specs.declared.parts.Finding.TheVariants.{Threads as threads_found}
+pub use Rattle.machine_model.specs.declared.parts.Finding.TheVariants.{Classes as classes_found}
 pub use Rattle.machine_model.specs.declared.parts.Finish.{Finish}
 pub use Rattle.machine_model.specs.declared.parts.Finish.TheVariants.{Done}
 pub use Rattle.machine_model.specs.declared.parts.Guard.{Guard}
 pub use Rattle.machine_model.specs.declared.parts.Guard.TheVariants.{Handshake, IdSizes}
+pub use Rattle.machine_model.specs.declared.parts.ListedBreakpoint.{ListedBreakpoint}
 pub use Rattle.machine_model.specs.declared.parts.Lookup.{Lookup}
 pub use Rattle.machine_model.specs.declared.parts.Lookup.TheVariants.{Threads as all_threads}
+pub use Rattle.machine_model.specs.declared.parts.Lookup.TheVariants.{Classes as class_facts}
 pub use Rattle.machine_model.specs.declared.parts.NamedThread.{NamedThread}
 pub use Rattle.machine_model.specs.declared.parts.Note.{Note}
-pub use Rattle.machine_model.specs.declared.parts.Note.TheVariants.{Options, Roots}
+pub use Rattle.machine_model.specs.declared.parts.Note.TheVariants.{Options, Roots, Lines, Classes}
 pub use Rattle.machine_model.specs.declared.parts.Outcome.{Outcome}
 pub use Rattle.machine_model.specs.declared.parts.Outcome.TheVariants.{Success, Failure as Failed}
 pub use Rattle.machine_model.specs.declared.parts.Part.{Part}

@@ -1,6 +1,7 @@
 -- How the client is served is what its last `initialize` asked for.
 use Rattle.std.specs.Prelude.{◌≡◌, ◌∷◌, ◌++◌, false, cond, List, [], Option, None, Some}
-use Rattle.machine_model.specs.Names.{ClientOptions, Command, Initialize, Note, Options, Part, Request, Roots}
+use Rattle.machine_model.specs.Names.{Classes, ClientOptions, Command, Initialize, Lines, Note, Options, Part}
+use Rattle.machine_model.specs.Names.{Request, Roots}
 use Rattle.machine_model.specs.Names.{a_response}
 use Rattle.machine_model.specs.Rest.{IsAnswer, request_by, response_by, without_response}
 use Rattle.dap_messages.specs.declared.told.Response.{Response}
@@ -34,6 +35,8 @@ pub data AreOptions : List Message → List Request → ClientOptions → Type 0
 abbrev pub note_options : Note → ClientOptions → ClientOptions
 note_options (Options noted) options = noted
 note_options (Roots roots) options = options
+note_options (Lines key entries) options = options
+note_options (Classes classes) options = options
 
 abbrev pub part_options : Part → ClientOptions → ClientOptions
 part_options (Part.Notes note) options = note_options note options

@@ -4,11 +4,11 @@ use Rattle.std.specs.Prelude.{Option, None, Some}
 use Rattle.jdwp_commands.specs.declared.answer.Answer.TheVariants as answers
 use Rattle.jdwp_commands.specs.declared.question.Question.TheVariants as questions
 use Rattle.machine_model.specs.Facts.{fact_known, fact_of}
-use Rattle.machine_model.specs.Lookups.{found_for, joined, named_by, plan, sight_of}
+use Rattle.machine_model.specs.Lookups.{found_for, named_by, plan, sight_of}
 use Rattle.machine_model.specs.Names.{Answer, Finding, Lookup, Question, Replied, Sent, ThreadId, Want, all_threads}
 use Rattle.machine_model.specs.Names.{an_answer, an_error, threads_found}
 use Rattle.machine_model.specs.Plans.{Fault, Need, Plan, Sight, answer_in, asks_for, fails, gives, has, lacks}
-use Rattle.machine_model.specs.Plans.{of_world, pairs, wants}
+use Rattle.machine_model.specs.Plans.{joined, of_world, pairs, wants}
 use Rattle.machine_model.specs.State.{Hand, State}
 
 -- How far a plan has come ---------------------------------------------------------------------------------------------

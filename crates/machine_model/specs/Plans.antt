@@ -39,6 +39,11 @@ unfoldable pub each : {A B : Type 0} → (A → Plan B) → List A → Plan (Lis
 each f [] = gives []
 each f (a ∷ others) = pairs (f a) (each f others) (λ two. gives (two.0 ∷ two.1))
 
+-- lists behind one another
+abbrev pub joined : {A : Type 0} → List (List A) → List A
+joined [] = []
+joined (first ∷ others) = first ++ joined others
+
 -- what is read off from one answer
 abbrev pub asking : {A : Type 0} → (Option Answer → A) → Want → Plan A
 asking read want = wants want (λ heard. gives (read heard))

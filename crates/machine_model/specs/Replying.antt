@@ -1,6 +1,6 @@
 -- The target's replies: which are taken, what they tell, and how it ends.
-use Rattle.std.specs.Prelude.{ℕ, ◌≡◌, ◌<◌, ◌==◌, ◌∷◌, ◌++◌, ◌||◌, Bool, true, false, not, cond, List, [], Option, None}
-use Rattle.std.specs.Prelude.{Some, option_map, pos}
+use Rattle.std.specs.Prelude.{ℕ, ◌≡◌, ◌<◌, ◌==◌, ◌∷◌, ◌++◌, ◌||◌, Bool, true, false, not, cond, List, []}
+use Rattle.std.specs.Prelude.{Option, None, Some, option_map, fold, pos}
 use Rattle.std.specs.List.{flat_map}
 use Rattle.class_tables.specs.Facts.{Known, has_fields, has_lines, has_methods, has_source, has_variables, is_below}
 use Rattle.class_tables.specs.Facts.{with_fact}
@@ -13,14 +13,17 @@ use Rattle.jdwp_commands.specs.declared.effect.Effect.TheVariants as effects
 use Rattle.jdwp_commands.specs.declared.question.Question.TheVariants as questions
 use Rattle.jdwp_values.specs.Sizes.{is_no_size}
 use Rattle.jdwp_values.specs.declared.sizes.IdSizes.{IdSizes}
+use Rattle.machine_model.specs.Classes.{classes_in, with_listed}
 use Rattle.machine_model.specs.Facts.{above_in, fields_in, lines_in, methods_in, source_in, variables_in}
 use Rattle.machine_model.specs.Names.{Answer, Clear, Deed, Dispose, Does, Doing, Effect, Exit, Gone, Phase, Question}
 use Rattle.machine_model.specs.Names.{Replied, Sent, Set, TargetCommand, Want, a_question, an_answer, an_effect}
 use Rattle.machine_model.specs.Names.{an_error, target_end}
 use Rattle.machine_model.specs.Plans.{answer_in, asks_for, question_of}
-use Rattle.machine_model.specs.Requests.{clear_of, set_of, wishes_after}
+use Rattle.machine_model.specs.Requests.{clear_of, request_in, set_of, wishes_after}
 use Rattle.machine_model.specs.Rows.{gone_parts, has_response}
 use Rattle.machine_model.specs.State.{Hand, Machine, SizesRead, State, is_gone, is_none}
+use Rattle.wish_sets.specs.declared.wish.Wish.{Wish}
+use Rattle.wish_sets.specs.declared.wish.Wish.TheVariants as wish
 
 -- Commands as they are sent (JDWP, Detailed Command Information) ------------------------------------------------------
 
@@ -99,6 +102,7 @@ sizes_in _ = None
 
 -- the facts of classes that an answer tells; where the target refuses it, the fact is absent
 abbrev pub learnt : Question → Option Answer → Known → Known
+learnt questions.AllClasses heard known = fold with_listed known (classes_in heard)
 learnt (questions.SourceFile class) heard known = with_fact (has_source class (source_in heard)) known
 learnt (questions.Methods class) heard known = with_fact (has_methods class (methods_in heard)) known
 learnt (questions.Fields class) heard known = with_fact (has_fields class (fields_in heard)) known
@@ -108,14 +112,36 @@ learnt (questions.VariableTable class method) heard known =
     with_fact (has_variables class method (variables_in heard)) known
 learnt _ heard known = known
 
+-- once they are listed, all classes aren't to be listed any more
+abbrev pub still_unlisted : Question → Bool → Bool
+still_unlisted questions.AllClasses unlisted = false
+still_unlisted _ unlisted = unlisted
+
 -- what is known once a question is replied to
 abbrev pub told_by : Question → Replied → State → State
 told_by questions.IdSizes replied state = record state { sizes = sizes_in replied }
-told_by question replied state = record state { classes = learnt question (answer_in replied) state.classes }
+told_by question replied state = record state {
+  classes = learnt question (answer_in replied) state.classes;
+  unlisted = still_unlisted question state.unlisted;
+}
+
+-- a watch is set (JDWP, EventRequest command set, Set, ClassMatch)
+abbrev pub watches : Wish → Option ℕ → Bool
+watches (wish.Watch path) (Some request) = true
+watches _ request = false
+
+-- all classes are to be listed once a watch is set, since a class may have been prepared before it
+abbrev pub unlisted_by : Effect → Replied → Bool → Bool
+unlisted_by (Set wish) replied unlisted = watches wish (request_in replied) || unlisted
+unlisted_by (Clear wish request) replied unlisted = unlisted
+unlisted_by (Does deed) replied unlisted = unlisted
 
 -- what is known once an effect is replied to
 abbrev pub done_by : Effect → Replied → State → State
-done_by effect replied state = record state { wishes = wishes_after effect replied state.wishes }
+done_by effect replied state = record state {
+  wishes = wishes_after effect replied state.wishes;
+  unlisted = unlisted_by effect replied state.unlisted;
+}
 
 abbrev pub replied_to : TargetCommand → Replied → State → State
 replied_to (a_question question) replied state = told_by question replied state

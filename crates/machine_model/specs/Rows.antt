@@ -1,14 +1,19 @@
 -- What each item does, part by part (DAP specification, Requests; JDWP, Event command set, Composite).
-use Rattle.std.specs.Prelude.{◌∷◌, ◌||◌, Bool, true, false, List, [], Option, None, Some}
+use Rattle.std.specs.Prelude.{ℕ, ◌+◌, ◌∷◌, ◌||◌, Bool, true, false, List, [], length, map, Option, None, Some}
+use Rattle.class_tables.specs.Lookups.{found_in}
 use Rattle.dap_messages.specs.Telling.{already_attached, bad_arguments, not_attached, target_gone, unsupported}
 use Rattle.dap_messages.specs.declared.requests.InitializeArguments.{InitializeArguments}
+use Rattle.machine_model.specs.Breakpoints.{entry_of, key_of, lines_wished, numbered_from}
 use Rattle.machine_model.specs.Lookups.{lookup_responds}
-use Rattle.machine_model.specs.Names.{Attach, Attached, BadArguments, Capabilities, Choice, ClientOptions, Command}
-use Rattle.machine_model.specs.Names.{Deed, Disconnect, Dispose, Done, Exit, Failed, Failure, Fresh, Gone, Handshake}
-use Rattle.machine_model.specs.Names.{IdSizes, Initialize, Initialized, Item, Leaves, Note, Nothing, Options, Part}
-use Rattle.machine_model.specs.Names.{Phase, Roots, Success, Terminated, Threads, Unsupported, a_composite, a_raw}
-use Rattle.machine_model.specs.Names.{a_request, all_threads, target_end}
-use Rattle.machine_model.specs.State.{Hand, State}
+use Rattle.machine_model.specs.Names.{Attach, Attached, BadArguments, Capabilities, Choice, Classes, ClientOptions}
+use Rattle.machine_model.specs.Names.{Command, ConfigurationDone, Deed, Disconnect, Dispose, Done, Exit, Failed}
+use Rattle.machine_model.specs.Names.{Failure, Fresh, Gone, Handshake, IdSizes, Initialize, Initialized, Item, Leaves}
+use Rattle.machine_model.specs.Names.{Lines, ListedBreakpoint, Note, Nothing, Options, Part, Phase, Roots}
+use Rattle.machine_model.specs.Names.{SetBreakpoints, Success, Terminated, Threads, Unsupported, a_composite, a_raw}
+use Rattle.machine_model.specs.Names.{a_request, all_threads, breakpoint_list, class_facts, target_end}
+use Rattle.machine_model.specs.State.{Hand, State, is_some}
+use Rattle.wish_sets.specs.Wanted.{with_known}
+use Rattle.wish_sets.specs.Wishes.{rewished}
 
 -- Requests ------------------------------------------------------------------------------------------------------------
 
@@ -20,17 +25,29 @@ options_of arguments = record {
   shows_types = arguments.supports_variable_type;
 }
 
+-- Breakpoints are written down, and what isn't wished any more is cleared; classes are asked for what has to be known of
+-- them; and what is wished then is set.
+abbrev pub breakpoint_parts : Bool → Option (List ℕ) → List ListedBreakpoint → List Part
+breakpoint_parts from_one key listed =
+    Part.Notes (Lines key (map (entry_of from_one) listed)) ∷ Part.Updates ∷ Part.Looks class_facts ∷ Part.Updates
+    ∷ Part.Responds (Success (breakpoint_list (is_some key) listed)) ∷ []
+
 -- the table of requests
-abbrev pub row_of : Command → List Part
-row_of (Initialize arguments) = Part.Responds (Success Capabilities) ∷ Part.Notes (Options (options_of arguments)) ∷ []
-row_of (Attach arguments) =
+abbrev pub row_of : Command → State → List Part
+row_of (Initialize arguments) state =
+    Part.Responds (Success Capabilities) ∷ Part.Notes (Options (options_of arguments)) ∷ []
+row_of (Attach arguments) state =
     Part.Notes (Roots arguments.source_roots) ∷ Part.Awaits Handshake ∷ Part.Awaits IdSizes ∷ Part.Updates
     ∷ Part.Responds (Success Nothing) ∷ Part.Tells Initialized ∷ []
-row_of Threads = Part.Looks all_threads ∷ []
-row_of (Disconnect arguments) =
+row_of ConfigurationDone state = Part.Responds (Success Nothing) ∷ []
+row_of (SetBreakpoints arguments) state =
+    breakpoint_parts state.options.lines_from_one (key_of state.roots arguments.path)
+    (numbered_from state.next_entry arguments.breakpoints)
+row_of Threads state = Part.Looks all_threads ∷ []
+row_of (Disconnect arguments) state =
     Part.Unfolds (Leaves arguments.terminate_debuggee) ∷ Part.Responds (Success Nothing) ∷ Part.Ends Done ∷ []
-row_of Unsupported = Part.Responds (Failed unsupported) ∷ []
-row_of (BadArguments name) = Part.Responds (Failed (bad_arguments name)) ∷ []
+row_of Unsupported state = Part.Responds (Failed unsupported) ∷ []
+row_of (BadArguments name) state = Part.Responds (Failed (bad_arguments name)) ∷ []
 
 -- what a request wants of the session before it does anything
 pub data Wanting : Type 0 where
@@ -42,6 +59,8 @@ pub data Wanting : Type 0 where
 abbrev pub wanting : Command → Wanting
 wanting (Initialize arguments) = wants_nothing
 wanting (Attach arguments) = wants_no_target
+wanting ConfigurationDone = wants_target
+wanting (SetBreakpoints arguments) = wants_target
 wanting Threads = wants_target
 wanting (Disconnect arguments) = wants_nothing
 wanting Unsupported = wants_nothing
@@ -69,7 +88,7 @@ parts_by (Some failure) row = Part.Responds (Failed failure) ∷ []
 parts_by None row = row
 
 abbrev pub request_parts : Command → State → List Part
-request_parts command state = parts_by (failure_of (wanting command) state) (row_of command)
+request_parts command state = parts_by (failure_of (wanting command) state) (row_of command state)
 
 -- Choices -------------------------------------------------------------------------------------------------------------
 
@@ -98,6 +117,13 @@ choice_responds (Leaves exits) = false
 abbrev pub noted : Note → State → State
 noted (Options options) state = record state { options = options }
 noted (Roots roots) state = record state { roots = roots }
+noted (Lines key entries) state = record state {
+  next_entry = state.next_entry + length entries;
+  wishes = lines_wished key entries state.wishes;
+}
+noted (Classes classes) state = record state {
+  wishes = rewished (with_known (found_in state.classes) classes state.wishes.wanted) state.wishes;
+}
 
 -- Items ---------------------------------------------------------------------------------------------------------------
 

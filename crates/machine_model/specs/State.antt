@@ -14,9 +14,10 @@ pub record SizesRead : Type 0 where
   pub frame : ℕ
 
 -- What is known: how the client wants to be served; where the session stands with its target, and which sides of the
--- handshake went out and came; the sizes of ids; the folders that sources stand in; which event requests are wished
--- and which stand; the facts of classes; the threads that were told, in the order of their numbers; and whether the
--- client was told that nothing more comes of the target.
+-- handshake went out and came; the sizes of ids; the folders that sources stand in; the id that the next breakpoint
+-- gets; which event requests are wished and which stand; whether a watch was set since all classes were listed; the
+-- facts of classes; the threads that were told, in the order of their numbers; and whether the client was told that
+-- nothing more comes of the target.
 pub record State : Type 0 where
   pub options : ClientOptions
   pub phase : Phase
@@ -24,7 +25,9 @@ pub record State : Type 0 where
   pub greeting_heard : Bool
   pub sizes : Option SizesRead
   pub roots : List (List ℕ)
+  pub next_entry : ℕ
   pub wishes : Wishes
+  pub unlisted : Bool
   pub classes : Known
   pub threads : List ThreadId
   pub terminated : Bool
@@ -61,7 +64,9 @@ nothing_known = record {
   greeting_heard = false;
   sizes = None;
   roots = [];
+  next_entry = 1;
   wishes = new_wishes;
+  unlisted = false;
   classes = nothing;
   threads = [];
   terminated = false;

@@ -8,6 +8,8 @@ use Rattle.dap_messages.specs.declared.told.Shape.{Shape}
 use Rattle.dap_messages.specs.declared.told.Shape.TheVariants as shapes
 use Rattle.dap_messages.specs.declared.told.Thread.{Thread}
 use Rattle.jdwp_values.specs.Lossy.{lossy}
+use Rattle.machine_model.specs.Breakpoints.{breakpoint_told}
+use Rattle.machine_model.specs.Names.{breakpoint_list}
 use Rattle.machine_model.specs.Names.{Attached, Body, Capabilities, Event, Failed, Fresh, Gone, Initialized}
 use Rattle.machine_model.specs.Names.{NamedThread, Nothing, Outcome, Phase, Request, Success, Terminated, ThreadId}
 use Rattle.machine_model.specs.Names.{Told, a_response, thread_list}
@@ -39,6 +41,7 @@ number_among (first ∷ threads) thread = cond (first.0 == thread.0) 1 (number_a
 abbrev pub numbered : Body → State → State
 numbered Nothing state = state
 numbered Capabilities state = state
+numbered (breakpoint_list rooted listed) state = state
 numbered (thread_list named) state = record state { threads = with_threads state.threads named }
 
 -- a thread as it is told, its name as text (DAP specification, Types, Thread)
@@ -49,6 +52,8 @@ thread_told threads named = record { id = number_among threads named.thread; nam
 abbrev pub body_told : Body → State → Shape
 body_told Nothing state = shapes.Nothing
 body_told Capabilities state = shapes.Capabilities
+body_told (breakpoint_list rooted listed) state =
+    shapes.Breakpoints (map (breakpoint_told rooted state.wishes) listed)
 body_told (thread_list named) state = shapes.Threads (map (thread_told state.threads) named)
 
 abbrev pub numbered_by : Outcome → State → State

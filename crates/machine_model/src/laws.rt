@@ -1,10 +1,12 @@
 //! What holds of every run of the machine, and of every look-up. Each law is the contract of a function that does
 //! nothing.
 
+ghost use Rattle.machine_model.specs.Binding.{Binds};
 ghost use Rattle.machine_model.specs.EventRequests.{AsReplied, Once, Settles, Stands};
 ghost use Rattle.machine_model.specs.Events.{Events};
 ghost use Rattle.machine_model.specs.Ids.{Ids};
 ghost use Rattle.machine_model.specs.Knowing.{Knows};
+ghost use Rattle.machine_model.specs.Leaving.{Disconnects, Farewells, Greetings};
 ghost use Rattle.machine_model.specs.Noting.{Notes};
 ghost use Rattle.machine_model.specs.Outcomes.{Outcomes};
 ghost use Rattle.machine_model.specs.Pending.{Pends, Windows};
@@ -65,6 +67,14 @@ pub fn event_requests_are_as_replied()
     ensures { AsReplied }
 {}
 
+/// At rest, once the session is attached, all classes were listed since the last watch was set. Nothing more has to be
+/// known of those that are prepared in a watched package, and each whose source is listed was made known to the event
+/// requests with all its methods and lines (DAP specification, SetBreakpoints request; JDWP, VirtualMachine command set,
+/// AllClasses; JDWP, ReferenceType command set, SourceFile and Methods; JDWP, Method command set, LineTable).
+pub fn breakpoints_are_bound_by_all_that_is_known()
+    ensures { Binds }
+{}
+
 /// What is pending was sent and has no reply, also what an item that was given up left; each reply is to a command
 /// that is pending then. No question goes beside a command that changes the target, and such a command goes alone. The
 /// handshake goes out once, commands only behind both sides of it, and nothing to a target that is gone (JDWP, JDWP
@@ -91,9 +101,9 @@ pub fn all_that_is_lacking_was_asked()
 {}
 
 /// What is known is what the messages say: where the session stands with its target, the two sides of the handshake,
-/// the sizes of ids, the facts of classes, and whether the client was told that the target is gone. `initialized` is
-/// told once, before the target is gone; `terminated` once, behind it. Threads are numbered 1, 2, 3 as they are first
-/// told.
+/// the sizes of ids, the facts of classes, whether a watch was set since all classes were listed, and whether the client
+/// was told that the target is gone. `initialized` is told once, before the target is gone; `terminated` once, behind it.
+/// Threads are numbered 1, 2, 3 as they are first told.
 pub fn what_is_known_is_what_messages_say()
     ensures { Knows }
 {}
@@ -133,4 +143,25 @@ pub fn look_ups_lack_what_they_have_come_to()
 /// that has failed has none there.
 pub fn look_ups_show_the_world()
     ensures { Worlds }
+{}
+
+/// A command that leaves the target, Exit or Dispose, is sent at most once, and only while the session is attached. It
+/// goes for a `disconnect`, which is the first request without a response: Exit where the client asked that the target
+/// be ended, else Dispose (DAP specification, Disconnect request; JDWP, VirtualMachine command set, Exit and Dispose).
+pub fn the_target_is_left_once_for_a_disconnect()
+    ensures { Farewells }
+{}
+
+/// Each response is to the first request without one. A `disconnect` whose response is told while the session is
+/// attached has it behind the reply to the command that leaves the target. Else the target is gone by then, or the
+/// session was never attached, and no such command was sent (DAP specification, Disconnect request; JDWP,
+/// VirtualMachine command set, Exit and Dispose).
+pub fn a_disconnect_is_answered_once_the_target_is_left()
+    ensures { Disconnects }
+{}
+
+/// The handshake goes out for an `attach`, which is the first request without a response (DAP specification, Attach
+/// request; JDWP, JDWP Start Up).
+pub fn the_handshake_goes_out_for_an_attach()
+    ensures { Greetings }
 {}

@@ -2,8 +2,9 @@
 
 use crate::options::ClientOptions;
 use dap_messages::Failure;
-use jdwp_values::ThreadId;
+use jdwp_values::{ClassId, ThreadId};
 use wire_core::{Blob, List, Text};
+use wish_sets::LineEntry;
 
 /// A thread, and the name that the target gave it (JDWP, ThreadReference command set, Name).
 #[derive(Debug, Drop)]
@@ -12,11 +13,27 @@ pub struct NamedThread {
     pub name: Blob,
 }
 
+/// A breakpoint that the client listed: the id that it got, its line as the client counts lines, and whether it is
+/// plain, without a condition, a count of hits and a message to log (DAP specification, Types, SourceBreakpoint and
+/// Breakpoint).
+#[derive(Clone, Copy, Debug, PartialEq, Eq)]
+pub struct ListedBreakpoint {
+    pub id: u64,
+    pub line: u32,
+    pub plain: bool,
+}
+
 /// What a response that succeeds shows, by the target's ids; its numbers are given when it is told.
 #[derive(Debug, Drop)]
 pub enum Body {
     Nothing,
     Capabilities,
+    /// The breakpoints of a list, and whether a folder of sources has its source; how each stands is found when it is
+    /// told.
+    Breakpoints {
+        rooted: bool,
+        listed: List<ListedBreakpoint>,
+    },
     Threads(List<NamedThread>),
 }
 
@@ -46,12 +63,19 @@ pub enum Deed {
 pub enum Lookup {
     /// All threads and their names, for the response to `threads` (DAP specification, Threads request).
     Threads,
+    /// What has to be known of classes before breakpoints are bound in them: all classes, where a watch was set since
+    /// they were listed; the source of each that is prepared and watched; and the methods and lines of those whose
+    /// source is listed (JDWP, VirtualMachine command set, AllClasses; JDWP, ReferenceType command set, SourceFile and
+    /// Methods; JDWP, Method command set, LineTable).
+    Classes,
 }
 
 /// What a look-up finds.
 #[derive(Debug, Drop)]
 pub enum Finding {
     Threads(List<NamedThread>),
+    /// The classes whose source is listed.
+    Classes(List<ClassId>),
 }
 
 /// What is waited for.
@@ -63,13 +87,21 @@ pub enum Guard {
     IdSizes,
 }
 
-/// What an item writes down of what the client asked for.
+/// What an item writes down: what the client asked for, or what breakpoints are bound by.
 #[derive(Debug, Drop)]
 pub enum Note {
     /// How the client wants to be served (DAP specification, Initialize request).
     Options(ClientOptions),
     /// The folders that sources stand in (DAP specification, Attach request).
     Roots(List<Text>),
+    /// The breakpoints of a source, by its key; without a key they are numbered, and not kept (DAP specification,
+    /// SetBreakpoints request).
+    Lines {
+        key: Option<Text>,
+        entries: List<LineEntry>,
+    },
+    /// Breakpoints are bound by what is known of these classes now.
+    Classes(List<ClassId>),
 }
 
 /// What is decided when its turn comes.
@@ -101,7 +133,7 @@ pub enum Part {
     Awaits(Guard),
     /// The event requests become those that are wished.
     Updates,
-    /// Something that the client asked for is written down.
+    /// Something is written down.
     Notes(Note),
     /// A decision becomes parts.
     Unfolds(Choice),

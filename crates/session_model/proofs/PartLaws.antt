@@ -1,6 +1,6 @@
 -- A `disconnect` goes on to its success and ends directly behind it; nothing else ends a session.
-use Rattle.std.proofs.Common.{◌≡◌, Bool, true, false, cond, not, List, [], ◌∷◌, ◌++◌, Option, Some, None, refl}
-use Rattle.std.proofs.Common.{sym, ap, subst, ◌∙◌, option_map, arith}
+use Rattle.std.proofs.Common.{◌≡◌, Bool, true, false, cond, not, List, [], ◌∷◌, ◌++◌, Option, Some, None, refl, sym}
+use Rattle.std.proofs.Common.{ap, subst, ◌∙◌, option_map, arith, ◌||◌}
 use Rattle.machine_model.specs.Due.{asked_hand, clear, load_of}
 use Rattle.machine_model.specs.Lookups.{finished}
 use Rattle.machine_model.specs.Outcomes.{result_of}
@@ -37,12 +37,17 @@ abbrev pub is_thanks : Part → Bool
 is_thanks (Part.Responds (Success Nothing)) = true
 is_thanks _ = false
 
+-- it has no place in a `disconnect` before its success: a look-up, or a response
+abbrev pub strays : Part → Bool
+strays (Part.Looks lookup) = true
+strays part = is_response part
+
 -- a `disconnect` goes on to its success, and ends directly behind it
 abbrev pub to_end : List Part → Bool
 to_end [] = false
 to_end (part ∷ parts) =
     cond (is_ends part) (is_empty parts) (cond (is_thanks part) (only_end parts)
-    (cond (is_response part) false (cond (ends_first parts) false (to_end parts))))
+    (cond (strays part) false (cond (ends_first parts) false (to_end parts))))
 
 -- nothing else ends
 abbrev pub no_end : List Part → Bool
@@ -93,19 +98,22 @@ tail_on : (leaves : Bool) (part : Part) (rest : List Part) → is_ends part ≡ 
 tail_on true part rest other silent is = grind (arith, other, silent, is)
 tail_on false part rest other silent is = none_on rest (grind (arith, other, is))
 
--- parts that neither respond nor end
+-- parts that look nothing up and neither respond nor end
 abbrev are_silent : List Part → Bool
 are_silent [] = true
-are_silent (part ∷ parts) = cond (is_ends part) false (cond (is_response part) false (are_silent parts))
+are_silent (part ∷ parts) = cond (is_ends part) false (cond (strays part) false (are_silent parts))
 
 chosen_silent : (choice : Choice) (state : State) (hand : Hand) → are_silent (chosen choice state hand) ≡ true
 chosen_silent choice state hand = grind arith
 
 -- a response that is a success is a response
-thanks_respond : (part : Part) → is_response part ≡ false → is_thanks part ≡ false
+thanks_respond : (part : Part) → strays part ≡ false → is_thanks part ≡ false
 thanks_respond part is = grind (arith, is)
 
-silent_first : (leaves : Bool) (part : Part) (rest : List Part) → is_ends part ≡ false → is_response part ≡ false
+thanks_is : (part : Part) → is_thanks part ≡ true → is_response part ≡ true
+thanks_is part is = grind (arith, is)
+
+silent_first : (leaves : Bool) (part : Part) (rest : List Part) → is_ends part ≡ false → strays part ≡ false
     → goes_on leaves rest ≡ true → goes_on leaves (part ∷ rest) ≡ true
 silent_first true part rest other silent is =
     rw (other, thanks_respond part silent, silent) (by_tests (ends_first rest) (to_end rest) is)
@@ -125,7 +133,7 @@ silent_joined : (leaves : Bool) (parts rest : List Part) → are_silent parts �
     → goes_on leaves (parts ++ rest) ≡ true
 silent_joined leaves [] rest silent is = is
 silent_joined leaves (part ∷ parts) rest silent is =
-    let (other, responds, more) = by_tests (is_ends part) (is_response part) (are_silent parts) silent in
+    let (other, responds, more) = by_tests (is_ends part) (strays part) (are_silent parts) silent in
     silent_first leaves part (parts ++ rest) other responds (silent_joined leaves parts rest more is)
   where
     by_tests : (ends responds more : Bool) → cond ends false (cond responds false more) ≡ true
@@ -147,7 +155,16 @@ success_behind outcome rest is = grind (arith, is)
 -- before its end a `disconnect` has its response to come
 response_yet : (parts : List Part) → to_end parts ≡ true → ends_first parts ≡ false → has_response parts ≡ true
 response_yet [] is later = cc
-response_yet (part ∷ parts) is later = grind (arith, is, later, response_yet parts)
+response_yet (part ∷ parts) is later =
+    by_tests (is_ends part) (is_thanks part) (is_response part) (strays part) (only_end parts) (ends_first parts)
+    (to_end parts) (is_empty parts) (has_response parts) (thanks_is part) (response_yet parts) later is
+  where
+    by_tests : (ends thanks responds stray only first fit empty more : Bool) → (thanks ≡ true → responds ≡ true)
+        → (fit ≡ true → first ≡ false → more ≡ true) → ends ≡ false
+        → cond ends empty (cond thanks only (cond stray false (cond first false fit))) ≡ true
+        → (responds || more) ≡ true
+    by_tests ends thanks responds stray only first fit empty more one other rest is =
+        grind (arith, one, other, rest, is)
 
 gone_on : (responds : Bool) (item : Item) → cond (leaves_by item) responds true ≡ true
     → goes_on (leaves_by item) (gone_parts responds item) ≡ true

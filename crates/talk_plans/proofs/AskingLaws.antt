@@ -1,6 +1,6 @@
 -- What is to be asked: each question once, and none that was asked.
 use Rattle.std.proofs.Common.{◌≡◌, Bool, true, false, cond, not, ◌||◌, List, [], ◌∷◌, ◌++◌, map, None, refl, sym, ap}
-use Rattle.std.proofs.Common.{subst, ◌∙◌, arith}
+use Rattle.std.proofs.Common.{subst, arith}
 use Rattle.std.specs.List.{list_any}
 use Rattle.jdwp_commands.specs.declared.question.Question.{Question}
 use Rattle.machine_model.specs.Asking.{is_new, was_asked}

@@ -1,5 +1,6 @@
 pub mod AskedLemmas
 pub mod AskingLaws
+pub mod ClassLaws
 pub mod DueLaws
 pub mod EffectLaws
 pub mod PlanLaws

@@ -1,5 +1,5 @@
 -- What the reply to an effect in flight makes of the talk, and of what is known.
-use Rattle.std.proofs.Common.{◌≡◌, Bool, true, false, cond, Option, Some, None, refl, ap, subst}
+use Rattle.std.proofs.Common.{◌≡◌, Bool, true, false, cond, Option, Some, None, refl, ap}
 use Rattle.jdwp_commands.specs.declared.asked.Replied.{Replied}
 use Rattle.machine_model.specs.Replying.{done_by, hand_replied}
 use Rattle.machine_model.specs.State.{Hand, State, is_flying, is_none}

@@ -1,15 +1,14 @@
 -- What a talk lacks is due, since the sizes of ids are known once they were asked for and replied to.
-use Rattle.std.proofs.Common.{◌≡◌, Bool, true, false, cond, not, ◌||◌, List, [], ◌∷◌, ◌++◌, None, refl, sym, ap}
+use Rattle.std.proofs.Common.{◌≡◌, Bool, true, false, cond, not, ◌||◌, List, [], ◌∷◌, refl, sym}
 use Rattle.std.proofs.Common.{subst}
-use Rattle.std.proofs.Common.{◌∙◌, arith}
+use Rattle.std.proofs.Common.{arith}
 use Rattle.jdwp_commands.specs.declared.asked.Replied.{Replied}
 use Rattle.jdwp_commands.specs.declared.question.Question.{Question}
 use Rattle.jdwp_commands.specs.declared.question.Question.TheVariants as questions
 use Rattle.machine_model.specs.Asking.{was_asked}
 use Rattle.machine_model.specs.Due.{lacked_by}
 use Rattle.machine_model.specs.Keys.{same_question}
-use Rattle.machine_model.specs.Plans.{question_of}
-use Rattle.machine_model.specs.Replying.{filled, hand_replied, is_waiting, sizes_in, told_by}
+use Rattle.machine_model.specs.Replying.{filled, hand_replied, is_waiting, told_by}
 use Rattle.machine_model.specs.State.{Hand, State, is_gone, is_some}
 use Rattle.machine_model.specs.declared.acts.Sent.{Sent}
 use Rattle.machine_model.specs.declared.acts.TargetCommand.TheVariants.{Question as a_question}

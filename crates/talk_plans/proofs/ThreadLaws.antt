@@ -1,6 +1,6 @@
 -- The set of threads that were told, as the list that the machine has.
 use Rattle.std.proofs.Common.{◌≡◌, ◌≤◌, ℕ, suc, ◌+◌, ◌==◌, ◌||◌, Bool, true, false, cond, not, List, [], ◌∷◌, ◌++◌}
-use Rattle.std.proofs.Common.{length, position, nat_lt, Option, Some, None, refl, ap, ◌∙◌, arith}
+use Rattle.std.proofs.Common.{length, position, nat_lt, Some, None, refl, ap, ◌∙◌, arith}
 use Rattle.std.specs.List.{list_any, position_or_len}
 use Rattle.indexmap.specs.IndexSet.{insert_key}
 use Rattle.jdwp_values.specs.declared.id.ThreadId.{ThreadId}

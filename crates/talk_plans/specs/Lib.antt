@@ -1,4 +1,5 @@
 pub mod Asking
+pub mod ClassPlanning
 pub mod Laws
 pub mod Planning
 pub mod Replies

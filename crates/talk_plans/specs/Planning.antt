@@ -1,5 +1,5 @@
 -- What look-ups come to, in the words of the code.
-use Rattle.std.specs.Prelude.{◌∷◌, ◌++◌, List, [], Option, None, Some}
+use Rattle.std.specs.Prelude.{◌∷◌, List, [], Option, None, Some}
 use Rattle.class_tables.specs.Lookups.{found_in}
 use Rattle.jdwp_commands.specs.declared.question.Question.{Question}
 use Rattle.jdwp_commands.specs.declared.question.Question.TheVariants as questions
@@ -10,7 +10,6 @@ use Rattle.jdwp_commands.specs.declared.asked.Replied.{Replied}
 use Rattle.machine_model.specs.declared.acts.Sent.{Sent}
 use Rattle.jdwp_values.specs.declared.id.ThreadId.{ThreadId}
 use Rattle.machine_model.specs.declared.acts.Want.{Want}
-use Rattle.machine_model.specs.declared.parts.Finding.TheVariants.{Threads as threads_found}
 use Rattle.machine_model.specs.Plans as needs
 use Rattle.machine_model.specs.Plans.{Found, Sight, answer_in, found_from}
 use Rattle.machine_model.specs.State.{State}
@@ -39,29 +38,25 @@ abbrev pub reply_in : Option Found → Option Replied
 reply_in None = None
 reply_in (Some found) = Some found.replied
 
-abbrev pub unless_found : Option Found → Want → List Want → List Want
-unless_found None want wants = want ∷ wants
-unless_found (Some found) want wants = wants
+abbrev pub unless_found : Option Found → Want → List Want
+unless_found None want = want ∷ []
+unless_found (Some found) want = []
 
--- the names that have no reply
-abbrev pub lacking_names : List Sent → List ThreadId → List Want
-lacking_names asked [] = []
-lacking_names asked (thread ∷ threads) =
+-- the name of a thread, where it has no reply
+abbrev pub lacking_name : List Sent → ThreadId → List Want
+lacking_name asked thread =
     unless_found (found_from 0 asked (name_question thread)) (Want.May (name_question thread))
-    (lacking_names asked threads)
 
--- the threads with the names that have
-abbrev pub names_known : List Sent → List ThreadId → List NamedThread
-names_known asked [] = []
-names_known asked (thread ∷ threads) =
-    named_thread thread (reply_in (found_from 0 asked (name_question thread))) ++ names_known asked threads
+-- the thread with its name, where it has one
+abbrev pub name_known : List Sent → ThreadId → List NamedThread
+name_known asked thread = named_thread thread (reply_in (found_from 0 asked (name_question thread)))
 
 -- what is found, or these are lacking
-abbrev pub needed : List Want → List NamedThread → needs.Need Finding
-needed [] named = needs.has (threads_found named)
-needed (first ∷ others) named = needs.lacks first others
+abbrev pub lacks_or : {A : Type 0} → List Want → A → needs.Need A
+lacks_or [] found = needs.has found
+lacks_or (first ∷ others) found = needs.lacks first others
 
 -- what is lacking, or else what is found
-abbrev pub need_or : Option Need → List NamedThread → needs.Need Finding
-need_or None named = needs.has (threads_found named)
-need_or (Some need) named = need_of need
+abbrev pub need_or : Option Need → Finding → needs.Need Finding
+need_or None found = needs.has found
+need_or (Some need) found = need_of need

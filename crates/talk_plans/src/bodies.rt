@@ -1,18 +1,21 @@
 //! What the client is told, with numbers in place of the target's ids.
 ghost use Rattle.std.specs.Prelude.{◌≡◌, IfOk, OnOk, map};
+ghost use Rattle.machine_model.specs.Breakpoints.{breakpoint_told};
 ghost use Rattle.machine_model.specs.State.{State as AState};
 ghost use Rattle.machine_model.specs.Telling.{body_told, event_told, numbered, numbered_by, outcome_told, response_to};
 ghost use Rattle.machine_model.specs.Telling.{thread_told, with_threads};
 
+use crate::breakpoints::breakpoint_told;
 use crate::state::State;
 use crate::threads::ThreadNumbers;
 use dap_messages::{
-    Event as EventTold, Outcome as OutcomeTold, Request, Response, Shape, Thread, Told,
+    Breakpoint, Event as EventTold, Outcome as OutcomeTold, Request, Response, Shape, Thread, Told,
 };
 use jdwp_values::lossy;
-use machine_model::{Body, Event, NamedThread, Outcome};
+use machine_model::{Body, Event, ListedBreakpoint, NamedThread, Outcome};
 use std::alloc::Global;
 use wire_core::{List, NoMemory, Text};
+use wish_sets::Wishes;
 
 fn add_threads(threads: &mut ThreadNumbers, named: &[NamedThread]) -> Result<(), NoMemory>
     ensures { OnOk result (threads.new ≡ with_threads threads.old named.now) }
@@ -30,6 +33,7 @@ fn number(body: &Body, state: &mut State) -> Result<(), NoMemory>
     match body {
         Body::Nothing => Ok(()),
         Body::Capabilities => Ok(()),
+        Body::Breakpoints { .. } => Ok(()),
         Body::Threads(named) => add_threads(&mut state.threads, named.as_slice()),
     }
 }
@@ -51,12 +55,31 @@ fn threads_told(
     Ok(told)
 }
 
+fn breakpoints_told(
+    alloc: Global,
+    rooted: bool,
+    wishes: &Wishes,
+    listed: &[ListedBreakpoint],
+) -> Result<List<Breakpoint>, NoMemory>
+    ensures { IfOk result (λ told. told ≡ map (breakpoint_told rooted wishes.now) listed.now) }
+{
+    let mut told = List::new(alloc);
+    for breakpoint in listed {
+        told.push(breakpoint_told(rooted, wishes, breakpoint))?;
+    }
+    Ok(told)
+}
+
 fn body_told(alloc: Global, body: &Body, state: &State) -> Result<Shape, NoMemory>
     ensures { IfOk result (λ shape. shape ≡ body_told body.now state.now) }
 {
     match body {
         Body::Nothing => Ok(Shape::Nothing),
         Body::Capabilities => Ok(Shape::Capabilities),
+        Body::Breakpoints { rooted, listed } => {
+            let told = breakpoints_told(alloc, *rooted, &state.wishes, listed.as_slice())?;
+            Ok(Shape::Breakpoints(told))
+        }
         Body::Threads(named) => {
             Ok(Shape::Threads(threads_told(alloc, &state.threads, named.as_slice())?))
         }

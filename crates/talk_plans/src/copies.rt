@@ -108,3 +108,14 @@ pub(crate) fn effect_copy(alloc: Global, effect: &Effect) -> Result<Effect, NoMe
         }),
     }
 }
+
+/// Copies of texts.
+pub(crate) fn text_copies(alloc: Global, texts: &[Text]) -> Result<List<Text>, NoMemory>
+    ensures { IfOk result (λ copies. copies ≡ texts.now) }
+{
+    let mut copies = List::new(alloc);
+    for text in texts {
+        copies.push(Text::from_str(alloc, text.as_str())?)?;
+    }
+    Ok(copies)
+}

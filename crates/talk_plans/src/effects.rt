@@ -1,6 +1,7 @@
 //! The effects of event requests, and what their replies make of what is known.
 ghost use Rattle.std.specs.Prelude.{◌≡◌, false, is_some, true, IfOk};
 ghost use Rattle.machine_model.specs.Requests.{effect_due, request_in, set_to, wishes_after};
+ghost use Rattle.machine_model.specs.Replying.{unlisted_by, watches};
 ghost use Rattle.talk_plans.specs.Talking.{IsNext};
 ghost use Rattle.wish_sets.specs.Wishes.{Wishes as AWishes, is_cleared, is_outcome, next_change, next_place, set_by};
 ghost use Rattle.wish_sets.specs.Wishes.{settled};
@@ -11,7 +12,7 @@ use jdwp_commands::{Answer, Replied};
 use machine_model::Effect;
 use std::alloc::Global;
 use wire_core::NoMemory;
-use wish_sets::{Change, Settled, Wishes};
+use wish_sets::{Change, Settled, Wish, Wishes};
 
 /// The effect that is due: what isn't wished any more is cleared first, then what is wished is set.
 pub(crate) fn effect_due(alloc: Global, wishes: &Wishes) -> Result<Option<Effect>, NoMemory>
@@ -80,6 +81,32 @@ fn mark(wishes: &mut Wishes, outcome: Settled)
     match next_place(wishes) {
         None => {}
         Some(place) => wishes.settled(place, outcome),
+    }
+}
+
+// Whether a watch is set, where the reply gives this id of its event request (JDWP, EventRequest command set, Set,
+// ClassMatch).
+fn watches(wish: &Wish, request: Option<u32>) -> bool
+    ensures { result ≡ watches wish.now request }
+{
+    match wish {
+        Wish::Watch(_) => request.is_some(),
+        Wish::ThreadStart => false,
+        Wish::ThreadDeath => false,
+        Wish::Stop(_) => false,
+        Wish::Thrown { .. } => false,
+        Wish::Step { .. } => false,
+    }
+}
+
+/// Whether all classes are to be listed once an effect is replied to: a watch is set, or they were to be before.
+pub(crate) fn unlisted_by(effect: &Effect, replied: &Replied, unlisted: bool) -> bool
+    ensures { result ≡ unlisted_by effect.now replied.now unlisted }
+{
+    match effect {
+        Effect::Does(_) => unlisted,
+        Effect::Set(wish) => watches(wish, request_in(replied)) || unlisted,
+        Effect::Clear { .. } => unlisted,
     }
 }
 

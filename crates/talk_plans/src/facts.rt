@@ -1,23 +1,32 @@
 //! The facts of classes that replies tell.
-ghost use Rattle.std.specs.Prelude.{◌≡◌, IfOk, OnOk};
+ghost use Rattle.std.specs.Prelude.{◌≡◌, fold, option_copied, IfOk, OnOk};
+ghost use Rattle.machine_model.specs.Classes.{classes_in, has_prepared, with_listed};
 ghost use Rattle.machine_model.specs.Facts.{above_in, fields_in, lines_in, methods_in, source_in, variables_in};
 ghost use Rattle.machine_model.specs.Plans.{answer_in};
 ghost use Rattle.machine_model.specs.Replying.{learnt};
 
 use class_tables::Classes;
-use jdwp_commands::{Answer, Question, Replied};
+use jdwp_commands::{Answer, LoadedClass, Question, Replied};
 use jdwp_values::{ClassId, Field, LineTable, Method, Variable};
 use std::alloc::Global;
 use wire_core::{Blob, List, NoMemory};
 
-fn source_in(alloc: Global, replied: &Replied) -> Result<Option<Blob>, NoMemory>
-    ensures { IfOk result (λ source. source ≡ source_in (answer_in replied.now)) }
+/// The source of a class in a reply, where it has one (JDWP, ReferenceType command set, SourceFile).
+pub(crate) fn source_in(replied: &Replied) -> Option<&Blob>
+    ensures { option_copied result ≡ source_in (answer_in replied.now) }
 {
     match replied {
-        Replied::Answer(Answer::SourceFile(file)) => {
-            Ok(Some(Blob::from_slice(alloc, file.as_slice())?))
-        }
-        _ => Ok(None),
+        Replied::Answer(Answer::SourceFile(file)) => Some(file),
+        _ => None,
+    }
+}
+
+fn source_copy(alloc: Global, source: Option<&Blob>) -> Result<Option<Blob>, NoMemory>
+    ensures { IfOk result (λ copy. copy ≡ option_copied source.entry) }
+{
+    match source {
+        None => Ok(None),
+        Some(file) => Ok(Some(Blob::from_slice(alloc, file.as_slice())?)),
     }
 }
 
@@ -36,12 +45,13 @@ fn method_copies(alloc: Global, methods: &[Method]) -> Result<List<Method>, NoMe
     Ok(copies)
 }
 
-fn methods_in(alloc: Global, replied: &Replied) -> Result<List<Method>, NoMemory>
-    ensures { IfOk result (λ methods. methods ≡ methods_in (answer_in replied.now)) }
+/// The methods of a class in a reply (JDWP, ReferenceType command set, Methods).
+pub(crate) fn methods_in(replied: &Replied) -> &[Method]
+    ensures { result.now ≡ methods_in (answer_in replied.now) }
 {
     match replied {
-        Replied::Answer(Answer::Methods(methods)) => method_copies(alloc, methods.as_slice()),
-        _ => Ok(List::new(alloc)),
+        Replied::Answer(Answer::Methods(methods)) => methods.as_slice(),
+        _ => &[],
     }
 }
 
@@ -118,7 +128,47 @@ fn variables_in(alloc: Global, replied: &Replied) -> Result<Option<List<Variable
     }
 }
 
-/// Learns the fact of a class that was asked for; where the target refused it, the fact is absent.
+// Whether a status has the bit of a class that is prepared (JDWP, Constants, ClassStatus, PREPARED).
+fn has_prepared(status: i32) -> bool
+    ensures { result ≡ has_prepared status }
+{
+    status.cast_unsigned() / 2 % 2 == 1
+}
+
+fn learn_listed(alloc: Global, classes: &mut Classes, class: &LoadedClass) -> Result<(), NoMemory>
+    ensures { OnOk result (classes.new ≡ with_listed classes.old class.now) }
+{
+    let signature = Blob::from_slice(alloc, class.signature.as_slice())?;
+    classes.learn(
+        class.class,
+        class.tag,
+        signature,
+        has_prepared(class.status),
+    )
+}
+
+// The classes that an answer lists.
+fn classes_in(replied: &Replied) -> &[LoadedClass]
+    ensures { result.now ≡ classes_in (answer_in replied.now) }
+{
+    match replied {
+        Replied::Answer(Answer::AllClasses(classes)) => classes.as_slice(),
+        _ => &[],
+    }
+}
+
+// Learns all classes that were listed (JDWP, VirtualMachine command set, AllClasses).
+fn learn_all(alloc: Global, classes: &mut Classes, listed: &[LoadedClass]) -> Result<(), NoMemory>
+    ensures { OnOk result (classes.new ≡ fold with_listed classes.old listed.now) }
+{
+    for class in listed {
+        learn_listed(alloc, classes, class)?;
+    }
+    Ok(())
+}
+
+/// Learns the fact of a class that was asked for, or all classes that were listed; where the target refused it, the
+/// fact is absent.
 pub(crate) fn learn(
     alloc: Global,
     question: &Question,
@@ -128,8 +178,15 @@ pub(crate) fn learn(
     ensures { OnOk result (classes.new ≡ learnt question.now (answer_in replied.now) classes.old) }
 {
     match question {
-        Question::SourceFile(class) => classes.learn_source(*class, source_in(alloc, replied)?),
-        Question::Methods(class) => classes.learn_methods(*class, methods_in(alloc, replied)?),
+        Question::AllClasses => learn_all(alloc, classes, classes_in(replied)),
+        Question::SourceFile(class) => classes.learn_source(
+            *class,
+            source_copy(alloc, source_in(replied))?,
+        ),
+        Question::Methods(class) => classes.learn_methods(
+            *class,
+            method_copies(alloc, methods_in(replied))?,
+        ),
         Question::Fields(class) => classes.learn_fields(*class, fields_in(alloc, replied)?),
         Question::Superclass(class) => classes.learn_super(*class, above_in(replied)),
         Question::LineTable { class, method } => {

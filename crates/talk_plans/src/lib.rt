@@ -4,6 +4,8 @@
 mod asked;
 mod asking;
 mod bodies;
+mod breakpoints;
+mod class_plans;
 mod copies;
 mod effects;
 mod facts;

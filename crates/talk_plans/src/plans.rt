@@ -1,20 +1,24 @@
 //! What look-ups come to by what was replied so far.
-ghost use Rattle.std.specs.Prelude.{◌≡◌, ◌∷◌, ◌++◌, [], IfOk, OnOk, option_map, option_copied};
-ghost use Rattle.machine_model.specs.Lookups.{body_of, finished, name_plan, named_by, names_plan, plan, refusal};
-ghost use Rattle.machine_model.specs.Lookups.{threads_plan};
-ghost use Rattle.machine_model.specs.Plans.{answer_in, each, gave, need, refused};
-ghost use Rattle.std.specs.Prelude.{List as Named};
-ghost use Rattle.machine_model.specs.declared.parts.NamedThread.{NamedThread as NamedAThread};
-ghost use Rattle.talk_plans.specs.Planning.{lacking_names, name_question, named_thread, names_known, need_of};
-ghost use Rattle.talk_plans.specs.Planning.{need_or, needed, sight_in};
+ghost use Rattle.std.specs.Prelude.{◌≡◌, ◌++◌, [], IfOk, OnOk, option_map};
+ghost use Rattle.std.specs.List.{flat_map};
+ghost use Rattle.jdwp_commands.specs.declared.question.Question.TheVariants as questions;
+ghost use Rattle.machine_model.specs.Lookups.{classes_of, finished, names_plan, plan, refusal, threads_plan};
+ghost use Rattle.machine_model.specs.Lookups.{threads_shown};
+ghost use Rattle.machine_model.specs.Plans.{after, found_from, gave, has, must_hear, need, refused};
+ghost use Rattle.machine_model.specs.declared.parts.Finding.{Finding as AFinding};
+ghost use Rattle.machine_model.specs.declared.parts.Finding.TheVariants.{Classes as classes_found};
+ghost use Rattle.machine_model.specs.declared.parts.Lookup.TheVariants.{Classes as class_facts};
+ghost use Rattle.talk_plans.specs.Planning.{lacking_name, lacks_or, name_known, name_question, named_thread, need_of};
+ghost use Rattle.talk_plans.specs.Planning.{need_or, sight_in};
 
 use crate::asked::Asked;
+use crate::class_plans::all_needs;
 use crate::question_key::QuestionKey;
 use crate::state::State;
 use dap_messages::Failure;
 use jdwp_commands::{Answer, Question, Replied};
-use jdwp_values::ThreadId;
-use machine_model::{Body, Finding, Lookup, NamedThread, Outcome, Part, Want};
+use jdwp_values::{ClassId, ThreadId};
+use machine_model::{Body, Finding, Lookup, NamedThread, Note, Outcome, Part, Want};
 use std::alloc::Global;
 use std::collections::VecDeque;
 use wire_core::{Blob, List, NoMemory};
@@ -40,7 +44,7 @@ fn lacking_names(
     asked: &Asked,
     threads: &[ThreadId],
 ) -> Result<VecDeque<Want>, NoMemory>
-    ensures { IfOk result (λ wants. wants.items ≡ lacking_names asked.now threads.now) }
+    ensures { IfOk result (λ wants. wants.items ≡ flat_map (lacking_name asked.now) threads.now) }
 {
     let mut wants = VecDeque::new(alloc);
     for thread in threads {
@@ -75,7 +79,7 @@ fn names_known(
     asked: &Asked,
     threads: &[ThreadId],
 ) -> Result<List<NamedThread>, NoMemory>
-    ensures { IfOk result (λ named. named ≡ names_known asked.now threads.now) }
+    ensures { IfOk result (λ named. named ≡ flat_map (name_known asked.now) threads.now) }
 {
     let mut named = List::new(alloc);
     for thread in threads {
@@ -87,7 +91,7 @@ fn names_known(
 
 // What lacks these, where there are any.
 fn lacks(mut wants: VecDeque<Want>) -> Option<Need>
-    ensures { (named : Named NamedAThread) → needed wants.items named ≡ need_or result named }
+    ensures { (found : AFinding) → lacks_or wants.items found ≡ need_or result found }
 {
     let first = wants.pop_front()?;
     Some(Need::Lacks {
@@ -130,6 +134,38 @@ fn threads_need(alloc: Global, state: &State, asked: &Asked) -> Result<Need, NoM
     }
 }
 
+// All classes are listed, and nothing is read off (JDWP, VirtualMachine command set, AllClasses).
+fn listing_need(alloc: Global, asked: &Asked) -> Result<Need, NoMemory>
+    ensures { IfOk result (λ found. need_of found
+        ≡ after (must_hear questions.AllClasses (found_from 0 asked.now questions.AllClasses))
+        (λ heard. has (classes_found []))) }
+{
+    let key = QuestionKey::new(alloc, Question::AllClasses)?;
+    match asked.find(&key) {
+        None => Ok(Need::Lacks {
+            first: Want::Must(key.into_question()),
+            others: VecDeque::new(alloc),
+        }),
+        Some((place, Replied::Error(code))) => Ok(Need::Fails { place, code: *code }),
+        Some((_, Replied::Answer(_))) => Ok(Need::Has(Finding::Classes(List::new(alloc)))),
+    }
+}
+
+// What has to be known of classes before breakpoints are bound in them.
+#[tactic(auto, using(crate::proofs::ClassLaws::listing_need, crate::proofs::ClassLaws::known_need))]
+fn classes_need(alloc: Global, state: &State, asked: &Asked) -> Result<Need, NoMemory>
+    ensures { IfOk result (λ found. need_of found ≡ need (sight_in state.now asked.now) (plan class_facts state.now)) }
+{
+    if state.unlisted {
+        return listing_need(alloc, asked);
+    }
+    let needs = all_needs(alloc, state, asked)?;
+    match lacks(needs.lacking) {
+        Some(found) => Ok(found),
+        None => Ok(Need::Has(Finding::Classes(needs.found))),
+    }
+}
+
 /// What a look-up comes to by what was replied so far.
 pub(crate) fn found_for(
     alloc: Global,
@@ -141,6 +177,7 @@ pub(crate) fn found_for(
 {
     match lookup {
         Lookup::Threads => threads_need(alloc, state, asked),
+        Lookup::Classes => classes_need(alloc, state, asked),
     }
 }
 
@@ -155,11 +192,22 @@ fn refusal(code: u16) -> Failure
     }
 }
 
-fn body_of(finding: Finding) -> Body
-    ensures { result ≡ body_of finding }
+fn threads_shown(finding: Finding) -> Outcome
+    ensures { result ≡ threads_shown finding }
 {
     match finding {
-        Finding::Threads(named) => Body::Threads(named),
+        Finding::Threads(named) => Outcome::Success(Body::Threads(named)),
+        Finding::Classes(_) => Outcome::Success(Body::Nothing),
+    }
+}
+
+// The classes that were found.
+fn classes_of(alloc: Global, finding: Finding) -> List<ClassId>
+    ensures { result ≡ classes_of (gave finding) }
+{
+    match finding {
+        Finding::Threads(_) => List::new(alloc),
+        Finding::Classes(classes) => classes,
     }
 }
 
@@ -175,7 +223,11 @@ pub(crate) fn found_parts(
     match lookup {
         Lookup::Threads => Ok(VecDeque::from_array(
             alloc,
-            [Part::Responds(Outcome::Success(body_of(finding)))],
+            [Part::Responds(threads_shown(finding))],
+        )?),
+        Lookup::Classes => Ok(VecDeque::from_array(
+            alloc,
+            [Part::Notes(Note::Classes(classes_of(alloc, finding)))],
         )?),
     }
 }
@@ -193,6 +245,10 @@ pub(crate) fn refused_parts(
         Lookup::Threads => Ok(VecDeque::from_array(
             alloc,
             [Part::Responds(Outcome::Failure(refusal(code)))],
+        )?),
+        Lookup::Classes => Ok(VecDeque::from_array(
+            alloc,
+            [Part::Notes(Note::Classes(List::new(alloc)))],
         )?),
     }
 }

@@ -4,11 +4,14 @@ ghost use Rattle.machine_model.specs.Lookups.{lookup_responds};
 ghost use Rattle.machine_model.specs.Rows.{chosen, choice_responds, end_parts, failure_of, gone_parts, gone_row};
 ghost use Rattle.machine_model.specs.Rows.{gone_tail, has_response, if_attached, is_response, leaves, leaving};
 ghost use Rattle.machine_model.specs.Rows.{options_of, parts_of, request_parts, row_of, unless_attached, wanting};
-ghost use Rattle.machine_model.specs.declared.parts.Outcome.TheVariants.{Failure as Failed};
+ghost use Rattle.machine_model.specs.declared.parts.Body.TheVariants.{Nothing};
+ghost use Rattle.machine_model.specs.declared.parts.Outcome.TheVariants.{Failure as Failed, Success};
 ghost use Rattle.talk_plans.specs.Talking.{attach_parts, disconnect_parts};
 ghost use Rattle.machine_model.specs.State.{Hand as AHand};
 ghost use Rattle.machine_model.specs.declared.parts.Part.TheVariants.{Responds};
 
+use crate::breakpoints::breakpoints_row;
+use crate::copies::text_copies;
 use crate::state::State;
 use dap_messages::{Command, Failure, InitializeArguments};
 use machine_model::{
@@ -17,7 +20,7 @@ use machine_model::{
 };
 use std::alloc::Global;
 use std::collections::VecDeque;
-use wire_core::{List, NoMemory, Text};
+use wire_core::{NoMemory, Text};
 
 fn options_of(arguments: &InitializeArguments) -> ClientOptions
     ensures { result ≡ options_of arguments.now }
@@ -27,16 +30,6 @@ fn options_of(arguments: &InitializeArguments) -> ClientOptions
         columns_from_one: arguments.columns_start_at1,
         shows_types: arguments.supports_variable_type,
     }
-}
-
-fn text_copies(alloc: Global, texts: &[Text]) -> Result<List<Text>, NoMemory>
-    ensures { IfOk result (λ copies. copies ≡ texts.now) }
-{
-    let mut copies = List::new(alloc);
-    for text in texts {
-        copies.push(Text::from_str(alloc, text.as_str())?)?;
-    }
-    Ok(copies)
 }
 
 fn attach_row(alloc: Global, roots: &[Text]) -> Result<VecDeque<Part>, NoMemory>
@@ -75,9 +68,15 @@ fn failing(alloc: Global, failure: Failure) -> Result<VecDeque<Part>, NoMemory>
     Ok(VecDeque::from_array(alloc, [Part::Responds(Outcome::Failure(failure))])?)
 }
 
+fn answering(alloc: Global) -> Result<VecDeque<Part>, NoMemory>
+    ensures { IfOk result (λ parts. parts.items ≡ Responds (Success Nothing) ∷ []) }
+{
+    Ok(VecDeque::from_array(alloc, [Part::Responds(Outcome::Success(Body::Nothing))])?)
+}
+
 // What a request does that doesn't fail beforehand.
-fn row_of(alloc: Global, command: &Command) -> Result<VecDeque<Part>, NoMemory>
-    ensures { IfOk result (λ parts. parts.items ≡ row_of command.now) }
+fn row_of(alloc: Global, command: &Command, state: &State) -> Result<VecDeque<Part>, NoMemory>
+    ensures { IfOk result (λ parts. parts.items ≡ row_of command.now state.now) }
 {
     match command {
         Command::Initialize(arguments) => Ok(VecDeque::from_array(
@@ -88,6 +87,8 @@ fn row_of(alloc: Global, command: &Command) -> Result<VecDeque<Part>, NoMemory>
             ],
         )?),
         Command::Attach(arguments) => attach_row(alloc, arguments.source_roots.as_slice()),
+        Command::ConfigurationDone => answering(alloc),
+        Command::SetBreakpoints(arguments) => breakpoints_row(alloc, arguments, state),
         Command::Threads => Ok(VecDeque::from_array(alloc, [Part::Looks(Lookup::Threads)])?),
         Command::Disconnect(arguments) => disconnect_row(alloc, arguments.terminate_debuggee),
         Command::Unsupported => failing(alloc, Failure::unsupported()),
@@ -127,6 +128,8 @@ fn failure_of(command: &Command, state: &State) -> Option<Failure>
     match command {
         Command::Initialize(_) => None,
         Command::Attach(_) => unless_attached(state.phase),
+        Command::ConfigurationDone => if_attached(state.phase),
+        Command::SetBreakpoints(_) => if_attached(state.phase),
         Command::Threads => if_attached(state.phase),
         Command::Disconnect(_) => None,
         Command::Unsupported => None,
@@ -143,7 +146,7 @@ fn request_parts(
 {
     match failure_of(command, state) {
         Some(failure) => failing(alloc, failure),
-        None => row_of(alloc, command),
+        None => row_of(alloc, command, state),
     }
 }
 
@@ -208,6 +211,7 @@ fn lookup_responds(lookup: Lookup) -> bool
 {
     match lookup {
         Lookup::Threads => true,
+        Lookup::Classes => false,
     }
 }
 

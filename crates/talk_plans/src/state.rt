@@ -8,8 +8,9 @@ ghost use Rattle.machine_model.specs.Rows.{noted};
 ghost use Rattle.machine_model.specs.State.{is_attached, is_gone, nothing_known};
 ghost use Rattle.machine_model.specs.Telling.{after_event, attached_from};
 ghost use Rattle.machine_model.specs.declared.items.Phase.TheVariants.{Gone};
+ghost use Rattle.machine_model.specs.declared.parts.Note.TheVariants.{Lines};
 
-use crate::effects::settle;
+use crate::effects::{settle, unlisted_by};
 use crate::facts::learn;
 use crate::sizes::{SizesRead, sizes_in};
 use crate::threads::ThreadNumbers;
@@ -19,12 +20,13 @@ use machine_model::{ClientOptions, Effect, Event, Note, Phase};
 use std::alloc::Global;
 use std::marker::Model;
 use wire_core::{List, NoMemory, Text};
-use wish_sets::Wishes;
+use wish_sets::{LineEntry, Wishes};
 
 /// What a session knows: how the client wants to be served; where it stands with its target, which sides of the
-/// handshake went out and came, and the sizes of ids; the folders that sources stand in; which event requests are
-/// wished and which stand; the facts of classes; the threads that were told; and whether the client was told that
-/// nothing more comes of the target.
+/// handshake went out and came, and the sizes of ids; the folders that sources stand in; the id that the next
+/// breakpoint gets; which event requests are wished and which stand; whether a watch was set since all classes were
+/// listed; the facts of classes; the threads that were told; and whether the client was told that nothing more comes of
+/// the target.
 #[derive(Debug, Drop)]
 pub struct State {
     pub(crate) options: ClientOptions,
@@ -33,7 +35,9 @@ pub struct State {
     pub(crate) greeting_heard: bool,
     pub(crate) sizes: Option<SizesRead>,
     pub(crate) roots: List<Text>,
+    pub(crate) next_entry: u64,
     pub(crate) wishes: Wishes,
+    pub(crate) unlisted: bool,
     pub(crate) classes: Classes,
     pub(crate) threads: ThreadNumbers,
     pub(crate) terminated: bool,
@@ -53,7 +57,9 @@ impl Model for State {
       greeting_heard = s.greeting_heard;
       sizes = option_map sizes_seen s.sizes;
       roots = s.roots;
+      next_entry = s.next_entry;
       wishes = s.wishes;
+      unlisted = s.unlisted;
       classes = s.classes;
       threads = s.threads;
       terminated = s.terminated;
@@ -76,7 +82,9 @@ impl State {
             greeting_heard: false,
             sizes: None,
             roots: List::new(alloc),
+            next_entry: 1,
             wishes: Wishes::new(alloc)?,
+            unlisted: false,
             classes: Classes::new(alloc),
             threads: ThreadNumbers::new(alloc),
             terminated: false,
@@ -169,14 +177,44 @@ impl State {
         }
     }
 
-    // Something that the client asked for is written down.
-    pub(crate) fn note(&mut self, note: Note)
-        ensures { self.new ≡ noted note self.old }
+    // Something is written down: what the client asked for, or what breakpoints are bound by.
+    pub(crate) fn note(&mut self, alloc: Global, note: Note) -> Result<(), NoMemory>
+        ensures { OnOk result (self.new ≡ noted note self.old) }
     {
         match note {
-            Note::Options(options) => self.options = options,
-            Note::Roots(roots) => self.roots = roots,
+            Note::Options(options) => {
+                self.options = options;
+                Ok(())
+            }
+            Note::Roots(roots) => {
+                self.roots = roots;
+                Ok(())
+            }
+            Note::Lines { key, entries } => self.list_lines(alloc, key, entries),
+            Note::Classes(those) => {
+                self.wishes
+                    .classes_known(alloc, &self.classes, those.as_slice())
+            }
         }
+    }
+
+    // The breakpoints of a source are listed, each under an id of its own; without a key none is kept.
+    fn list_lines(
+        &mut self,
+        alloc: Global,
+        key: Option<Text>,
+        entries: List<LineEntry>,
+    ) -> Result<(), NoMemory>
+        ensures { OnOk result (self.new ≡ noted (Lines key entries) self.old) }
+    {
+        let Some(next) = self.next_entry.checked_add(entries.len() as u64) else {
+            return Err(NoMemory);
+        };
+        if let Some(key) = key {
+            self.wishes.set_lines(alloc, key, entries)?;
+        }
+        self.next_entry = next;
+        Ok(())
     }
 
     // What a reply to a question tells.
@@ -188,11 +226,18 @@ impl State {
     ) -> Result<(), NoMemory>
         ensures { OnOk result (self.new ≡ told_by question.now replied.now self.old) }
     {
-        if let Question::IdSizes = question {
-            self.sizes = sizes_in(replied);
-            return Ok(());
+        match question {
+            Question::IdSizes => {
+                self.sizes = sizes_in(replied);
+                Ok(())
+            }
+            Question::AllClasses => {
+                learn(alloc, question, replied, &mut self.classes)?;
+                self.unlisted = false;
+                Ok(())
+            }
+            _ => learn(alloc, question, replied, &mut self.classes),
         }
-        learn(alloc, question, replied, &mut self.classes)
     }
 
     // What the reply to the effect that was due tells.
@@ -200,6 +245,7 @@ impl State {
         requires { IsNext effect.now self.old.wishes }
         ensures { self.new ≡ done_by effect.now replied.now self.old }
     {
+        self.unlisted = unlisted_by(effect, replied, self.unlisted);
         settle(&mut self.wishes, effect, replied);
     }
 }

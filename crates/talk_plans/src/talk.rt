@@ -179,7 +179,7 @@ impl Talk {
             Part::Awaits(Guard::IdSizes) => self.awaits_sizes(state),
             Part::Updates => self.updates(alloc, state),
             Part::Notes(note) => {
-                state.note(note);
+                state.note(alloc, note)?;
                 Ok(Next::Go)
             }
             Part::Unfolds(choice) => {

@@ -2,6 +2,7 @@ ghost use Rattle.std.specs.Prelude.{IfOk, OnOk};
 ghost use Rattle.talk_plans.specs.Talking.{AreSized};
 
 use super::*;
+use crate::breakpoints::key_of;
 use dap_messages::{AttachArguments, Command, DisconnectArguments, Outcome, Request, Told};
 use jdwp_commands::{Answer, Question, Replied};
 use machine_model::Item;
@@ -132,5 +133,32 @@ fn leaving(alloc: Global, state: &mut State) -> Result<Seen, NoMemory> {
 fn a_disconnect_is_answered(rt: HostRuntime) -> Result<(), Fail> {
     let mut state = State::new(rt.alloc())?;
     assert_eq!(rt; leaving(rt.alloc(), &mut state)?, Seen::Responds(0));
+    Ok(())
+}
+
+// The key of a source, with one folder of sources.
+fn key_under(alloc: Global, root: &str, path: &str) -> Result<Option<Text>, NoMemory> {
+    let mut roots = List::new(alloc);
+    roots.push(Text::from_str(alloc, root)?)?;
+    key_of(alloc, roots.as_slice(), path)
+}
+
+#[test]
+fn a_key_is_the_path_behind_its_folder(rt: HostRuntime) -> Result<(), Fail> {
+    let table = [
+        ("/p/src", "/p/src/a/B.java", Some("a/B.java")),
+        ("/p/src/", "/p/src/a/B.java", Some("a/B.java")),
+        ("C:\\src", "C:\\src\\a\\B.java", Some("a/B.java")),
+        ("C:/src/", "C:\\src\\é\\B.java", Some("é/B.java")),
+        ("/", "/a/B.java", Some("a/B.java")),
+        ("/p/src", "/p/src/B.java", Some("B.java")),
+        ("/p/src", "/p/srcs/B.java", None),
+        ("/p/src", "/q/B.java", None),
+        ("/p/src", "/p/src", None),
+    ];
+    for (root, path, key) in table {
+        let found = key_under(rt.alloc(), root, path)?;
+        assert_eq!(rt; found.as_ref().map(Text::as_str), key, "{path}");
+    }
     Ok(())
 }

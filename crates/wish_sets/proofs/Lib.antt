@@ -7,7 +7,9 @@ pub mod LeftLaws
 mod Examples
 pub mod FirstLaws
 pub mod SpellLaws
+pub mod CursorLaws
 pub mod TableLaws
+pub mod TakenLaws
 pub mod SlotLaws
 pub mod KeptLaws
 pub mod OutcomeLaws

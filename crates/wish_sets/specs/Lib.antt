@@ -7,6 +7,7 @@ pub mod Wished
 pub mod Requests
 pub mod Wishes
 pub mod Slots
+pub mod Cursors
 pub mod Kept
 pub mod Forming
 pub mod Tables

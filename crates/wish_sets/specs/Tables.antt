@@ -1,5 +1,10 @@
 -- Values under keys: one is put, and taken back.
 use Rattle.std.specs.Prelude.{ℕ, zero, suc, ◌-◌, List, [], ◌∷◌, ◌++◌, length, take, Option, Some, None}
+use Rattle.class_tables.specs.Lookups.{Lookups}
+use Rattle.jdwp_values.specs.declared.id.ClassId.{ClassId}
+use Rattle.wish_sets.specs.declared.facts.KnownClass.{KnownClass}
+use Rattle.wish_sets.specs.declared.known.Replaced.{Replaced}
+use Rattle.wish_sets.specs.Wanted.{put_known, class_found}
 
 -- the value at a place
 abbrev pub with_value : {K V : Type 0} → ℕ → V → List (K × V) → List (K × V)
@@ -16,3 +21,14 @@ put_at (Some k) key value entries = with_value k value entries
 abbrev pub taken_back : {K V : Type 0} → Option ℕ → Option V → List (K × V) → List (K × V)
 taken_back (Some k) (Some before) entries = with_value k before entries
 taken_back at before entries = take (length entries - 1) entries
+
+-- what is known of classes, once these are made known, one after the other
+abbrev pub all_known : Lookups → List ClassId → List (ClassId × KnownClass) → List (ClassId × KnownClass)
+all_known known [] entries = entries
+all_known known (class ∷ others) entries =
+    all_known known others (put_known class (class_found known class) entries)
+
+-- what was put is taken back, the last first
+abbrev pub undone : List Replaced → List (ClassId × KnownClass) → List (ClassId × KnownClass)
+undone [] entries = entries
+undone (one ∷ others) entries = taken_back one.at one.facts (undone others entries)

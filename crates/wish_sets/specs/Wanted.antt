@@ -1,6 +1,6 @@
 -- What a session wants to stop at: what the client listed last, the step in flight, and the classes as they were last
 -- made known.
-use Rattle.std.specs.Prelude.{ℕ, bytes_eq, Bool, false, List, [], map, Option, Some, None, option_map}
+use Rattle.std.specs.Prelude.{ℕ, bytes_eq, Bool, false, List, [], ◌∷◌, map, Option, Some, None, option_map}
 use Rattle.std.specs.Option.{option_flatten}
 use Rattle.class_tables.specs.Facts.{same_class}
 use Rattle.class_tables.specs.Lookups.{Lookups}
@@ -78,3 +78,8 @@ class_found known class = option_map (facts_found known class) (known.loaded cla
 -- a class is made known, by what is found of it now; one that was not loaded changes nothing
 abbrev pub with_class : Lookups → ClassId → Wanted → Wanted
 with_class known class wanted = record wanted { classes = put_known class (class_found known class) wanted.classes }
+
+-- several classes are made known, one after the other (JDWP, VirtualMachine command set, AllClasses)
+abbrev pub with_known : Lookups → List ClassId → Wanted → Wanted
+with_known known [] wanted = wanted
+with_known known (class ∷ others) wanted = with_known known others (with_class known class wanted)

@@ -5,6 +5,7 @@ ghost use Rattle.std.specs.BTreeSet.{insert_key};
 ghost use Rattle.std.specs.List.{AllByRecursion};
 ghost use Rattle.wish_sets.specs.Forming.{list_watches, function_watches, new_place, AreInOrder, IsWider, AreFormed};
 ghost use Rattle.wish_sets.specs.Forming.{has_its_slot};
+ghost use Rattle.wish_sets.specs.Cursors.{IsPast};
 ghost use Rattle.wish_sets.specs.Kept.{wanted_by, listed_wishes};
 ghost use Rattle.wish_sets.specs.declared.wish.Wish.TheVariants as wishes;
 ghost use Rattle.wish_sets.specs.Names.{package_named};
@@ -12,6 +13,7 @@ ghost use Rattle.wish_sets.specs.Order.{has_wish, wish_rank};
 ghost use Rattle.wish_sets.specs.Places.{places};
 ghost use Rattle.wish_sets.specs.Slots.{new_slot, wanted_slots};
 
+use crate::cursor::{Cursor, onward};
 use crate::entry::{FunctionEntry, LineEntry};
 use crate::names::{has_class, key_package, package_name, package_named};
 use crate::place::{Place, places};
@@ -180,9 +182,9 @@ fn want_all(slots: &mut Vec<Slot>, those: &[Wish])
     want_listed(slots, those);
 }
 
-/// Slots say what is wished but exceptions and the step, formed afresh, and the places of all entries are kept. Where
-/// memory is refused, or where there would be too many slots, the places stay, and nothing else than before is wished.
-pub(crate) fn form(
+// Slots say what is wished but exceptions and the step, formed afresh, and the places of all entries are kept. Where
+// memory is refused, or where there would be too many slots, the places stay, and nothing else than before is wished.
+fn form_slots(
     slots: &mut Vec<Slot>,
     bound: &mut List<Place>,
     alloc: Global,
@@ -200,4 +202,33 @@ pub(crate) fn form(
     want_all(slots, those.as_slice());
     *bound = found;
     Ok(())
+}
+
+/// Slots say what is wished but exceptions and the step, formed afresh, and the places of all entries are kept. Where
+/// memory is refused, or where there would be too many slots, the places stay, and nothing else than before is wished.
+/// Slots are gone through anew.
+pub(crate) fn form(
+    slots: &mut Vec<Slot>,
+    bound: &mut List<Place>,
+    cursor: &mut Cursor,
+    alloc: Global,
+    wants: &Wants,
+) -> Result<(), NoMemory>
+    requires { AreInOrder slots.old.items }
+    ensures places { OnOk result (bound.new ≡ places (wanted_by wants.now)) }
+    ensures ok { OnOk result (AreFormed (listed_wishes (wanted_by wants.now)) slots.old.items slots.new.items) }
+    ensures same { OnErr result (bound.new ≡ bound.old) }
+    ensures err { OnErr result (IsWider slots.old.items slots.new.items) }
+    ensures past { IsPast cursor.new slots.new.items }
+{
+    match form_slots(slots, bound, alloc, wants) {
+        Ok(()) => {
+            *cursor = onward(slots, Cursor::new());
+            Ok(())
+        }
+        Err(refused) => {
+            *cursor = Cursor::new();
+            Err(refused)
+        }
+    }
 }

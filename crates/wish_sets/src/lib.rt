@@ -3,14 +3,17 @@
 
 mod asked;
 mod change;
+mod cursor;
 mod entry;
 mod facts;
 mod fixed;
 mod forming;
+mod known;
 mod laws;
 mod learnt;
 mod names;
 mod place;
+mod same;
 mod slot;
 mod spelling;
 mod standing;

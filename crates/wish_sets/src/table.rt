@@ -1,6 +1,6 @@
 //! Values under keys, in the order in which the keys came.
 ghost use Rattle.std.specs.Prelude.{◌≡◌, ◌<◌, IfOk, IfSome, OnOk, OnErr, vec_len};
-ghost use Rattle.wish_sets.specs.Tables.{put_at, taken_back};
+ghost use Rattle.wish_sets.specs.Tables.{put_at, taken_back, with_value};
 
 use std::mem;
 use wire_core::NoMemory;
@@ -16,7 +16,6 @@ pub(crate) fn put_at<K: Drop, V: Drop>(
     requires { IfSome at (λ place. place < vec_len entries.old) }
     ensures ok { OnOk result (entries.new.items ≡ put_at at key value entries.old.items) }
     ensures err { OnErr result (entries.new.items ≡ entries.old.items) }
-    ensures still { IfSome at (λ place. place < vec_len entries.new) }
     ensures back { IfOk result (λ before. taken_back at before entries.new.items ≡ entries.old.items) }
 {
     match at {
@@ -28,19 +27,25 @@ pub(crate) fn put_at<K: Drop, V: Drop>(
     }
 }
 
+// Puts a value at a place, where there is one.
+fn put_value<K: Drop, V: Drop>(entries: &mut [(K, V)], at: usize, value: V)
+    ensures { entries.new ≡ with_value at value entries.old }
+{
+    if at < entries.len() {
+        let _ = mem::replace(&mut entries[at].1, value);
+    }
+}
+
 /// Takes back what was put: the value that was there stands at its place again, or the last entry goes.
 pub(crate) fn take_back<K: Drop, V: Drop>(
     entries: &mut Vec<(K, V)>,
     at: Option<usize>,
     before: Option<V>,
 )
-    requires { IfSome at (λ place. place < vec_len entries.old) }
     ensures { entries.new.items ≡ taken_back at before entries.old.items }
 {
     match (at, before) {
-        (Some(at), Some(before)) => {
-            let _ = mem::replace(&mut entries[at].1, before);
-        }
+        (Some(at), Some(before)) => put_value(entries, at, before),
         _ => {
             let _ = entries.pop();
         }

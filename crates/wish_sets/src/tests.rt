@@ -342,3 +342,82 @@ fn what_is_wanted_is_watched_listed_and_named(rt: HostRuntime) -> Result<(), Fai
     assert!(rt; !wishes.is_named(b"Lorg/Bank;", Some(b"shut")));
     Ok(())
 }
+
+// The class `Cart`, whose method has the lines 9, 10 and 11 at the indices 0, 5 and 9.
+fn long_cart(alloc: Global) -> Result<Classes, Fail> {
+    let mut classes = Classes::new(alloc);
+    learn_cart(&mut classes, alloc)?;
+    let mut methods = List::new(alloc);
+    methods.push(add_method(alloc)?)?;
+    classes.learn_methods(ClassId(5), methods)?;
+    let rows = [
+        Line { index: 0, line: 9 },
+        Line { index: 5, line: 10 },
+        Line { index: 9, line: 11 },
+    ];
+    let lines = LineTable {
+        start: 0,
+        end: 12,
+        lines: List::from_slice(alloc, &rows)?,
+    };
+    classes.learn_lines(ClassId(5), MethodId(7), Some(lines))?;
+    Ok(classes)
+}
+
+// Lists two lines of `Cart`, under ids from one on.
+fn list_two(wishes: &mut Wishes, alloc: Global, id: u64, two: [i32; 2]) -> Result<(), Fail> {
+    let mut lines = List::new(alloc);
+    for (line, id) in two.into_iter().zip(id..) {
+        let plain = true;
+        lines.push(LineEntry { id, line, plain })?;
+    }
+    wishes.set_lines(alloc, Text::from_str(alloc, "Cart.java")?, lines)?;
+    Ok(())
+}
+
+// The next request is cleared, and it is that of a wish and of an id.
+fn is_cleared(wishes: &mut Wishes, gone: &Wish, id: u32) -> bool {
+    let is_next = match wishes.next_change() {
+        Some(Change::Clear { wish, request, .. }) => wish == gone && request == id,
+        _ => false,
+    };
+    settle(wishes, Settled::Cleared);
+    is_next
+}
+
+// A line that is in both lists stays installed (DAP specification, SetBreakpoints request).
+#[test]
+fn a_replaced_list_changes_only_what_differs(rt: HostRuntime) -> Result<(), Fail> {
+    let alloc = rt.alloc();
+    let mut wishes = Wishes::new(alloc)?;
+    list_two(&mut wishes, alloc, 1, [10, 11])?;
+    wishes.classes_known(alloc, &long_cart(alloc)?, &[ClassId(5)])?;
+    for request in 1..6 {
+        settle(&mut wishes, Settled::Installed(request));
+    }
+    assert_eq!(rt; shown(&wishes), None);
+    list_two(&mut wishes, alloc, 3, [11, 9])?;
+    assert!(rt; is_cleared(&mut wishes, &Wish::Stop(in_cart(5)), 4));
+    assert!(rt; is_set(&mut wishes, &Wish::Stop(in_cart(0)), 6));
+    assert_eq!(rt; shown(&wishes), None);
+    let owner = wishes.owner_of(EventKind::Breakpoint, 5);
+    assert!(rt; owner.is_some_and(|wish| *wish == Wish::Stop(in_cart(9))));
+    Ok(())
+}
+
+#[test]
+fn classes_that_were_not_loaded_or_say_nothing_new_change_nothing(
+    rt: HostRuntime,
+) -> Result<(), Fail> {
+    let alloc = rt.alloc();
+    let mut wishes = cart_listed(alloc)?;
+    let classes = shop(alloc)?;
+    wishes.classes_known(alloc, &classes, &[ClassId(6), ClassId(5), ClassId(5)])?;
+    assert!(rt; is_set(&mut wishes, &Wish::Stop(in_cart(0)), 4));
+    assert!(rt; is_set(&mut wishes, &Wish::Stop(in_cart(4)), 5));
+    wishes.classes_known(alloc, &classes, &[ClassId(5), ClassId(6)])?;
+    assert_eq!(rt; shown(&wishes), None);
+    wishes.classes_known(alloc, &Classes::new(alloc), &[ClassId(5)])?;
+    assert_eq!(rt; shown(&wishes), None);
+    Ok(())
+}

@@ -2,7 +2,8 @@
 ghost use Rattle.std.specs.Prelude.{◌≡◌, ◌<◌, ◌^◌, ◌∷◌, [], Some, None, true, option_map, IfOk, OnOk, OnErr};
 ghost use Rattle.std.specs.Option.{option_copied};
 ghost use Rattle.std.specs.Result.{result_map_both};
-ghost use Rattle.wish_sets.specs.Wanted.{with_class, with_exceptions, with_functions, with_lines, with_step};
+ghost use Rattle.wish_sets.specs.Wanted.{with_class, with_exceptions, with_functions, with_known, with_lines};
+ghost use Rattle.wish_sets.specs.Wanted.{with_step};
 ghost use Rattle.wish_sets.specs.Wishes.{new_wishes, rewished, next_change, next_place, is_outcome, settled, owner_of};
 ghost use Rattle.class_tables.specs.Lookups.{found_in};
 ghost use Rattle.wish_sets.specs.Entries.{entries_at, state_of};
@@ -12,15 +13,16 @@ ghost use Rattle.wish_sets.specs.Wished.{is_watched, is_listed, is_named};
 
 use crate::asked::{is_listed, is_named, watches};
 use crate::change::{Change, Settled};
+use crate::cursor::Cursor;
 use crate::entry::{EntryAt, EntryState, FunctionEntry, LineEntry};
 use crate::fixed::{fixed_slots, want_step, want_thrown};
 use crate::forming::form;
-use crate::learnt::class_found;
+use crate::known::{is_nothing, know_all, put_back};
 use crate::place::Place;
 use crate::slot::{Slot, late, owner, settle, unset};
 use crate::standing::{entries_at, entry_state, has_entry};
 use crate::table::{put_at, take_back};
-use crate::wants::{Wants, class_at, list_at};
+use crate::wants::{Wants, list_at};
 use crate::wish::{Depth, StepWish, Wish};
 use class_tables::Classes;
 use jdwp_events::EventKind;
@@ -39,6 +41,7 @@ pub struct Wishes {
     wants: Wants,
     bound: List<Place>,
     slots: Vec<Slot>,
+    cursor: Cursor,
     fixed: [Slot; 5],
 }
 
@@ -47,13 +50,14 @@ impl Model for Wishes {
     ghost use Rattle.wish_sets.specs.Wishes.{Wishes as WhatStands};
     ghost use Rattle.wish_sets.specs.Kept.{wanted_by, wishes_by, AreKept};
     ghost use Rattle.wish_sets.specs.Places.{places};
+    ghost use Rattle.wish_sets.specs.Cursors.{IsPast};
 
     ghost Value = { WhatStands };
 
     ghost view = { λ w. wishes_by w.wants (w.slots.items ++ w.fixed) };
 
     ghost invariant = { λ w. AreKept (wanted_by w.wants) w.slots.items w.fixed
-        × (w.bound ≡ places (wanted_by w.wants)) };
+        × (w.bound ≡ places (wanted_by w.wants)) × IsPast w.cursor w.slots.items };
 }
 
 impl Wishes {
@@ -69,6 +73,7 @@ impl Wishes {
             wants: Wants::new(alloc),
             bound: List::new(alloc),
             slots,
+            cursor: Cursor::new(),
             fixed: fixed_slots(),
         })
     }
@@ -117,7 +122,13 @@ impl Wishes {
     {
         let at = list_at(&self.wants.lists, &key);
         let before = put_at(&mut self.wants.lists, at, key, entries)?;
-        if let Err(refused) = form(&mut self.slots, &mut self.bound, alloc, &self.wants) {
+        if let Err(refused) = form(
+            &mut self.slots,
+            &mut self.bound,
+            &mut self.cursor,
+            alloc,
+            &self.wants,
+        ) {
             take_back(&mut self.wants.lists, at, before);
             return Err(refused);
         }
@@ -136,7 +147,13 @@ impl Wishes {
         ensures err { OnErr result (self.new ≡ self.old) }
     {
         let before = mem::replace(&mut self.wants.functions, entries);
-        if let Err(refused) = form(&mut self.slots, &mut self.bound, alloc, &self.wants) {
+        if let Err(refused) = form(
+            &mut self.slots,
+            &mut self.bound,
+            &mut self.cursor,
+            alloc,
+            &self.wants,
+        ) {
             self.wants.functions = before;
             return Err(refused);
         }
@@ -158,13 +175,47 @@ impl Wishes {
         ensures bound { OnOk result (wished_or_installed self.new < 2 ^ 31) }
         ensures err { OnErr result (self.new ≡ self.old) }
     {
-        let at = class_at(&self.wants.classes, class);
-        let Some(facts) = class_found(alloc, classes, class)? else {
+        self.classes_known(alloc, classes, &[class])
+    }
+
+    /// Copies what is known of several classes, as `class_known` does of each in turn, but forms what is wished once;
+    /// where nothing is new of any, not at all. `NoMemory` comes where memory is refused, or where 2^31 or more would
+    /// be wished or installed; then nothing changes (JDWP, VirtualMachine command set, AllClasses; JDWP, ReferenceType
+    /// command set, SourceFile and Methods; JDWP, Method command set, LineTable).
+    pub fn classes_known(
+        &mut self,
+        alloc: Global,
+        classes: &Classes,
+        those: &[ClassId],
+    ) -> Result<(), NoMemory>
+        ensures ok { OnOk result
+            (self.new ≡ rewished (with_known (found_in classes.now) those.now self.old.wanted) self.old) }
+        ensures bound { OnOk result (wished_or_installed self.new < 2 ^ 31) }
+        ensures err { OnErr result (self.new ≡ self.old) }
+    {
+        let mut replaced = Vec::new(alloc);
+        let told = know_all(
+            &mut self.wants.classes,
+            &mut replaced,
+            alloc,
+            classes,
+            those,
+        );
+        if let Err(refused) = told {
+            put_back(&mut self.wants.classes, replaced);
+            return Err(refused);
+        }
+        if is_nothing(&replaced) {
             return Ok(());
-        };
-        let before = put_at(&mut self.wants.classes, at, class, facts)?;
-        if let Err(refused) = form(&mut self.slots, &mut self.bound, alloc, &self.wants) {
-            take_back(&mut self.wants.classes, at, before);
+        }
+        if let Err(refused) = form(
+            &mut self.slots,
+            &mut self.bound,
+            &mut self.cursor,
+            alloc,
+            &self.wants,
+        ) {
+            put_back(&mut self.wants.classes, replaced);
             return Err(refused);
         }
         Ok(())
@@ -177,8 +228,8 @@ impl Wishes {
         ensures change { option_map change_shown result ≡ next_change self.now }
         ensures place { option_map place_shown result ≡ next_place self.now }
     {
-        match late(&self.slots, &self.fixed) {
-            Ok(_) => unset(&self.slots, &self.fixed).err(),
+        match late(&self.slots, &self.fixed, self.cursor) {
+            Ok(_) => unset(&self.slots, &self.fixed, self.cursor).err(),
             Err(change) => Some(change),
         }
     }
@@ -190,7 +241,7 @@ impl Wishes {
         requires outcome { is_outcome (next_change self.old) outcome ≡ true }
         ensures { self.new ≡ settled outcome self.old }
     {
-        settle(&mut self.slots, &mut self.fixed, outcome);
+        settle(&mut self.slots, &mut self.fixed, &mut self.cursor, outcome);
     }
 
     /// The wish of an event, by its kind and the id of its request: the first installed one, in wish order, that has

@@ -1,9 +1,10 @@
 use Rattle.std.proofs.Common.{◌≡◌, ◌++◌, drop, option_map}
+use Rattle.serde_json.specs.Find.{as_str}
 use Rattle.serde_json.specs.View.{items_view}
-use Rattle.dap_messages.specs.Arguments.{texts_in}
+use Rattle.dap_messages.specs.Arguments.{each_in}
 use Rattle.dap_messages.proofs.arguments.texts_in.Given as goal
 
 -- the texts of all items are those found so far, and those of the items that are left
 abbrev pub invariant-loop-item : goal.invariant-loop-item
-invariant-loop-item l = texts_in (items_view l.items)
-    ≡ option_map (λ rest. l.texts ++ rest) (texts_in (items_view (drop l.item-index l.items)))
+invariant-loop-item l = each_in as_str (items_view l.items)
+    ≡ option_map (λ rest. l.texts ++ rest) (each_in as_str (items_view (drop l.item-index l.items)))

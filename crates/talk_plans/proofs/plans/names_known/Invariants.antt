@@ -1,6 +1,8 @@
-use Rattle.std.proofs.Common.{◌≡◌, ◌++◌, drop}
-use Rattle.talk_plans.specs.Planning.{names_known}
+use Rattle.std.proofs.Common.{◌≡◌, ◌++◌, drop, flat_map}
+use Rattle.talk_plans.specs.Planning.{name_known}
 use Rattle.talk_plans.proofs.plans.names_known.Given as goal
 
 abbrev pub invariant-loop-thread : goal.invariant-loop-thread
-invariant-loop-thread l = l.named ++ names_known l.asked (drop l.thread-index l.threads) ≡ names_known l.asked l.threads
+invariant-loop-thread l =
+    l.named ++ flat_map (name_known l.asked) (drop l.thread-index l.threads)
+    ≡ flat_map (name_known l.asked) l.threads

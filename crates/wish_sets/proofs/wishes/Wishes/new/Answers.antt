@@ -1,5 +1,5 @@
 -- Nothing is kept but the slots of threads and the fixed ones.
-use Rattle.std.proofs.Common.{◌∙◌, ap, sym}
+use Rattle.std.proofs.Common.{◌∙◌, ap, sym, refl}
 use Rattle.wish_sets.specs.Places.{places}
 use Rattle.wish_sets.proofs.NewLaws.{new_kept}
 use Rattle.wish_sets.proofs.wishes.Wishes.new.Goals as goal
@@ -16,4 +16,5 @@ invariant_of-result c = (
     c.new-2.ensures,
   ) new_kept,
   c.new-4.ensures ∙ sym (ap places c.new-3.ensures),
+  rw c.new-5.ensures (record { late = tt; installed = refl; unset = tt; wished = refl }),
 )

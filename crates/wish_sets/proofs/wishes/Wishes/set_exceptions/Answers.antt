@@ -7,6 +7,7 @@ invariant_of-self c = (
   rw c.want_thrown.ensures (thrown_kept c.self.inside.wants c.self.inside.slots.items c.self.inside.fixed
       c.self.invariant.0 c.args.caught c.args.uncaught),
   c.self.invariant.1,
+  c.self.invariant.2,
 )
 
 pub returns : goal.returns

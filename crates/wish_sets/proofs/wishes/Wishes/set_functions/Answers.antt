@@ -14,6 +14,7 @@ invariant_of-self c =
       wider_kept c.self.inside.wants c.self.inside.wants refl refl refl
           c.self.inside.slots.items c.self.inside.fixed c.self.invariant.0 c.form.new.slots.items c.in-Err.ensures.err,
       c.in-Err.ensures.same ∙ c.self.invariant.1,
+      c.in-Err.ensures.past,
     )
 
 pub returns-in-Err-clause-err : goal.returns-in-Err-clause-err
@@ -28,6 +29,7 @@ invariant_of-self-in_default c = (
       refl
       c.self.inside.slots.items c.self.inside.fixed c.self.invariant.0 c.form.new.slots.items c.in_default.ensures.ok,
   c.in_default.ensures.places,
+  c.in_default.ensures.past,
 )
 
 pub returns-clause-ok : goal.returns-clause-ok

@@ -12,9 +12,6 @@ form-requires c =
     in_order_now c.self.inside.wants c.self.inside.wants refl refl refl c.self.inside.slots.items c.self.inside.fixed
     c.self.invariant.0
 
-pub take_back-requires : goal.take_back-requires
-take_back-requires c = c.in_ok-before.ensures.still
-
 pub invariant_of-self-in-Err : goal.invariant_of-self-in-Err
 invariant_of-self-in-Err c =
     rw (c.take_back.ensures, c.in_ok-before.ensures.back) (
@@ -22,6 +19,7 @@ invariant_of-self-in-Err c =
           refl c.self.inside.slots.items c.self.inside.fixed c.self.invariant.0 c.form.new.slots.items
           c.in-Err.ensures.err,
       c.in-Err.ensures.same ∙ c.self.invariant.1,
+      c.in-Err.ensures.past,
     )
 
 pub returns-in-Err-clause-err : goal.returns-in-Err-clause-err
@@ -35,6 +33,7 @@ invariant_of-self-in_default c = (
   formed_kept c.self.inside.wants (record c.self.inside.wants { lists = c.put_at.new.entries }) refl refl refl
       c.self.inside.slots.items c.self.inside.fixed c.self.invariant.0 c.form.new.slots.items c.in_default.ensures.ok,
   c.in_default.ensures.places,
+  c.in_default.ensures.past,
 )
 
 pub returns-clause-ok : goal.returns-clause-ok

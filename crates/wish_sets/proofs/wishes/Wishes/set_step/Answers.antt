@@ -8,6 +8,7 @@ invariant_of-self c = (
   rw c.want_step.ensures (step_kept c.self.inside.wants c.self.inside.slots.items c.self.inside.fixed
       c.self.invariant.0 (Some (record { thread = c.args.thread; depth = c.args.depth }))),
   c.self.invariant.1,
+  c.self.invariant.2,
 )
 
 pub returns : goal.returns

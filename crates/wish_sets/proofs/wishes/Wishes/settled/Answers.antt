@@ -15,6 +15,7 @@ invariant_of-self c =
           (quiet_is c.self.inside.wants c.self.inside.slots.items c.self.inside.fixed c.self.invariant.0
           c.args.outcome is)),
       c.self.invariant.1,
+      c.settle.ensures.past,
     )
 
 pub returns : goal.returns

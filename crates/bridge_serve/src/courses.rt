@@ -1,0 +1,162 @@
+ghost use Rattle.std.specs.Prelude.{IfOk, IfSome};
+ghost use Rattle.session_model.specs.States.{AreLimits};
+ghost use Rattle.wire_core.specs.MemoryWires.{outside_of};
+ghost use Rattle.wire_core.specs.Outside.{IsOpen};
+ghost use Rattle.wire_core.specs.declared.outside.Side.TheVariants.{Client, Target};
+
+use crate::serve;
+use session_model::{Ending, Limits};
+use std::alloc::Global;
+use std::test::Fail;
+use wire_core::{Cut, Entry, List, MemoryWires, Side, Step};
+
+/// A request to attach, the first of a client (DAP specification, Attach request).
+pub(crate) const ATTACH: &[u8] =
+    b"Content-Length: 84\r\n\r\n{\"seq\":1,\"type\":\"request\",\"command\":\"attach\",\"arguments\":{\"sourceRoots\":[\"/p/src\"]}}";
+
+/// What comes from the outside.
+#[derive(Clone, Copy, Drop)]
+pub(crate) enum Came<'a> {
+    Bytes(Side, &'a [u8]),
+    Shut(Side),
+    Failed(Side),
+    Quiet,
+}
+
+/// A session: whether it attaches first; what comes then; its limits; the sends that fail, each with the bytes that go
+/// out all the same; what the client is told then, and the target is sent; and the ending.
+#[derive(Drop)]
+pub(crate) struct Course<'a> {
+    pub(crate) attached: bool,
+    pub(crate) steps: &'a [Came<'a>],
+    pub(crate) limits: Limits,
+    pub(crate) failing: &'a [(Side, u64, u32)],
+    pub(crate) told: &'a [&'a [u8]],
+    pub(crate) sent: &'a [&'a [u8]],
+    pub(crate) ending: Ending,
+}
+
+/// How a session attaches to a target with ids of eight bytes: what comes.
+pub(crate) const ATTACHING: [Came<'static>; 5] = [
+    Came::Bytes(Side::Client, ATTACH),
+    Came::Bytes(Side::Target, b"JDWP-Handshake"),
+    Came::Bytes(
+        Side::Target,
+        b"\x00\x00\x00\x1f\x00\x00\x00\x01\x80\x00\x00\x00\x00\x00\x08\x00\x00\x00\x08\x00\x00\x00\x08\x00\x00\x00\x08\x00\x00\x00\x08",
+    ),
+    Came::Bytes(
+        Side::Target,
+        b"\x00\x00\x00\x0f\x00\x00\x00\x02\x80\x00\x00\x00\x00\x00\x01",
+    ),
+    Came::Bytes(
+        Side::Target,
+        b"\x00\x00\x00\x0f\x00\x00\x00\x03\x80\x00\x00\x00\x00\x00\x02",
+    ),
+];
+
+// What the client is told then.
+const TOLD_ATTACHED: [&[u8]; 2] = [
+    b"Content-Length: 77\r\n\r\n{\"command\":\"attach\",\"request_seq\":1,\"seq\":1,\"success\":true,\"type\":\"response\"}",
+    b"Content-Length: 46\r\n\r\n{\"event\":\"initialized\",\"seq\":2,\"type\":\"event\"}",
+];
+
+/// What the target is sent then.
+pub(crate) const SENT_ATTACHED: [&[u8]; 4] = [
+    b"JDWP-Handshake",
+    b"\x00\x00\x00\x0b\x00\x00\x00\x01\x00\x01\x07",
+    b"\x00\x00\x00\x11\x00\x00\x00\x02\x00\x0f\x01\x06\x00\x00\x00\x00\x00",
+    b"\x00\x00\x00\x11\x00\x00\x00\x03\x00\x0f\x01\x07\x00\x00\x00\x00\x00",
+];
+
+/// Limits that no short session reaches.
+pub(crate) const USUAL: Limits = Limits {
+    turns: 99,
+    quiet: 9,
+    waiting: 9,
+};
+
+fn add_steps(alloc: Global, steps: &mut List<Step>, came: &[Came<'_>]) -> Result<(), Fail> {
+    for step in came {
+        steps.push(match step {
+            Came::Bytes(side, bytes) => Step::Bytes(*side, List::from_slice(alloc, bytes)?),
+            Came::Shut(side) => Step::Shut(*side),
+            Came::Failed(side) => Step::Failed(*side),
+            Came::Quiet => Step::Quiet,
+        })?;
+    }
+    Ok(())
+}
+
+fn wires_of(alloc: Global, course: &Course<'_>) -> Result<MemoryWires, Fail>
+    ensures client { IfOk result (λ wires. IsOpen Client (outside_of wires)) }
+    ensures target { IfOk result (λ wires. IsOpen Target (outside_of wires)) }
+{
+    let mut steps = List::new(alloc);
+    if course.attached {
+        add_steps(alloc, &mut steps, &ATTACHING)?;
+    }
+    add_steps(alloc, &mut steps, course.steps)?;
+    let mut failing = List::new(alloc);
+    for (side, call, kept) in course.failing {
+        failing.push(Cut {
+            side: *side,
+            call: *call,
+            kept: *kept,
+        })?;
+    }
+    Ok(MemoryWires::new(alloc, steps, failing)?)
+}
+
+fn sent_to(alloc: Global, to: Side, wires: &MemoryWires) -> Result<Vec<u8>, Fail> {
+    let mut sent = Vec::new(alloc);
+    for entry in wires.log().as_slice() {
+        if let Entry::Out(side, bytes) = entry {
+            if *side == to {
+                sent.extend_from_slice(bytes.as_slice())?;
+            }
+        }
+    }
+    Ok(sent)
+}
+
+fn joined(alloc: Global, attached: bool, first: &[&[u8]], then: &[&[u8]]) -> Result<Vec<u8>, Fail> {
+    let mut all = Vec::new(alloc);
+    if attached {
+        for bytes in first {
+            all.extend_from_slice(bytes)?;
+        }
+    }
+    for bytes in then {
+        all.extend_from_slice(bytes)?;
+    }
+    Ok(all)
+}
+
+// Limits that a session can be run with.
+fn usable(limits: Limits) -> Option<Limits>
+    ensures { IfSome result AreLimits }
+{
+    if limits.turns > 0 && limits.turns < 100 && limits.quiet > 0 && limits.waiting > 0 {
+        Some(limits)
+    } else {
+        None
+    }
+}
+
+/// Whether a session ends so, and sends this to both sides: else an error says what it does otherwise.
+pub(crate) fn check(alloc: Global, course: &Course<'_>) -> Result<(), Fail> {
+    let limits = usable(course.limits).ok_or("limits that no session has")?;
+    let mut wires = wires_of(alloc, course)?;
+    if serve(alloc, &limits, &mut wires) != course.ending {
+        return Err("another ending".into());
+    }
+    let told = joined(alloc, course.attached, &TOLD_ATTACHED, course.told)?;
+    if sent_to(alloc, Side::Client, &wires)?.as_slice() != told.as_slice() {
+        return Err("the client is told something else".into());
+    }
+    let sent = joined(alloc, course.attached, &SENT_ATTACHED, course.sent)?;
+    if sent_to(alloc, Side::Target, &wires)?.as_slice() != sent.as_slice() {
+        return Err("the target is sent something else".into());
+    }
+    Ok(())
+}

@@ -1,0 +1,58 @@
+-- The breakpoints that a request asks for. (DAP specification, SetBreakpoints request; Types, SourceBreakpoint)
+use Rattle.std.specs.Prelude.{ℕ, ◌^◌, ◌==◌, List, [], length, Bool, ◌&&◌, nat_lt, if◌then◌else◌, codes, Option, Some}
+use Rattle.std.specs.Prelude.{None, option_and_then, option_map, unwrap_or, Result, Ok}
+use Rattle.serde_json.specs.Data.{Data}
+use Rattle.serde_json.specs.Find.{get, as_array, as_number, as_str, as_u64}
+use Rattle.dap_messages.specs.Arguments.{◌>>=◌, each_in, given, or_missing, unless_broken}
+use Rattle.dap_messages.specs.declared.arguments.Argument.{Argument}
+use Rattle.dap_messages.specs.declared.arguments.Argument.TheVariants.{Source, Breakpoints}
+use Rattle.dap_messages.specs.declared.requests.SetBreakpointsArguments.{SetBreakpointsArguments}
+use Rattle.dap_messages.specs.declared.requests.SourceBreakpoint.{SourceBreakpoint}
+
+-- a number of at most 2 ^ 31 - 1
+abbrev pub in_int : ℕ → Option ℕ
+in_int n = if nat_lt n (2 ^ 31) then Some n else None
+
+-- a value that is an integer from 0 to 2 ^ 31 - 1
+abbrev pub as_int : Data → Option ℕ
+as_int value = option_and_then in_int (option_and_then as_u64 (as_number value))
+
+-- a member that is no text counts as missing, and so does an empty text
+abbrev pub lacks_text : List ℕ → Data → Bool
+lacks_text name value = length (unwrap_or (option_and_then as_str (get name value)) []) == 0
+
+-- without a condition, a hit condition and a log message (DAP specification, Types, SourceBreakpoint)
+abbrev pub is_plain : Data → Bool
+is_plain value =
+    lacks_text (codes "condition") value &&
+    (lacks_text (codes "hitCondition") value && lacks_text (codes "logMessage") value)
+
+-- a value that is a breakpoint: an object with a line (DAP specification, Types, SourceBreakpoint)
+abbrev pub as_breakpoint : Data → Option SourceBreakpoint
+as_breakpoint value =
+    option_map (λ line. record { line = line; plain = is_plain value })
+    (option_and_then as_int (get (codes "line") value))
+
+-- a value that is a list of breakpoints
+abbrev pub as_breakpoints : Data → Option (List SourceBreakpoint)
+as_breakpoints value = option_and_then (each_in as_breakpoint) (as_array value)
+
+-- the breakpoints, of which there are none where they are missing (DAP specification, SetBreakpoints request)
+abbrev pub breakpoints_at : Data → Result (List SourceBreakpoint) Argument
+breakpoints_at arguments =
+    or_missing [] (λ value. unless_broken Breakpoints (as_breakpoints value)) (given Breakpoints arguments)
+
+-- a value that is a source: an object with a path (DAP specification, Types, Source)
+abbrev pub as_source : Data → Option (List ℕ)
+as_source value = option_and_then as_str (get (codes "path") value)
+
+-- the path of the source, which must be there (DAP specification, SetBreakpoints request)
+abbrev pub path_at : Data → Result (List ℕ) Argument
+path_at arguments = unless_broken Source (option_and_then as_source (given Source arguments))
+
+-- what `setBreakpoints` says (DAP specification, SetBreakpoints request)
+abbrev pub set_breakpoints_of : Data → Result SetBreakpointsArguments Argument
+set_breakpoints_of arguments = do
+  path ← path_at arguments
+  breakpoints ← breakpoints_at arguments
+  Ok (record { path = path; breakpoints = breakpoints })

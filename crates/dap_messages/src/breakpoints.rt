@@ -1,0 +1,97 @@
+ghost use Rattle.std.specs.Prelude.{◌≡◌};
+ghost use Rattle.serde_json.specs.View.{view, items_view};
+ghost use Rattle.dap_messages.specs.Arguments.{each_in, unless_broken, IsRead};
+ghost use Rattle.dap_messages.specs.Breakpoints.{as_breakpoint, as_int, breakpoints_at, is_plain};
+ghost use Rattle.dap_messages.specs.Breakpoints.{lacks_text, path_at};
+ghost use Rattle.dap_messages.specs.declared.arguments.Argument.TheVariants as argument;
+
+use crate::arguments::{Argument, Refused, given};
+use crate::requests::SourceBreakpoint;
+use serde_json::Value;
+use std::alloc::Global;
+use wire_core::{List, Text};
+
+const MAX_INT: u64 = (1 << 31) - 1;
+
+/// The path of the source, which must be there.
+pub(crate) fn path_at(alloc: Global, arguments: &Value) -> Result<Text, Refused>
+    ensures { IsRead result (path_at (view arguments.now)) }
+{
+    let Some(source) = given(arguments, Argument::Source) else {
+        return Err(Refused::Broken(Argument::Source));
+    };
+    match source.get("path").and_then(Value::as_str) {
+        Some(path) => Ok(Text::from_str(alloc, path)?),
+        None => Err(Refused::Broken(Argument::Source)),
+    }
+}
+
+/// The breakpoints, of which there are none where they are missing.
+pub(crate) fn breakpoints_at(
+    alloc: Global,
+    arguments: &Value,
+) -> Result<List<SourceBreakpoint>, Refused>
+    ensures { IsRead result (breakpoints_at (view arguments.now)) }
+{
+    match given(arguments, Argument::Breakpoints) {
+        Some(value) => match value.as_array() {
+            Some(items) => breakpoints_in(alloc, items.as_slice()),
+            None => Err(Refused::Broken(Argument::Breakpoints)),
+        },
+        None => Ok(List::new(alloc)),
+    }
+}
+
+fn breakpoints_in(alloc: Global, items: &[Value]) -> Result<List<SourceBreakpoint>, Refused>
+    ensures { IsRead result (unless_broken argument.Breakpoints (each_in as_breakpoint (items_view items.now))) }
+{
+    let mut breakpoints = List::new(alloc);
+    for item in items {
+        match as_breakpoint(item) {
+            Some(breakpoint) => breakpoints.push(breakpoint)?,
+            None => return Err(Refused::Broken(Argument::Breakpoints)),
+        }
+    }
+    Ok(breakpoints)
+}
+
+fn as_breakpoint(value: &Value) -> Option<SourceBreakpoint>
+    ensures { result ≡ as_breakpoint (view value.now) }
+{
+    let line = value.get("line").and_then(as_int)?;
+    Some(SourceBreakpoint {
+        line,
+        plain: is_plain(value),
+    })
+}
+
+fn is_plain(value: &Value) -> bool
+    ensures { result ≡ is_plain (view value.now) }
+{
+    lacks_text(value, "condition")
+        && lacks_text(value, "hitCondition")
+        && lacks_text(value, "logMessage")
+}
+
+fn lacks_text(value: &Value, name: &str) -> bool
+    ensures { result ≡ lacks_text name.now (view value.now) }
+{
+    value
+        .get(name)
+        .and_then(Value::as_str)
+        .unwrap_or("")
+        .is_empty()
+}
+
+fn as_int(value: &Value) -> Option<u32>
+    ensures { result ≡ as_int (view value.now) }
+{
+    match value.as_u64() {
+        Some(number) => if number <= MAX_INT {
+            Some(number as u32)
+        } else {
+            None
+        },
+        None => None,
+    }
+}

@@ -1,0 +1,254 @@
+-- Facts that are learnt stay known, and a class that is made known is bound by what is known of it.
+use Rattle.std.proofs.Common.{◌≡◌, ℕ, Bool, true, false, cond, List, [], ◌∷◌, Option, Some, None, refl}
+use Rattle.std.proofs.Common.{sym, ap, ◌∙◌, option_map, arith}
+use Rattle.std.specs.Prelude.{fold}
+use Rattle.std.specs.List.{AllByRecursion as All}
+use Rattle.class_tables.specs.Facts.{Known, MethodOf, same_class, same_method}
+use Rattle.class_tables.specs.Lookups.{Lookups, found_in}
+use Rattle.class_tables.specs.Signatures.{package_in}
+use Rattle.class_tables.specs.Tables.{put, under}
+use Rattle.class_tables.specs.Views.{Key}
+use Rattle.class_tables.specs.declared.loaded.Loaded.{Loaded}
+use Rattle.jdwp_commands.specs.declared.question.Question.TheVariants as questions
+use Rattle.jdwp_values.specs.declared.id.ClassId.{ClassId}
+use Rattle.machine_model.specs.Binding.{IsBound}
+use Rattle.machine_model.specs.Classes.{class_plan, classes_in, is_keyed, keyed_plan, known_plan, package_plan}
+use Rattle.machine_model.specs.Classes.{prepared_plan, source_plan, watched_plan, with_listed}
+use Rattle.machine_model.specs.Facts.{fact_known, source_in}
+use Rattle.machine_model.specs.Names.{Answer, Question, Want}
+use Rattle.machine_model.specs.Plans.{Sight, after, asking, beside, each, has, joined, need}
+use Rattle.machine_model.specs.Replying.{learnt}
+use Rattle.machine_model.specs.State.{is_some}
+use Rattle.machine_model.proofs.BindingPlans.{is_fact}
+use Rattle.machine_model.proofs.PlanIds.{after_like, need_chained, need_made}
+use Rattle.machine_model.proofs.StandingReplies.{only_loaded}
+use Rattle.wish_sets.specs.Places.{key_by}
+use Rattle.wish_sets.specs.Wanted.{Wanted, class_found, put_known, with_class, with_known}
+use Rattle.wish_sets.specs.Wished.{is_watched}
+use Rattle.wish_sets.specs.declared.facts.KnownClass.{KnownClass}
+
+-- Tables --------------------------------------------------------------------------------------------------------------
+
+module _ {K V : Type 0} (same : K → K → Bool) where
+  -- what was known under a key stays known
+  put_keeps : (k key : K) (v : V) (entries : List (K × V)) → is_some (under same k entries) ≡ true
+      → is_some (under same k (put same key v entries)) ≡ true
+  put_keeps k key v [] h = cc
+  put_keeps k key v (entry ∷ entries) h =
+      by_put (same key entry.0) (λ rest. put_keeps k key v entries rest)
+    where
+      replaced : (mine : Bool) → is_some (cond mine (Some entry.1) (under same k entries)) ≡ true
+          → is_some (cond mine (Some v) (under same k entries)) ≡ true
+      replaced true h = refl
+      replaced false h = h
+
+      behind : (mine : Bool) → (is_some (under same k entries) ≡ true
+          → is_some (under same k (put same key v entries)) ≡ true)
+          → is_some (cond mine (Some entry.1) (under same k entries)) ≡ true
+          → is_some (cond mine (Some entry.1) (under same k (put same key v entries))) ≡ true
+      behind true again h = refl
+      behind false again h = again h
+
+      by_put : (is : Bool) → (is_some (under same k entries) ≡ true
+          → is_some (under same k (put same key v entries)) ≡ true)
+          → is_some (under same k (cond is ((entry.0, v) ∷ entries) (entry ∷ put same key v entries))) ≡ true
+      by_put true again = replaced (same k entry.0) h
+      by_put false again = behind (same k entry.0) again h
+
+  -- what is put is found
+  put_gives : (key : K) (v : V) (entries : List (K × V)) → same key key ≡ true
+      → under same key (put same key v entries) ≡ Some v
+  put_gives key v [] itself = rw itself refl
+  put_gives key v (entry ∷ entries) itself = by_put (same key entry.0) refl (put_gives key v entries itself)
+    where
+      by_put : (is : Bool) → same key entry.0 ≡ is → under same key (put same key v entries) ≡ Some v
+          → under same key (cond is ((entry.0, v) ∷ entries) (entry ∷ put same key v entries)) ≡ Some v
+      by_put true e rest = rw e refl
+      by_put false e rest = rw e rest
+
+  -- and nothing else changes
+  put_other : (k key : K) (v : V) (entries : List (K × V)) → same k key ≡ false
+      → ((x : K) → same key x ≡ true → same k x ≡ false)
+      → under same k (put same key v entries) ≡ under same k entries
+  put_other k key v [] other apart = rw other refl
+  put_other k key v (entry ∷ entries) other apart =
+      by_put (same key entry.0) refl (put_other k key v entries other apart)
+    where
+      by_put : (is : Bool) → same key entry.0 ≡ is → under same k (put same key v entries) ≡ under same k entries
+          → under same k (cond is ((entry.0, v) ∷ entries) (entry ∷ put same key v entries))
+          ≡ cond (same k entry.0) (Some entry.1) (under same k entries)
+      by_put true e rest = rw (apart entry.0 e) refl
+      by_put false e rest = ap (cond (same k entry.0) (Some entry.1)) rest
+
+is_mapped : {A B : Type 0} (f : A → B) (found : Option A) → is_some (option_map f found) ≡ is_some found
+is_mapped f None = refl
+is_mapped f (Some a) = refl
+
+-- Facts that are learnt -----------------------------------------------------------------------------------------------
+
+class_is : (c : ClassId) → same_class c c ≡ true
+class_is c = grind arith
+
+method_is : (one : MethodOf) → same_method one one ≡ true
+method_is one = grind arith
+
+listed_sources : (classes : List _) (known : Known) → (fold with_listed known classes).sources ≡ known.sources
+listed_sources classes known = ap (λ (k : Known). k.sources) (only_loaded classes known)
+
+listed_methods : (classes : List _) (known : Known) → (fold with_listed known classes).methods ≡ known.methods
+listed_methods classes known = ap (λ (k : Known). k.methods) (only_loaded classes known)
+
+listed_lines : (classes : List _) (known : Known) → (fold with_listed known classes).lines ≡ known.lines
+listed_lines classes known = ap (λ (k : Known). k.lines) (only_loaded classes known)
+
+sources_grow : (question : Question) (heard : Option Answer) (known : Known) (c : ClassId)
+    → is_some (under same_class c known.sources) ≡ true
+    → is_some (under same_class c (learnt question heard known).sources) ≡ true
+sources_grow questions.AllClasses heard known c h = rw (listed_sources (classes_in heard) known) h
+sources_grow (questions.SourceFile other) heard known c h = put_keeps same_class c other _ known.sources h
+sources_grow _ heard known c h = h
+
+methods_grow : (question : Question) (heard : Option Answer) (known : Known) (c : ClassId)
+    → is_some (under same_class c known.methods) ≡ true
+    → is_some (under same_class c (learnt question heard known).methods) ≡ true
+methods_grow questions.AllClasses heard known c h = rw (listed_methods (classes_in heard) known) h
+methods_grow (questions.Methods other) heard known c h = put_keeps same_class c other _ known.methods h
+methods_grow _ heard known c h = h
+
+lines_grow : (question : Question) (heard : Option Answer) (known : Known) (one : MethodOf)
+    → is_some (under same_method one known.lines) ≡ true
+    → is_some (under same_method one (learnt question heard known).lines) ≡ true
+lines_grow questions.AllClasses heard known one h = rw (listed_lines (classes_in heard) known) h
+lines_grow (questions.LineTable other m) heard known one h = put_keeps same_method one (other, m) _ known.lines h
+lines_grow _ heard known one h = h
+
+-- a fact that is known stays so
+pub fact_grows : (question : Question) (heard : Option Answer) (known : Known) (fact : Question)
+    → is_fact fact ≡ true → is_some (fact_known (found_in known) fact) ≡ true
+    → is_some (fact_known (found_in (learnt question heard known)) fact) ≡ true
+fact_grows question heard known (questions.SourceFile c) is h = is_mapped _ (under same_class c _)
+    ∙ sources_grow question heard known c (sym (is_mapped _ (under same_class c known.sources)) ∙ h)
+fact_grows question heard known (questions.Methods c) is h = is_mapped _ (under same_class c _)
+    ∙ methods_grow question heard known c (sym (is_mapped _ (under same_class c known.methods)) ∙ h)
+fact_grows question heard known (questions.LineTable c m) is h = is_mapped _ (under same_method (c, m) _)
+    ∙ lines_grow question heard known (c, m) (sym (is_mapped _ (under same_method (c, m) known.lines)) ∙ h)
+fact_grows question heard known _ is h = cc
+
+-- and one that is replied is known
+pub fact_learnt : (question : Question) (heard : Option Answer) (known : Known) → is_fact question ≡ true
+    → is_some (fact_known (found_in (learnt question heard known)) question) ≡ true
+fact_learnt (questions.SourceFile c) heard known is = is_mapped _ (under same_class c _)
+    ∙ ap is_some (put_gives same_class c _ known.sources (class_is c))
+fact_learnt (questions.Methods c) heard known is = is_mapped _ (under same_class c _)
+    ∙ ap is_some (put_gives same_class c _ known.methods (class_is c))
+fact_learnt (questions.LineTable c m) heard known is = is_mapped _ (under same_method (c, m) _)
+    ∙ ap is_some (put_gives same_method (c, m) _ known.lines (method_is (c, m)))
+fact_learnt _ heard known is = cc
+
+-- Classes that are made known -----------------------------------------------------------------------------------------
+
+class_equal : (a b : ClassId) → same_class a b ≡ true → a ≡ b
+class_equal a b is = let same : a.0 ≡ b.0 = grind (arith, is) in ap (λ (id : ℕ). record { 0 = id }) same
+
+class_apart : (a b x : ClassId) → same_class a b ≡ false → same_class b x ≡ true → same_class a x ≡ false
+class_apart a b x other is = grind (arith, other, is)
+
+bound_now : (known : Known) (class : ClassId) (wanted : Wanted)
+    → IsBound known (with_class (found_in known) class wanted) class
+bound_now known class wanted facts is =
+    ap (λ (found : Option KnownClass). under same_class class (put_known class found wanted.classes)) is
+    ∙ put_gives same_class class facts wanted.classes (class_is class)
+
+bound_kept : (known : Known) (class other : ClassId) (wanted : Wanted) → IsBound known wanted other
+    → IsBound known (with_class (found_in known) class wanted) other
+bound_kept known class other wanted h facts is =
+    by_same (same_class other class) refl (class_found (found_in known) class) refl
+  where
+    by_same : (same : Bool) → same_class other class ≡ same → (found : Option KnownClass)
+        → class_found (found_in known) class ≡ found
+        → under same_class other (put_known class found wanted.classes) ≡ Some facts
+    by_same same e None found_is = h facts is
+    by_same true e (Some found) found_is =
+        let one = class_equal other class e in
+        let alike : Some facts ≡ Some found = sym is ∙ ap (class_found (found_in known)) one ∙ found_is in
+        ap (λ (c : ClassId). under same_class c (put same_class class found wanted.classes)) one
+        ∙ put_gives same_class class found wanted.classes (class_is class) ∙ sym alike
+    by_same false e (Some found) found_is =
+        put_other same_class other class found wanted.classes e
+        (λ x same. class_apart other class x e same) ∙ h facts is
+
+all_kept : (known : Known) (classes : List ClassId) (other : ClassId) (wanted : Wanted) → IsBound known wanted other
+    → IsBound known (with_known (found_in known) classes wanted) other
+all_kept known [] other wanted h = h
+all_kept known (class ∷ classes) other wanted h =
+    all_kept known classes other (with_class (found_in known) class wanted) (bound_kept known class other wanted h)
+
+pub all_bound : (known : Known) (classes : List ClassId) (wanted : Wanted)
+    → All (IsBound known (with_known (found_in known) classes wanted)) classes
+all_bound known [] wanted = tt
+all_bound known (class ∷ classes) wanted = (
+  all_kept known classes class (with_class (found_in known) class wanted) (bound_now known class wanted),
+  all_bound known classes (with_class (found_in known) class wanted),
+)
+
+pub only_classes : (known : Lookups) (classes : List ClassId) (wanted : Wanted)
+    → with_known known classes wanted ≡ record wanted { classes = (with_known known classes wanted).classes }
+only_classes known [] wanted = refl
+only_classes known (class ∷ classes) wanted = only_classes known classes (with_class known class wanted)
+
+-- What is lacking doesn't hang on what was made known -----------------------------------------------------------------
+
+module _ (sight : Sight) (wanted : Wanted) (classes : List (ClassId × KnownClass)) where
+  abbrev later : Wanted
+  later = record wanted { classes = classes }
+
+  same_keyed : (key : Option Key) → is_keyed later key ≡ is_keyed wanted key
+  same_keyed None = refl
+  same_keyed (Some key) = refl
+
+  same_source : (class : ClassId) (signature : List ℕ)
+      → need sight (source_plan later class signature) ≡ need sight (source_plan wanted class signature)
+  same_source class signature =
+      need_chained sight (asking source_in (Want.Fact (questions.SourceFile class)))
+      (λ source. keyed_plan (is_keyed later (key_by signature source)) class)
+      ∙ after_like (need sight (asking source_in (Want.Fact (questions.SourceFile class)))) _ _
+      (λ source. ap (λ keyed. need sight (keyed_plan keyed class)) (same_keyed (key_by signature source)))
+      ∙ sym (need_chained sight (asking source_in (Want.Fact (questions.SourceFile class)))
+      (λ source. keyed_plan (is_keyed wanted (key_by signature source)) class))
+
+  same_class_plan : (class : ClassId) (loaded : Option Loaded)
+      → need sight (class_plan later class loaded) ≡ need sight (class_plan wanted class loaded)
+  same_class_plan class None = refl
+  same_class_plan class (Some loaded) = by_prepared loaded.prepared
+    where
+      by_watched : (watched : Bool) → need sight (watched_plan watched later class loaded.signature)
+          ≡ need sight (watched_plan watched wanted class loaded.signature)
+      by_watched false = refl
+      by_watched true = same_source class loaded.signature
+
+      by_package : (path : Option (List ℕ)) → need sight (package_plan later class loaded.signature path)
+          ≡ need sight (package_plan wanted class loaded.signature path)
+      by_package None = refl
+      by_package (Some path) = by_watched (is_watched wanted path)
+
+      by_prepared : (prepared : Bool) → need sight (prepared_plan prepared later class loaded.signature)
+          ≡ need sight (prepared_plan prepared wanted class loaded.signature)
+      by_prepared false = refl
+      by_prepared true = by_package (package_in loaded.signature)
+
+  same_each : (known : Lookups) (order : List ClassId)
+      → need sight (each (λ class. class_plan later class (known.loaded class)) order)
+      ≡ need sight (each (λ class. class_plan wanted class (known.loaded class)) order)
+  unfolding need each
+  same_each known [] = refl
+  same_each known (class ∷ order) =
+      ap (λ n. after (beside n (need sight (each (λ class. class_plan later class (known.loaded class)) order)))
+      (λ two. has (two.0 ∷ two.1))) (same_class_plan class (known.loaded class))
+      ∙ ap (λ n. after (beside (need sight (class_plan wanted class (known.loaded class))) n)
+      (λ two. has (two.0 ∷ two.1))) (same_each known order)
+
+  pub same_known : (known : Lookups) → need sight (known_plan later known) ≡ need sight (known_plan wanted known)
+  same_known known =
+      need_made sight joined (each (λ class. class_plan later class (known.loaded class)) known.order)
+      ∙ ap (λ n. after n (λ lists. has (joined lists))) (same_each known known.order)
+      ∙ sym (need_made sight joined (each (λ class. class_plan wanted class (known.loaded class)) known.order))

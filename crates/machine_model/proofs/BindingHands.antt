@@ -1,0 +1,260 @@
+-- What the item in hand may ask of classes, and where it is changed what is wished in them.
+use Rattle.std.proofs.Common.{◌≡◌, Bool, true, false, cond, not, ◌||◌, List, [], ◌∷◌, Option, Some, None, refl}
+use Rattle.std.proofs.Common.{sym, ap, ◌∙◌, arith}
+use Rattle.std.specs.List.{AllByRecursion as All}
+use Rattle.class_tables.specs.Facts.{Known}
+use Rattle.class_tables.specs.Lookups.{found_in}
+use Rattle.jdwp_commands.specs.declared.question.Question.TheVariants as questions
+use Rattle.jdwp_values.specs.declared.id.ClassId.{ClassId}
+use Rattle.machine_model.specs.Facts.{fact_known}
+use Rattle.machine_model.specs.Names.{Classes, Item, Lines, Part, Question, Replied, Sent, Want}
+use Rattle.machine_model.specs.Names.{a_composite, a_raw, a_request, class_facts, target_end, Command, Failure}
+use Rattle.machine_model.specs.Plans.{asks_for, question_of}
+use Rattle.machine_model.specs.Replying.{filled, waits_for, is_waiting}
+use Rattle.machine_model.specs.Rows.{failure_of, parts_by, parts_of, row_of, wanting}
+use Rattle.machine_model.specs.State.{State, has_waiting, is_empty, is_none, is_some}
+use Rattle.machine_model.proofs.BindingPlans.{IsLearnt, is_fact, tells_classes}
+use Rattle.machine_model.proofs.KeyLaws.{is_one}
+use Rattle.machine_model.proofs.Tables.{is_updates}
+use Rattle.machine_model.proofs.Testing.{IsTest}
+
+-- Parts ---------------------------------------------------------------------------------------------------------------
+
+-- it looks classes up
+abbrev pub looks_classes : Part → Bool
+looks_classes (Part.Looks class_facts) = true
+looks_classes _ = false
+
+-- it makes classes known
+abbrev pub notes_classes : Part → Bool
+notes_classes (Part.Notes (Classes classes)) = true
+notes_classes _ = false
+
+-- it replaces a list
+abbrev pub notes_lines : Part → Bool
+notes_lines (Part.Notes (Lines key entries)) = true
+notes_lines _ = false
+
+abbrev pub looks_first : List Part → Bool
+looks_first [] = false
+looks_first (part ∷ parts) = looks_classes part
+
+abbrev pub looks_ahead : List Part → Bool
+looks_ahead [] = false
+looks_ahead (part ∷ parts) = looks_classes part || looks_ahead parts
+
+abbrev pub has_note : List Part → Bool
+has_note [] = false
+has_note (part ∷ parts) = notes_classes part || has_note parts
+
+-- classes are still to be looked up, or made known
+abbrev pub binds_ahead : List Part → Bool
+binds_ahead [] = false
+binds_ahead (part ∷ parts) = cond (looks_classes part) true (notes_classes part || binds_ahead parts)
+
+-- the classes that are made known next
+abbrev pub first_note : List Part → Option (List ClassId)
+first_note (Part.Notes (Classes classes) ∷ parts) = Some classes
+first_note _ = None
+
+-- all watches that are wished have to be set by now: but for those of a list that was replaced, before `updates`
+abbrev pub needs_watches : List Part → Bool
+needs_watches [] = true
+needs_watches (part ∷ parts) = cond (looks_classes part) true
+    (cond (is_updates part) (not (looks_ahead parts)) (cond (notes_lines part) false (needs_watches parts)))
+
+-- Behind a list stand `updates` and a look-up of classes, which stands once; and classes are made known in front alone.
+abbrev pub is_placed : List Part → Bool
+is_placed [] = true
+is_placed (part ∷ parts) =
+    cond (cond (notes_lines part) (cond (needs_watches parts) false (binds_ahead parts)) true)
+    (cond (cond (looks_classes part) (looks_ahead parts) false) false (cond (has_note parts) false (is_placed parts)))
+    false
+
+abbrev pub placed : Bool → List Part → Bool
+placed gone parts = is_placed parts
+
+row_placed : (failure : Option Failure) (command : Command) (state : State)
+    → is_placed (parts_by failure (row_of command state)) ≡ true
+row_placed failure command state = grind arith
+
+placed_begun : (state : State) (item : Item) → is_placed (parts_of state item) ≡ true
+placed_begun state (a_request request) = row_placed (failure_of (wanting request.command) state) request.command state
+placed_begun state target_end = grind arith
+placed_begun state (a_composite at composite) = grind arith
+placed_begun state (a_raw at body) = refl
+
+pub placed_test : IsTest placed
+placed_test = record {
+  none = λ gone. refl;
+  tail = λ gone part rest is. grind (arith, is);
+  begins = placed_begun;
+  unfolds = λ choice state hand rest is. grind (arith, is);
+  finds = λ lookup result state rest is. grind (arith, is);
+  gives_up = λ responds item. grind arith;
+}
+
+row_noted : (failure : Option Failure) (command : Command) (state : State)
+    → first_note (parts_by failure (row_of command state)) ≡ None
+row_noted failure command state = grind arith
+
+-- no item begins with classes
+pub begun_noted : (state : State) (item : Item) → first_note (parts_of state item) ≡ None
+begun_noted state (a_request request) = row_noted (failure_of (wanting request.command) state) request.command state
+begun_noted state target_end = grind arith
+begun_noted state (a_composite at composite) = refl
+begun_noted state (a_raw at body) = refl
+
+-- Questions -----------------------------------------------------------------------------------------------------------
+
+abbrev pub asks_classes : List Sent → Bool
+asks_classes [] = false
+asks_classes (sent ∷ asked) = tells_classes (question_of sent.want) || asks_classes asked
+
+abbrev pub awaits_classes : List Sent → Bool
+awaits_classes [] = false
+awaits_classes (sent ∷ asked) =
+    cond (is_none sent.reply) (tells_classes (question_of sent.want)) false || awaits_classes asked
+
+abbrev pub queues_classes : List Want → Bool
+queues_classes [] = false
+queues_classes (want ∷ wants) = tells_classes (question_of want) || queues_classes wants
+
+abbrev pub is_listing : Question → Bool
+is_listing questions.AllClasses = true
+is_listing _ = false
+
+-- all classes were listed by a reply
+abbrev pub was_listed : List Sent → Bool
+was_listed [] = false
+was_listed (sent ∷ asked) =
+    cond (is_some sent.reply) (is_listing (question_of sent.want)) false || was_listed asked
+
+pub none_awaits : (asked : List Sent) → has_waiting asked ≡ false → awaits_classes asked ≡ false
+none_awaits [] is = refl
+none_awaits (sent ∷ asked) is = grind (arith, is, none_awaits asked)
+
+pub none_queued : (wants : List Want) → is_empty wants ≡ true → queues_classes wants ≡ false
+none_queued [] is = refl
+none_queued (want ∷ wants) is = cc
+
+-- what awaits its reply, or was listed, was asked
+pub listed_asks : (asked : List Sent) → was_listed asked ≡ true → asks_classes asked ≡ true
+listed_asks [] is = cc
+listed_asks (sent ∷ asked) is =
+    by_tests (is_some sent.reply) (is_listing (question_of sent.want)) (tells_classes (question_of sent.want))
+    (was_listed asked) (asks_classes asked) (listing_tells (question_of sent.want)) (listed_asks asked) is
+  where
+    listing_tells : (question : Question) → is_listing question ≡ true → tells_classes question ≡ true
+    listing_tells questions.AllClasses is = refl
+    listing_tells _ is = cc
+
+    by_tests : (replied lists tells more asks : Bool) → (lists ≡ true → tells ≡ true) → (more ≡ true → asks ≡ true)
+        → (cond replied lists false || more) ≡ true → (tells || asks) ≡ true
+    by_tests replied lists tells more asks one other is = grind (arith, one, other, is)
+
+-- a question that is waited for, of classes, is awaited
+pub awaited_is : (asked : List Sent) (question : Question) → is_waiting question asked ≡ true
+    → tells_classes question ≡ true → awaits_classes asked ≡ true
+awaited_is [] question waits tells = cc
+awaited_is (sent ∷ asked) question waits tells =
+    by_tests (is_none sent.reply) (asks_for sent question) refl waits (awaited_is asked question)
+  where
+    or_right : (a b : Bool) → b ≡ true → (a || b) ≡ true
+    or_right true b is = refl
+    or_right false b is = is
+
+    by_tests : (none asks : Bool) → asks_for sent question ≡ asks
+        → (cond none asks false || is_waiting question asked) ≡ true
+        → (is_waiting question asked ≡ true → tells_classes question ≡ true → awaits_classes asked ≡ true)
+        → (cond none (tells_classes (question_of sent.want)) false || awaits_classes asked) ≡ true
+    by_tests true true key waits again =
+        rw (ap tells_classes (is_one (question_of sent.want) question key) ∙ tells) refl
+    by_tests true false key waits again = or_right (tells_classes (question_of sent.want)) _ (again waits tells)
+    by_tests false asks key waits again = again waits tells
+
+module _ (question : Question) (replied : Replied) where
+  pub asks_filled : (asked : List Sent) → asks_classes (filled question replied asked) ≡ asks_classes asked
+  asks_filled [] = refl
+  asks_filled (sent ∷ asked) = by_test (waits_for sent question) (asks_filled asked)
+    where
+      by_test : (is : Bool) → asks_classes (filled question replied asked) ≡ asks_classes asked
+          → asks_classes (cond is (record sent { reply = Some replied } ∷ asked) (sent ∷ filled question replied asked))
+          ≡ (tells_classes (question_of sent.want) || asks_classes asked)
+      by_test true again = refl
+      by_test false again = ap (λ b. tells_classes (question_of sent.want) || b) again
+
+  pub awaits_filled : (asked : List Sent) → awaits_classes (filled question replied asked) ≡ true
+      → awaits_classes asked ≡ true
+  awaits_filled [] is = is
+  awaits_filled (sent ∷ asked) is = by_test (waits_for sent question) (awaits_filled asked) is
+    where
+      either : (a b c : Bool) → (a || b) ≡ true → (b ≡ true → c ≡ true) → (a || c) ≡ true
+      either a b c is rest = grind (arith, is, rest)
+
+      or_right : (a b : Bool) → b ≡ true → (a || b) ≡ true
+      or_right true b is = refl
+      or_right false b is = is
+
+      by_test : (is : Bool) → (awaits_classes (filled question replied asked) ≡ true → awaits_classes asked ≡ true)
+          → awaits_classes (cond is (record sent { reply = Some replied } ∷ asked) (sent ∷ filled question replied asked))
+          ≡ true
+          → (cond (is_none sent.reply) (tells_classes (question_of sent.want)) false || awaits_classes asked) ≡ true
+      by_test true again now =
+          or_right (cond (is_none sent.reply) (tells_classes (question_of sent.want)) false) _ now
+      by_test false again now =
+          either (cond (is_none sent.reply) (tells_classes (question_of sent.want)) false) _ _ now again
+
+  pub listed_filled : (asked : List Sent) → is_listing question ≡ false
+      → was_listed (filled question replied asked) ≡ was_listed asked
+  listed_filled [] other = refl
+  listed_filled (sent ∷ asked) other =
+      by_tests (is_none sent.reply) (asks_for sent question) refl (listed_filled asked other)
+    where
+      never : (b : Bool) → cond b false false ≡ false
+      never true = refl
+      never false = refl
+
+      by_tests : (none asks : Bool) → asks_for sent question ≡ asks
+          → was_listed (filled question replied asked) ≡ was_listed asked
+          → was_listed (cond (cond none asks false) (record sent { reply = Some replied } ∷ asked)
+          (sent ∷ filled question replied asked))
+          ≡ (cond (is_some sent.reply) (is_listing (question_of sent.want)) false || was_listed asked)
+      by_tests true true key again =
+          let not_listing = ap is_listing (is_one (question_of sent.want) question key) ∙ other in
+          rw not_listing (sym (ap (λ b. b || was_listed asked) (never (is_some sent.reply))))
+      by_tests true false key again =
+          ap (λ b. cond (is_some sent.reply) (is_listing (question_of sent.want)) false || b) again
+      by_tests false asks key again =
+          ap (λ b. cond (is_some sent.reply) (is_listing (question_of sent.want)) false || b) again
+
+  -- each fact that was replied is known then
+  pub learnt_filled : (known now : Known) (asked : List Sent)
+      → ((fact : Question) → is_fact fact ≡ true → is_some (fact_known (found_in known) fact) ≡ true
+      → is_some (fact_known (found_in now) fact) ≡ true)
+      → (is_fact question ≡ true → is_some (fact_known (found_in now) question) ≡ true)
+      → All (IsLearnt known) asked → All (IsLearnt now) (filled question replied asked)
+  learnt_filled known now [] grows itself h = tt
+  learnt_filled known now (sent ∷ asked) grows itself h =
+      by_tests (is_none sent.reply) (asks_for sent question) refl (learnt_filled known now asked grows itself h.1)
+    where
+      still : IsLearnt now sent
+      still some fact = grows (question_of sent.want) fact (h.0 some fact)
+
+      all_still : (asked : List Sent) → All (IsLearnt known) asked → All (IsLearnt now) asked
+      all_still [] h = tt
+      all_still (one ∷ others) h =
+          (λ some fact. grows (question_of one.want) fact (h.0 some fact), all_still others h.1)
+
+      replied_now : asks_for sent question ≡ true → IsLearnt now (record sent { reply = Some replied })
+      replied_now key some fact =
+          let one = is_one (question_of sent.want) question key in
+          ap (λ q. is_some (fact_known (found_in now) q)) one ∙ itself (sym (ap is_fact one) ∙ fact)
+
+      by_tests : (none asks : Bool) → asks_for sent question ≡ asks
+          → All (IsLearnt now) (filled question replied asked)
+          → All (IsLearnt now) (cond (cond none asks false) (record sent { reply = Some replied } ∷ asked)
+          (sent ∷ filled question replied asked))
+      by_tests true true key again = (replied_now key, all_still asked h.1)
+      by_tests true false key again = (still, again)
+      by_tests false asks key again = (still, again)

@@ -1,0 +1,304 @@
+-- What replies and notes keep of what binds breakpoints.
+use Rattle.std.proofs.Common.{◌≡◌, ℕ, Bool, true, false, ◌||◌, List, [], ◌∷◌, ◌++◌, Option, Some}
+use Rattle.std.proofs.Common.{refl, sym, ap, subst, ◌∙◌, arith, ◌⊎◌, inl, inr}
+use Rattle.class_tables.specs.Lookups.{found_in}
+use Rattle.jdwp_commands.specs.declared.question.Question.TheVariants as questions
+use Rattle.jdwp_values.specs.declared.id.ClassId.{ClassId}
+use Rattle.machine_model.specs.Binding.{AreAllBound, sight_alone}
+use Rattle.machine_model.specs.Classes.{known_plan}
+use Rattle.machine_model.specs.Lookups.{classes_of, finished, found_for}
+use Rattle.machine_model.specs.Names.{Choice, Classes, Clear, Does, Effect, Finding, Lines}
+use Rattle.machine_model.specs.Names.{Lookup, Note, Options, Part, Question, Replied, Roots, Sent, Set}
+use Rattle.machine_model.specs.Names.{Want, all_threads, an_effect}
+use Rattle.machine_model.specs.Names.{class_facts}
+use Rattle.machine_model.specs.Outcomes.{result_of}
+use Rattle.machine_model.specs.Plans.{Need, answer_in, need}
+use Rattle.machine_model.specs.Plans.{is_done}
+use Rattle.machine_model.specs.Replying.{IsReply, done_by, filled, is_waiting}
+use Rattle.machine_model.specs.Replying.{told_by, unless_failed}
+use Rattle.machine_model.specs.Requests.{Wishes, wishes_after}
+use Rattle.machine_model.specs.Rows.{chosen, noted}
+use Rattle.machine_model.specs.State.{Hand, State, is_some}
+use Rattle.machine_model.proofs.BindingFacts.{all_bound, fact_grows, fact_learnt, only_classes, same_known}
+use Rattle.machine_model.proofs.BindingHands.{asks_classes, asks_filled, awaited_is, awaits_classes, awaits_filled}
+use Rattle.machine_model.proofs.BindingHands.{binds_ahead, first_note, has_note, is_listing, is_placed}
+use Rattle.machine_model.proofs.BindingHands.{learnt_filled, listed_asks, listed_filled, looks_ahead}
+use Rattle.machine_model.proofs.BindingHands.{looks_first, needs_watches}
+use Rattle.machine_model.proofs.BindingHands.{queues_classes, was_listed}
+use Rattle.machine_model.proofs.BindingPlans.{is_fact}
+use Rattle.machine_model.proofs.BindingPlans.{tells_classes}
+use Rattle.machine_model.proofs.RequestLaws.{IsDue}
+use Rattle.machine_model.proofs.RequestSteps.{is_deed}
+use Rattle.machine_model.proofs.Tables.{starts_updates}
+use Rattle.wish_sets.specs.Wanted.{Wanted, with_known}
+use Rattle.wish_sets.specs.declared.wish.Wish.TheVariants as wishes
+use Rattle.machine_model.specs.Facts.{fact_known}
+use Rattle.wish_sets.specs.declared.entry.LineEntry.{LineEntry}
+use Rattle.machine_model.proofs.BindingWatches.{WatchesSet, due_unset, replied_set, known_set}
+use Rattle.machine_model.proofs.BindingWatches.{classes_alike}
+use Rattle.machine_model.proofs.BindingParts.{IsComplete, Binding, Same, still_bound, still_complete}
+use Rattle.machine_model.proofs.BindingParts.{still_binding, IsClear, quiet}
+use Rattle.machine_model.proofs.BindingParts.{none_ahead, note_had, placed_note}
+use Rattle.machine_model.proofs.BindingParts.{AreLike, are_same, goes_by}
+use Rattle.machine_model.proofs.BindingParts.{itself, found_complete, unlisted_waits}
+
+-- Replies -------------------------------------------------------------------------------------------------------------
+
+pub told_wishes : (question : Question) (replied : Replied) (state : State)
+    → (told_by question replied state).wishes ≡ state.wishes
+told_wishes question replied state = grind arith
+
+pub other_reply : (question : Question) (replied : Replied) (state : State) → tells_classes question ≡ false
+    → Same (told_by question replied state) state
+other_reply question replied state is = record {
+  unlisted = grind (arith, is);
+  wanted = ap (λ (w : Wishes). w.wanted) (told_wishes question replied state);
+  classes = grind (arith, is);
+}
+
+pub told_grows : (question : Question) (replied : Replied) (state : State) (fact : Question) → is_fact fact ≡ true
+    → is_some (fact_known (found_in state.classes) fact) ≡ true
+    → is_some (fact_known (found_in (told_by question replied state).classes) fact) ≡ true
+told_grows questions.IdSizes replied state fact is h = h
+told_grows question replied state fact is h = fact_grows question (answer_in replied) state.classes fact is h
+
+pub told_learnt : (question : Question) (replied : Replied) (state : State) → is_fact question ≡ true
+    → is_some (fact_known (found_in (told_by question replied state).classes) question) ≡ true
+told_learnt questions.IdSizes replied state is = cc
+told_learnt question replied state is = fact_learnt question (answer_in replied) state.classes is
+
+pub told_listed : (question : Question) (replied : Replied) (state : State) → is_listing question ≡ true
+    → (told_by question replied state).unlisted ≡ false
+told_listed question replied state is = grind (arith, is)
+
+pub told_unlisted : (question : Question) (replied : Replied) (state : State) → is_listing question ≡ false
+    → (told_by question replied state).unlisted ≡ state.unlisted
+told_unlisted question replied state is = grind (arith, is)
+
+pub fewer_queued : (failed : Bool) (queue : List Want) → queues_classes (unless_failed failed queue) ≡ true
+    → queues_classes queue ≡ true
+fewer_queued true queue is = cc
+fewer_queued false queue is = is
+
+pub either_more : (a b c d : Bool) → (a ≡ true → c ≡ true) → (b ≡ true → d ≡ true) → (a || b) ≡ true → (c || d) ≡ true
+either_more a b c d one other is = grind (arith, one, other, is)
+
+pub or_left : (a b : Bool) → a ≡ true → (a || b) ≡ true
+or_left a b is = rw is refl
+
+pub front_binds : (parts : List Part) → looks_first parts ≡ true → binds_ahead parts ≡ true
+front_binds [] is = cc
+front_binds (part ∷ parts) is = grind (arith, is)
+
+pub front_noted : (parts : List Part) (classes : List ClassId) → looks_first parts ≡ true
+    → ¬ (first_note parts ≡ Some classes)
+front_noted [] classes is some = cc
+front_noted (part ∷ parts) classes is some = absurd (let no : false ≡ true = grind (arith, is, some) in cc)
+
+pub answers_on : {state : State} {parts : List Part} {queue : List Want} {asked : List Sent} (question : Question)
+    (replied : Replied) (failed : Bool) → is_waiting question asked ≡ true → Binding state parts queue asked
+    → Binding (told_by question replied state) parts (unless_failed failed queue) (filled question replied asked)
+answers_on {state} {parts} {queue} {asked} question replied failed waits h = record {
+  watches = λ needs. subst (λ (w : Wishes). WatchesSet w) (sym (told_wishes question replied state)) (h.watches needs);
+  learnt = learnt_filled question replied state.classes (told_by question replied state).classes asked
+      (told_grows question replied state) (told_learnt question replied state) h.learnt;
+  waits = λ is. h.waits (either_more _ _ (awaits_classes asked) (queues_classes queue)
+      (awaits_filled question replied asked) (fewer_queued failed queue) is);
+  ahead = λ is. h.ahead (sym (asks_filled question replied asked) ∙ is);
+  listed = λ is. by_listing (is_listing question) refl is;
+  noted = λ classes some. by_telling (tells_classes question) refl classes some;
+  bound = λ is. bound_by (tells_classes question) refl is;
+}
+  where
+    front : tells_classes question ≡ true → looks_first parts ≡ true
+    front tells = h.waits (or_left (awaits_classes asked) (queues_classes queue) (awaited_is asked question waits tells))
+
+    by_listing : (listing : Bool) → is_listing question ≡ listing → (told_by question replied state).unlisted ≡ true
+        → was_listed (filled question replied asked) ≡ false
+    by_listing true is unlisted =
+        absurd (let no : false ≡ true = sym (told_listed question replied state is) ∙ unlisted in cc)
+    by_listing false is unlisted =
+        listed_filled question replied asked is ∙ h.listed (sym (told_unlisted question replied state is) ∙ unlisted)
+
+    by_telling : (tells : Bool) → tells_classes question ≡ tells → (classes : List ClassId)
+        → first_note parts ≡ Some classes → IsComplete (told_by question replied state) classes
+    by_telling true is classes some = absurd (front_noted parts classes (front is) some)
+    by_telling false is classes some = still_complete (told_by question replied state) state classes
+        (other_reply question replied state is) (h.noted classes some)
+
+    bound_by : (tells : Bool) → tells_classes question ≡ tells → binds_ahead parts ≡ false
+        → AreAllBound (told_by question replied state)
+    bound_by true is none = absurd (let no : true ≡ false = sym (front_binds parts (front is)) ∙ none in cc)
+    bound_by false is none =
+        still_bound (told_by question replied state) state (other_reply question replied state is) (h.bound none)
+
+-- the reply to an effect leaves it, or a watch was set
+pub unlisted_case : (effect : Effect) (replied : Replied) (state : State)
+    → ((done_by effect replied state).unlisted ≡ state.unlisted)
+    ⊎ ((path : List ℕ) × (effect ≡ Set (wishes.Watch path)))
+unlisted_case (Does deed) replied state = inl refl
+unlisted_case (Clear wish request) replied state = inl refl
+unlisted_case (Set (wishes.Watch path)) replied state = inr (path, refl)
+unlisted_case (Set wish) replied state = inl refl
+
+pub effect_wanted : (effect : Effect) (replied : Replied) (w : Wishes) → (wishes_after effect replied w).wanted ≡ w.wanted
+effect_wanted effect replied w = grind arith
+
+pub ahead_binds : (parts : List Part) → looks_ahead parts ≡ true → binds_ahead parts ≡ true
+ahead_binds [] is = cc
+ahead_binds (part ∷ parts) is = grind (arith, is, ahead_binds parts)
+
+pub updates_first : (parts : List Part) → starts_updates parts ≡ true → needs_watches parts ≡ false
+    → (looks_ahead parts ≡ true) × (looks_first parts ≡ false)
+updates_first [] starts needs = cc
+updates_first (part ∷ parts) starts needs = (grind (arith, starts, needs), grind (arith, starts))
+
+pub updates_noted : (parts : List Part) (classes : List ClassId) → starts_updates parts ≡ true
+    → ¬ (first_note parts ≡ Some classes)
+updates_noted [] classes is some = cc
+updates_noted (part ∷ parts) classes is some = absurd (let no : false ≡ true = grind (arith, is, some) in cc)
+
+pub replies_on : {state : State} {parts : List Part} {queue : List Want} {asked : List Sent} (effect : Effect)
+    (replied : Replied) → IsDue state.wishes parts (Some effect) → IsReply state.sizes (an_effect effect) replied
+    → Binding state parts queue asked → Binding (done_by effect replied state) parts queue asked
+replies_on {state} {parts} {queue} {asked} effect replied due reply h = by_case (unlisted_case effect replied state)
+  where
+    sets : WatchesSet state.wishes → WatchesSet (wishes_after effect replied state.wishes)
+    sets = replied_set state.sizes state.wishes parts effect replied due reply (effect_wanted effect replied state.wishes)
+
+    needs_none : (path : List ℕ) → effect ≡ Set (wishes.Watch path) → (needs : Bool) → needs_watches parts ≡ needs
+        → needs ≡ false
+    needs_none path is true needs = absurd (due_unset state.wishes path (h.watches needs)
+        ((due (ap is_deed is)).0 ∙ ap Some is))
+    needs_none path is false needs = refl
+
+    by_case : ((done_by effect replied state).unlisted ≡ state.unlisted)
+        ⊎ ((path : List ℕ) × (effect ≡ Set (wishes.Watch path)))
+        → Binding (done_by effect replied state) parts queue asked
+    by_case (inl same) = still_binding (done_by effect replied state)
+        (record { unlisted = same; wanted = effect_wanted effect replied state.wishes; classes = refl })
+        (λ needs w. sets w) h
+    by_case (inr (path, is)) =
+        let starts = (due (ap is_deed is)).1 in
+        let needs = needs_none path is (needs_watches parts) refl in
+        let (ahead, first) = updates_first parts starts needs in
+        let none : asks_classes asked ≡ false = by_asks (asks_classes asked) refl ahead first in
+        record {
+          watches = λ so. sets (h.watches so);
+          learnt = h.learnt;
+          waits = h.waits;
+          ahead = h.ahead;
+          listed = λ unlisted. by_listed (was_listed asked) refl none;
+          noted = λ classes some. absurd (updates_noted parts classes starts some);
+          bound = λ none_ahead. absurd (let no : true ≡ false = sym (ahead_binds parts ahead) ∙ none_ahead in cc);
+        }
+      where
+        by_asks : (asks : Bool) → asks_classes asked ≡ asks → looks_ahead parts ≡ true → looks_first parts ≡ false
+            → asks ≡ false
+        by_asks true is ahead first = absurd (let no : true ≡ false = sym ahead ∙ h.ahead is ∙ first in cc)
+        by_asks false is ahead first = refl
+
+        by_listed : (listed : Bool) → was_listed asked ≡ listed → asks_classes asked ≡ false → listed ≡ false
+        by_listed true is none = absurd (let no : true ≡ false = sym (listed_asks asked is) ∙ none in cc)
+        by_listed false is none = refl
+
+-- Parts that become others --------------------------------------------------------------------------------------------
+
+pub chosen_like : (choice : Choice) (state : State) (hand : Hand) (rest : List Part)
+    → AreLike (chosen choice state hand ++ rest) rest
+chosen_like choice state hand rest =
+    record { ahead = grind arith; needs = grind arith; notes = grind arith; binds = grind arith }
+
+-- behind a note of lines stands what binds them
+pub lines_behind : (key : Option (List ℕ)) (entries : List LineEntry) (rest : List Part)
+    → is_placed (Part.Notes (Lines key entries) ∷ rest) ≡ true
+    → (needs_watches rest ≡ false) × (binds_ahead rest ≡ true) × (has_note rest ≡ false)
+lines_behind key entries rest is = (grind (arith, is), grind (arith, is), grind (arith, is))
+
+pub looks_once : (rest : List Part) → is_placed (Part.Looks class_facts ∷ rest) ≡ true → looks_ahead rest ≡ false
+looks_once rest is = grind (arith, is)
+
+pub none_noted : (parts : List Part) (classes : List ClassId) → has_note parts ≡ false → ¬ (first_note parts ≡ Some classes)
+none_noted parts classes none some = let no : true ≡ false = sym (note_had parts classes some) ∙ none in cc
+
+pub lines_on : {state : State} {queue : List Want} {asked : List Sent} (key : Option (List ℕ)) (entries : List LineEntry)
+    (rest : List Part) → IsClear queue asked → is_placed (Part.Notes (Lines key entries) ∷ rest) ≡ true
+    → Binding state (Part.Notes (Lines key entries) ∷ rest) queue asked
+    → Binding (noted (Lines key entries) state) rest queue asked
+lines_on key entries rest c is h = let (needs, binds, none) = lines_behind key entries rest is in record {
+  watches = λ so. absurd (let no : false ≡ true = sym needs ∙ so in cc);
+  learnt = h.learnt;
+  waits = λ so. quiet c so;
+  ahead = λ asks. let ahead : looks_ahead rest ≡ false = h.ahead asks in ahead ∙ sym (none_ahead rest ahead);
+  listed = h.listed;
+  noted = λ classes some. absurd (none_noted rest classes none some);
+  bound = λ so. absurd (let no : true ≡ false = sym binds ∙ so in cc);
+}
+
+pub classes_on : {state : State} {queue : List Want} {asked : List Sent} (classes : List ClassId) (rest : List Part)
+    → IsClear queue asked → is_placed (Part.Notes (Classes classes) ∷ rest) ≡ true
+    → Binding state (Part.Notes (Classes classes) ∷ rest) queue asked
+    → Binding (noted (Classes classes) state) rest queue asked
+classes_on {state} classes rest c is h = record {
+  watches = λ needs. known_set state.wishes (with_known (found_in state.classes) classes state.wishes.wanted)
+      (classes_alike state.classes classes state.wishes.wanted) (h.watches needs);
+  learnt = h.learnt;
+  waits = λ so. quiet c so;
+  ahead = λ asks. let ahead : looks_ahead rest ≡ false = h.ahead asks in ahead ∙ sym (none_ahead rest ahead);
+  listed = h.listed;
+  noted = λ others some. absurd (none_noted rest others (placed_note (Part.Notes (Classes classes)) rest is) some);
+  bound = λ so. let complete = h.noted classes refl in record {
+    listed = complete.0;
+    found = classes;
+    none_lacking =
+        ap (λ (wanted : Wanted). need (sight_alone state.classes) (known_plan wanted (found_in state.classes)))
+        (only_classes (found_in state.classes) classes state.wishes.wanted)
+        ∙ same_known (sight_alone state.classes) state.wishes.wanted
+        (with_known (found_in state.classes) classes state.wishes.wanted).classes (found_in state.classes)
+        ∙ complete.1;
+    bound = all_bound state.classes classes state.wishes.wanted;
+  };
+}
+
+pub notes_on : {state : State} {queue : List Want} {asked : List Sent} (note : Note) (rest : List Part)
+    → IsClear queue asked → is_placed (Part.Notes note ∷ rest) ≡ true
+    → Binding state (Part.Notes note ∷ rest) queue asked → Binding (noted note state) rest queue asked
+notes_on {state} (Options options) rest c is h =
+    goes_by (noted (Options options) state) (Part.Notes (Options options)) rest rest
+    (record { unlisted = refl; wanted = refl; classes = refl }) c refl is (are_same rest)
+    (λ needs w. w needs) h
+notes_on {state} (Roots roots) rest c is h =
+    goes_by (noted (Roots roots) state) (Part.Notes (Roots roots)) rest rest
+    (record { unlisted = refl; wanted = refl; classes = refl }) c refl is (are_same rest)
+    (λ needs w. w needs) h
+notes_on (Lines key entries) rest c is h = lines_on key entries rest c is h
+notes_on (Classes classes) rest c is h = classes_on classes rest c is h
+
+-- a look-up that is done
+pub finds_on : {state : State} (hand : Hand) (lookup : Lookup) (found : Need Finding) (rest : List Part)
+    → IsClear hand.queue hand.asked → is_placed (Part.Looks lookup ∷ rest) ≡ true
+    → found_for lookup state hand ≡ found → is_done found ≡ true
+    → Binding state (Part.Looks lookup ∷ rest) hand.queue hand.asked
+    → Binding state (finished lookup (result_of found) state ++ rest) hand.queue hand.asked
+finds_on {state} hand all_threads found rest c is needs done h =
+    goes_by state (Part.Looks all_threads) rest (finished all_threads (result_of found) state ++ rest) (itself state) c
+    refl is (record { ahead = refl; needs = refl; notes = refl; binds = refl }) (λ so w. w so) h
+finds_on {state} hand class_facts found rest c is needs done h = record {
+  watches = λ so. h.watches refl;
+  learnt = h.learnt;
+  waits = λ so. quiet c so;
+  ahead = λ asks. looks_once rest is;
+  listed = h.listed;
+  noted = λ classes some. subst (IsComplete state) (same classes some) (complete state.unlisted refl);
+  bound = λ none. cc;
+}
+  where
+    same : (classes : List ClassId) → Some (classes_of (result_of found)) ≡ Some classes
+        → classes_of (result_of found) ≡ classes
+    same classes some = cc
+
+    complete : (unlisted : Bool) → state.unlisted ≡ unlisted → IsComplete state (classes_of (result_of found))
+    complete true unlisted =
+        absurd (let no : false ≡ true = sym (unlisted_waits state hand unlisted (h.listed unlisted))
+        ∙ ap is_done needs ∙ done in cc)
+    complete false listed = found_complete state hand found listed h.learnt needs done

@@ -1,0 +1,93 @@
+-- What has to be known of classes before breakpoints are bound in them, and what a list of all classes tells (JDWP,
+-- VirtualMachine command set, AllClasses; JDWP, ReferenceType command set, SourceFile and Methods; JDWP, Method command
+-- set, LineTable).
+use Rattle.std.specs.Prelude.{ℕ, ℤ, ◌==◌, ◌/◌, ◌%◌, ◌∷◌, Bool, true, false, List, []}
+use Rattle.std.specs.Prelude.{Option, None, Some}
+use Rattle.std.specs.Int.{cast_unsigned, w32}
+use Rattle.class_tables.specs.Facts.{Known, is_loaded, with_fact}
+use Rattle.class_tables.specs.Lookups.{Lookups}
+use Rattle.class_tables.specs.Signatures.{package_in}
+use Rattle.class_tables.specs.Views.{Key}
+use Rattle.class_tables.specs.declared.loaded.Loaded.{Loaded}
+use Rattle.jdwp_commands.specs.declared.answer.Answer.TheVariants as answers
+use Rattle.jdwp_commands.specs.declared.listed.LoadedClass.{LoadedClass}
+use Rattle.jdwp_commands.specs.declared.question.Question.TheVariants as questions
+use Rattle.jdwp_values.specs.declared.class.Method.{Method}
+use Rattle.jdwp_values.specs.declared.id.ClassId.{ClassId}
+use Rattle.machine_model.specs.Facts.{methods_in, source_in}
+use Rattle.machine_model.specs.Names.{Answer, Want}
+use Rattle.machine_model.specs.Plans.{Plan, asking, chained, each, gives, joined, made_with}
+use Rattle.wish_sets.specs.Places.{key_by}
+use Rattle.wish_sets.specs.Wanted.{Wanted}
+use Rattle.wish_sets.specs.Wished.{is_listed, is_watched}
+
+-- A list of all classes -----------------------------------------------------------------------------------------------
+
+-- a status has the bit of a class that is prepared (JDWP, Constants, ClassStatus, PREPARED)
+abbrev pub has_prepared : ℤ → Bool
+has_prepared status = (cast_unsigned w32 status / 2) % 2 == 1
+
+-- a class of the list
+abbrev pub with_listed : Known → LoadedClass → Known
+with_listed known class =
+    with_fact (is_loaded class.class class.tag class.signature (has_prepared class.status)) known
+
+-- the classes that an answer lists
+abbrev pub classes_in : Option Answer → List LoadedClass
+classes_in (Some (answers.AllClasses classes)) = classes
+classes_in _ = []
+
+-- What is asked of a class --------------------------------------------------------------------------------------------
+
+-- the lines of a method are asked, and nothing is read off
+abbrev pub lines_plan : ClassId → Method → Plan (Option Answer)
+lines_plan class method = asking (λ heard. heard) (Want.Fact (questions.LineTable class method.id))
+
+-- the lines of all methods of a class, which is found then
+abbrev pub methods_plan : ClassId → List Method → Plan (List ClassId)
+methods_plan class methods = made_with (λ heard. class ∷ []) (each (lines_plan class) methods)
+
+-- the source of a class is listed
+abbrev pub is_keyed : Wanted → Option Key → Bool
+is_keyed wanted None = false
+is_keyed wanted (Some key) = is_listed wanted key
+
+-- a class whose source is listed is asked for its methods
+abbrev pub keyed_plan : Bool → ClassId → Plan (List ClassId)
+keyed_plan false class = gives []
+keyed_plan true class = chained (asking methods_in (Want.Fact (questions.Methods class))) (methods_plan class)
+
+-- a class in a package that is watched is asked for its source
+abbrev pub source_plan : Wanted → ClassId → List ℕ → Plan (List ClassId)
+source_plan wanted class signature =
+    chained (asking source_in (Want.Fact (questions.SourceFile class)))
+    (λ source. keyed_plan (is_keyed wanted (key_by signature source)) class)
+
+abbrev pub watched_plan : Bool → Wanted → ClassId → List ℕ → Plan (List ClassId)
+watched_plan false wanted class signature = gives []
+watched_plan true wanted class signature = source_plan wanted class signature
+
+abbrev pub package_plan : Wanted → ClassId → List ℕ → Option (List ℕ) → Plan (List ClassId)
+package_plan wanted class signature None = gives []
+package_plan wanted class signature (Some path) = watched_plan (is_watched wanted path) wanted class signature
+
+abbrev pub prepared_plan : Bool → Wanted → ClassId → List ℕ → Plan (List ClassId)
+prepared_plan false wanted class signature = gives []
+prepared_plan true wanted class signature = package_plan wanted class signature (package_in signature)
+
+-- a class that isn't known to be prepared is asked for nothing
+abbrev pub class_plan : Wanted → ClassId → Option Loaded → Plan (List ClassId)
+class_plan wanted class None = gives []
+class_plan wanted class (Some loaded) = prepared_plan loaded.prepared wanted class loaded.signature
+
+-- The look-up ---------------------------------------------------------------------------------------------------------
+
+-- each class that is known, in the order in which they were first listed
+abbrev pub known_plan : Wanted → Lookups → Plan (List ClassId)
+known_plan wanted known =
+    made_with joined (each (λ class. class_plan wanted class (known.loaded class)) known.order)
+
+-- All classes are listed first where a watch was set since they were, and then each is asked for what is missing.
+abbrev pub classes_plan : Bool → Wanted → Lookups → Plan (List ClassId)
+classes_plan true wanted known = asking (λ heard. []) (Want.Must questions.AllClasses)
+classes_plan false wanted known = known_plan wanted known

@@ -1,0 +1,75 @@
+use Rattle.std.proofs.Common.{◌≡◌, ◌∙◌, ◌++◌, ◌∷◌, ◌+◌, ℕ, zero, suc, List, [], Some, None, append_assoc, ap}
+use Rattle.std.proofs.Common.{arith, drop, flat_map, refl, sym}
+use Rattle.std.proofs.lemmas.List.{append-nil}
+use Rattle.std.specs.List.{slice_get}
+use Rattle.class_tables.specs.Lookups.{found_in}
+use Rattle.class_tables.specs.Views.{nth_in}
+use Rattle.talk_plans.specs.ClassPlanning.{class_need}
+use Rattle.talk_plans.specs.Planning.{sight_in}
+use Rattle.talk_plans.proofs.class_plans.all_needs.Goals as goal
+
+-- the item at a place, and those behind it
+one_more : {A B : Type 0} (f : A → List B) (all : List A) (place : ℕ) (a : A) → slice_get all place ≡ Some a
+    → flat_map f (drop place all) ≡ f a ++ flat_map f (drop (suc place) all)
+one_more f [] place a is = cc
+one_more f (first ∷ others) zero a is =
+    let same : first ≡ a = cc in ap (λ one. f one ++ flat_map f others) same
+one_more f (first ∷ others) (suc place) a is = one_more f others place a is
+
+-- behind the last there is none
+no_more : {A B : Type 0} (f : A → List B) (all : List A) (place : ℕ) → slice_get all place ≡ None
+    → flat_map f (drop place all) ≡ []
+no_more f [] zero is = refl
+no_more f [] (suc place) is = refl
+no_more f (first ∷ others) zero is = cc
+no_more f (first ∷ others) (suc place) is = no_more f others place is
+
+-- the item at a place is gone through
+moved : {A B : Type 0} (f : A → List B) (all : List A) (place later : ℕ) (a : A) (before now : List B)
+    → slice_get all place ≡ Some a → later ≡ place + 1 → now ≡ before ++ f a
+    → before ++ flat_map f (drop place all) ≡ flat_map f all → now ++ flat_map f (drop later all) ≡ flat_map f all
+moved f all place later a before now is next put so =
+    let behind : later ≡ suc place = omega (arith, next) in
+    rw (put, behind)
+    (append_assoc before (f a) (flat_map f (drop (suc place) all))
+    ∙ ap (λ rest. before ++ rest) (sym (one_more f all place a is)) ∙ so)
+
+-- all are
+ended : {A B : Type 0} (f : A → List B) (all : List A) (place : ℕ) (before : List B) → slice_get all place ≡ None
+    → before ++ flat_map f (drop place all) ≡ flat_map f all → before ≡ flat_map f all
+ended f all place before is so =
+    sym (append-nil before) ∙ ap (λ rest. before ++ rest) (sym (no_more f all place is)) ∙ so
+
+pub loop-class-preserved : goal.loop-class-preserved
+loop-class-preserved c =
+    let sight = sight_in c.args.state.now c.args.asked.now in
+    let wanted = c.args.state.now.wishes.wanted in
+    let classes = (found_in c.args.state.now.classes).order in
+    let is : nth_in (found_in c.args.state.now.classes) c.loop-class.place ≡ Some c.in-Some.class =
+    rw (← c.state.view_is) (sym c.nth.ensures ∙ c.in-Some.is) in
+    record {
+      lacking = moved (λ class. (class_need sight wanted class).lacking) classes c.loop-class.place c.in_ok-place.place
+          c.in-Some.class c.loop-class.needs.lacking.items c.add_class.new.needs.lacking.items is c.in_ok-place.ensures
+          c.in_ok-add_class.ensures.lacking c.loop-class.invariant.lacking;
+      found = moved (λ class. (class_need sight wanted class).found) classes c.loop-class.place c.in_ok-place.place
+          c.in-Some.class c.loop-class.needs.found c.add_class.new.needs.found is c.in_ok-place.ensures
+          c.in_ok-add_class.ensures.found c.loop-class.invariant.found;
+    }
+
+pub returns-clause-lacking : goal.returns-clause-lacking
+returns-clause-lacking c =
+    let sight = sight_in c.args.state.now c.args.asked.now in
+    let wanted = c.args.state.now.wishes.wanted in
+    let is : nth_in (found_in c.args.state.now.classes) c.loop-class.place ≡ None =
+    rw (← c.state.view_is) (sym c.nth.ensures ∙ c.in_default.is) in
+    ended (λ class. (class_need sight wanted class).lacking) (found_in c.args.state.now.classes).order
+    c.loop-class.place c.loop-class.needs.lacking.items is c.loop-class.invariant.lacking
+
+pub returns-clause-found : goal.returns-clause-found
+returns-clause-found c =
+    let sight = sight_in c.args.state.now c.args.asked.now in
+    let wanted = c.args.state.now.wishes.wanted in
+    let is : nth_in (found_in c.args.state.now.classes) c.loop-class.place ≡ None =
+    rw (← c.state.view_is) (sym c.nth.ensures ∙ c.in_default.is) in
+    ended (λ class. (class_need sight wanted class).found) (found_in c.args.state.now.classes).order
+    c.loop-class.place c.loop-class.needs.found is c.loop-class.invariant.found

@@ -1,0 +1,200 @@
+#!/usr/bin/env python3
+"""Measures `setBreakpoints` over a target of many classes, beside a plain loop that sends the same target the same
+commands.
+
+The target has 500 prepared classes of 40 methods, in ten packages. The client lists four lines in each of some files.
+Printed are the seconds until all breakpoints are told, of the plain loop and of the bridge, and the processor time that
+the bridge took for it: the least of three runs in turn. The target is a process of this script. Both keep sixteen
+questions in flight, and send a command that changes the target alone.
+
+usage: examples/many_breakpoints.py [PROGRAM]
+"""
+import json
+import multiprocessing
+import socket
+import struct
+import sys
+import time
+
+from building import plainly, program_of
+from many_threads import HANDSHAKE, IN_FLIGHT, PIECE, SIZES, cut, receive
+from over_tcp import Bridge, request
+from round_trips import processor_seconds
+
+CLASSES = 500
+METHODS = 40
+PACKAGES = 10
+LINES = 4
+FILES = (10, 50)
+RUNS = 3
+ATTACH = {"sourceRoots": ["/src"]}
+EFFECTS = ((15, 1), (15, 2))
+
+
+def text(words):
+    return struct.pack(">I", len(words)) + words.encode()
+
+
+def path_of(number):
+    """The package of a class, and its name."""
+    return "p%d" % (number % PACKAGES), "C%d" % number
+
+
+def all_classes():
+    body = struct.pack(">I", CLASSES)
+    for number in range(1, CLASSES + 1):
+        body += struct.pack(">BQ", 1, number) + text("L%s/%s;" % path_of(number)) + struct.pack(">I", 7)
+    return body
+
+
+def methods():
+    body = struct.pack(">I", METHODS)
+    for number in range(1, METHODS + 1):
+        body += struct.pack(">Q", number) + text("m%d" % number) + text("()V") + struct.pack(">I", 1)
+    return body
+
+
+def line_table(method):
+    """Ten lines of code, from line 10 times the method's number on."""
+    lines = b"".join(struct.pack(">QI", index, 10 * method + index) for index in range(10))
+    return struct.pack(">QQI", 0, 9, 10) + lines
+
+
+FIXED = {(1, 7): SIZES, (1, 3): all_classes(), (2, 5): methods()}
+TABLES = [line_table(method) for method in range(METHODS + 1)]
+
+
+def answer(numbers, body):
+    """What the target replies to a command, but for the ids of event requests: a body."""
+    if numbers in FIXED:
+        return FIXED[numbers]
+    if numbers == (2, 7):
+        return text(path_of(struct.unpack(">Q", body)[0])[1] + ".java")
+    if numbers == (6, 1):
+        return TABLES[struct.unpack(">QQ", body)[1]]
+    return b""
+
+
+def serve_target(stream, log):
+    """Answers each command until the link ends, and says then which commands came."""
+    stream.setsockopt(socket.IPPROTO_TCP, socket.TCP_NODELAY, 1)
+    commands = []
+    try:
+        stream.sendall(receive(stream, len(HANDSHAKE)))
+        pending = b""
+        while piece := stream.recv(PIECE):
+            packets, pending = cut(pending + piece)
+            replies = b""
+            for packet in packets:
+                number, _, *numbers = struct.unpack_from(">IBBB", packet, 4)
+                commands.append((tuple(numbers), packet[11:]))
+                body = struct.pack(">I", number) if numbers == [15, 1] else answer(tuple(numbers), packet[11:])
+                replies += struct.pack(">IIBH", 11 + len(body), number, 0x80, 0) + body
+            if replies:
+                stream.sendall(replies)
+    except (EOFError, OSError):
+        pass
+    log.put(commands)
+
+
+def target_of(stream, log):
+    target = multiprocessing.get_context("fork").Process(target=serve_target, args=(stream, log), daemon=True)
+    target.start()
+    stream.close()
+    return target
+
+
+def waves(commands):
+    """The commands as they may go: questions together, and one that changes the target alone."""
+    together = []
+    for command in commands:
+        if command[0] in EFFECTS:
+            if together:
+                yield together
+            yield [command]
+            together = []
+        else:
+            together.append(command)
+    if together:
+        yield together
+
+
+def send_wave(stream, first, commands):
+    """Sends commands with so many in flight, and waits for all replies."""
+    sent = done = 0
+    pending = b""
+    while done < len(commands):
+        while sent < len(commands) and sent - done < IN_FLIGHT:
+            (group, command), body = commands[sent]
+            stream.sendall(struct.pack(">IIBBB", 11 + len(body), first + sent, 0, group, command) + body)
+            sent += 1
+        packets, pending = cut(pending + stream.recv(PIECE))
+        done += len(packets)
+
+
+def plain_loop(commands):
+    """The seconds that the commands take without a bridge."""
+    listener = socket.create_server(("127.0.0.1", 0))
+    near = socket.create_connection(listener.getsockname())
+    far, _ = listener.accept()
+    near.setsockopt(socket.IPPROTO_TCP, socket.TCP_NODELAY, 1)
+    target = target_of(far, multiprocessing.get_context("fork").Queue())
+    near.sendall(HANDSHAKE)
+    receive(near, len(HANDSHAKE))
+    start = time.monotonic()
+    number = 1
+    for wave in waves(commands):
+        send_wave(near, number, wave)
+        number += len(wave)
+    took = time.monotonic() - start
+    near.close()
+    target.terminate()
+    return took
+
+
+def list_of(number):
+    """Four lines, each in another method."""
+    package, name = path_of(number)
+    lines = [{"line": 10 * method + 5} for method in range(1, LINES + 1)]
+    return {"source": {"path": "/src/%s/%s.java" % (package, name)}, "breakpoints": lines}
+
+
+def bridged(program, files):
+    """The seconds that the lists take, the processor time of the bridge for them, and the commands for them."""
+    log = multiprocessing.get_context("fork").Queue()
+    with Bridge(program) as bridge:
+        target_of(bridge.target, log)
+        client = bridge.client()
+        for seq, (command, arguments) in enumerate([("initialize", {"adapterID": "jdwp"}), ("attach", ATTACH)]):
+            client.send(request(seq + 1, command, arguments))
+            client.receive()
+        client.receive()
+        before, start = processor_seconds(bridge.process.pid), time.monotonic()
+        for number in range(1, files + 1):
+            client.send(request(2 + number, "setBreakpoints", list_of(number)))
+            told = json.loads(client.receive())["body"]["breakpoints"]
+            assert len(told) == LINES and all(one["verified"] for one in told), told
+        took, spent = time.monotonic() - start, processor_seconds(bridge.process.pid) - before
+        client.send(request(3 + files, "disconnect"))
+        client.receive()
+        assert bridge.status() == 0
+    commands = log.get()
+    return took, spent, [one for one in commands[3:] if one[0] != (1, 6)]
+
+
+def main():
+    program = program_of(sys.argv[1:])
+    for files in FILES:
+        plain, bridge = [], []
+        for _ in range(RUNS):
+            took, spent, commands = bridged(program, files)
+            bridge.append((took, spent))
+            plain.append(plain_loop(commands))
+        took, spent = min(bridge)
+        print("%3d lists of %d lines, %5d commands: plain loop %7.3f s, bridge %7.3f s, which is %.2f of it; "
+              "its processor time %7.3f s, %.1f us a command"
+              % (files, LINES, len(commands), min(plain), took, took / min(plain), spent, 1e6 * spent / len(commands)))
+
+
+if __name__ == "__main__":
+    plainly(main)
