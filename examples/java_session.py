@@ -1,9 +1,10 @@
 #!/usr/bin/env python3
 """The program over a Java machine: each case runs both, and a client that holds a session, and is kept or broken.
 
-The client asks everything that is served, `threads` twice, and one thing that isn't. Its answers, the program's line
-and status, and all that the Java program prints to its standard output are compared, byte for byte; of the threads
-those of the Java program must be there, and be numbered 1, 2, 3 with the others, both times alike.
+The client attaches, asks for `threads` twice and for one thing that isn't served, and disconnects. It sets no
+breakpoint. Its answers, the program's line and status, and all that the Java program prints to its standard output are
+compared, byte for byte; of the threads those of the Java program must be there, and be numbered 1, 2, 3 with the
+others, both times alike.
 
 - The client leaves by `disconnect`, and the Java program runs on to its end.
 - It attaches after the Java machine dropped the program's link, on which nothing went for two seconds.
