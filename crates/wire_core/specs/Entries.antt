@@ -1,10 +1,10 @@
 use Rattle.wire_core.specs.declared.outside.Entry.{Entry}
 use Rattle.wire_core.specs.declared.outside.Entry.TheVariants.{In, Out, Shut, Failed, Quiet}
 
--- an entry that is logged in memory which may be refused; room is kept for every failure
-abbrev pub NeedsMemory : Entry → Type 0
-NeedsMemory (In side bytes) = Unit {0}
-NeedsMemory (Out side bytes) = Unit {0}
-NeedsMemory (Shut side) = Unit {0}
-NeedsMemory (Failed side) = ⊥
-NeedsMemory Quiet = Unit {0}
+-- an entry with a copy of bytes, for which memory has to be asked
+abbrev pub HasCopy : Entry → Type 0
+HasCopy (In side bytes) = Unit {0}
+HasCopy (Out side bytes) = Unit {0}
+HasCopy (Shut side) = ⊥
+HasCopy (Failed side) = ⊥
+HasCopy Quiet = ⊥

@@ -46,6 +46,13 @@ link_after Target (Failed Client) l = l
 link_after Target (Failed Target) l = failed_link l
 link_after side Quiet l = empty_link l
 
+-- what it makes of a side's link that a side was asked and had nothing
+abbrev pub link_asked : Side → Side → Link → Link
+link_asked Client Client l = empty_link l
+link_asked Client Target l = l
+link_asked Target Client l = l
+link_asked Target Target l = empty_link l
+
 -- bytes that came fit the buffer
 abbrev pub IsWithin : ℕ → Happening → Type 0
 IsWithin room (Bytes side n) = n ≤ room

@@ -1,19 +1,19 @@
 -- Wires in memory: what they tell, what they still hold, and what each call makes of both.
-use Rattle.std.specs.Prelude.{ℕ, ◌≡◌, ◌-◌, Bool, false, true, ◌⊎◌, List, [], ◌∷◌, length, take, min, Option, Some, None}
+use Rattle.std.specs.Prelude.{ℕ, ◌≡◌, ◌<◌, ◌+◌, ◌-◌, Bool, false, true, ◌⊎◌, List, [], ◌∷◌, length, take, min, Option, Some, None}
 use Rattle.std.specs.Prelude.{Result, Ok, Err}
 use Rattle.wire_core.specs.declared.outside.Side.{Side}
 use Rattle.wire_core.specs.declared.outside.Side.TheVariants.{Client, Target}
 use Rattle.wire_core.specs.declared.outside.Happening.{Happening}
 use Rattle.wire_core.specs.declared.outside.Happening.TheVariants.{Failed as fails}
-use Rattle.wire_core.specs.declared.outside.Entry.TheVariants.{Out, Failed}
+use Rattle.wire_core.specs.declared.outside.Entry.{Entry}
+use Rattle.wire_core.specs.declared.outside.Entry.TheVariants.{In, Out, Shut, Failed, Quiet}
 use Rattle.wire_core.specs.declared.outside.SendFailed.{SendFailed}
 use Rattle.wire_core.specs.declared.script.Step.{Step}
 use Rattle.wire_core.specs.declared.script.Cut.{Cut}
 use Rattle.wire_core.specs.declared.memory_wires.MemoryWires.{MemoryWires}
 use Rattle.wire_core.specs.Outside.{Outside, Adds, entry_of, broken_send, other_side}
-use Rattle.wire_core.specs.Links.{raised, Keeps, Counts, outside_with, first_open, IsFresh}
-use Rattle.wire_core.specs.Entries.{NeedsMemory}
-use Rattle.wire_core.specs.Log.{entries}
+use Rattle.wire_core.specs.Links.{raised, Keeps, Counts, outside_with, open_count, first_open, IsFresh}
+use Rattle.wire_core.specs.Log.{entries, HasRoom}
 use Rattle.wire_core.specs.Names.{names_of}
 use Rattle.wire_core.specs.SendCounts.{count_to}
 use Rattle.wire_core.specs.Script.{steps_from, due, comes, behind, kept_of}
@@ -85,9 +85,18 @@ pub record Gives (old new : MemoryWires) (buffer : List ℕ) (happening : Happen
   pub steps : steps_of new ≡ behind happening (due old.links (steps_of old))
   pub refused : is_refused new ≡ is_refused old
 
+-- memory has to be asked for to log this: for a copy of bytes, or for a place, where the log has none to spare. The end
+-- or the failure of an open side has the place that is kept for it.
+abbrev pub NeedsMemory : MemoryWires → Entry → Type 0
+NeedsMemory w (In side bytes) = Unit {0}
+NeedsMemory w (Out side bytes) = Unit {0}
+NeedsMemory w (Shut side) = ⊥
+NeedsMemory w (Failed side) = ⊥
+NeedsMemory w Quiet = ¬ HasRoom w.log (open_count w.links + 1)
+
 -- memory was refused for what is due: the client's link fails where it is open, else the target's
 pub record Withholds (old new : MemoryWires) (buffer : List ℕ) (happening : Happening) : Type 0 where
-  pub needs : NeedsMemory (comes old.links (length buffer) (due old.links (steps_of old)))
+  pub needs : NeedsMemory old (comes old.links (length buffer) (due old.links (steps_of old)))
   pub refuses : Refuses old new (first_open old.links)
   pub failure : happening ≡ fails (first_open old.links)
 
@@ -109,6 +118,10 @@ pub record BreaksSend (old new : MemoryWires) (side : Side) (bytes : List ℕ) :
   pub steps : steps_of new ≡ steps_of old
   pub refused : is_refused new ≡ is_refused old
 
+-- memory was refused to the log for bytes that went out; where none did, none is asked for
+abbrev pub RefusesBytes : MemoryWires → MemoryWires → Side → List ℕ → Type 0
+RefusesBytes old new side bytes = (0 < length bytes) × Refuses old new side
+
 -- the bytes that a cut keeps of a send, at most all but the last
 abbrev pub kept_bytes : ℕ → List ℕ → List ℕ
 kept_bytes kept bytes = take (min kept (length bytes - 1)) bytes
@@ -116,10 +129,10 @@ kept_bytes kept bytes = take (min kept (length bytes - 1)) bytes
 -- what a send makes of the wires, by the first cut that names it
 abbrev pub SendsBy : Option ℕ → MemoryWires → MemoryWires → Side → List ℕ → Result Unit SendFailed → Type 0
 SendsBy None old new side bytes (Ok u) = LogsSend old new side bytes
-SendsBy None old new side bytes (Err e) = Refuses old new side
+SendsBy None old new side bytes (Err e) = RefusesBytes old new side bytes
 SendsBy (Some kept) old new side bytes (Ok u) = ⊥
 SendsBy (Some kept) old new side bytes (Err e) =
-    BreaksSend old new side (kept_bytes kept bytes) ⊎ Refuses old new side
+    BreaksSend old new side (kept_bytes kept bytes) ⊎ RefusesBytes old new side (kept_bytes kept bytes)
 
 -- the send that a cut names fails, and no other but where memory is refused to the log
 abbrev pub SendsInMemory : MemoryWires → MemoryWires → Side → List ℕ → Result Unit SendFailed → Type 0

@@ -1,6 +1,6 @@
 ghost use Rattle.std.specs.Prelude.{◌≡◌};
 ghost use Rattle.wire_core.specs.declared.outside.Side.TheVariants.{Client, Target};
-ghost use Rattle.wire_core.specs.Links.{raised, told, open_link, shut_link, failed_link, empty_link, link_after};
+ghost use Rattle.wire_core.specs.Links.{raised, told, open_link, shut_link, failed_link, empty_link, link_after, link_asked};
 ghost use Rattle.wire_core.specs.Links.{is_open_in, first_open, IsFresh, CountsOpen, open_count};
 
 use crate::outside::{Happening, Side};
@@ -122,6 +122,23 @@ impl Links {
         usize::from(self.client.is_open) + usize::from(self.target.is_open)
     }
 
+    /// The links after a side was asked and had nothing.
+    pub fn asked_in_vain(self, side: Side) -> Links
+        ensures client { told result.client ≡ link_asked Client side (told self.client) }
+        ensures target { told result.target ≡ link_asked Target side (told self.target) }
+    {
+        match side {
+            Side::Client => Links {
+                client: self.client.empty(),
+                ..self
+            },
+            Side::Target => Links {
+                target: self.target.empty(),
+                ..self
+            },
+        }
+    }
+
     /// The links after a happening.
     pub fn after(self, happening: Happening) -> Links
         ensures client { told result.client ≡ link_after Client happening (told self.client) }
@@ -223,5 +240,14 @@ mod tests {
             let after = links(client, target).after(happening);
             assert_eq!(rt; after, links(client_after, target_after), "{happening:?}");
         }
+    }
+
+    #[test]
+    fn a_side_is_asked_in_vain(rt: HostRuntime) {
+        let before = links(link(1, 2, true), link(3, 4, true));
+        let client_empty = links(link(1, 3, true), link(3, 4, true));
+        let target_empty = links(link(1, 2, true), link(3, 5, true));
+        assert_eq!(rt; before.asked_in_vain(Side::Client), client_empty);
+        assert_eq!(rt; before.asked_in_vain(Side::Target), target_empty);
     }
 }

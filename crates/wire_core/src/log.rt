@@ -1,7 +1,7 @@
 ghost use Rattle.std.specs.Prelude.{◌≡◌, ◌+◌, ◌≤◌, [], ◌∷◌, ◌++◌, length, IsOk, IfOk, OnOk, OnErr};
 ghost use Rattle.wire_core.specs.Outside.{entry_of};
 ghost use Rattle.wire_core.specs.Links.{IsWithin};
-ghost use Rattle.wire_core.specs.Entries.{NeedsMemory};
+ghost use Rattle.wire_core.specs.Entries.{HasCopy};
 
 use crate::list::Blob;
 use crate::memory::NoMemory;
@@ -69,7 +69,7 @@ impl Log {
 pub(crate) fn entry(alloc: Global, buffer: &[u8], happening: Happening) -> Result<Entry, NoMemory>
     requires { IsWithin (length buffer.now) happening }
     ensures value { IfOk result (λ e. e ≡ entry_of buffer.now happening) }
-    ensures needs { OnErr result (NeedsMemory (entry_of buffer.now happening)) }
+    ensures needs { OnErr result (HasCopy (entry_of buffer.now happening)) }
 {
     match happening {
         Happening::Bytes(side, n) => Ok(Entry::In(side, Blob::from_slice(alloc, &buffer[..n])?)),

@@ -93,7 +93,7 @@ fn look_up<'a>(files: &'a [(Word, Blob)], name: &Word) -> Option<&'a Blob>
 }
 
 impl Files for MemoryFiles {
-    ghost use Rattle.wire_core.specs.MemoryFiles.{files_of, store_of, is_failing};
+    ghost use Rattle.wire_core.specs.MemoryFiles.{files_of, store_of, is_failing, faults_after};
 
     ghost store = { store_of };
 
@@ -102,6 +102,7 @@ impl Files for MemoryFiles {
         ensures asks { Asks (store_of self.old) (store_of self.new) name }
         ensures files { (store_of self.new).files ≡ (store_of self.old).files }
         ensures reads { Reads (store_of self.old) (store_of self.new) name limit result }
+        ensures counts { (store_of self.new).faults ≡ faults_after result (store_of self.old).faults }
         ensures fails { IsErrOf result Failed
             ↔ ((is_failing self.old ≡ true) ⊎ (bytes_under name (files_of self.old) ≡ None)) }
     {
@@ -121,6 +122,7 @@ impl Files for MemoryFiles {
         requires { (store_of self.old).asked ≡ [] }
         ensures asks { Asks (store_of self.old) (store_of self.new) name }
         ensures writes { Writes (store_of self.old) (store_of self.new) name bytes.now result }
+        ensures counts { (store_of self.new).faults ≡ faults_after result (store_of self.old).faults }
         ensures fails { IsErrOf result Failed ↔ (is_failing self.old ≡ true) }
     {
         if self.failing {

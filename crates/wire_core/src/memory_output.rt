@@ -41,13 +41,14 @@ impl MemoryOutput {
 }
 
 impl Output for MemoryOutput {
-    ghost use Rattle.wire_core.specs.MemoryOutput.{printed_of, failing_calls, calls_of};
+    ghost use Rattle.wire_core.specs.MemoryOutput.{printed_of, failing_calls, calls_of, faults_after};
 
     ghost printed = { printed_of };
 
     fn write(&mut self, bytes: &[u8]) -> Result<(), OutRefusal>
         ensures faults { (printed_of self.old).faults ≤ (printed_of self.new).faults }
         ensures writes { WritesOut (printed_of self.old) (printed_of self.new) bytes.now result }
+        ensures counts { (printed_of self.new).faults ≡ faults_after result (printed_of self.old).faults }
         ensures fails { IsErrOf result Failed ↔ Contains (failing_calls self.old) (calls_of self.old) }
         ensures nothing { OnErr result ((printed_of self.new).bytes ≡ (printed_of self.old).bytes) }
         ensures calls { calls_of self.new ≡ raised (calls_of self.old) }

@@ -7,7 +7,7 @@ ghost use Rattle.wire_core.specs.Outside.{other_side, entry_of, Adds, IsOpen, Ha
 ghost use Rattle.wire_core.specs.Outside.{Sends, FailsToSend};
 ghost use Rattle.wire_core.specs.Links.{raised, is_open_in, open_count, Counts, IsWithin};
 ghost use Rattle.wire_core.specs.SendCounts.{count_to};
-ghost use Rattle.wire_core.specs.Entries.{NeedsMemory};
+ghost use Rattle.wire_core.specs.Entries.{HasCopy};
 ghost use Rattle.wire_core.specs.Log.{HasRoom, HasRoomLeft, entries};
 
 use crate::links::{Links, raise};
@@ -76,7 +76,7 @@ impl SendCounts {
 
 impl MemoryWires {
     ghost use Rattle.wire_core.specs.MemoryWires.{outside_of, steps_of, failing_of, is_refused, IsNew, Refuses};
-    ghost use Rattle.wire_core.specs.MemoryWires.{LogsSend, BreaksSend};
+    ghost use Rattle.wire_core.specs.MemoryWires.{LogsSend, BreaksSend, RefusesBytes};
 
     /// Wires with both sides open that give these steps, and fail these sends; `NoMemory` comes where memory is
     /// refused.
@@ -192,7 +192,7 @@ impl MemoryWires {
     // Logs a send that fails after so many bytes.
     fn send_part(&mut self, side: Side, bytes: &[u8])
         requires { is_open_in self.old.links side ≡ true }
-        ensures part { BreaksSend self.old self.new side bytes.now ⊎ Refuses self.old self.new side }
+        ensures part { BreaksSend self.old self.new side bytes.now ⊎ RefusesBytes self.old self.new side bytes.now }
         ensures sends { self.new.sends ≡ self.old.sends }
         ensures failing { failing_of self.new ≡ failing_of self.old }
     {
@@ -244,7 +244,7 @@ fn log_happening(
     ensures room { OnOk result (HasRoom log.new kept) }
     ensures err { OnErr result (entries log.new ≡ entries log.old) }
     ensures kept { OnErr result (HasRoomLeft log.old log.new 0) }
-    ensures needs { OnErr result (HasRoom log.old (kept + 1) → NeedsMemory (entry_of buffer.now happening)) }
+    ensures needs { OnErr result (HasRoom log.old (kept + 1) → HasCopy (entry_of buffer.now happening)) }
 {
     log.add(entry(alloc, buffer, happening)?, kept)
 }

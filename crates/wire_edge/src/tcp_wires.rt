@@ -1,7 +1,7 @@
-ghost use Rattle.std.specs.Prelude.{◌≡◌, ◌<◌, false, [], length, IfOk, IfSome};
-ghost use Rattle.wire_core.specs.Links.{IsFresh, IsPossible};
-ghost use Rattle.wire_core.specs.Outside.{other_side};
-ghost use Rattle.wire_edge.specs.Streams.{GivesTurn, IsOf, heard_of};
+ghost use Rattle.std.specs.Prelude.{◌≡◌, ◌<◌, false, true, [], length, IfOk, IfSome, IfNone, OnOk, OnErr};
+ghost use Rattle.wire_core.specs.Links.{IsFresh, IsPossible, is_open_in};
+ghost use Rattle.wire_core.specs.Outside.{other_side, WasEmpty, IsOpen, HasOpen, Hears, Sends, FailsToSend};
+ghost use Rattle.wire_edge.specs.Streams.{Asks, AsksInTurn, GivesTurn, InTurn, IsOf, IsQuiet, heard_of};
 ghost use Rattle.wire_edge.specs.Tally.{told_by};
 
 use crate::awaiting::accept;
@@ -106,7 +106,8 @@ impl<R: Net + Clock + Alloc + Drop> TcpWires<R> {
 
     // Dials the target again where the link, on which nothing went so far, is gone or old.
     fn redial(&mut self) -> io::Result<()>
-        ensures { self.new.tally ≡ self.old.tally }
+        ensures tally { self.new.tally ≡ self.old.tally }
+        ensures turn { self.new.turn ≡ self.old.turn }
     {
         if self.is_young() {
             return Ok(());
@@ -123,7 +124,8 @@ impl<R: Net + Clock + Alloc + Drop> TcpWires<R> {
 
     // Sends to the client.
     fn send_client(&mut self, bytes: &[u8]) -> bool
-        ensures { self.new.tally ≡ self.old.tally }
+        ensures tally { self.new.tally ≡ self.old.tally }
+        ensures turn { self.new.turn ≡ self.old.turn }
     {
         let Some(stream) = &mut self.client else {
             return false;
@@ -133,7 +135,8 @@ impl<R: Net + Clock + Alloc + Drop> TcpWires<R> {
 
     // Sends to the target, by a new link where nothing was sent yet and the old one is gone.
     fn send_target(&mut self, bytes: &[u8]) -> bool
-        ensures { self.new.tally ≡ self.old.tally }
+        ensures tally { self.new.tally ≡ self.old.tally }
+        ensures turn { self.new.turn ≡ self.old.turn }
     {
         if self.is_fresh && self.redial().is_err() {
             return false;
@@ -149,16 +152,14 @@ impl<R: Net + Clock + Alloc + Drop> TcpWires<R> {
         }
     }
 
-    // Asks a side, where it is open.
-    fn ask(&mut self, side: Side, buffer: &mut [u8]) -> Option<Happening>
+    // Reads from a side that is open.
+    fn read(&mut self, side: Side, buffer: &mut [u8]) -> Option<Happening>
+        requires { is_open_in self.old.tally.links side ≡ true }
         ensures tally { self.new.tally ≡ self.old.tally }
         ensures possible { IfSome result (IsPossible self.old.tally.links (length buffer.old)) }
         ensures side { IfSome result (IsOf side) }
         ensures turn { self.new.turn ≡ self.old.turn }
     {
-        if !self.tally.links.is_open(side) {
-            return None;
-        }
         match side {
             Side::Client => heard(Side::Client, poll(self.client.as_mut()?, buffer)),
             Side::Target => {
@@ -173,11 +174,30 @@ impl<R: Net + Clock + Alloc + Drop> TcpWires<R> {
         }
     }
 
+    // Asks a side, where it is open. That it had nothing is counted.
+    fn ask(&mut self, side: Side, buffer: &mut [u8]) -> Option<Happening>
+        ensures asks { Asks (told_by self.old.tally) (told_by self.new.tally) }
+        ensures possible { IfSome result (IsPossible self.old.tally.links (length buffer.old)) }
+        ensures side { IfSome result (IsOf side) }
+        ensures vain { IfNone result (WasEmpty side (told_by self.old.tally) (told_by self.new.tally)) }
+        ensures turn { self.new.turn ≡ self.old.turn }
+    {
+        if !self.tally.links.is_open(side) {
+            return None;
+        }
+        let heard = self.read(side, buffer);
+        if heard.is_none() {
+            self.tally.links = self.tally.links.asked_in_vain(side);
+        }
+        heard
+    }
+
     // Asks the side whose turn it is, and gives the turn to the other.
     fn ask_next(&mut self, buffer: &mut [u8]) -> Option<Happening>
-        ensures tally { self.new.tally ≡ self.old.tally }
+        ensures asks { Asks (told_by self.old.tally) (told_by self.new.tally) }
         ensures possible { IfSome result (IsPossible self.old.tally.links (length buffer.old)) }
         ensures side { IfSome result (IsOf self.old.turn) }
+        ensures vain { IfNone result (WasEmpty self.old.turn (told_by self.old.tally) (told_by self.new.tally)) }
         ensures turn { self.new.turn ≡ other_side self.old.turn }
     {
         let side = self.turn;
@@ -187,9 +207,10 @@ impl<R: Net + Clock + Alloc + Drop> TcpWires<R> {
 
     // Asks both sides, each in its turn.
     fn ask_both(&mut self, buffer: &mut [u8]) -> Option<Happening>
-        ensures tally { self.new.tally ≡ self.old.tally }
+        ensures asks { Asks (told_by self.old.tally) (told_by self.new.tally) }
         ensures possible { IfSome result (IsPossible self.old.tally.links (length buffer.old)) }
         ensures turn { IfSome result (IsOf (other_side self.new.turn)) }
+        ensures in_turn { AsksInTurn self.old.turn (told_by self.old.tally) (told_by self.new.tally) result }
     {
         match self.ask_next(buffer) {
             Some(happening) => Some(happening),
@@ -221,7 +242,7 @@ impl<R: Net + Clock + Alloc + Drop> TcpWires<R> {
 
     // Waits for a moment at the side from which something is due. The other side has the turn then.
     fn ask_due(&mut self, buffer: &mut [u8]) -> Option<Happening>
-        ensures tally { self.new.tally ≡ self.old.tally }
+        ensures asks { Asks (told_by self.old.tally) (told_by self.new.tally) }
         ensures possible { IfSome result (IsPossible self.old.tally.links (length buffer.old)) }
         ensures turn { IfSome result (IsOf (other_side self.new.turn)) }
     {
@@ -238,9 +259,11 @@ impl<R: Net + Clock + Alloc + Drop> TcpWires<R> {
 
     // What comes next; after a moment of silence, nothing. The side that it doesn't come from is asked first afterwards.
     fn wait(&mut self, buffer: &mut [u8]) -> Happening
-        ensures tally { self.new.tally ≡ self.old.tally }
+        ensures asks { Asks (told_by self.old.tally) (told_by self.new.tally) }
         ensures possible { IsPossible self.old.tally.links (length buffer.old) result }
         ensures turn { GivesTurn self.new.turn result }
+        ensures in_turn { InTurn self.old.turn (told_by self.old.tally) (told_by self.new.tally) result }
+        ensures quiet { IsQuiet (told_by self.old.tally) (told_by self.new.tally) result }
     {
         if let Some(happening) = self.ask_both(buffer) {
             return happening;
@@ -287,13 +310,27 @@ impl<R: Net + Clock + Alloc + Drop> Wires for TcpWires<R> {
         }
     }
 
-    fn next(&mut self, buffer: &mut [u8]) -> Happening {
+    fn next(&mut self, buffer: &mut [u8]) -> Happening
+        requires room { length buffer.old ≡ 65536 }
+        requires some_open { HasOpen (told_by self.old.tally) }
+        ensures hears { Hears (told_by self.old.tally) (told_by self.new.tally) buffer.new result }
+        ensures turn { GivesTurn self.new.turn result }
+        ensures in_turn { InTurn self.old.turn (told_by self.old.tally) (told_by self.new.tally) result }
+    {
         let happening = self.wait(buffer);
-        self.tally.links = self.tally.links.after(happening);
+        if happening != Happening::Quiet {
+            self.tally.links = self.tally.links.after(happening);
+        }
         happening
     }
 
-    fn send(&mut self, side: Side, bytes: &[u8]) -> Result<(), SendFailed> {
+    fn send(&mut self, side: Side, bytes: &[u8]) -> Result<(), SendFailed>
+        requires is_open { IsOpen side (told_by self.old.tally) }
+        requires some_bytes { 0 < length bytes.now }
+        ensures ok { OnOk result (Sends (told_by self.old.tally) (told_by self.new.tally) side bytes.now) }
+        ensures err { OnErr result (FailsToSend (told_by self.old.tally) (told_by self.new.tally) side bytes.now) }
+        ensures turn { self.new.turn ≡ self.old.turn }
+    {
         let sent = match side {
             Side::Client => self.send_client(bytes),
             Side::Target => self.send_target(bytes),
