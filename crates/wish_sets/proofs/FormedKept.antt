@@ -48,7 +48,7 @@ sorted-append (x ∷ xs) ys left right before = (
     rests [] all = tt
     rests (z ∷ zs) all = (all.0.1, rests zs all.1)
 
-sorted-rest : (xs ys : List Wish) → IsStrictlySortedBy wish_cmp (xs ++ ys) → IsStrictlySortedBy wish_cmp ys
+pub sorted-rest : (xs ys : List Wish) → IsStrictlySortedBy wish_cmp (xs ++ ys) → IsStrictlySortedBy wish_cmp ys
 unfolding IsStrictlySortedBy
 sorted-rest [] ys sorted = sorted
 sorted-rest (x ∷ xs) ys sorted = sorted-rest xs ys sorted.1

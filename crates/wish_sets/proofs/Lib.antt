@@ -22,4 +22,8 @@ pub mod FormingLaws
 pub mod FormedLaws
 pub mod FormedKept
 pub mod StandingLaws
+pub mod VerifiedLaws
 pub mod NewLaws
+pub mod SortedLaws
+pub mod BoundLaws
+pub mod OwnerLaws

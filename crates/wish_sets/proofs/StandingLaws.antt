@@ -1,20 +1,20 @@
 -- How entries stand: their ids, and which of their locations stand.
 use Rattle.std.proofs.Common.{◌≡◌, ℕ, zero, suc, ◌+◌, ◌≤◌, Bool, true, false, List, [], ◌∷◌, ◌++◌, refl, ap, sym, ◌∙◌}
 use Rattle.std.proofs.Common.{Some, None, arith}
-use Rattle.std.specs.Prelude.{◌||◌, ◌==◌, map, flat_map}
+use Rattle.std.specs.Prelude.{◌||◌}
 use Rattle.std.specs.BTreeSet.{insert_key}
 use Rattle.std.specs.List.{list_any, insert}
 use Rattle.std.specs.Ordering.{match_ordering, nat_cmp, on}
 use Rattle.std.specs.declared.cmp.Ordering.{Ordering}
 use Rattle.std.specs.declared.cmp.Ordering.TheVariants.{Less, Equal, Greater}
 use Rattle.wish_sets.specs.declared.entry.EntryAt.{EntryAt}
-use Rattle.wish_sets.specs.declared.entry.FunctionEntry.{FunctionEntry}
-use Rattle.wish_sets.specs.declared.entry.LineEntry.{LineEntry}
 use Rattle.wish_sets.specs.declared.slot.Slot.{Slot}
 use Rattle.wish_sets.specs.declared.wish.Wish.{Wish}
+use Rattle.wish_sets.specs.Entries.{has_location}
 use Rattle.wish_sets.specs.Order.{has_wish, is_wish}
+use Rattle.wish_sets.specs.Places.{Place}
 use Rattle.wish_sets.specs.Slots.{requests_in, refusals_in}
-use Rattle.wish_sets.specs.Standing.{id_place}
+use Rattle.wish_sets.specs.Standing.{id_place, state_by}
 use Rattle.wish_sets.specs.Wishes.{EventRequest, is_installed}
 use Rattle.wish_sets.proofs.WatchLaws.{has-append}
 use Rattle.wish_sets.proofs.StepKept.{requests-append, refusals-append}
@@ -29,41 +29,6 @@ any-append test [] ys = refl
 any-append test (x ∷ xs) ys =
     ap (λ b. test x || b) (any-append test xs ys) ∙ or-turn (test x) (list_any test xs) (list_any test ys)
 
-any-map : {A B : Type 0} (test : B → Bool) (f : A → B) (xs : List A)
-    → list_any test (map f xs) ≡ list_any (λ x. test (f x)) xs
-any-map test f [] = refl
-any-map test f (x ∷ xs) = ap (λ b. test (f x) || b) (any-map test f xs)
-
-any-lists : (id : ℕ) (lists : List (List ℕ × List LineEntry))
-    → list_any (λ other. other == id)
-    (flat_map (λ (list : List ℕ × List LineEntry). map (λ (entry : LineEntry). entry.id) list.1) lists)
-    ≡ list_any (λ (list : List ℕ × List LineEntry). list_any (λ (entry : LineEntry). entry.id == id) list.1) lists
-any-lists id [] = refl
-any-lists id (list ∷ lists) =
-    any-append (λ other. other == id) (map (λ (entry : LineEntry). entry.id) list.1)
-    (flat_map (λ (list : List ℕ × List LineEntry). map (λ (entry : LineEntry). entry.id) list.1) lists)
-    ∙ (ap (λ b. b || list_any (λ other. other == id)
-    (flat_map (λ (list : List ℕ × List LineEntry). map (λ (entry : LineEntry). entry.id) list.1) lists))
-    (any-map (λ other. other == id) (λ (entry : LineEntry). entry.id) list.1)
-    ∙ ap (λ b. list_any (λ (entry : LineEntry). entry.id == id) list.1 || b) (any-lists id lists))
-
--- an id is that of an entry of a list, or of a function
-pub listed_ids : (lists : List (List ℕ × List LineEntry)) (functions : List FunctionEntry) (id : ℕ)
-    → list_any (λ other. other == id)
-    (flat_map (λ (list : List ℕ × List LineEntry). map (λ (entry : LineEntry). entry.id) list.1) lists
-    ++ map (λ (entry : FunctionEntry). entry.id) functions)
-    ≡ (list_any (λ (list : List ℕ × List LineEntry). list_any (λ (entry : LineEntry). entry.id == id) list.1) lists
-    || list_any (λ (entry : FunctionEntry). entry.id == id) functions)
-listed_ids lists functions id =
-    any-append (λ other. other == id)
-    (flat_map (λ (list : List ℕ × List LineEntry). map (λ (entry : LineEntry). entry.id) list.1) lists)
-    (map (λ (entry : FunctionEntry). entry.id) functions)
-    ∙ (ap (λ b. b || list_any (λ other. other == id) (map (λ (entry : FunctionEntry). entry.id) functions))
-    (any-lists id lists)
-    ∙ ap (λ b. list_any (λ (list : List ℕ × List LineEntry). list_any (λ (entry : LineEntry). entry.id == id) list.1)
-    lists || b)
-    (any-map (λ other. other == id) (λ (entry : FunctionEntry). entry.id) functions))
-
 pub installed_append : (xs ys : List Slot) (wish : Wish) → is_installed (requests_in (xs ++ ys)) wish
     ≡ (is_installed (requests_in xs) wish || is_installed (requests_in ys) wish)
 installed_append xs ys wish =
@@ -74,6 +39,12 @@ pub refused_append : (xs ys : List Slot) (wish : Wish) → has_wish (refusals_in
     ≡ (has_wish (refusals_in xs) wish || has_wish (refusals_in ys) wish)
 refused_append xs ys wish =
     ap (λ ws. has_wish ws wish) (refusals-append xs ys) ∙ has-append wish (refusals_in xs) (refusals_in ys)
+
+-- places that have the same locations of an entry
+pub state_same : (xs ys : List Place) (id : ℕ) (installed : List EventRequest) (refused : List Wish)
+    → ((test : Wish → Bool) → has_location xs id test ≡ has_location ys id test)
+    → state_by xs id installed refused ≡ state_by ys id installed refused
+state_same xs ys id installed refused same = rw (same (is_installed installed), same (has_wish refused)) refl
 
 -- Entries by their ids ------------------------------------------------------------------------------------------------
 

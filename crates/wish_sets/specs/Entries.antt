@@ -7,6 +7,7 @@ use Rattle.std.specs.Ordering.{nat_cmp, on}
 use Rattle.jdwp_values.specs.declared.location.Location.{Location}
 use Rattle.wish_sets.specs.declared.entry.EntryAt.{EntryAt}
 use Rattle.wish_sets.specs.declared.entry.EntryState.{EntryState}
+use Rattle.wish_sets.specs.declared.entry.LineEntry.{LineEntry}
 use Rattle.wish_sets.specs.declared.entry.EntryState.TheVariants.{Verified, Refused, Waiting}
 use Rattle.wish_sets.specs.declared.wish.Wish.{Wish}
 use Rattle.wish_sets.specs.declared.wish.Wish.TheVariants as wishes
@@ -43,3 +44,17 @@ all_entries_at wanted at =
 -- the entries that have a location, in order of their ids, each once
 abbrev pub entries_at : Wanted → Location → List EntryAt
 entries_at wanted at = fold (insert_key (on (λ entry. entry.id) nat_cmp)) [] (all_entries_at wanted at)
+
+-- all breakpoints of sources, list by list
+abbrev pub all_lines : Wanted → List LineEntry
+all_lines wanted = flat_map (λ list. list.1) wanted.lists
+
+-- one of its locations is installed
+abbrev pub is_verified : Wishes → LineEntry → Bool
+is_verified w entry = has_location (places w.wanted) entry.id (is_installed w.installed)
+
+-- the breakpoints of sources that are verified, in order of their ids, each once (DAP specification, Types, Breakpoint,
+-- verified)
+abbrev pub verified : Wishes → List LineEntry
+verified w =
+    fold (insert_key (on (λ entry. entry.id) nat_cmp)) [] (filter (is_verified w) (all_lines w.wanted))

@@ -25,7 +25,7 @@ wanted_by wants = record {
   caught = wants.caught;
   uncaught = wants.uncaught;
   step = wants.step;
-  classes = wants.classes.items;
+  classes = wants.classes.entries;
 }
 
 -- what is wanted, and what stands

@@ -12,5 +12,8 @@ pub mod Kept
 pub mod Forming
 pub mod Tables
 pub mod Entries
+pub mod Bounds
+pub mod Owners
 pub mod Standing
 pub mod Tidy
+pub mod Verified

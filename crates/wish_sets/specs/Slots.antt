@@ -8,7 +8,7 @@ use Rattle.wish_sets.specs.declared.change.Settled.{Settled}
 use Rattle.wish_sets.specs.declared.change.Settled.TheVariants as outcomes
 use Rattle.wish_sets.specs.declared.slot.Slot.{Slot}
 use Rattle.wish_sets.specs.declared.wish.Wish.{Wish}
-use Rattle.wish_sets.specs.Wishes.{EventRequest, WishChange, clears, sets, owner_of}
+use Rattle.wish_sets.specs.Wishes.{EventRequest, WishChange, clears, sets, is_request, owner_of}
 
 -- those that are wished
 abbrev pub wishes_in : List Slot → List Wish
@@ -95,3 +95,12 @@ unset_from place (slot ∷ slots) =
 -- the first that is installed, of this kind and under this request
 abbrev pub owner_in : List Slot → EventKind → ℕ → Option Wish
 owner_in slots kind request = owner_of (requests_in slots) kind request
+
+-- a request is of this kind and has this id, where there is one
+abbrev pub is_asked : EventKind → ℕ → Option EventRequest → Bool
+is_asked kind request None = false
+is_asked kind request (Some r) = is_request kind request r
+
+-- one is installed, of this kind and under this request
+abbrev pub is_owner : EventKind → ℕ → Slot → Bool
+is_owner kind request slot = is_asked kind request (request_in slot)

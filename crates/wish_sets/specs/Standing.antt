@@ -1,5 +1,6 @@
 -- How entries stand, by the places at which they are bound.
 use Rattle.std.specs.Prelude.{ℕ, ◌+◌, if◌then◌else◌, List, [], ◌∷◌, map, filter, Option, Some, None}
+use Rattle.std.specs.List.Sorted.{IsStrictlySortedBy}
 use Rattle.std.specs.Ordering.{match_ordering, nat_cmp}
 use Rattle.jdwp_values.specs.declared.location.Location.{Location}
 use Rattle.wish_sets.specs.declared.entry.EntryAt.{EntryAt}
@@ -8,9 +9,14 @@ use Rattle.wish_sets.specs.declared.wish.Wish.{Wish}
 use Rattle.wish_sets.specs.declared.entry.EntryState.{EntryState}
 use Rattle.wish_sets.specs.declared.entry.EntryState.TheVariants.{Verified, Refused, Waiting}
 use Rattle.wish_sets.specs.Entries.{has_location}
-use Rattle.wish_sets.specs.Order.{has_wish, is_wish}
+use Rattle.wish_sets.specs.declared.slot.Slot.{Slot}
+use Rattle.wish_sets.specs.Order.{has_wish, is_wish, wish_cmp}
 use Rattle.wish_sets.specs.Wishes.{EventRequest, is_installed}
 use Rattle.wish_sets.specs.Places.{Place}
+
+-- slots stand in wish order, and each wish has one at most
+abbrev pub AreSorted : List Slot → Type 0
+AreSorted slots = IsStrictlySortedBy wish_cmp (map (λ slot. slot.wish) slots)
 
 -- the entries of places that have a location, as often as they have it
 abbrev pub entries_of : Location → List Place → List EntryAt

@@ -5,18 +5,22 @@ ghost use Rattle.std.specs.BTreeSet.{insert_key};
 ghost use Rattle.std.specs.List.{AllByRecursion};
 ghost use Rattle.wish_sets.specs.Forming.{list_watches, function_watches, new_place, AreInOrder, IsWider, AreFormed};
 ghost use Rattle.wish_sets.specs.Forming.{has_its_slot};
+ghost use Rattle.wish_sets.specs.Bounds.{IsBound};
 ghost use Rattle.wish_sets.specs.Cursors.{IsPast};
 ghost use Rattle.wish_sets.specs.Kept.{wanted_by, listed_wishes};
 ghost use Rattle.wish_sets.specs.declared.wish.Wish.TheVariants as wishes;
 ghost use Rattle.wish_sets.specs.Names.{package_named};
+ghost use Rattle.wish_sets.specs.Owners.{AreOwned};
 ghost use Rattle.wish_sets.specs.Order.{has_wish, wish_rank};
 ghost use Rattle.wish_sets.specs.Places.{places};
 ghost use Rattle.wish_sets.specs.Slots.{new_slot, wanted_slots};
 
+use crate::bound::{Bound, bind};
 use crate::cursor::{Cursor, onward};
 use crate::entry::{FunctionEntry, LineEntry};
 use crate::names::{has_class, key_package, package_name, package_named};
-use crate::place::{Place, places};
+use crate::owners::Owners;
+use crate::place::Place;
 use crate::slot::Slot;
 use crate::wants::Wants;
 use crate::wish::Wish;
@@ -186,18 +190,18 @@ fn want_all(slots: &mut Vec<Slot>, those: &[Wish])
 // memory is refused, or where there would be too many slots, the places stay, and nothing else than before is wished.
 fn form_slots(
     slots: &mut Vec<Slot>,
-    bound: &mut List<Place>,
+    bound: &mut Bound,
     alloc: Global,
     wants: &Wants,
 ) -> Result<(), NoMemory>
     requires { AreInOrder slots.old.items }
-    ensures places { OnOk result (bound.new ≡ places (wanted_by wants.now)) }
+    ensures places { OnOk result (IsBound (wanted_by wants.now) bound.new) }
     ensures ok { OnOk result (AreFormed (listed_wishes (wanted_by wants.now)) slots.old.items slots.new.items) }
     ensures same { OnErr result (bound.new ≡ bound.old) }
     ensures err { OnErr result (IsWider slots.old.items slots.new.items) }
 {
-    let found = places(alloc, wants)?;
-    let those = listed(alloc, wants, found.as_slice())?;
+    let found = bind(alloc, wants)?;
+    let those = listed(alloc, wants, found.all.as_slice())?;
     add_slots(slots, alloc, those.as_slice())?;
     want_all(slots, those.as_slice());
     *bound = found;
@@ -206,28 +210,32 @@ fn form_slots(
 
 /// Slots say what is wished but exceptions and the step, formed afresh, and the places of all entries are kept. Where
 /// memory is refused, or where there would be too many slots, the places stay, and nothing else than before is wished.
-/// Slots are gone through anew.
+/// Slots are gone through anew, and what is installed in them.
 pub(crate) fn form(
     slots: &mut Vec<Slot>,
-    bound: &mut List<Place>,
+    bound: &mut Bound,
+    owners: &mut Owners,
     cursor: &mut Cursor,
     alloc: Global,
     wants: &Wants,
 ) -> Result<(), NoMemory>
     requires { AreInOrder slots.old.items }
-    ensures places { OnOk result (bound.new ≡ places (wanted_by wants.now)) }
+    ensures places { OnOk result (IsBound (wanted_by wants.now) bound.new) }
     ensures ok { OnOk result (AreFormed (listed_wishes (wanted_by wants.now)) slots.old.items slots.new.items) }
     ensures same { OnErr result (bound.new ≡ bound.old) }
     ensures err { OnErr result (IsWider slots.old.items slots.new.items) }
     ensures past { IsPast cursor.new slots.new.items }
+    ensures owned { AreOwned owners.new slots.new.items }
 {
     match form_slots(slots, bound, alloc, wants) {
         Ok(()) => {
             *cursor = onward(slots, Cursor::new());
+            *owners = Owners::of(alloc, slots);
             Ok(())
         }
         Err(refused) => {
             *cursor = Cursor::new();
+            owners.whole = false;
             Err(refused)
         }
     }

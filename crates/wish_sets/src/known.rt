@@ -1,54 +1,68 @@
 //! Classes are made known, and what they replace is kept, so that it may be put back.
-ghost use Rattle.std.specs.Prelude.{◌≡◌, ◌<◌, ◌↔◌, [], length, IfSome, IsTrue, OnOk};
+ghost use Rattle.std.specs.Prelude.{◌≡◌, ◌↔◌, [], IsTrue, OnOk};
+ghost use Rattle.class_tables.specs.Facts.{same_class};
 ghost use Rattle.class_tables.specs.Lookups.{found_in};
-ghost use Rattle.jdwp_values.specs.declared.id.ClassId.{ClassId as OneClass};
-ghost use Rattle.wish_sets.specs.Tables.{all_known, put_at, undone};
+ghost use Rattle.class_tables.specs.Tables.{put};
+ghost use Rattle.wish_sets.specs.Tables.{all_known, put_back, undone};
 ghost use Rattle.wish_sets.specs.Wanted.{class_found, put_known};
 
 use crate::facts::KnownClass;
 use crate::learnt::class_found;
 use crate::same::same_facts;
-use crate::table::{put_at, take_back};
-use crate::wants::class_at;
 use class_tables::Classes;
+use indexmap::IndexMap;
 use jdwp_values::ClassId;
 use std::alloc::Global;
+use std::mem;
 use wire_core::NoMemory;
 
-/// What a class replaced as it was made known: its place, and what was known of it; neither, where it was new.
+/// What a class replaced as it was made known: what was known of it, nothing where it was new.
 #[derive(Debug, Drop)]
 pub(crate) struct Replaced {
-    pub(crate) at: Option<usize>,
+    pub(crate) class: ClassId,
     pub(crate) facts: Option<KnownClass>,
 }
 
-// Whether a class is known at a place, and is known so.
-fn is_known(known: &[(ClassId, KnownClass)], at: Option<usize>, facts: &KnownClass) -> bool
-    requires { IfSome at (λ place. place < length known.now) }
-    ensures { IsTrue result → (class : OneClass) → put_at at class facts.now known.now ≡ known.now }
+// Whether a class is known, and is known so.
+fn is_known(known: &IndexMap<ClassId, KnownClass>, class: ClassId, facts: &KnownClass) -> bool
+    ensures { IsTrue result → put same_class class facts.now known.now.entries ≡ known.now.entries }
 {
-    match at {
-        Some(at) => same_facts(&known[at].1, facts),
+    match known.get(&class) {
+        Some(known) => same_facts(known, facts),
         None => false,
+    }
+}
+
+// What was known of a class is known again; where it was new, the last class goes.
+fn take_back(known: &mut IndexMap<ClassId, KnownClass>, class: ClassId, before: Option<KnownClass>)
+    ensures { known.new.entries ≡ put_back same_class class before known.old.entries }
+{
+    match before {
+        Some(before) => {
+            if let Some(facts) = known.get_mut(&class) {
+                let _ = mem::replace(facts, before);
+            }
+        }
+        None => {
+            let _ = known.pop();
+        }
     }
 }
 
 // Puts what was found of a class, and keeps what it replaces. Where memory is refused nothing changes.
 #[tactic(auto, using(crate::proofs::TakenLaws::undone_append))]
 fn replace(
-    known: &mut Vec<(ClassId, KnownClass)>,
+    known: &mut IndexMap<ClassId, KnownClass>,
     replaced: &mut Vec<Replaced>,
-    at: Option<usize>,
     class: ClassId,
     facts: KnownClass,
 ) -> Result<(), NoMemory>
-    requires { IfSome at (λ place. place < length known.old.items) }
-    ensures ok { OnOk result (known.new.items ≡ put_at at class facts known.old.items) }
-    ensures back { undone replaced.new.items known.new.items ≡ undone replaced.old.items known.old.items }
+    ensures ok { OnOk result (known.new.entries ≡ put same_class class facts known.old.entries) }
+    ensures back { undone replaced.new.items known.new.entries ≡ undone replaced.old.items known.old.entries }
 {
-    let facts = put_at(known, at, class, facts)?;
-    if let Err(refused) = replaced.push(Replaced { at, facts }) {
-        take_back(known, at, refused.value.facts);
+    let facts = known.insert(class, facts)?;
+    if let Err(refused) = replaced.push(Replaced { class, facts }) {
+        take_back(known, class, refused.value.facts);
         return Err(NoMemory);
     }
     Ok(())
@@ -56,36 +70,35 @@ fn replace(
 
 // Makes a class known, if something is new of it. Where memory is refused nothing changes.
 fn know(
-    known: &mut Vec<(ClassId, KnownClass)>,
+    known: &mut IndexMap<ClassId, KnownClass>,
     replaced: &mut Vec<Replaced>,
     alloc: Global,
     classes: &Classes,
     class: ClassId,
 ) -> Result<(), NoMemory>
-    ensures ok { OnOk result (known.new.items
-        ≡ put_known class (class_found (found_in classes.now) class) known.old.items) }
-    ensures back { undone replaced.new.items known.new.items ≡ undone replaced.old.items known.old.items }
+    ensures ok { OnOk result (known.new.entries
+        ≡ put_known class (class_found (found_in classes.now) class) known.old.entries) }
+    ensures back { undone replaced.new.items known.new.entries ≡ undone replaced.old.items known.old.entries }
 {
-    let at = class_at(known, class);
     let Some(facts) = class_found(alloc, classes, class)? else {
         return Ok(());
     };
-    if is_known(known, at, &facts) {
+    if is_known(known, class, &facts) {
         return Ok(());
     }
-    replace(known, replaced, at, class, facts)
+    replace(known, replaced, class, facts)
 }
 
 /// Makes classes known, one after the other, and keeps what they replace. Where memory is refused some may be known.
 pub(crate) fn know_all(
-    known: &mut Vec<(ClassId, KnownClass)>,
+    known: &mut IndexMap<ClassId, KnownClass>,
     replaced: &mut Vec<Replaced>,
     alloc: Global,
     classes: &Classes,
     those: &[ClassId],
 ) -> Result<(), NoMemory>
-    ensures ok { OnOk result (known.new.items ≡ all_known (found_in classes.now) those.now known.old.items) }
-    ensures back { undone replaced.new.items known.new.items ≡ undone replaced.old.items known.old.items }
+    ensures ok { OnOk result (known.new.entries ≡ all_known (found_in classes.now) those.now known.old.entries) }
+    ensures back { undone replaced.new.items known.new.entries ≡ undone replaced.old.items known.old.entries }
 {
     for class in those {
         know(known, replaced, alloc, classes, *class)?;
@@ -102,11 +115,11 @@ pub(crate) fn is_nothing(replaced: &[Replaced]) -> bool
 
 /// Puts back what was replaced, the last first.
 #[tactic(auto, using(crate::proofs::TakenLaws::undone_append))]
-pub(crate) fn put_back(known: &mut Vec<(ClassId, KnownClass)>, replaced: Vec<Replaced>)
-    ensures { known.new.items ≡ undone replaced.items known.old.items }
+pub(crate) fn put_back(known: &mut IndexMap<ClassId, KnownClass>, replaced: Vec<Replaced>)
+    ensures { known.new.entries ≡ undone replaced.items known.old.entries }
 {
     let mut replaced = replaced;
     while let Some(one) = replaced.pop() {
-        take_back(known, one.at, one.facts);
+        take_back(known, one.class, one.facts);
     }
 }

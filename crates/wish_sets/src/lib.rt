@@ -2,6 +2,7 @@
 #![tactic(auto)]
 
 mod asked;
+mod bound;
 mod change;
 mod cursor;
 mod entry;
@@ -12,12 +13,14 @@ mod known;
 mod laws;
 mod learnt;
 mod names;
+mod owners;
 mod place;
 mod same;
 mod slot;
 mod spelling;
 mod standing;
 mod table;
+mod verified;
 mod wants;
 mod wish;
 mod wishes;

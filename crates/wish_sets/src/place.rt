@@ -1,5 +1,5 @@
 //! The locations at which entries are bound.
-ghost use Rattle.std.specs.Prelude.{◌≡◌, ◌++◌, Some, map, filter_map, flat_map, IfOk, OnOk, option_copied, option_map};
+ghost use Rattle.std.specs.Prelude.{◌≡◌, ◌++◌, suc, Some, drop, map, filter_map, flat_map, IfOk, OnOk, option_copied, option_map};
 ghost use Rattle.class_tables.specs.Views.{binding_entries};
 ghost use Rattle.wish_sets.specs.Places.{line_location, line_locations, entry_places, list_places, is_of_key, key_of};
 ghost use Rattle.wish_sets.specs.Places.{code_start, method_location, function_locations, function_places, places_in};
@@ -199,16 +199,28 @@ fn add_functions_places(
 fn add_class_places(
     places: &mut List<Place>,
     wants: &Wants,
-    class: &(ClassId, KnownClass),
+    class: ClassId,
+    facts: &KnownClass,
 ) -> Result<(), NoMemory>
-    ensures { OnOk result (places.new ≡ places.old ++ places_in (wanted_by wants.now) class.now) }
+    ensures { OnOk result (places.new ≡ places.old ++ places_in (wanted_by wants.now) (class, facts.now)) }
 {
-    let (id, facts) = class;
     if !facts.prepared {
         return Ok(());
     }
-    add_lists_places(places, *id, facts, &wants.lists)?;
-    add_functions_places(places, *id, facts, wants.functions.as_slice())
+    add_lists_places(places, class, facts, &wants.lists)?;
+    add_functions_places(places, class, facts, wants.functions.as_slice())
+}
+
+// Adds those in the class at a place, if there is one.
+fn add_places_at(places: &mut List<Place>, wants: &Wants, at: usize) -> Result<(), NoMemory>
+    ensures { OnOk result (places.new ++ flat_map (places_in (wanted_by wants.now)) (drop (suc at) wants.now.classes.entries)
+        ≡ places.old ++ flat_map (places_in (wanted_by wants.now)) (drop at wants.now.classes.entries)) }
+{
+    let Some((class, facts)) = wants.classes.get_index(at) else {
+        return Ok(());
+    };
+    add_class_places(places, wants, *class, facts)?;
+    Ok(())
 }
 
 /// The places of all entries, class by class; `NoMemory` comes where memory is refused.
@@ -216,8 +228,8 @@ pub(crate) fn places(alloc: Global, wants: &Wants) -> Result<List<Place>, NoMemo
     ensures { IfOk result (λ found. found ≡ places (wanted_by wants.now)) }
 {
     let mut found = List::new(alloc);
-    for class in &wants.classes {
-        add_class_places(&mut found, wants, class)?;
+    for at in 0..wants.classes.len() {
+        add_places_at(&mut found, wants, at)?;
     }
     Ok(found)
 }

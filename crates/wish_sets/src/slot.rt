@@ -1,16 +1,14 @@
 //! A wish, and how it stands.
 ghost use Rattle.std.specs.Prelude.{◌≡◌, ◌+◌, ◌<◌, ◌≤◌, ◌^◌, ◌++◌, if◌then◌else◌, drop, is_some, length, IfSome, IfOk};
 ghost use Rattle.std.specs.List.{list_any, position_from};
-ghost use Rattle.std.specs.Option.{option_copied};
 ghost use Rattle.std.specs.Result.{result_map_both};
 ghost use Rattle.wish_sets.specs.Cursors.{IsPast, NoneBefore};
 ghost use Rattle.wish_sets.specs.Slots.{is_late, is_unset, awaits, marked, with_first, wanted_slot, late_from};
-ghost use Rattle.wish_sets.specs.Slots.{unset_from, change_shown, place_shown, owner_in, new_slot};
+ghost use Rattle.wish_sets.specs.Slots.{unset_from, change_shown, place_shown, new_slot};
 
 use crate::change::{Change, Settled};
 use crate::cursor::{Cursor, onward};
 use crate::wish::Wish;
-use jdwp_events::EventKind;
 
 /// A wish that is wished, installed, or may be: whether it is wished, the id of its request where it is installed, and
 /// whether it was refused.
@@ -229,51 +227,25 @@ fn settle_slots(slots: &mut Vec<Slot>, start: usize, outcome: Settled) -> Option
     settle_first(slots, start, outcome)
 }
 
-/// Marks an outcome at the first of two lists that waits for it, and goes on.
+/// Marks an outcome at the first of two lists that waits for it, and goes on; it answers the place in the first list.
 pub(crate) fn settle(
     slots: &mut Vec<Slot>,
     fixed: &mut [Slot],
     cursor: &mut Cursor,
     outcome: Settled,
-)
+) -> Option<usize>
     requires past { IsPast cursor.old slots.old.items }
     requires few { length slots.old.items < 2 ^ 31 }
     ensures slots { slots.new.items ≡ with_first (awaits outcome) (marked outcome) slots.old.items }
     ensures fixed { fixed.new ≡ (if list_any (awaits outcome) slots.old.items then fixed.old
         else with_first (awaits outcome) (marked outcome) fixed.old) }
     ensures past { IsPast cursor.new slots.new.items }
+    ensures place { result ≡ position_from (awaits outcome) 0 slots.old.items }
 {
     let found = settle_slots(slots, cursor.start_of(outcome), outcome);
     *cursor = onward(slots, cursor.after(outcome, found));
     if found.is_none() {
         settle_first(fixed, 0, outcome);
     }
-}
-
-// The first that is installed, of this kind and under this request.
-fn owner_in(slots: &[Slot], kind: EventKind, request: u32) -> Option<&Wish>
-    ensures { option_copied result ≡ owner_in slots.now kind request }
-{
-    for slot in slots {
-        if slot.request == Some(request) && slot.wish.kind() == kind {
-            return Some(&slot.wish);
-        }
-    }
-    None
-}
-
-/// The first of two lists that is installed, of this kind and under this request.
-#[tactic(auto, using(crate::proofs::SlotLaws::owner_append))]
-pub(crate) fn owner<'a>(
-    slots: &'a [Slot],
-    fixed: &'a [Slot],
-    kind: EventKind,
-    request: u32,
-) -> Option<&'a Wish>
-    ensures { option_copied result ≡ owner_in (slots.now ++ fixed.now) kind request }
-{
-    match owner_in(slots, kind, request) {
-        Some(wish) => Some(wish),
-        None => owner_in(fixed, kind, request),
-    }
+    found
 }

@@ -1,5 +1,5 @@
 //! How the entries of lists stand, by the places at which they are bound.
-ghost use Rattle.std.specs.Prelude.{◌≡◌, ◌==◌, ◌++◌, ◌∷◌, [], ◌<◌, ◌+◌, flat_map, fold, filter};
+ghost use Rattle.std.specs.Prelude.{◌≡◌, ◌==◌, ◌++◌, ◌∷◌, [], ◌<◌, ◌+◌, fold, filter, find, option_copied};
 ghost use Rattle.std.specs.Prelude.{length, map, IfOk, IfSome, OnOk, OnErr};
 ghost use Rattle.std.specs.BTreeSet.{insert_key};
 ghost use Rattle.std.specs.List.{list_any};
@@ -8,80 +8,57 @@ ghost use Rattle.wish_sets.specs.declared.wish.Wish.TheVariants as wishes;
 ghost use Rattle.wish_sets.specs.Entries.{has_location};
 ghost use Rattle.wish_sets.specs.Order.{has_wish, is_wish};
 ghost use Rattle.wish_sets.specs.Slots.{requests_in, refusals_in};
-ghost use Rattle.wish_sets.specs.Standing.{id_place, entries_of, state_by};
+ghost use Rattle.wish_sets.specs.Standing.{id_place, entries_of, state_by, AreSorted};
 ghost use Rattle.wish_sets.specs.Wishes.{is_installed};
 
-use crate::entry::{EntryAt, EntryState, FunctionEntry, LineEntry};
+use crate::entry::{EntryAt, EntryState};
 use crate::place::Place;
 use crate::slot::Slot;
 use crate::wish::Wish;
 use jdwp_values::Location;
 use std::alloc::Global;
 use std::cmp::Ordering;
-use wire_core::{List, NoMemory, Text};
+use wire_core::{List, NoMemory};
 
-// Whether a list has an entry of this id.
-fn has_line(list: &(Text, List<LineEntry>), id: u64) -> bool
-    ensures { result ≡ list_any (λ entry. entry.id == id) list.now.1 }
+// The slot of a wish, where it has one.
+fn slot_of<'a>(slots: &'a [Slot], wish: &Wish) -> Option<&'a Slot>
+    requires { AreSorted slots.now }
+    ensures { option_copied result ≡ find (λ slot. is_wish wish.now slot.wish) slots.now }
 {
-    list.1.as_slice().iter().any(|entry| entry.id == id)
-}
-
-// Whether one of some lists has an entry of this id.
-fn have_line(lists: &[(Text, List<LineEntry>)], id: u64) -> bool
-    ensures { result ≡ list_any (λ list. list_any (λ entry. entry.id == id) list.1) lists.now }
-{
-    lists.iter().any(|list| has_line(list, id))
-}
-
-// Whether a function has this id.
-fn have_function(functions: &[FunctionEntry], id: u64) -> bool
-    ensures { result ≡ list_any (λ entry. entry.id == id) functions.now }
-{
-    functions.iter().any(|entry| entry.id == id)
-}
-
-/// Whether an entry of this id is listed.
-#[tactic(auto, using(crate::proofs::StandingLaws::listed_ids))]
-pub(crate) fn has_entry(
-    lists: &[(Text, List<LineEntry>)],
-    functions: &[FunctionEntry],
-    id: u64,
-) -> bool
-    ensures { result ≡ list_any (λ other. other == id)
-        (flat_map (λ list. map (λ entry. entry.id) list.1) lists.now
-        ++ map (λ entry. entry.id) functions.now) }
-{
-    have_line(lists, id) || have_function(functions, id)
+    let at = slots.partition_point(|slot| slot.wish.cmp(wish).is_lt());
+    if at >= slots.len() {
+        return None;
+    }
+    let slot = &slots[at];
+    if *wish == slot.wish { Some(slot) } else { None }
 }
 
 // Whether a wish is installed.
 fn is_installed(slots: &[Slot], wish: &Wish) -> bool
+    requires { AreSorted slots.now }
     ensures { result ≡ is_installed (requests_in slots.now) wish.now }
 {
-    for slot in slots {
-        if slot.request.is_some() && *wish == slot.wish {
-            return true;
-        }
+    match slot_of(slots, wish) {
+        Some(slot) => slot.request.is_some(),
+        None => false,
     }
-    false
 }
 
 // Whether a wish was refused.
 fn is_refused(slots: &[Slot], wish: &Wish) -> bool
+    requires { AreSorted slots.now }
     ensures { result ≡ has_wish (refusals_in slots.now) wish.now }
 {
-    for slot in slots {
-        if slot.refused && *wish == slot.wish {
-            return true;
-        }
+    match slot_of(slots, wish) {
+        Some(slot) => slot.refused,
+        None => false,
     }
-    false
 }
 
 // Whether a breakpoint is installed, in one of two lists of slots.
 #[tactic(auto, using(crate::proofs::StandingLaws::installed_append))]
 fn stands(slots: &[Slot], fixed: &[Slot], at: Location) -> bool
+    requires { AreSorted slots.now × AreSorted fixed.now }
     ensures { result ≡ is_installed (requests_in (slots.now ++ fixed.now)) (wishes.Stop at) }
 {
     let wish = Wish::Stop(at);
@@ -91,6 +68,7 @@ fn stands(slots: &[Slot], fixed: &[Slot], at: Location) -> bool
 // Whether a breakpoint was refused, in one of two lists of slots.
 #[tactic(auto, using(crate::proofs::StandingLaws::refused_append))]
 fn was_refused(slots: &[Slot], fixed: &[Slot], at: Location) -> bool
+    requires { AreSorted slots.now × AreSorted fixed.now }
     ensures { result ≡ has_wish (refusals_in (slots.now ++ fixed.now)) (wishes.Stop at) }
 {
     let wish = Wish::Stop(at);
@@ -99,22 +77,34 @@ fn was_refused(slots: &[Slot], fixed: &[Slot], at: Location) -> bool
 
 // Whether one of an entry's locations is installed.
 fn is_verified(bound: &[Place], id: u64, slots: &[Slot], fixed: &[Slot]) -> bool
+    requires { AreSorted slots.now × AreSorted fixed.now }
     ensures { result ≡ has_location bound.now id (is_installed (requests_in (slots.now ++ fixed.now))) }
 {
-    bound
-        .iter()
-        .any(|place| place.id == id && stands(slots, fixed, place.at))
+    for place in bound {
+        if place.id == id && stands(slots, fixed, place.at) {
+            return true;
+        }
+    }
+    false
 }
 
 // Whether one of an entry's locations was refused.
 fn is_denied(bound: &[Place], id: u64, slots: &[Slot], fixed: &[Slot]) -> bool
+    requires { AreSorted slots.now × AreSorted fixed.now }
     ensures { result ≡ has_location bound.now id (has_wish (refusals_in (slots.now ++ fixed.now))) }
 {
-    bound.iter().any(|place| place.id == id && was_refused(slots, fixed, place.at))
+    for place in bound {
+        if place.id == id && was_refused(slots, fixed, place.at) {
+            return true;
+        }
+    }
+    false
 }
 
-/// How an entry stands: one of its locations is installed, else one of them was refused, else neither.
+/// How an entry stands: one of its locations is installed, else one of them was refused, else neither. Both lists of
+/// slots are in wish order.
 pub(crate) fn entry_state(bound: &[Place], id: u64, slots: &[Slot], fixed: &[Slot]) -> EntryState
+    requires { AreSorted slots.now × AreSorted fixed.now }
     ensures { result ≡ state_by bound.now id (requests_in (slots.now ++ fixed.now))
         (refusals_in (slots.now ++ fixed.now)) }
 {

@@ -297,6 +297,7 @@ fn an_entry_stands_as_its_locations_do(rt: HostRuntime) -> Result<(), Fail> {
     assert_eq!(rt; wishes.state_of(1), Some(EntryState::Verified));
     assert_eq!(rt; wishes.state_of(2), Some(EntryState::Refused));
     assert_eq!(rt; wishes.state_of(3), None);
+    assert_eq!(rt; wishes.verified(alloc)?.len(), 1);
     let found = wishes.entries_at(alloc, &in_cart(4))?;
     assert_eq!(rt;
         found.as_slice(),

@@ -1,13 +1,13 @@
 //! What a session wants to stop at.
 ghost use Rattle.std.specs.Prelude.{◌≡◌, ◌<◌, bytes_eq, length, IfSome};
 ghost use Rattle.std.specs.List.{position_from};
-ghost use Rattle.class_tables.specs.Facts.{same_class};
 ghost use Rattle.wish_sets.specs.Kept.{wanted_by};
 ghost use Rattle.wish_sets.specs.Wanted.{nothing_wanted};
 
 use crate::entry::{FunctionEntry, LineEntry};
 use crate::facts::KnownClass;
 use crate::wish::StepWish;
+use indexmap::IndexMap;
 use jdwp_values::ClassId;
 use std::alloc::Global;
 use wire_core::{List, Text};
@@ -20,7 +20,7 @@ pub(crate) struct Wants {
     pub(crate) caught: bool,
     pub(crate) uncaught: bool,
     pub(crate) step: Option<StepWish>,
-    pub(crate) classes: Vec<(ClassId, KnownClass)>,
+    pub(crate) classes: IndexMap<ClassId, KnownClass>,
 }
 
 impl Wants {
@@ -34,7 +34,7 @@ impl Wants {
             caught: false,
             uncaught: false,
             step: None,
-            classes: Vec::new(alloc),
+            classes: IndexMap::new(alloc),
         }
     }
 }
@@ -47,12 +47,4 @@ pub(crate) fn list_at(lists: &[(Text, List<LineEntry>)], key: &Text) -> Option<u
     lists
         .iter()
         .position(|list| key.as_bytes() == list.0.as_bytes())
-}
-
-/// The place of a class that is known.
-pub(crate) fn class_at(classes: &[(ClassId, KnownClass)], class: ClassId) -> Option<usize>
-    ensures place { result ≡ position_from (λ known. same_class class known.0) 0 classes.now }
-    ensures within { IfSome result (λ place. place < length classes.now) }
-{
-    classes.iter().position(|known| class == known.0)
 }

@@ -6,22 +6,24 @@ ghost use Rattle.wish_sets.specs.Wanted.{with_class, with_exceptions, with_funct
 ghost use Rattle.wish_sets.specs.Wanted.{with_step};
 ghost use Rattle.wish_sets.specs.Wishes.{new_wishes, rewished, next_change, next_place, is_outcome, settled, owner_of};
 ghost use Rattle.class_tables.specs.Lookups.{found_in};
-ghost use Rattle.wish_sets.specs.Entries.{entries_at, state_of};
+ghost use Rattle.wish_sets.specs.Entries.{entries_at, state_of, verified};
 ghost use Rattle.wish_sets.specs.Forming.{wished_or_installed};
 ghost use Rattle.wish_sets.specs.Slots.{change_shown, place_shown};
 ghost use Rattle.wish_sets.specs.Wished.{is_watched, is_listed, is_named};
 
 use crate::asked::{is_listed, is_named, watches};
+use crate::bound::{Bound, has_id, of_id};
 use crate::change::{Change, Settled};
 use crate::cursor::Cursor;
 use crate::entry::{EntryAt, EntryState, FunctionEntry, LineEntry};
 use crate::fixed::{fixed_slots, want_step, want_thrown};
 use crate::forming::form;
 use crate::known::{is_nothing, know_all, put_back};
-use crate::place::Place;
-use crate::slot::{Slot, late, owner, settle, unset};
-use crate::standing::{entries_at, entry_state, has_entry};
+use crate::owners::{Owners, owner};
+use crate::slot::{Slot, late, settle, unset};
+use crate::standing::{entries_at, entry_state};
 use crate::table::{put_at, take_back};
+use crate::verified::verified_lines;
 use crate::wants::{Wants, list_at};
 use crate::wish::{Depth, StepWish, Wish};
 use class_tables::Classes;
@@ -39,8 +41,9 @@ use wire_core::{List, NoMemory, Text};
 #[derive(Debug, Drop)]
 pub struct Wishes {
     wants: Wants,
-    bound: List<Place>,
+    bound: Bound,
     slots: Vec<Slot>,
+    owners: Owners,
     cursor: Cursor,
     fixed: [Slot; 5],
 }
@@ -49,15 +52,17 @@ impl Model for Wishes {
     ghost use Rattle.std.specs.Prelude.{◌≡◌, ◌++◌};
     ghost use Rattle.wish_sets.specs.Wishes.{Wishes as WhatStands};
     ghost use Rattle.wish_sets.specs.Kept.{wanted_by, wishes_by, AreKept};
-    ghost use Rattle.wish_sets.specs.Places.{places};
+    ghost use Rattle.wish_sets.specs.Bounds.{IsBound};
     ghost use Rattle.wish_sets.specs.Cursors.{IsPast};
+    ghost use Rattle.wish_sets.specs.Owners.{AreOwned};
 
     ghost Value = { WhatStands };
 
     ghost view = { λ w. wishes_by w.wants (w.slots.items ++ w.fixed) };
 
     ghost invariant = { λ w. AreKept (wanted_by w.wants) w.slots.items w.fixed
-        × (w.bound ≡ places (wanted_by w.wants)) × IsPast w.cursor w.slots.items };
+        × IsBound (wanted_by w.wants) w.bound × IsPast w.cursor w.slots.items
+        × AreOwned w.owners w.slots.items };
 }
 
 impl Wishes {
@@ -71,8 +76,9 @@ impl Wishes {
         slots.push(Slot::new(Wish::ThreadDeath, true))?;
         Ok(Wishes {
             wants: Wants::new(alloc),
-            bound: List::new(alloc),
+            bound: Bound::new(alloc),
             slots,
+            owners: Owners::new(alloc),
             cursor: Cursor::new(),
             fixed: fixed_slots(),
         })
@@ -125,6 +131,7 @@ impl Wishes {
         if let Err(refused) = form(
             &mut self.slots,
             &mut self.bound,
+            &mut self.owners,
             &mut self.cursor,
             alloc,
             &self.wants,
@@ -150,6 +157,7 @@ impl Wishes {
         if let Err(refused) = form(
             &mut self.slots,
             &mut self.bound,
+            &mut self.owners,
             &mut self.cursor,
             alloc,
             &self.wants,
@@ -211,6 +219,7 @@ impl Wishes {
         if let Err(refused) = form(
             &mut self.slots,
             &mut self.bound,
+            &mut self.owners,
             &mut self.cursor,
             alloc,
             &self.wants,
@@ -241,7 +250,8 @@ impl Wishes {
         requires outcome { is_outcome (next_change self.old) outcome ≡ true }
         ensures { self.new ≡ settled outcome self.old }
     {
-        settle(&mut self.slots, &mut self.fixed, &mut self.cursor, outcome);
+        let found = settle(&mut self.slots, &mut self.fixed, &mut self.cursor, outcome);
+        self.owners.keep(&self.slots, found);
     }
 
     /// The wish of an event, by its kind and the id of its request: the first installed one, in wish order, that has
@@ -249,7 +259,7 @@ impl Wishes {
     pub fn owner_of(&self, kind: EventKind, request: u32) -> Option<&Wish>
         ensures { option_copied result ≡ owner_of self.now.installed kind request }
     {
-        owner(&self.slots, &self.fixed, kind, request)
+        owner(&self.owners, &self.slots, &self.fixed, kind, request)
     }
 
     /// Whether the classes of a package are wished as they are prepared, by the path that a signature has, in bytes
@@ -282,12 +292,11 @@ impl Wishes {
     pub fn state_of(&self, id: u64) -> Option<EntryState>
         ensures { result ≡ state_of self.now id }
     {
-        if has_entry(&self.wants.lists, self.wants.functions.as_slice(), id) {
-            let bound = self.bound.as_slice();
-            Some(entry_state(bound, id, &self.slots, &self.fixed))
-        } else {
-            None
+        if !has_id(&self.bound.ids, id) {
+            return None;
         }
+        let places = of_id(&self.bound.by_id, id);
+        Some(entry_state(places, id, &self.slots, &self.fixed))
     }
 
     /// The entries that have a location, in order of their ids, each once. `NoMemory` comes where memory is refused
@@ -295,6 +304,14 @@ impl Wishes {
     pub fn entries_at(&self, alloc: Global, at: &Location) -> Result<List<EntryAt>, NoMemory>
         ensures { IfOk result (λ found. found ≡ entries_at self.now.wanted at.now) }
     {
-        entries_at(alloc, self.bound.as_slice(), *at)
+        entries_at(alloc, self.bound.all.as_slice(), *at)
+    }
+
+    /// The breakpoints of sources that are verified, in order of their ids, each id once. Takes memory for the list;
+    /// `NoMemory` comes where it is refused (DAP specification, Types, Breakpoint, verified).
+    pub fn verified(&self, alloc: Global) -> Result<List<LineEntry>, NoMemory>
+        ensures { IfOk result (λ entries. entries ≡ verified self.now) }
+    {
+        verified_lines(alloc, self, &self.wants.lists)
     }
 }

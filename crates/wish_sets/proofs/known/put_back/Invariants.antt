@@ -8,4 +8,4 @@ abbrev pub decreases-loop-one : goal.decreases-loop-one
 decreases-loop-one l = vec_len l.replaced
 
 abbrev pub invariant-loop-one : goal.invariant-loop-one
-invariant-loop-one l = undone l.replaced.items l.known.items ≡ undone l.fn.replaced.items l.fn.known.items
+invariant-loop-one l = undone l.replaced.items l.known.entries ≡ undone l.fn.replaced.items l.fn.known.entries

@@ -1,6 +1,7 @@
 -- What is wanted is formed afresh, or else as it was.
 use Rattle.std.proofs.Common.{◌++◌, ◌∙◌, ap, sym, subst, refl, ◌<◌, ◌^◌}
 use Rattle.class_tables.specs.Lookups.{found_in}
+use Rattle.wish_sets.specs.Bounds.{IsBound}
 use Rattle.wish_sets.specs.Forming.{wished_or_installed}
 use Rattle.wish_sets.specs.Kept.{wanted_by, wishes_by}
 use Rattle.wish_sets.specs.Wishes.{rewished}
@@ -44,8 +45,9 @@ invariant_of-self-in-Err-form c =
       wider_kept c.self.inside.wants c.self.inside.wants refl refl
           refl c.self.inside.slots.items c.self.inside.fixed c.self.invariant.0 c.form.new.slots.items
           c.in-Err-form.ensures.err,
-      c.in-Err-form.ensures.same ∙ c.self.invariant.1,
+      subst (IsBound (wanted_by c.self.inside.wants)) (sym c.in-Err-form.ensures.same) c.self.invariant.1,
       c.in-Err-form.ensures.past,
+      c.in-Err-form.ensures.owned,
     )
 
 pub returns-in-Err-form-clause-err : goal.returns-in-Err-form-clause-err
@@ -63,6 +65,7 @@ invariant_of-self-in_default-form c = (
       c.in_default-form.ensures.ok,
   c.in_default-form.ensures.places,
   c.in_default-form.ensures.past,
+  c.in_default-form.ensures.owned,
 )
 
 pub returns-clause-ok : goal.returns-clause-ok

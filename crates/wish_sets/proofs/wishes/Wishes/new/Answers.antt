@@ -1,6 +1,6 @@
 -- Nothing is kept but the slots of threads and the fixed ones.
-use Rattle.std.proofs.Common.{◌∙◌, ap, sym, refl}
-use Rattle.wish_sets.specs.Places.{places}
+use Rattle.std.proofs.Common.{sym, subst, refl}
+use Rattle.wish_sets.specs.Bounds.{IsBound}
 use Rattle.wish_sets.proofs.NewLaws.{new_kept}
 use Rattle.wish_sets.proofs.wishes.Wishes.new.Goals as goal
 
@@ -15,6 +15,7 @@ invariant_of-result c = (
     c.new.ensures,
     c.new-2.ensures,
   ) new_kept,
-  c.new-4.ensures ∙ sym (ap places c.new-3.ensures),
-  rw c.new-5.ensures (record { late = tt; installed = refl; unset = tt; wished = refl }),
+  subst (λ wanted. IsBound wanted c.new-4.result) (sym c.new-3.ensures) c.new-4.ensures,
+  rw c.new-6.ensures (record { late = tt; installed = refl; unset = tt; wished = refl }),
+  λ whole. absurd (let not_whole = c.new-5.ensures in cc),
 )

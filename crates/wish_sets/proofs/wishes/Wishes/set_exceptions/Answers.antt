@@ -8,6 +8,7 @@ invariant_of-self c = (
       c.self.invariant.0 c.args.caught c.args.uncaught),
   c.self.invariant.1,
   c.self.invariant.2,
+  c.self.invariant.3,
 )
 
 pub returns : goal.returns

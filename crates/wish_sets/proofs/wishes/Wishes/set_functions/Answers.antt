@@ -1,5 +1,7 @@
 -- What is wanted is formed afresh, or else as it was.
-use Rattle.std.proofs.Common.{◌∙◌, refl}
+use Rattle.std.proofs.Common.{◌∙◌, refl, subst, sym}
+use Rattle.wish_sets.specs.Bounds.{IsBound}
+use Rattle.wish_sets.specs.Kept.{wanted_by}
 use Rattle.wish_sets.proofs.FormedKept.{in_order_now, wider_kept, wider_is, formed_kept, formed_is, few_wishes}
 use Rattle.wish_sets.proofs.wishes.Wishes.set_functions.Goals as goal
 
@@ -13,8 +15,9 @@ invariant_of-self c =
     rw c.replace-before.ensures.value (
       wider_kept c.self.inside.wants c.self.inside.wants refl refl refl
           c.self.inside.slots.items c.self.inside.fixed c.self.invariant.0 c.form.new.slots.items c.in-Err.ensures.err,
-      c.in-Err.ensures.same ∙ c.self.invariant.1,
+      subst (IsBound (wanted_by c.self.inside.wants)) (sym c.in-Err.ensures.same) c.self.invariant.1,
       c.in-Err.ensures.past,
+      c.in-Err.ensures.owned,
     )
 
 pub returns-in-Err-clause-err : goal.returns-in-Err-clause-err
@@ -30,6 +33,7 @@ invariant_of-self-in_default c = (
       c.self.inside.slots.items c.self.inside.fixed c.self.invariant.0 c.form.new.slots.items c.in_default.ensures.ok,
   c.in_default.ensures.places,
   c.in_default.ensures.past,
+  c.in_default.ensures.owned,
 )
 
 pub returns-clause-ok : goal.returns-clause-ok

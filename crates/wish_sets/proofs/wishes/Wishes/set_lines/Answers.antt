@@ -1,6 +1,7 @@
 -- What is wanted is formed afresh, or else as it was.
-use Rattle.std.proofs.Common.{◌++◌, ◌∙◌, ap, refl}
+use Rattle.std.proofs.Common.{◌++◌, ◌∙◌, ap, refl, subst, sym}
 use Rattle.std.specs.Prelude.{bytes_eq}
+use Rattle.wish_sets.specs.Bounds.{IsBound}
 use Rattle.wish_sets.specs.Kept.{wanted_by, wishes_by}
 use Rattle.wish_sets.specs.Wishes.{rewished}
 use Rattle.wish_sets.proofs.FormedKept.{in_order_now, wider_kept, wider_is, formed_kept, formed_is, few_wishes}
@@ -18,8 +19,9 @@ invariant_of-self-in-Err c =
       wider_kept c.self.inside.wants c.self.inside.wants refl refl
           refl c.self.inside.slots.items c.self.inside.fixed c.self.invariant.0 c.form.new.slots.items
           c.in-Err.ensures.err,
-      c.in-Err.ensures.same ∙ c.self.invariant.1,
+      subst (IsBound (wanted_by c.self.inside.wants)) (sym c.in-Err.ensures.same) c.self.invariant.1,
       c.in-Err.ensures.past,
+      c.in-Err.ensures.owned,
     )
 
 pub returns-in-Err-clause-err : goal.returns-in-Err-clause-err
@@ -34,6 +36,7 @@ invariant_of-self-in_default c = (
       c.self.inside.slots.items c.self.inside.fixed c.self.invariant.0 c.form.new.slots.items c.in_default.ensures.ok,
   c.in_default.ensures.places,
   c.in_default.ensures.past,
+  c.in_default.ensures.owned,
 )
 
 pub returns-clause-ok : goal.returns-clause-ok

@@ -9,6 +9,7 @@ invariant_of-self c = (
       c.self.invariant.0 (Some (record { thread = c.args.thread; depth = c.args.depth }))),
   c.self.invariant.1,
   c.self.invariant.2,
+  c.self.invariant.3,
 )
 
 pub returns : goal.returns

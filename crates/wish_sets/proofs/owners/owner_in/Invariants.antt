@@ -1,6 +1,6 @@
 use Rattle.std.proofs.Common.{◌≡◌, drop}
 use Rattle.wish_sets.specs.Slots.{owner_in}
-use Rattle.wish_sets.proofs.slot.owner_in.Given as goal
+use Rattle.wish_sets.proofs.owners.owner_in.Given as goal
 
 -- the owner among all is that among the slots that are left
 abbrev pub invariant-loop-slot : goal.invariant-loop-slot
