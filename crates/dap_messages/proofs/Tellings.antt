@@ -3,13 +3,16 @@ use Rattle.std.proofs.Common.{◌≡◌, ℕ, List, [], ◌∷◌, map, false, �
 use Rattle.serde_json.specs.Data.{Data}
 use Rattle.serde_json.specs.View.{items_of}
 use Rattle.serde_json.specs.Written.{compact_text, has_float, items_have_float}
-use Rattle.dap_messages.specs.Telling.{answer_data, breakpoint_data, breakpoints_data, outcome_data, reason_of}
+use Rattle.dap_messages.specs.Telling.{answer_data, breakpoint_data, breakpoints_data, event_data, outcome_data}
+use Rattle.dap_messages.specs.Telling.{reason_of}
 use Rattle.dap_messages.specs.Telling.{standing_data, thread_data, threads_data, told_data, told_text}
 use Rattle.dap_messages.specs.declared.told.Told.{Told}
 use Rattle.dap_messages.specs.declared.told.Told.TheVariants as told
 use Rattle.dap_messages.specs.declared.told.Outcome.{Outcome}
 use Rattle.dap_messages.specs.declared.told.Outcome.TheVariants.{Success, Failure as Failed}
 use Rattle.dap_messages.specs.declared.told.Shape.TheVariants.{Nothing, Capabilities, Breakpoints, Threads}
+use Rattle.dap_messages.specs.declared.told.Event.{Event}
+use Rattle.dap_messages.specs.declared.told.Event.TheVariants.{Initialized, Breakpoint as Changed, Terminated}
 use Rattle.dap_messages.specs.declared.told.Breakpoint.{Breakpoint}
 use Rattle.dap_messages.specs.declared.told.Thread.{Thread}
 
@@ -51,10 +54,16 @@ has_float-outcome_data seq request_seq command (Success (Threads threads)) =
     has_float-answer_data seq request_seq command (threads_data threads) (has_float-threads_data threads)
 has_float-outcome_data seq request_seq command (Failed failure) = refl
 
+has_float-event_data : (seq : ℕ) (event : Event) → has_float (event_data seq event) ≡ false
+has_float-event_data seq Initialized = refl
+has_float-event_data seq (Changed breakpoint) =
+    rw (has_float-standing_data breakpoint.id breakpoint.line (reason_of breakpoint.status)) refl
+has_float-event_data seq Terminated = refl
+
 pub has_float-told_data : (seq : ℕ) (message : Told) → has_float (told_data seq message) ≡ false
 has_float-told_data seq (told.Response response) =
     has_float-outcome_data seq response.request_seq response.command response.outcome
-has_float-told_data seq (told.Event event) = refl
+has_float-told_data seq (told.Event event) = has_float-event_data seq event
 
 -- what a value's bytes are, where it is the value of a told message
 pub told_text-compact : (seq : ℕ) (message : Told) (value : Data) (text : List ℕ) →

@@ -21,7 +21,7 @@ use Rattle.dap_messages.specs.declared.told.Failure.{Failure}
 use Rattle.dap_messages.specs.declared.told.Detail.{Detail}
 use Rattle.dap_messages.specs.declared.told.Detail.TheVariants.{Plain, Number, Name}
 use Rattle.dap_messages.specs.declared.told.Event.{Event}
-use Rattle.dap_messages.specs.declared.told.Event.TheVariants.{Initialized, Terminated}
+use Rattle.dap_messages.specs.declared.told.Event.TheVariants.{Initialized, Breakpoint as Changed, Terminated}
 
 -- the failures of requests: their codes are the adapter's own (DAP specification, Types, Message, `id`)
 abbrev pub unsupported : Failure
@@ -191,17 +191,30 @@ outcome_data seq request_seq command (Failed failure) = failure_data seq request
 abbrev pub response_data : ℕ → Response → Data
 response_data seq response = outcome_data seq response.request_seq response.command response.outcome
 
--- the name of an event (DAP specification, Events, Initialized and Terminated)
-abbrev pub event_name : Event → List ℕ
-event_name Initialized = codes "initialized"
-event_name Terminated = codes "terminated"
-
--- an event (DAP specification, Base Protocol, Event)
-abbrev pub event_data : ℕ → Event → Data
-event_data seq event = object_of (
-    (codes "event", string (event_name event)) ∷
+-- an event without a body (DAP specification, Base Protocol, Event)
+abbrev pub plain_data : ℕ → List ℕ → Data
+plain_data seq name = object_of (
+    (codes "event", string name) ∷
     (codes "seq", count seq) ∷
     (codes "type", string (codes "event")) ∷ [])
+
+-- the event of a breakpoint (DAP specification, Events, Breakpoint)
+abbrev pub changed_data : ℕ → Breakpoint → Data
+changed_data seq breakpoint = object_of ((
+  codes "body",
+  object_of (
+      (codes "breakpoint", breakpoint_data breakpoint) ∷
+      (codes "reason", string (codes "changed")) ∷ []),
+) ∷
+    (codes "event", string (codes "breakpoint")) ∷
+    (codes "seq", count seq) ∷
+    (codes "type", string (codes "event")) ∷ [])
+
+-- an event (DAP specification, Events, Initialized, Breakpoint and Terminated)
+abbrev pub event_data : ℕ → Event → Data
+event_data seq Initialized = plain_data seq (codes "initialized")
+event_data seq (Changed breakpoint) = changed_data seq breakpoint
+event_data seq Terminated = plain_data seq (codes "terminated")
 
 -- a message (DAP specification, Base Protocol, ProtocolMessage)
 abbrev pub told_data : ℕ → Told → Data

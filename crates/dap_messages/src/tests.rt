@@ -476,6 +476,21 @@ fn messages_are_told(rt: HostRuntime) -> Result<(), Fail> {
 }
 
 #[test]
+fn a_change_of_a_breakpoint_is_told(rt: HostRuntime) -> Result<(), Fail> {
+    let changed = Breakpoint {
+        id: 1,
+        line: 10,
+        status: BreakpointStatus::Verified,
+    };
+    let text = text_of(rt.alloc(), 5, &Told::Event(Event::Breakpoint(changed)))?;
+    let wanted =
+        "{\"body\":{\"breakpoint\":{\"id\":1,\"line\":10,\"verified\":true},\"reason\":\"changed\"},\
+        \"event\":\"breakpoint\",\"seq\":5,\"type\":\"event\"}";
+    assert!(rt; text.as_slice() == wanted.as_bytes(), "{wanted}");
+    Ok(())
+}
+
+#[test]
 fn breakpoints_are_told(rt: HostRuntime) -> Result<(), Fail> {
     let alloc = rt.alloc();
     let mut breakpoints = List::new(alloc);

@@ -90,6 +90,8 @@ pub enum Detail {
 pub enum Event {
     /// The adapter takes breakpoints now. (DAP specification, Events, Initialized)
     Initialized,
+    /// A breakpoint stands otherwise than the client was told. (DAP specification, Events, Breakpoint)
+    Breakpoint(Breakpoint),
     /// Nothing more comes of the debuggee. (DAP specification, Events, Terminated)
     Terminated,
 }

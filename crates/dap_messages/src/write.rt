@@ -1,7 +1,7 @@
 ghost use Rattle.std.specs.Prelude.{◌≡◌, Some, None, IfOk, option_map, string_bytes};
 ghost use Rattle.serde_json.specs.View.{view};
-ghost use Rattle.dap_messages.specs.Telling.{capabilities_data, detail_text, error_data, event_data, event_name};
-ghost use Rattle.dap_messages.specs.Telling.{format_of, message_of, told_data, told_text};
+ghost use Rattle.dap_messages.specs.Telling.{capabilities_data, changed_data, detail_text, error_data, event_data};
+ghost use Rattle.dap_messages.specs.Telling.{format_of, message_of, plain_data, told_data, told_text};
 ghost use Rattle.dap_messages.specs.Telling.{answer_data, failure_data, response_data, shape_data};
 ghost use Rattle.dap_messages.specs.Telling.{breakpoint_data, breakpoints_data, reason_of, standing_data};
 ghost use Rattle.dap_messages.specs.Telling.{thread_data, threads_data};
@@ -239,14 +239,27 @@ fn thread_value(alloc: Global, thread: &Thread) -> Result<Value, AllocError>
 fn event_value(alloc: Global, seq: u64, event: Event) -> Result<Value, AllocError>
     ensures { IfOk result (λ value. view value ≡ event_data seq event) }
 {
-    json!(in alloc; {"event": event_name(event), "seq": seq, "type": "event"})
+    match event {
+        Event::Initialized => plain_value(alloc, seq, "initialized"),
+        Event::Breakpoint(breakpoint) => changed_value(alloc, seq, breakpoint),
+        Event::Terminated => plain_value(alloc, seq, "terminated"),
+    }
 }
 
-fn event_name(event: Event) -> &'static str
-    ensures { result.now ≡ event_name event }
+fn plain_value(alloc: Global, seq: u64, name: &str) -> Result<Value, AllocError>
+    ensures { IfOk result (λ value. view value ≡ plain_data seq name.now) }
 {
-    match event {
-        Event::Initialized => "initialized",
-        Event::Terminated => "terminated",
-    }
+    json!(in alloc; {"event": name, "seq": seq, "type": "event"})
+}
+
+fn changed_value(alloc: Global, seq: u64, breakpoint: Breakpoint) -> Result<Value, AllocError>
+    ensures { IfOk result (λ value. view value ≡ changed_data seq breakpoint) }
+{
+    let shown = breakpoint_value(alloc, breakpoint)?;
+    json!(in alloc; {
+        "body": {"breakpoint": shown, "reason": "changed"},
+        "event": "breakpoint",
+        "seq": seq,
+        "type": "event"
+    })
 }

@@ -1,22 +1,25 @@
 -- What the item in hand may ask of classes, and where it is changed what is wished in them.
-use Rattle.std.proofs.Common.{◌≡◌, Bool, true, false, cond, not, ◌||◌, List, [], ◌∷◌, Option, Some, None, refl}
-use Rattle.std.proofs.Common.{sym, ap, ◌∙◌, arith}
+use Rattle.std.proofs.Common.{◌≡◌, Bool, true, false, cond, not, ◌||◌, List, [], ◌∷◌, Option, Some, None, refl, sym}
+use Rattle.std.proofs.Common.{ap, ◌∙◌, arith, ◌++◌}
 use Rattle.std.specs.List.{AllByRecursion as All}
 use Rattle.class_tables.specs.Facts.{Known}
 use Rattle.class_tables.specs.Lookups.{found_in}
 use Rattle.jdwp_commands.specs.declared.question.Question.TheVariants as questions
 use Rattle.jdwp_values.specs.declared.id.ClassId.{ClassId}
 use Rattle.machine_model.specs.Facts.{fact_known}
-use Rattle.machine_model.specs.Names.{Classes, Item, Lines, Part, Question, Replied, Sent, Want}
-use Rattle.machine_model.specs.Names.{a_composite, a_raw, a_request, class_facts, target_end, Command, Failure}
+use Rattle.machine_model.specs.Names.{Attached, Choice, Classes, Command, Failure, Fresh, Gone, Item, Leaves, Lines}
+use Rattle.machine_model.specs.Names.{Part, Phase, Question, Replied, Sent, TellsBound, Want, a_composite, a_raw}
+use Rattle.machine_model.specs.Names.{a_request, class_facts, target_end}
 use Rattle.machine_model.specs.Plans.{asks_for, question_of}
 use Rattle.machine_model.specs.Replying.{filled, waits_for, is_waiting}
-use Rattle.machine_model.specs.Rows.{failure_of, parts_by, parts_of, row_of, wanting}
-use Rattle.machine_model.specs.State.{State, has_waiting, is_empty, is_none, is_some}
+use Rattle.machine_model.specs.Rows.{chosen, failure_of, news, parts_by, parts_of, row_of, wanting}
+use Rattle.machine_model.specs.State.{Hand, State, has_waiting, is_empty, is_none, is_some}
 use Rattle.machine_model.proofs.BindingPlans.{IsLearnt, is_fact, tells_classes}
 use Rattle.machine_model.proofs.KeyLaws.{is_one}
-use Rattle.machine_model.proofs.Tables.{is_updates}
+use Rattle.machine_model.proofs.Tables.{is_updates, told_alike}
 use Rattle.machine_model.proofs.Testing.{IsTest}
+use Rattle.machine_model.specs.Breakpoints.{newly_verified}
+use Rattle.wish_sets.specs.declared.entry.LineEntry.{LineEntry}
 
 -- Parts ---------------------------------------------------------------------------------------------------------------
 
@@ -84,12 +87,34 @@ placed_begun state target_end = grind arith
 placed_begun state (a_composite at composite) = grind arith
 placed_begun state (a_raw at body) = refl
 
+placed_rest : (choice : Choice) (rest : List Part) → is_placed (Part.Unfolds choice ∷ rest) ≡ true
+    → is_placed rest ≡ true
+placed_rest choice rest is = grind (arith, is)
+
+none_behind : (choice : Choice) (rest : List Part) → is_placed (Part.Unfolds choice ∷ rest) ≡ true
+    → has_note rest ≡ false
+none_behind choice rest is = grind (arith, is)
+
+placed_chosen : (choice : Choice) (state : State) (hand : Hand) (rest : List Part) → has_note rest ≡ false
+    → is_placed rest ≡ true → is_placed (chosen choice state hand ++ rest) ≡ true
+placed_chosen (TellsBound below) state hand rest none is =
+    by_entries state.phase (newly_verified below state.bound state.wishes)
+  where
+    by_entries : (phase : Phase) (entries : List LineEntry) → is_placed (news phase entries ++ rest) ≡ true
+    by_entries Fresh entries = is
+    by_entries Gone entries = is
+    by_entries Attached [] = is
+    by_entries Attached (entry ∷ entries) =
+        rw (told_alike has_note (λ entry parts. refl) Attached entries rest ∙ none) (by_entries Attached entries)
+placed_chosen (Leaves exits) state hand rest none is = grind (arith, is)
+
 pub placed_test : IsTest placed
 placed_test = record {
   none = λ gone. refl;
   tail = λ gone part rest is. grind (arith, is);
   begins = placed_begun;
-  unfolds = λ choice state hand rest is. grind (arith, is);
+  unfolds = λ choice state hand rest is. placed_chosen choice state hand rest (none_behind choice rest is)
+      (placed_rest choice rest is);
   finds = λ lookup result state rest is. grind (arith, is);
   gives_up = λ responds item. grind arith;
 }
@@ -102,7 +127,7 @@ row_noted failure command state = grind arith
 pub begun_noted : (state : State) (item : Item) → first_note (parts_of state item) ≡ None
 begun_noted state (a_request request) = row_noted (failure_of (wanting request.command) state) request.command state
 begun_noted state target_end = grind arith
-begun_noted state (a_composite at composite) = refl
+begun_noted state (a_composite at composite) = grind arith
 begun_noted state (a_raw at body) = refl
 
 -- Questions -----------------------------------------------------------------------------------------------------------

@@ -1,22 +1,22 @@
 -- At rest breakpoints are bound by all that is known of the classes in which they may stand: what each move keeps.
+use Rattle.jdwp_events.specs.declared.kind.Policy.TheVariants.{All, EventThread, NoThread}
+use Rattle.jdwp_events.specs.declared.kind.Policy.{Policy}
 use Rattle.std.proofs.Common.{◌≡◌, true, false, List, [], ◌∷◌, ◌++◌, Option, Some, None}
 use Rattle.std.proofs.Common.{refl, sym, ap, subst, ◌∙◌, option_map}
 use Rattle.machine_model.specs.Binding.{AreAllBound}
 use Rattle.machine_model.specs.Due.{asked_hand}
 use Rattle.machine_model.specs.Due.{clear, load_of, behind_first}
-use Rattle.machine_model.specs.Names.{Attached, Item}
-use Rattle.machine_model.specs.Names.{Part, Sent}
-use Rattle.machine_model.specs.Names.{Want, a_question, an_effect}
+use Rattle.machine_model.specs.Names.{Attached, Fresh, Gone, Item, Part, Phase, Sent, Want, a_composite, a_question}
+use Rattle.machine_model.specs.Names.{a_raw, a_request, an_effect, target_end}
 use Rattle.machine_model.specs.Plans.{made_with, need, after}
 use Rattle.machine_model.specs.Plans.{each}
 use Rattle.machine_model.specs.Replying.{hand_replied, is_failed}
 use Rattle.machine_model.specs.Rest.{IsAtRest}
-use Rattle.machine_model.specs.Rows.{chosen, parts_of}
+use Rattle.machine_model.specs.Rows.{chosen, parts_of, taken}
 use Rattle.machine_model.specs.Runs.{Message, Run}
 use Rattle.machine_model.specs.State.{Hand, Machine, State, is_gone, fresh}
 use Rattle.machine_model.specs.Telling.{after_event, numbered_by}
-use Rattle.machine_model.proofs.BindingHands.{begun_noted}
-use Rattle.machine_model.proofs.BindingHands.{placed, placed_test}
+use Rattle.machine_model.proofs.BindingHands.{begun_noted, binds_ahead, placed, placed_test}
 use Rattle.machine_model.proofs.RequestLaws.{IsDue, Settling, settles, settling, was_due}
 use Rattle.machine_model.proofs.RequestSteps.{flying_in, flying_of, near_before, numbered_wishes}
 use Rattle.machine_model.proofs.RequestSteps.{parts_left}
@@ -25,21 +25,20 @@ use Rattle.machine_model.proofs.Stepping.{IsAt, Moves, Skips, by_runs}
 use Rattle.machine_model.proofs.Tables.{is_updates}
 use Rattle.machine_model.proofs.Testing.{Passed, whole, tested}
 use Rattle.machine_model.proofs.BindingWatches.{none_wished, due_set}
-use Rattle.machine_model.proofs.BindingParts.{Binding, IsBinding, Same}
-use Rattle.machine_model.proofs.BindingParts.{still_binding, clear_now, is_other}
-use Rattle.machine_model.proofs.BindingParts.{AreLike, are_same, goes_by, leaves_watches, told_same}
-use Rattle.machine_model.proofs.BindingParts.{event_same, event_wishes, itself}
-use Rattle.machine_model.proofs.BindingParts.{queues_on, asks_on}
+use Rattle.machine_model.proofs.BindingParts.{AreLike, Binding, IsBinding, Same, are_same, asks_on, clear_now}
+use Rattle.machine_model.proofs.BindingParts.{event_same, event_wishes, goes_by, is_other, itself, leaves_watches}
+use Rattle.machine_model.proofs.BindingParts.{queues_on, still_binding, still_bound, told_same}
 use Rattle.machine_model.proofs.BindingReplies.{answers_on}
 use Rattle.machine_model.proofs.BindingReplies.{replies_on, chosen_like}
 use Rattle.machine_model.proofs.BindingReplies.{notes_on, finds_on}
+use Rattle.machine_model.specs.Composites.{composite_parts, learnt_in}
 
 -- Moves ---------------------------------------------------------------------------------------------------------------
 
 abbrev BindingHand : State → Option Hand → Type 0
 BindingHand state hand = Binding state (parts_left hand) (queue_in hand) (asked_in hand)
 
-in_front : {m : Machine} {hand : Hand} {part : Part} {rest : List Part} → IsBinding m → IsAt m hand part rest
+pub in_front : {m : Machine} {hand : Hand} {part : Part} {rest : List Part} → IsBinding m → IsAt m hand part rest
     → Binding m.state (part ∷ rest) hand.queue hand.asked
 in_front {m} {hand} h at =
     subst (λ parts. Binding m.state parts hand.queue hand.asked) at.parts
@@ -77,7 +76,8 @@ none_left h = record {
   bound = h.bound;
 }
 
-begins_on : {state : State} (item : Item) → Binding state [] [] [] → Binding state (parts_of state item) [] []
+begins_on : {state : State} (item : Item) → Binding state [] [] []
+    → Binding (taken item state) (parts_of state item) [] []
 begins_on {state} item h = record {
   watches = λ needs. h.watches refl;
   learnt = tt;
@@ -85,8 +85,25 @@ begins_on {state} item h = record {
   ahead = λ asks. cc;
   listed = λ is. refl;
   noted = λ classes some. absurd (let no = sym (begun_noted state item) ∙ some in cc);
-  bound = λ none. h.bound refl;
+  bound = λ none. still_bound (taken item state) state (same_classes item none) (h.bound refl);
 }
+  where
+    -- classes are learnt only where they are looked up then
+    same_classes : (item : Item) → binds_ahead (parts_of state item) ≡ false → Same (taken item state) state
+    same_classes (a_request request) none = itself state
+    same_classes (a_composite at composite) none =
+        record { unlisted = refl; wanted = refl; classes = by_phase state.phase composite.policy none }
+      where
+        by_phase : (phase : Phase) (policy : Policy)
+            → binds_ahead (composite_parts phase policy at state.next_entry) ≡ false
+            → learnt_in phase (record composite { policy = policy }) state.classes ≡ state.classes
+        by_phase Fresh policy none = refl
+        by_phase Attached NoThread none = cc
+        by_phase Attached EventThread none = refl
+        by_phase Attached All none = cc
+        by_phase Gone policy none = refl
+    same_classes (a_raw at body) none = itself state
+    same_classes target_end none = itself state
 
 put_back : {state : State} {held : Option Hand} {hand : Hand} (change : Hand → Hand) → held ≡ Some hand
     → BindingHand state (Some (change hand)) → BindingHand state (option_map change held)
@@ -157,7 +174,7 @@ starts_bound = record {
   bound = λ none. record { listed = refl; found = []; none_lacking = refl; bound = tt };
 }
 
-binding : {messages : List Message} {m : Machine} → Run messages m → is_gone m.state.phase ≡ false → IsBinding m
+pub binding : {messages : List Message} {m : Machine} → Run messages m → is_gone m.state.phase ≡ false → IsBinding m
 binding r = by_runs {Holds = λ (messages : List Message) (m : Machine). is_gone m.state.phase ≡ false → IsBinding m}
     (record {
       starts = λ near. starts_bound;

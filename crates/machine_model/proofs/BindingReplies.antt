@@ -7,10 +7,9 @@ use Rattle.jdwp_values.specs.declared.id.ClassId.{ClassId}
 use Rattle.machine_model.specs.Binding.{AreAllBound, sight_alone}
 use Rattle.machine_model.specs.Classes.{known_plan}
 use Rattle.machine_model.specs.Lookups.{classes_of, finished, found_for}
-use Rattle.machine_model.specs.Names.{Choice, Classes, Clear, Does, Effect, Finding, Lines}
-use Rattle.machine_model.specs.Names.{Lookup, Note, Options, Part, Question, Replied, Roots, Sent, Set}
-use Rattle.machine_model.specs.Names.{Want, all_threads, an_effect}
-use Rattle.machine_model.specs.Names.{class_facts}
+use Rattle.machine_model.specs.Names.{Choice, Classes, Clear, Does, Effect, Finding, Leaves, Lines, Lookup, Note}
+use Rattle.machine_model.specs.Names.{Options, Part, Question, Replied, Roots, Sent, Set, TellsBound, Want}
+use Rattle.machine_model.specs.Names.{all_threads, an_effect, class_facts}
 use Rattle.machine_model.specs.Outcomes.{result_of}
 use Rattle.machine_model.specs.Plans.{Need, answer_in, need}
 use Rattle.machine_model.specs.Plans.{is_done}
@@ -29,7 +28,7 @@ use Rattle.machine_model.proofs.BindingPlans.{is_fact}
 use Rattle.machine_model.proofs.BindingPlans.{tells_classes}
 use Rattle.machine_model.proofs.RequestLaws.{IsDue}
 use Rattle.machine_model.proofs.RequestSteps.{is_deed}
-use Rattle.machine_model.proofs.Tables.{starts_updates}
+use Rattle.machine_model.proofs.Tables.{starts_updates, told_alike}
 use Rattle.wish_sets.specs.Wanted.{Wanted, with_known}
 use Rattle.wish_sets.specs.declared.wish.Wish.TheVariants as wishes
 use Rattle.machine_model.specs.Facts.{fact_known}
@@ -41,6 +40,7 @@ use Rattle.machine_model.proofs.BindingParts.{still_binding, IsClear, quiet}
 use Rattle.machine_model.proofs.BindingParts.{none_ahead, note_had, placed_note}
 use Rattle.machine_model.proofs.BindingParts.{AreLike, are_same, goes_by}
 use Rattle.machine_model.proofs.BindingParts.{itself, found_complete, unlisted_waits}
+use Rattle.machine_model.specs.Breakpoints.{newly_verified}
 
 -- Replies -------------------------------------------------------------------------------------------------------------
 
@@ -206,7 +206,14 @@ replies_on {state} {parts} {queue} {asked} effect replied due reply h = by_case 
 
 pub chosen_like : (choice : Choice) (state : State) (hand : Hand) (rest : List Part)
     → AreLike (chosen choice state hand ++ rest) rest
-chosen_like choice state hand rest =
+chosen_like (TellsBound below) state hand rest =
+    let entries = newly_verified below state.bound state.wishes in record {
+      ahead = told_alike looks_ahead (λ entry parts. refl) state.phase entries rest;
+      needs = told_alike needs_watches (λ entry parts. refl) state.phase entries rest;
+      notes = told_alike has_note (λ entry parts. refl) state.phase entries rest;
+      binds = told_alike binds_ahead (λ entry parts. refl) state.phase entries rest;
+    }
+chosen_like (Leaves exits) state hand rest =
     record { ahead = grind arith; needs = grind arith; notes = grind arith; binds = grind arith }
 
 -- behind a note of lines stands what binds them

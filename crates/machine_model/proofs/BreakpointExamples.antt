@@ -1,5 +1,5 @@
 -- Worked examples of breakpoints, checked by computation.
-use Rattle.std.proofs.Common.{◌≡◌, ℕ, Bool, true, false, List, [], ◌∷◌, ◌++◌, Option, Some, None, refl}
+use Rattle.std.proofs.Common.{◌≡◌, ℕ, true, false, List, [], ◌∷◌, Some, None, refl}
 use Rattle.std.specs.Prelude.{ℤ, pos, negsuc, codes}
 use Rattle.std.specs.Str.{chars, is_utf8}
 use lib.Utf8.{encode}
@@ -7,26 +7,30 @@ use Rattle.dap_messages.specs.declared.requests.SourceBreakpoint.{SourceBreakpoi
 use Rattle.dap_messages.specs.declared.told.Breakpoint.{Breakpoint}
 use Rattle.dap_messages.specs.declared.told.BreakpointStatus.{BreakpointStatus}
 use Rattle.dap_messages.specs.declared.told.BreakpointStatus.TheVariants as status
+use Rattle.dap_messages.specs.declared.told.Event.TheVariants as events
 use Rattle.dap_messages.specs.declared.told.Outcome.TheVariants as outcomes
 use Rattle.dap_messages.specs.declared.told.Shape.TheVariants as shapes
 use Rattle.jdwp_commands.specs.declared.answer.Answer.TheVariants as answers
 use Rattle.jdwp_commands.specs.declared.listed.LoadedClass.{LoadedClass}
 use Rattle.jdwp_commands.specs.declared.question.Question.TheVariants as questions
+use Rattle.jdwp_events.specs.declared.kind.Policy.TheVariants.{All, EventThread, NoThread}
+use Rattle.jdwp_events.specs.declared.kind.Policy.{Policy}
 use Rattle.jdwp_values.specs.Lossy.{lossy, lossy_after}
+use Rattle.jdwp_events.specs.declared.event.Event.TheVariants as happened
 use Rattle.jdwp_values.specs.declared.class.Line.{Line}
 use Rattle.jdwp_values.specs.declared.class.Method.{Method}
 use Rattle.jdwp_values.specs.declared.id.ClassId.{ClassId}
-use Rattle.jdwp_values.specs.declared.id.MethodId.{MethodId}
 use Rattle.jdwp_values.specs.declared.location.Location.{Location}
 use Rattle.jdwp_values.specs.declared.tag.TypeTag.{TypeTag}
 use Rattle.jdwp_values.specs.declared.tag.TypeTag.TheVariants as tags
 use Rattle.machine_model.specs.Breakpoints.{key_of}
 use Rattle.machine_model.specs.Due.{due, load_of, newly_lacked, wanted}
-use Rattle.machine_model.specs.Names.{Answer, Clear, Effect, Question, Request, Set, SetBreakpoints, a_question}
-use Rattle.machine_model.specs.Names.{an_answer, an_effect, an_error}
+use Rattle.machine_model.specs.Names.{Act, Answer, Clear, Composite, Does, OneThread, Question, Request}
+use Rattle.machine_model.specs.Names.{Resume, Set, SetBreakpoints, a_composite, a_question, an_answer, an_effect}
+use Rattle.machine_model.specs.Names.{an_error, an_event}
 use Rattle.machine_model.specs.Plans.{chained, each, made_with, need}
 use Rattle.machine_model.specs.Replying.{answered}
-use Rattle.machine_model.specs.Runs.{Message, heard}
+use Rattle.machine_model.specs.Runs.{Message, heard, with_item}
 use Rattle.machine_model.specs.State.{Machine}
 use Rattle.machine_model.proofs.Examples.{asks, attached, changes, drive, request, responds, said_on}
 use Rattle.wish_sets.specs.Wished.{wished}
@@ -235,3 +239,50 @@ tells_outside : said_on 8 (heard attached outside)
 unfolding due wanted load_of newly_lacked next_change wished need chained made_with each key_of chars encode lossy
     lossy_after is_utf8
 tells_outside = refl
+
+-- Classes that are prepared later -------------------------------------------------------------------------------------
+
+abbrev prepared_under : Policy → Composite
+prepared_under policy = record {
+  policy = policy;
+  events = happened.ClassPrepare 3 (record { 0 = 1 }) tags.Class (class 16) (codes "La/F;") (pos 7) ∷ [];
+}
+
+abbrev prepared : Policy → Machine
+prepared policy = with_item (drive 8 without_classes) (a_composite 75 (prepared_under policy))
+
+-- the class is learnt, and asked for its source
+asks_prepared : said_on 8 (prepared All) ≡ asks (questions.SourceFile (class 16)) ∷ []
+unfolding due wanted load_of newly_lacked next_change wished need chained made_with each key_of chars encode lossy
+    lossy_after is_utf8
+asks_prepared = refl
+
+abbrev learnt : Policy → Machine
+learnt policy = says_of (lines_of 3)
+    (answers.LineTable (record { start = pos 0; end = pos 12; lines = line 5 10 ∷ [] }))
+    (says_of (questions.Methods (class 16)) (answers.Methods (method 3 ∷ []))
+    (says_of (questions.SourceFile (class 16)) (answers.SourceFile (codes "F")) (drive 8 (prepared policy))))
+
+abbrev later_bound : Policy → Machine
+later_bound policy = answered (learnt policy) (an_effect (Set (wishes.Stop (at 5)))) (an_answer (answers.Set 4))
+
+abbrev tells_verified : Message
+tells_verified = Message.tells (an_event (events.Breakpoint (shown 1 10 status.Verified)))
+
+-- once its breakpoint is set, the client is told so, and the suspension is undone
+resumes_bound : said_on 8 (later_bound All) ≡ tells_verified ∷ changes (Does Resume) ∷ []
+unfolding due wanted load_of newly_lacked next_change wished need chained made_with each key_of chars encode lossy
+    lossy_after is_utf8
+resumes_bound = refl
+
+-- without a suspension there is nothing to undo
+tells_alone : said_on 8 (later_bound NoThread) ≡ tells_verified ∷ []
+unfolding due wanted load_of newly_lacked next_change wished need chained made_with each key_of chars encode lossy
+    lossy_after is_utf8
+tells_alone = refl
+
+-- one thread alone was never to be suspended
+ends_at_one_thread : (due false (drive 2 (prepared EventThread))).act ≡ Act.Over (OneThread 75)
+unfolding due wanted load_of newly_lacked next_change wished need chained made_with each key_of chars encode lossy
+    lossy_after is_utf8
+ends_at_one_thread = refl

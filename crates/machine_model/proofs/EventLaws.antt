@@ -6,9 +6,9 @@ use Rattle.std.proofs.lemmas.List.Concat.{flat_map-append}
 use Rattle.machine_model.specs.Due.{asked_hand}
 use Rattle.machine_model.specs.Events.{AreTold, EventsAre, ends_target, is_attach, is_clients, is_success}
 use Rattle.machine_model.specs.Lookups.{finished, lookup_responds}
-use Rattle.machine_model.specs.Names.{Command, Event, Failed, Failure, Initialized, Item, Note}
-use Rattle.machine_model.specs.Names.{Outcome, Part, Replied, Request, Success, TargetCommand, Terminated, Want}
-use Rattle.machine_model.specs.Names.{a_composite, a_question, a_raw, a_request, an_effect, an_event, target_end}
+use Rattle.machine_model.specs.Names.{Command, Event, Failed, Failure, Initialized, Item, Note, Outcome, Part}
+use Rattle.machine_model.specs.Names.{Replied, Request, Success, TargetCommand, Terminated, Want, a_composite}
+use Rattle.machine_model.specs.Names.{a_question, a_raw, a_request, an_effect, an_event, entry_bound, target_end}
 use Rattle.machine_model.specs.Outcomes.{result_of}
 use Rattle.machine_model.specs.Replying.{given_up, hand_replied, is_end, replied_to}
 use Rattle.machine_model.specs.Rest.{request_by, request_in, response_by, without_response}
@@ -24,6 +24,7 @@ use Rattle.machine_model.proofs.Stepping.{IsAt, Loses, Moves, Skips, by_moves, b
 use Rattle.machine_model.proofs.Tables.{attaches, chosen_is, finished_is, free as free_test, free_once, has_attach}
 use Rattle.machine_model.proofs.Tables.{has_joined, none_attaches, once, plain_attach, row_is, responds_once}
 use Rattle.machine_model.proofs.Testing.{passed, same_noted, same_numbered, same_replied, tested, whole}
+use Rattle.machine_model.specs.Breakpoints.{verified_told}
 
 -- What is left of an item: an `attach` tells `initialized` behind its success, and no other item does -----------------
 
@@ -36,6 +37,7 @@ attach_tail [] = true
 attach_tail (Part.Responds (Success body) ∷ rest) = tells_attached rest
 attach_tail (Part.Responds (Failed failure) ∷ rest) = is_empty rest
 attach_tail (Part.Tells Initialized ∷ rest) = is_empty rest
+attach_tail (Part.Tells (entry_bound entry) ∷ rest) = false
 attach_tail (Part.Tells Terminated ∷ rest) = false
 attach_tail (Part.Sends deed ∷ rest) = false
 attach_tail (Part.Looks lookup ∷ rest) = false
@@ -248,6 +250,7 @@ answered_owes request outcome state item rest is none h = rw none (by_attach (is
             → is_success (outcome_told outcome state) ≡ has_attach rest
         by_outcome (Success body) (Part.Tells Initialized ∷ rest) is = refl
         by_outcome (Success body) [] is = cc
+        by_outcome (Success body) (Part.Tells (entry_bound entry) ∷ rest) is = cc
         by_outcome (Success body) (Part.Tells Terminated ∷ rest) is = cc
         by_outcome (Success body) (Part.Responds outcome ∷ rest) is = cc
         by_outcome (Success body) (Part.Sends deed ∷ rest) is = cc
@@ -340,16 +343,11 @@ attached_last item rest is = by_rest rest (item_attaches item) is
     by_rest (part ∷ rest) true is = cc
     by_rest (part ∷ rest) false is = cc
 
-last_owes : (item : Item) (rest : List Part) → fits item (Part.Tells Terminated ∷ rest) ≡ true
-    → (owes_event (Part.Tells Terminated ∷ rest) ≡ false) × (owes_event rest ≡ false)
-last_owes item rest is = by_item (item_attaches item) (has_response rest) (has_attach rest) is
-  where
-    by_item : (attaches responds has : Bool) → cond attaches false (not has) ≡ true
-        → (cond responds false has ≡ false) × (cond responds false has ≡ false)
-    by_item true responds has is = cc
-    by_item false true has is = (refl, refl)
-    by_item false false true is = cc
-    by_item false false false is = (refl, refl)
+none_owed : (attaches responds has : Bool) → cond attaches false (not has) ≡ true → cond responds false has ≡ false
+none_owed true responds has is = cc
+none_owed false true has is = refl
+none_owed false false true is = cc
+none_owed false false false is = refl
 
 -- the event is told
 event_on : {messages : List Message} {m : Machine} {hand : Hand} {rest : List Part} (event : Event) → Tells messages m
@@ -362,10 +360,15 @@ event_on {messages} {m} {hand} {rest} Initialized h at same =
     same_told refl (sym (ap owes_event none))
     (AreTold.initialized (same_told same (ap hand_owes at.in_hand ∙ ap owes_event at.parts
     ∙ ap (λ (rest : List Part). owes_event (Part.Tells Initialized ∷ rest)) none) h.told))
+event_on {messages} {m} {hand} {rest} (entry_bound entry) h at same =
+    let none = none_owed (item_attaches hand.item) (has_response rest) (has_attach rest) (front_fits h.fits at) in
+    same_told refl (sym none)
+    (AreTold.breakpoint (verified_told m.state.options.lines_from_one entry)
+    (same_told same (ap hand_owes at.in_hand ∙ ap owes_event at.parts ∙ none) h.told))
 event_on {messages} {m} {hand} {rest} Terminated h at same =
-    let (was, now) = last_owes hand.item rest (front_fits h.fits at) in
-    same_told refl (sym now)
-    (AreTold.terminated (same_told same (ap hand_owes at.in_hand ∙ ap owes_event at.parts ∙ was) h.told))
+    let none = none_owed (item_attaches hand.item) (has_response rest) (has_attach rest) (front_fits h.fits at) in
+    same_told refl (sym none)
+    (AreTold.terminated (same_told same (ap hand_owes at.in_hand ∙ ap owes_event at.parts ∙ none) h.told))
 
 tells_on : (messages : List Message) (m next : Machine) (said : Option Message) → Run messages m → Tells messages m
     → Moves m said next → IsLeft (without_response m) (without_response next) said

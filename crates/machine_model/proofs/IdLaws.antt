@@ -8,9 +8,11 @@ use Rattle.std.proofs.lemmas.List.Elements.{Contains-append_left, Contains-appen
 use Rattle.std.proofs.lemmas.List.Elements.{recursion_from_All}
 use Rattle.jdwp_commands.specs.Commands.{told_question}
 use Rattle.jdwp_commands.specs.declared.asked.Asked.TheVariants as commands
-use Rattle.machine_model.specs.Ids.{HasReadIds, Id, IsNull, WasRead, class, ids_asked, ids_given, ids_read}
-use Rattle.machine_model.specs.Names.{Want, Deed, Dispose, Does, Effect, Exit, Part, Question, Sent, TargetCommand}
-use Rattle.machine_model.specs.Names.{a_question, an_effect, Clear, Set, Success, thread_list, Lines, Classes}
+use Rattle.machine_model.specs.Ids.{HasReadIds, Id, IsNull, WasRead, class, ids_asked, ids_given, ids_of_composite}
+use Rattle.machine_model.specs.Ids.{ids_read}
+use Rattle.machine_model.specs.Names.{Classes, Clear, Deed, Dispose, Does, Effect, Exit, Item, Lines, Part, Question}
+use Rattle.machine_model.specs.Names.{Resume, Sent, Set, Success, TargetCommand, Want, a_composite, a_question, a_raw}
+use Rattle.machine_model.specs.Names.{a_request, an_effect, target_end, thread_list}
 use Rattle.machine_model.specs.Plans.{question_of}
 use Rattle.machine_model.specs.Requests.{Wishes, effect_due, effect_of}
 use Rattle.machine_model.specs.Runs.{Message, Run}
@@ -19,9 +21,10 @@ use Rattle.wish_sets.specs.Wished.{wished}
 use Rattle.wish_sets.specs.Wishes.{EventRequest, clears, is_missing, is_surplus, next_change, sets}
 use Rattle.wish_sets.specs.declared.wish.Wish.{Wish}
 use Rattle.machine_model.proofs.IdRows.{all_weak, plain_fits}
+use Rattle.machine_model.proofs.ItemIds.{ItemStands, Waits, waiting_on}
 use Rattle.machine_model.proofs.PlanIds.{IsAskable, IsAsked, IsReplied, IsWanted, OfNamed, OfThread, OnSome, is_sizes}
 use Rattle.machine_model.proofs.PlanIds.{OfClass}
-use Rattle.machine_model.proofs.Standing.{IsKept, Near, PartStands, asked_in, left_in, queue_in, at_front}
+use Rattle.machine_model.proofs.Standing.{IsKept, Near, PartStands, asked_in, at_front, ids_said, left_in, queue_in}
 use Rattle.machine_model.proofs.StandingReplies.{queued_near, sizes_is}
 use Rattle.machine_model.proofs.StandingWalk.{kept_on}
 use Rattle.machine_model.proofs.Stepping.{Loses, Moves, by_moves, with_said}
@@ -86,14 +89,39 @@ pub record IsIdTest (P : List Message → Id → Type 0) : Type 0 where
       → Moves m (Some message) next → is_gone next.state.phase ≡ false → All (P (messages ++ message ∷ []))
       (ids_given message)
 
+-- what stands in the machine passes, and so does what waits
+pub record Standing (P : Id → Type 0) (messages : List Message) (m : Machine) : Type 0 where
+  pub waits : Waits P m
+  pub kept : IsKept P messages m
+
+weak_waits : (P Q : Id → Type 0) → ((id : Id) → P id → Q id) → (m : Machine) → Waits P m → Waits Q m
+weak_waits P Q k m w near = all_weak (ItemStands P) (ItemStands Q) each m.waiting (w near)
+  where
+    each : (item : Item) → ItemStands P item → ItemStands Q item
+    each (a_request request) h = tt
+    each (a_composite at composite) h = weak_ids P Q k (ids_of_composite composite) h
+    each (a_raw at body) h = tt
+    each target_end h = tt
+
+stands_next : {P : Id → Type 0} (messages : List Message) (m next : Machine) (said : Option Message) → P (class 0)
+    → Standing P messages m → Moves m said next → (is_gone next.state.phase ≡ false → All P (ids_said said))
+    → Standing P (with_said messages said) next
+stands_next {P} messages m next said null s move brought = record {
+  waits = waiting_on P m next said s.waits move brought;
+  kept = kept_on messages m next said null s.waits s.kept move brought;
+}
+
 kept_next : {P : List Message → Id → Type 0} → IsIdTest P → (messages : List Message) (m next : Machine)
-    (said : Option Message) → IsKept (P messages) messages m → Moves m said next
-    → IsKept (P (with_said messages said)) (with_said messages said) next
-kept_next {P} t messages m next None k move = kept_on messages m next None (t.null messages) k move (λ near. tt)
-kept_next {P} t messages m next (Some message) k move =
-    kept_on messages m next (Some message) (t.null (messages ++ message ∷ []))
-    (weak_kept (P messages) (P (messages ++ message ∷ [])) (t.grows messages message) messages m k) move
-    (λ near. t.brings messages m next message k move near)
+    (said : Option Message) → Standing (P messages) messages m → Moves m said next
+    → Standing (P (with_said messages said)) (with_said messages said) next
+kept_next {P} t messages m next None s move = stands_next messages m next None (t.null messages) s move (λ near. tt)
+kept_next {P} t messages m next (Some message) s move =
+    let k = t.grows messages message in
+    stands_next messages m next (Some message) (t.null (messages ++ message ∷ []))
+    (record {
+      waits = weak_waits (P messages) (P (messages ++ message ∷ [])) k m s.waits;
+      kept = weak_kept (P messages) (P (messages ++ message ∷ [])) k messages m s.kept;
+    }) move (λ near. t.brings messages m next message s.kept move near)
 
 none_yet : (P : Id → Type 0) → IsKept P [] fresh
 none_yet P = record {
@@ -113,16 +141,16 @@ none_yet P = record {
 
 pub always_kept : {P : List Message → Id → Type 0} → IsIdTest P → {messages : List Message} {m : Machine}
     → Run messages m → IsKept (P messages) messages m
-always_kept {P} t r = by_moves {Holds = λ (messages : List Message) (m : Machine). IsKept (P messages) messages m}
-    (record {
-      starts = none_yet
-          (P []);
-      moves = λ messages m next said k move. kept_next t messages m next said k move;
-    }) r
+always_kept {P} t r =
+    (by_moves {Holds = λ (messages : List Message) (m : Machine). Standing (P messages) messages m} (record {
+      starts = record { waits = λ near. tt; kept = none_yet (P []) };
+      moves = λ messages m next said s move. kept_next t messages m next said s move;
+    }) r).kept
 
 -- What is sent --------------------------------------------------------------------------------------------------------
 
 deed_may : (P : Id → Type 0) (sized : Bool) (deed : Deed) → MaySend P sized (an_effect (Does deed))
+deed_may P sized Resume = record { ids = tt; sized_first = refl; fits = λ used h. tt }
 deed_may P sized Dispose = record { ids = tt; sized_first = refl; fits = λ used h. tt }
 deed_may P sized Exit = record { ids = tt; sized_first = refl; fits = λ used h. (tt, tt) }
 
@@ -229,7 +257,7 @@ last_or_not {A} (first ∷ all) last one (other ∷ before) after is =
 pub record Sends (P : List Message → Id → Type 0) (Good : List Message → TargetCommand → Type 0)
     (messages : List Message)
     (m : Machine) : Type 0 where
-  pub kept : IsKept (P messages) messages m
+  pub stands : Standing (P messages) messages m
   pub sent : (before after : List Message) (command : TargetCommand)
       → messages ≡ before ++ Message.sends command ∷ after → Good before command
 
@@ -238,9 +266,9 @@ pub all_sent : {P : List Message → Id → Type 0} {Good : List Message → Tar
     → is_gone m.state.phase ≡ false → MaySend (P messages) (is_some m.state.sizes) command → Good messages command)
     → {messages : List Message} {m : Machine} → Run messages m → Sends P Good messages m
 all_sent {P} {Good} t good r = by_moves {Holds = Sends P Good} (record {
-  starts = record { kept = none_yet (P []); sent = none_sent };
+  starts = record { stands = record { waits = λ near. tt; kept = none_yet (P []) }; sent = none_sent };
   moves = λ messages m next said h move. record {
-    kept = kept_next t messages m next said h.kept move;
+    stands = kept_next t messages m next said h.stands move;
     sent = more messages m next said h move;
   };
 }) r
@@ -260,8 +288,8 @@ all_sent {P} {Good} t good r = by_moves {Holds = Sends P Good} (record {
         by_place : ((messages ≡ before) × (message ≡ Message.sends command))
             ⊎ ((rest : List Message) × (messages ≡ before ++ Message.sends command ∷ rest)) → Good before command
         by_place (inl (same, it)) = subst (λ (earlier : List Message). Good earlier command) same
-            (let may = sends_may command h.kept (subst (λ (message : Message). Moves m (Some message) next) it move) in
-            good messages m command h.kept may.0 may.1)
+            (let may = sends_may command h.stands.kept (subst (λ (message : Message). Moves m (Some message) next) it move) in
+            good messages m command h.stands.kept may.0 may.1)
         by_place (inr (rest, earlier)) = h.sent before rest command earlier
 
 -- Ids were read -------------------------------------------------------------------------------------------------------

@@ -3,17 +3,25 @@ use Rattle.std.proofs.Common.{◌≡◌, ℕ, Bool, true, false, cond, not, List
 use Rattle.std.proofs.Common.{Some, None, refl, sym, ap, subst, ◌∙◌, append-nil, arith}
 use Rattle.std.proofs.lemmas.Grind.{flat_map-append}
 use Rattle.jdwp_commands.specs.declared.question.Question.TheVariants as questions
-use Rattle.machine_model.specs.Knowing.{AreInOrder, AreSaid, IsKnown, View, closes, is_farewell, is_fresh, learnt_view}
-use Rattle.machine_model.specs.Knowing.{may_be, may_tell, numbers_by, numbers_in_outcome, says, says_dead, sizes_said}
-use Rattle.machine_model.specs.Knowing.{thread_numbers, told_view, view_of, class_said, with_facts, watch_set}
+use Rattle.machine_model.specs.Knowing.{AreInOrder, AreSaid, IsKnown, View, breakpoints_in, class_said, closes}
+use Rattle.machine_model.specs.Knowing.{come_view, composite_in, gone_view, held_by, is_farewell, is_fresh}
+use Rattle.machine_model.specs.Knowing.{learnt_view, may_be, may_tell, numbers_by, numbers_in_outcome}
+use Rattle.machine_model.specs.Knowing.{replied_view, resumes_in, says, says_dead, sizes_said}
+use Rattle.machine_model.specs.Knowing.{thread_numbers, told_view, turned_view, view_of, waiting_composites}
+use Rattle.machine_model.specs.Knowing.{watch_set, with_facts}
 use Rattle.jdwp_commands.specs.Answers.{kind_of_answer}
 use Rattle.jdwp_commands.specs.Commands.{kind_of}
-use Rattle.machine_model.specs.Names.{Answer, Attached, Clear, Command, Options, Roots, Set, ThreadId, Capabilities}
-use Rattle.machine_model.specs.Names.{Does, Event, Failed, Gone, Initialized, Note, Nothing, Outcome, Part, Phase}
-use Rattle.machine_model.specs.Names.{Question, Replied, Success, TargetCommand, Terminated, a_question, an_answer}
-use Rattle.machine_model.specs.Names.{an_effect, an_event, thread_list, breakpoint_list, Lines, Classes, Effect}
-use Rattle.machine_model.specs.Replying.{IsReply, is_end, replied_machine, replied_to, sizes_in, wire, unlisted_by}
-use Rattle.machine_model.specs.Rows.{noted}
+use Rattle.machine_model.specs.Names.{Answer, Attached, Capabilities, Classes, Clear, Command, Composite}
+use Rattle.machine_model.specs.Names.{Does, Effect, Event, Failed, Fresh, Gone}
+use Rattle.machine_model.specs.Names.{Initialized, Item, Lines, Note, Nothing, Options, Outcome, Part}
+use Rattle.machine_model.specs.Names.{Phase, Question, Replied, Roots, Set, Success, TargetCommand}
+use Rattle.machine_model.specs.Names.{Terminated, ThreadId, a_composite, a_question, a_raw}
+use Rattle.machine_model.specs.Names.{a_request, an_answer, an_effect, an_event, breakpoint_list}
+use Rattle.machine_model.specs.Names.{entry_bound, target_end, thread_list}
+use Rattle.machine_model.specs.Replying.{IsReply, ended_with, is_end}
+use Rattle.machine_model.specs.Replying.{replied_to, sizes_in, unlisted_by, wire}
+use Rattle.machine_model.specs.Rows.{end_parts, failure_of, noted}
+use Rattle.machine_model.specs.Rows.{request_parts, wanting}
 use Rattle.machine_model.specs.Runs.{Message, Run, is_disconnect}
 use Rattle.machine_model.specs.State.{Hand, Machine, SizesRead, State, is_gone}
 use Rattle.machine_model.specs.Telling.{after_event, attached_from, event_told, numbered_by, outcome_told}
@@ -23,12 +31,29 @@ use Rattle.machine_model.proofs.TurnLaws.{NoneLate, unsent}
 use Rattle.machine_model.proofs.QuietLaws.{IsKept, IsQuiet, kept_on, near_flies, near_waits, quiet_on}
 use Rattle.machine_model.proofs.RestLaws.{late_gone, near_asks, no_late}
 use Rattle.machine_model.proofs.Stepping.{IsAt, Loses, Moves, by_runs, with_said}
-use Rattle.machine_model.proofs.Testing.{tested}
+use Rattle.machine_model.proofs.Testing.{Passed, tested, whole}
 use Rattle.machine_model.specs.Classes.{classes_in, with_listed}
 use Rattle.machine_model.specs.Plans.{answer_in}
 use Rattle.class_tables.specs.Facts.{Known}
 use Rattle.jdwp_commands.specs.declared.listed.LoadedClass.{LoadedClass}
-use Rattle.std.specs.Prelude.{fold, map}
+use Rattle.jdwp_events.specs.declared.kind.Policy.TheVariants.{All, EventThread, NoThread}
+use Rattle.jdwp_events.specs.declared.kind.Policy.{Policy}
+use Rattle.machine_model.proofs.EarlyItems.{IsEarly, always_early, not_fresh}
+use Rattle.machine_model.proofs.HeldLaws.{asked_resumes, chosen_resumes, deed_may, deed_view, due_sends, end_resumes}
+use Rattle.machine_model.proofs.HeldLaws.{found_resumes, given_resumes, gone_held}
+use Rattle.machine_model.proofs.HeldLaws.{held_as, held_front, replied_resumes, row_resumes}
+use Rattle.machine_model.proofs.HeldLaws.{skipped_resumes}
+use Rattle.machine_model.proofs.ItemLaws.{IsInOrder, in_order, ordered_on, picked_composites, read_composites}
+use Rattle.machine_model.proofs.ItemLaws.{waits_in_order}
+use Rattle.machine_model.proofs.ServedLaws.{one_more}
+use Rattle.machine_model.proofs.Tables.{free, free_once}
+use Rattle.machine_model.specs.Breakpoints.{with_told}
+use Rattle.machine_model.specs.Composites.{composite_row, prepared_in}
+use Rattle.machine_model.specs.Due.{begun}
+use Rattle.machine_model.specs.Outcomes.{result_of}
+use Rattle.std.specs.List.{flat_map}
+use Rattle.std.specs.Prelude.{fold, map, ◌+◌}
+use Rattle.suspend_ledger.specs.Suspensions.{suspensions_by}
 
 -- Replies -------------------------------------------------------------------------------------------------------------
 
@@ -61,7 +86,8 @@ listed_is known (class ∷ classes) = listed_is (with_listed known class) classe
 learnt_is : (m : Machine) (question : Question) (replied : Replied)
     → IsReply m.state.sizes (a_question question) replied
     → is_end (a_question question) replied ≡ false
-    → view_of (replied_machine m (a_question question) replied) ≡ learnt_view (a_question question) replied (view_of m)
+    → view_of (record m { state = replied_to (a_question question) replied m.state })
+    ≡ learnt_view (a_question question) replied (view_of m)
 learnt_is m questions.AllClasses replied reply here =
     ap (λ (known : Known). record (view_of m) { classes = known; unlisted = false })
     (listed_is m.state.classes (classes_in (answer_in replied)))
@@ -82,38 +108,58 @@ says_so None view = view
 says_so (Some message) view = says message view
 
 response_view : (outcome : Outcome) (m : Machine)
-    → view_of (record m { state = numbered_by outcome m.state }) ≡ view_of m
-response_view outcome m = grind arith
+    → view_of (record m { state = numbered_by outcome m.state })
+    ≡ record (view_of m) { bound = with_told m.state.bound (breakpoints_in (outcome_told outcome m.state)) }
+response_view (Success Nothing) m = refl
+response_view (Success Capabilities) m = refl
+response_view (Success (breakpoint_list rooted listed)) m = refl
+response_view (Success (thread_list named)) m = refl
+response_view (Failed failure) m = refl
 
 note_view : (note : Note) (m : Machine) → view_of (record m { state = noted note m.state }) ≡ view_of m
 note_view note m = grind arith
 
 -- where an event is told, it may be
-event_may : (m : Machine) (hand : Hand) (event : Event) (rest : List Part) → IsMarked m
+event_may : (m : Machine) (hand : Hand) (event : Event) (rest : List Part) → Passed free_once m → IsMarked m
     → IsAt m hand (Part.Tells event) rest
     → may_tell (an_event (event_told event (after_event event m.state))) (view_of m) ≡ true
-event_may m hand Initialized rest h at = fresh_by (is_fresh m.state.phase) _ (marked_at m hand
+event_may m hand (entry_bound entry) rest f h at = near_by (is_gone m.state.phase) _ (whole free_once f at)
+  where
+    near_by : (gone other : Bool) → cond (cond gone false true) other false ≡ true → not gone ≡ true
+    near_by gone other is = grind (arith, is)
+event_may m hand Initialized rest f h at = fresh_by (is_fresh m.state.phase) _ (marked_at m hand
     (Part.Tells Initialized) rest h at)
   where
     fresh_by : (fresh other : Bool) → cond fresh other false ≡ true → fresh ≡ true
     fresh_by fresh other is = grind (arith, is)
-event_may m hand Terminated rest h at = over_by _ (cond (is_gone m.state.phase) (not m.state.terminated) false)
+event_may m hand Terminated rest f h at = over_by _ (cond (is_gone m.state.phase) (not m.state.terminated) false)
     (marked_at m hand (Part.Tells Terminated) rest h at)
   where
     over_by : (first over : Bool) → cond first over false ≡ true → over ≡ true
     over_by first over is = grind (arith, is)
 
+fresh_now : (phase : Phase) → is_fresh phase ≡ true → phase ≡ Fresh
+fresh_now phase is = grind (arith, is)
+
 attached_now : (phase : Phase) → is_fresh phase ≡ true → attached_from phase ≡ Attached
 attached_now phase is = grind (arith, is)
 
-event_view_is : (m : Machine) (hand : Hand) (event : Event) (rest : List Part) → IsMarked m
+event_view_is : (m : Machine) (hand : Hand) (event : Event) (rest : List Part) → Passed free_once m → IsMarked m
     → IsAt m hand (Part.Tells event) rest
     → view_of (record m { state = after_event event m.state })
     ≡ told_view (an_event (event_told event (after_event event m.state))) (view_of m)
-event_view_is m hand Initialized rest h at =
-    ap (λ (phase : Phase). record (view_of m) { phase = phase })
-    (attached_now m.state.phase (event_may m hand Initialized rest h at))
-event_view_is m hand Terminated rest h at = refl
+event_view_is m hand Initialized rest f h at =
+    let fresh = event_may m hand Initialized rest f h at in
+    ap (λ (phase : Phase). record (view_of m) {
+      phase = phase;
+      composites = waiting_composites (is_gone phase) m.waiting;
+    }) (attached_now m.state.phase fresh)
+    ∙ sym (ap (λ (phase : Phase). record (view_of m) {
+      phase = Attached;
+      composites = waiting_composites (is_gone phase) m.waiting;
+    }) (fresh_now m.state.phase fresh))
+event_view_is m hand (entry_bound entry) rest f h at = refl
+event_view_is m hand Terminated rest f h at = refl
 
 gone_is : (phase : Phase) → is_gone phase ≡ true → phase ≡ Gone
 gone_is phase is = grind (arith, is)
@@ -122,13 +168,19 @@ gone_is phase is = grind (arith, is)
 replied_is : (m : Machine) (command : TargetCommand) (replied : Replied) (now : View) → is_gone m.state.phase ≡ false
     → is_end command replied ≡ false → now ≡ learnt_view command replied (view_of m)
     → now ≡ says (Message.answers command replied) (view_of m)
-replied_is m command replied now near here is = rw (near, same_end command replied, here) is
+replied_is m command replied now near here is =
+    is ∙ sym (ap (λ (gone : Bool). replied_view gone (cond (is_farewell command) false (says_dead replied)) command
+    replied (view_of m)) near
+    ∙ ap (λ (last : Bool). replied_view false last command replied (view_of m)) (same_end command replied ∙ here))
 
 -- a reply that shows the target's end
 ended_is : (m : Machine) (command : TargetCommand) (replied : Replied) → is_gone m.state.phase ≡ false
     → is_end command replied ≡ true
-    → record (view_of m) { phase = Gone } ≡ says (Message.answers command replied) (view_of m)
-ended_is m command replied near last = rw (near, same_end command replied, last) refl
+    → gone_view (view_of m) ≡ says (Message.answers command replied) (view_of m)
+ended_is m command replied near last =
+    sym (ap (λ (gone : Bool). replied_view gone (cond (is_farewell command) false (says_dead replied)) command
+    replied (view_of m)) near
+    ∙ ap (λ (ended : Bool). replied_view false ended command replied (view_of m)) (same_end command replied ∙ last))
 
 same_closes : (command : Command) → is_disconnect command ≡ closes command
 same_closes command = grind arith
@@ -136,49 +188,201 @@ same_closes command = grind arith
 stays_here : (gone last : Bool) → gone ≡ false → cond gone false last ≡ false → last ≡ false
 stays_here gone last near is = grind (arith, near, is)
 
-view_on : (m next : Machine) (said : Option Message) → IsQuiet m → NoneLate m → IsMarked m → Moves m said next
-    → view_of next ≡ says_so said (view_of m)
-view_on m next said q k h (Moves.responds {outcome = outcome} free at is) = response_view outcome m
-view_on m next said q k h (Moves.tells {hand} {rest} {event} free at) = event_view_is m hand event rest h at
-view_on m next said q k h (Moves.notes {note = note} free at) = note_view note m
-view_on m next said q k h (Moves.answers {question} {replied} {hand} is waits reply stays) =
+-- the target's end: nothing of the item in hand is held any more
+lost_seen : (m : Machine) (late : List TargetCommand) → view_of (ended_with late m) ≡ gone_view (view_of m)
+lost_seen m late = ap (λ (held : ℕ). record (gone_view (view_of m)) { held = held }) (given_resumes m.hand)
+
+-- a target that is gone doesn't end again
+ended_seen : (m : Machine) → is_gone m.state.phase ≡ true → Passed free_once m → view_of m ≡ gone_view (view_of m)
+ended_seen m gone f = ap (λ (phase : Phase). record (view_of m) {
+  phase = phase;
+  composites = waiting_composites (is_gone phase) m.waiting;
+}) (gone_is m.state.phase gone)
+    ∙ ap (λ (held : ℕ). record (gone_view (view_of m)) { held = held })
+    (gone_held (is_gone m.state.phase) m.hand gone f)
+
+-- how a move changes what is known: as its message says; or a composite is at its turn
+data Sees (m next : Machine) : Option Message → Type 0 where
+  as_said : {said : Option Message} → view_of next ≡ says_so said (view_of m) → Sees m next said
+  at_turn : (composite : Composite) (others : List Composite) → m.state.phase ≡ Attached → (view_of m).composites ≡ composite ∷ others
+      → view_of next ≡ turned_view composite others (view_of m) → Sees m next None
+
+-- Turns ---------------------------------------------------------------------------------------------------------------
+
+-- an item is at its turn
+begun_seen : (m : Machine) (item : Item) (rest : List Item) → m.hand ≡ None
+    → ((at : ℕ) (composite : Composite) → item ≡ a_composite at composite → is_fresh m.state.phase ≡ false)
+    → flat_map composite_in m.waiting ≡ composite_in item ++ flat_map composite_in rest
+    → Sees m (begun m item rest) None
+begun_seen m item rest none late are = by_item item late are
+  where
+    none_held : held_by m.hand ≡ 0
+    none_held = ap held_by none
+
+    passed : (now : List Composite) → flat_map composite_in m.waiting ≡ now
+        → record (view_of m) { composites = cond (is_gone m.state.phase) [] now } ≡ view_of m
+    passed now are = by_gone (is_gone m.state.phase)
+      where
+        by_gone : (gone : Bool) → record (view_of m) { composites = cond gone [] now }
+            ≡ record (view_of m) { composites = waiting_composites gone m.waiting }
+        by_gone true = refl
+        by_gone false = ap (λ (all : List Composite). record (view_of m) { composites = all }) (sym are)
+
+    waits : (gone : Bool) → waiting_composites gone rest ≡ cond gone [] (flat_map composite_in rest)
+    waits true = refl
+    waits false = refl
+
+    others : (held : ℕ) → held ≡ 0 → flat_map composite_in m.waiting ≡ flat_map composite_in rest
+        → record (view_of m) { composites = waiting_composites (is_gone m.state.phase) rest; held = held }
+        ≡ view_of m
+    others held is are = ap (λ (held : ℕ). record (view_of m) {
+      composites = waiting_composites (is_gone m.state.phase) rest;
+      held = held;
+    }) (is ∙ sym none_held)
+        ∙ ap (λ (all : List Composite). record (view_of m) { composites = all }) (waits (is_gone m.state.phase))
+        ∙ passed (flat_map composite_in rest) are
+
+    policies : (policy : Policy) (at below : ℕ)
+        → resumes_in (composite_row policy at below) ≡ 0 + suspensions_by policy
+    policies NoThread at below = refl
+    policies EventThread at below = refl
+    policies All at below = refl
+
+    by_phase : (at : ℕ) (composite : Composite) (phase : Phase) → m.state.phase ≡ phase → is_fresh phase ≡ false
+        → flat_map composite_in m.waiting ≡ composite ∷ flat_map composite_in rest
+        → Sees m (begun m (a_composite at composite) rest) None
+    by_phase at composite Fresh is late are = cc
+    by_phase at composite Attached is late are =
+        Sees.at_turn composite (flat_map composite_in rest) is (rw is are)
+        (rw (
+          is,
+          none_held,
+          policies composite.policy at m.state.next_entry,
+          listed_is m.state.classes (prepared_in composite),
+        ) refl)
+    by_phase at composite Gone is late are = Sees.as_said (rw (is, none_held) refl)
+
+    by_item : (item : Item)
+        → ((at : ℕ) (composite : Composite) → item ≡ a_composite at composite → is_fresh m.state.phase ≡ false)
+        → flat_map composite_in m.waiting ≡ composite_in item ++ flat_map composite_in rest
+        → Sees m (begun m item rest) None
+    by_item (a_request request) late are = Sees.as_said
+        (others (resumes_in (request_parts request.command m.state))
+        (row_resumes (failure_of (wanting request.command) m.state) request.command m.state) are)
+    by_item (a_composite at composite) late are =
+        by_phase at composite m.state.phase refl (late at composite refl) are
+    by_item (a_raw at body) late are = Sees.as_said (others 0 refl are)
+    by_item target_end late are = Sees.as_said (others (resumes_in (end_parts m.state.terminated))
+        (end_resumes m.state.terminated) are)
+
+-- one that is no composite came
+came_seen : (m : Machine) (item : Item) → composite_in item ≡ []
+    → waiting_composites (is_gone m.state.phase) (m.waiting ++ item ∷ [])
+    ≡ waiting_composites (is_gone m.state.phase) m.waiting
+came_seen m item none = by_gone (is_gone m.state.phase)
+  where
+    by_gone : (gone : Bool) → waiting_composites gone (m.waiting ++ item ∷ []) ≡ waiting_composites gone m.waiting
+    by_gone true = refl
+    by_gone false = one_more composite_in m.waiting item
+        ∙ ap (λ (more : List Composite). flat_map composite_in m.waiting ++ more) none
+        ∙ append-nil (flat_map composite_in m.waiting)
+
+composite_seen : (m : Machine) (composite : Composite) (now : List Item)
+    → (is_gone m.state.phase ≡ false → flat_map composite_in now ≡ flat_map composite_in m.waiting ++ composite ∷ [])
+    → view_of (record m { waiting = now }) ≡ come_view (is_gone m.state.phase) composite (view_of m)
+composite_seen m composite now more = by_gone (is_gone m.state.phase) more
+  where
+    by_gone : (gone : Bool)
+        → (gone ≡ false → flat_map composite_in now ≡ flat_map composite_in m.waiting ++ composite ∷ [])
+        → record (view_of m) { composites = waiting_composites gone now }
+        ≡ come_view gone composite (record (view_of m) { composites = waiting_composites gone m.waiting })
+    by_gone true more = refl
+    by_gone false more = ap (λ (all : List Composite). record (view_of m) { composites = all }) (more refl)
+
+view_on : (m next : Machine) (said : Option Message) → IsQuiet m → NoneLate m → Passed free_once m → IsInOrder m
+    → IsEarly m → IsMarked m → Moves m said next → Sees m next said
+view_on m next said q k f o e h (Moves.begins picked free none is) =
+    begun_seen m picked.item picked.rest none (λ at composite item. not_fresh m picked at composite e none is item)
+    (picked_composites (is_gone m.state.phase) m.waiting picked is)
+view_on m next said q k f o e h (Moves.drops free is none) =
+    Sees.as_said (held_as m next (sym (ap held_by is ∙ ap resumes_in none)) refl)
+view_on m next said q k f o e h (Moves.responds {outcome = outcome} free at is) =
+    Sees.as_said (held_as m next (sym (held_front at)) (response_view outcome m))
+view_on m next said q k f o e h (Moves.finds {rest = rest} {lookup} found free at needs done) =
+    Sees.as_said (held_as m next (found_resumes lookup (result_of found) m.state rest ∙ sym (held_front at)) refl)
+view_on m next said q k f o e h (Moves.passes_over {rest = rest} free at why) =
+    Sees.as_said (held_as m next (skipped_resumes rest why ∙ sym (held_front at)) refl)
+view_on m next said q k f o e h (Moves.tells {hand} {rest} {event} free at) =
+    Sees.as_said (held_as m next (sym (held_front at)) (event_view_is m hand event rest f h at))
+view_on m next said q k f o e h (Moves.sends {hand} {rest} {deed} free at near) =
+    Sees.as_said (deed_view m hand deed rest at)
+view_on m next said q k f o e h (Moves.updates {effect = effect} free at is near) =
+    Sees.as_said (held_as m next (sym (held_front at)) (sym (due_sends m.state.wishes effect (view_of m) is).1))
+view_on m next said q k f o e h (Moves.notes {note = note} free at) =
+    Sees.as_said (held_as m next (sym (held_front at)) (note_view note m))
+view_on m next said q k f o e h (Moves.unfolds {hand} {choice} {rest} free at) =
+    Sees.as_said (held_as m next (chosen_resumes choice m.state hand rest ∙ sym (held_front at)) refl)
+view_on m next said q k f o e h (Moves.queues free is) = Sees.as_said (held_as m next (sym (ap held_by is)) refl)
+view_on m next said q k f o e h (Moves.asks {want = want} free room is are) =
+    Sees.as_said (held_as m next (asked_resumes want m.hand) refl)
+view_on m next said q k f o e h (Moves.answers {question} {replied} {hand} is waits reply stays) =
     let near = near_waits m hand question q is waits in
     let here = stays_here (is_gone m.state.phase) (is_end (a_question question) replied) near stays in
-    replied_is m (a_question question) replied (view_of next) near here (learnt_is m question replied reply here)
-view_on m next said q k h (Moves.replies {effect} {replied} {hand} is flies reply stays) =
+    Sees.as_said (held_as m next (replied_resumes (a_question question) replied m.hand)
+    (replied_is m (a_question question) replied _ near here (learnt_is m question replied reply here)))
+view_on m next said q k f o e h (Moves.replies {effect} {replied} {hand} is flies reply stays) =
     let near = near_flies m hand effect q is flies in
     let here = stays_here (is_gone m.state.phase) (is_end (an_effect effect) replied) near stays in
-    replied_is m (an_effect effect) replied (view_of next) near here
-    (ap (λ (unlisted : Bool). record (view_of m) { unlisted = unlisted }) (watch_is effect replied m.state.unlisted))
-view_on m next said q k h (Moves.late {command} {replied} before after is reply) =
-    rw (late_gone m before after command k is) refl
-view_on m next said q k h (Moves.ends gone) =
-    ap (λ (phase : Phase). record (view_of m) { phase = phase }) (gone_is m.state.phase gone)
-view_on m next said q k h (Moves.loses late near Loses.by_end) = refl
-view_on m next said q k h (Moves.loses late near (Loses.by_question {question} {replied} is waits reply last)) =
-    ended_is m (a_question question) replied near last
-view_on m next said q k h (Moves.loses late near (Loses.by_effect {effect} {replied} is flies reply last)) =
-    ended_is m (an_effect effect) replied near last
-view_on m next said q k h (Moves.hears {request} read is) =
-    ap (λ (closing : Bool). record (view_of m) { closing = closing }) (same_closes request.command)
-view_on m next said q k h _ = refl
+    Sees.as_said (held_as m next (replied_resumes (an_effect effect) replied m.hand)
+    (replied_is m (an_effect effect) replied _ near here
+    (ap (λ (unlisted : Bool). record (view_of m) { unlisted = unlisted }) (watch_is effect replied m.state.unlisted))))
+view_on m next said q k f o e h (Moves.late {command} {replied} before after is reply) =
+    Sees.as_said (rw (late_gone m before after command k is) refl)
+view_on m next said q k f o e h (Moves.ends gone) = Sees.as_said (ended_seen m gone f)
+view_on m next said q k f o e h (Moves.loses late near Loses.by_end) = Sees.as_said (lost_seen m late)
+view_on m next said q k f o e h (Moves.loses late near (Loses.by_question {question} {replied} is waits reply last)) =
+    Sees.as_said (lost_seen m late ∙ ended_is m (a_question question) replied near last)
+view_on m next said q k f o e h (Moves.loses late near (Loses.by_effect {effect} {replied} is flies reply last)) =
+    Sees.as_said (lost_seen m late ∙ ended_is m (an_effect effect) replied near last)
+view_on m next said q k f o e h (Moves.hears {request} read is) =
+    Sees.as_said (ap (λ (closing : Bool). record (view_of next) { closing = closing }) (same_closes request.command)
+    ∙ ap (λ (all : List Composite). record (view_of m) { composites = all; closing = closes request.command })
+    (came_seen m (a_request request) refl))
+view_on m next said q k f o e h (Moves.comes {at} {composite} read sized taken) =
+    Sees.as_said (composite_seen m composite (m.waiting ++ a_composite at composite ∷ [])
+    (λ near. one_more composite_in m.waiting (a_composite at composite)))
+view_on m next said q k f o e h (Moves.keeps {at} {body} is) =
+    Sees.as_said (ap (λ (all : List Composite). record (view_of m) { composites = all })
+    (came_seen m (a_raw at body) refl))
+view_on m next said q k f o e h (Moves.reads {at} {body} {composite} before after read is none taken) =
+    Sees.as_said (composite_seen m composite (before ++ a_composite at composite ∷ after) (λ near.
+    read_composites before after (a_raw at body) at composite refl none
+    (subst (λ (items : List Item). in_order items ≡ true) is (waits_in_order m o near))
+    ∙ ap (λ (items : List Item). flat_map composite_in items ++ composite ∷ []) (sym is)))
+view_on m next said q k f o e h _ = Sees.as_said refl
 
 abbrev may_so : View → Option Message → Bool
 may_so view None = true
 may_so view (Some message) = may_be view message
 
-may_on : (m next : Machine) (said : Option Message) → IsMarked m → Moves m said next → may_so (view_of m) said ≡ true
-may_on m next said h (Moves.tells {hand} {rest} {event} free at) = event_may m hand event rest h at
-may_on m next said h (Moves.sends free at near) = rw near refl
-may_on m next said h (Moves.updates free at is near) = rw near refl
-may_on m next said h (Moves.greets {guard = guard} free at is near) = rw (unsent m guard is, near) refl
-may_on m next said h (Moves.asks {hand} free room is are) = rw (near_asks m hand free is).0 refl
-may_on m next said h (Moves.hears read is) = rw is refl
-may_on m next said h (Moves.greeted read is) = rw is refl
-may_on m next said h (Moves.loses late near Loses.by_end) = refl
-may_on m next said h (Moves.loses late near (Loses.by_question is waits reply last)) = refl
-may_on m next said h (Moves.loses late near (Loses.by_effect is flies reply last)) = refl
-may_on m next said h _ = refl
+near_sends : (gone may : Bool) → gone ≡ false → may ≡ true → cond gone false may ≡ true
+near_sends gone may near is = grind (arith, near, is)
+
+may_on : (m next : Machine) (said : Option Message) → Passed free_once m → IsMarked m → Moves m said next
+    → may_so (view_of m) said ≡ true
+may_on m next said f h (Moves.tells {hand} {rest} {event} free at) = event_may m hand event rest f h at
+may_on m next said f h (Moves.sends {hand} {rest} {deed} free at near) =
+    near_sends (is_gone m.state.phase) _ near (deed_may m hand deed rest at)
+may_on m next said f h (Moves.updates {effect = effect} free at is near) =
+    near_sends (is_gone m.state.phase) _ near (due_sends m.state.wishes effect (view_of m) is).0
+may_on m next said f h (Moves.greets {guard = guard} free at is near) = rw (unsent m guard is, near) refl
+may_on m next said f h (Moves.asks {hand} free room is are) = rw (near_asks m hand free is).0 refl
+may_on m next said f h (Moves.hears read is) = rw is refl
+may_on m next said f h (Moves.greeted read is) = rw is refl
+may_on m next said f h (Moves.loses late near Loses.by_end) = refl
+may_on m next said f h (Moves.loses late near (Loses.by_question is waits reply last)) = refl
+may_on m next said f h (Moves.loses late near (Loses.by_effect is flies reply last)) = refl
+may_on m next said f h _ = refl
 
 -- Numbers -------------------------------------------------------------------------------------------------------------
 
@@ -209,6 +413,7 @@ outcome_numbers numbers (Success (thread_list named)) state = record {
 event_numbers : (numbers : List ℕ) (event : Event) (state : State)
     → Numbers numbers state.threads (after_event event state).threads []
 event_numbers numbers Initialized state = no_numbers numbers state.threads
+event_numbers numbers (entry_bound entry) state = no_numbers numbers state.threads
 event_numbers numbers Terminated state = no_numbers numbers state.threads
 
 note_numbers : (numbers : List ℕ) (note : Note) (state : State)
@@ -251,15 +456,17 @@ record Said (messages : List Message) (m : Machine) : Type 0 where
   quiet : IsQuiet m
   kept : IsKept m
   marked : IsMarked m
+  ordered : IsInOrder m
   said_so : AreSaid messages (view_of m)
   distinct : are_distinct m.state.threads ≡ true
   in_order : AreInOrder (thread_numbers messages) (length m.state.threads)
 
 said_next : (messages : List Message) (m next : Machine) (said : Option Message) → may_so (view_of m) said ≡ true
-    → view_of next ≡ says_so said (view_of m) → AreSaid messages (view_of m)
-    → AreSaid (with_said messages said) (view_of next)
-said_next messages m next None may is h = subst (λ (view : View). AreSaid messages view) (sym is) h
-said_next messages m next (Some message) may is h =
+    → Sees m next said → AreSaid messages (view_of m) → AreSaid (with_said messages said) (view_of next)
+said_next messages m next None may (Sees.as_said is) h = subst (λ (view : View). AreSaid messages view) (sym is) h
+said_next messages m next None may (Sees.at_turn composite others attached are is) h =
+    subst (λ (view : View). AreSaid messages view) (sym is) (AreSaid.turns composite others h attached are)
+said_next messages m next (Some message) may (Sees.as_said is) h =
     subst (λ (view : View). AreSaid (messages ++ message ∷ []) view) (sym is) (AreSaid.one_more message may h)
 
 order_next : (messages : List Message) (said : Option Message) (count : ℕ)
@@ -279,8 +486,9 @@ said_on messages m next said r s moved =
       quiet = quiet_on m next said s.quiet moved;
       kept = kept_on m next said s.kept moved;
       marked = marked_on m next said (tested marks r) s.kept s.marked moved;
-      said_so = said_next messages m next said (may_on m next said s.marked moved)
-          (view_on m next said s.quiet (no_late r) s.marked moved) s.said_so;
+      ordered = ordered_on m next said s.ordered moved;
+      said_so = said_next messages m next said (may_on m next said (tested free r) s.marked moved)
+          (view_on m next said s.quiet (no_late r) (tested free r) s.ordered (always_early r) s.marked moved) s.said_so;
       distinct = n.distinct s.distinct;
       in_order = order_next messages said (length next.state.threads) (n.in_order s.in_order);
     }
@@ -292,6 +500,7 @@ is_known messages m r =
         quiet = refl;
         kept = refl;
         marked = refl;
+        ordered = refl;
         said_so = AreSaid.none;
         distinct = refl;
         in_order = AreInOrder.none;

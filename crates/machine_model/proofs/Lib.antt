@@ -8,11 +8,15 @@ pub mod BindingReplies
 pub mod BindingWatches
 pub mod BreakpointExamples
 pub mod CommandLemmas
+pub mod EarlyItems
 pub mod EventLaws
 mod Examples
 pub mod HandshakeLaws
+pub mod HeldLaws
 pub mod IdLaws
 pub mod IdRows
+pub mod ItemIds
+pub mod ItemLaws
 pub mod KeptLaws
 pub mod KeyLaws
 pub mod KnowingLaws
@@ -41,6 +45,7 @@ pub mod StandingMoves
 pub mod StandingReplies
 pub mod StandingWalk
 pub mod Stepping
+pub mod SuspendLaws
 pub mod Tables
 pub mod Testing
 pub mod TurnLaws

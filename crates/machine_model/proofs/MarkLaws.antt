@@ -3,9 +3,9 @@ use Rattle.std.proofs.Common.{◌≡◌, Bool, true, false, cond, not, ◌||◌,
 use Rattle.std.proofs.Common.{subst, ◌∙◌, option_map, arith}
 use Rattle.machine_model.specs.Knowing.{is_fresh}
 use Rattle.machine_model.specs.Lookups.{finished}
-use Rattle.machine_model.specs.Names.{Command, Event, Failure, Initialized, Item, Note, Outcome, Part, Phase}
-use Rattle.machine_model.specs.Names.{Replied, TargetCommand, Terminated, a_composite, a_question, a_raw, a_request}
-use Rattle.machine_model.specs.Names.{an_effect, target_end}
+use Rattle.machine_model.specs.Names.{Command, Event, Failure, Initialized, Item, Note, Outcome, Part, Phase, Replied}
+use Rattle.machine_model.specs.Names.{TargetCommand, Terminated, a_composite, a_question, a_raw, a_request, an_effect}
+use Rattle.machine_model.specs.Names.{entry_bound, target_end}
 use Rattle.machine_model.specs.Outcomes.{result_of}
 use Rattle.machine_model.specs.Replying.{given_up, hand_replied, replied_to}
 use Rattle.machine_model.specs.Rows.{chosen, end_parts, failure_of, gone_parts, has_response, noted, parts_by, parts_of}
@@ -160,13 +160,15 @@ replied_marked phase terminated (a_question question) replied (Some hand) = refl
 replied_marked phase terminated (an_effect effect) replied (Some hand) = refl
 
 told_marked : (event : Event) (state : State) (rest : List Part) → stand_once (Part.Tells event ∷ rest) ≡ true
+    → marked state.phase state.terminated rest ≡ true
     → marked (after_event event state).phase (after_event event state).terminated rest ≡ true
-told_marked Initialized state rest is =
+told_marked (entry_bound entry) state rest is left = left
+told_marked Initialized state rest is left =
     marked_none (after_event Initialized state).phase state.terminated rest (unmarked (has_mark rest) is)
   where
     unmarked : (has : Bool) → not has ≡ true → has ≡ false
     unmarked has is = grind (arith, is)
-told_marked Terminated state rest is =
+told_marked Terminated state rest is left =
     marked_none (after_event Terminated state).phase true rest (unmarked (has_mark rest) is)
   where
     unmarked : (has : Bool) → not has ≡ true → has ≡ false
@@ -192,7 +194,7 @@ marked_on m next said once k h (Moves.finds {hand} {rest} {lookup} found free at
     (finished_is lookup (result_of found) m.state).plain (left_marked m hand (Part.Looks lookup) rest h at)
 marked_on m next said once k h (Moves.passes_over {hand} {part} {rest} free at why) = left_marked m hand part rest h at
 marked_on m next said once k h (Moves.tells {hand} {rest} {event} free at) =
-    told_marked event m.state rest (whole marks_once once at)
+    told_marked event m.state rest (whole marks_once once at) (left_marked m hand (Part.Tells event) rest h at)
 marked_on m next said once k h (Moves.sends {hand} {rest} {deed} free at near) =
     left_marked m hand (Part.Sends deed) rest h at
 marked_on m next said once k h (Moves.updates {hand} {rest = rest} free at is near) = marked_at m hand Part.Updates

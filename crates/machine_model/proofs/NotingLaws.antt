@@ -2,17 +2,18 @@
 use Rattle.std.proofs.Common.{◌≡◌, Bool, true, false, cond, not, ◌||◌, List, [], ◌∷◌, ◌++◌, Option, Some, None, refl}
 use Rattle.std.proofs.Common.{sym, ap, subst, ◌∙◌, append-nil, option_map, arith}
 use Rattle.machine_model.specs.Lookups.{finished}
-use Rattle.machine_model.specs.Names.{Choice, ClientOptions, Command, Event, Failure, Finding, Initialized, Item}
-use Rattle.machine_model.specs.Names.{Lookup, Note, Options, Outcome, Part, Replied, Request, Roots, TargetCommand}
-use Rattle.machine_model.specs.Names.{Terminated, Want, a_composite, a_question, a_raw, a_request, a_response}
-use Rattle.machine_model.specs.Names.{an_effect, target_end, Lines, Classes}
+use Rattle.machine_model.specs.Names.{Attached, Choice, Classes, ClientOptions, Command, Event, Failure, Finding}
+use Rattle.machine_model.specs.Names.{Fresh, Gone, Initialized, Item, Leaves, Lines, Lookup, Note, Options, Outcome}
+use Rattle.machine_model.specs.Names.{Part, Phase, Replied, Request, Roots, TargetCommand, TellsBound, Terminated}
+use Rattle.machine_model.specs.Names.{Want, a_composite, a_question, a_raw, a_request, a_response, an_effect}
+use Rattle.machine_model.specs.Names.{entry_bound, target_end}
 use Rattle.machine_model.specs.Due.{asked_hand}
 use Rattle.machine_model.specs.Noting.{AreOptions, asked_options, options_in, options_noted, part_options}
 use Rattle.machine_model.specs.Outcomes.{result_of}
 use Rattle.machine_model.specs.Plans.{Result}
 use Rattle.machine_model.specs.Replying.{hand_replied, replied_machine, replied_to}
 use Rattle.machine_model.specs.Rest.{request_in, without_response}
-use Rattle.machine_model.specs.Rows.{chosen, failure_of, gone_parts, has_response, is_response, noted, parts_by}
+use Rattle.machine_model.specs.Rows.{chosen, failure_of, gone_parts, has_response, is_response, news, noted, parts_by}
 use Rattle.machine_model.specs.Rows.{parts_of, request_parts, row_of, wanting}
 use Rattle.machine_model.specs.Runs.{Message, Run}
 use Rattle.machine_model.specs.State.{Hand, Machine, State, is_gone, knowing, left}
@@ -22,6 +23,8 @@ use Rattle.machine_model.proofs.ServedLaws.{IsLeft, left_on}
 use Rattle.machine_model.proofs.Stepping.{IsAt, Loses, Moves, Skips, by_runs, with_said}
 use Rattle.machine_model.proofs.Tables.{chosen_is, finished_is, has_joined, once, once_in, responds_once, row_is}
 use Rattle.machine_model.proofs.Testing.{IsTest, Passed, same_noted, same_numbered, same_replied, tested, whole}
+use Rattle.machine_model.specs.Breakpoints.{newly_verified}
+use Rattle.wish_sets.specs.declared.entry.LineEntry.{LineEntry}
 
 -- Lists of parts ------------------------------------------------------------------------------------------------------
 
@@ -84,7 +87,14 @@ begun_last state (a_composite at composite) = grind arith
 begun_last state (a_raw at body) = refl
 
 chosen_none : (choice : Choice) (state : State) (hand : Hand) → no_options (chosen choice state hand) ≡ true
-chosen_none choice state hand = grind arith
+chosen_none (TellsBound below) state hand = by_entries state.phase (newly_verified below state.bound state.wishes)
+  where
+    by_entries : (phase : Phase) (entries : List LineEntry) → no_options (news phase entries) ≡ true
+    by_entries Fresh entries = refl
+    by_entries Gone entries = refl
+    by_entries Attached [] = refl
+    by_entries Attached (entry ∷ entries) = by_entries Attached entries
+chosen_none (Leaves exits) state hand = grind arith
 
 found_none : (lookup : Lookup) (result : Result Finding) (state : State)
     → no_options (finished lookup result state) ≡ true
@@ -327,10 +337,12 @@ skipped_on m hand part rest last at (Skips.no_request {outcome} is) =
 event_near : (event : Event) (state : State) → is_gone (after_event event state).phase ≡ false
     → is_gone state.phase ≡ false
 event_near Initialized state near = sym (attached_gone state.phase) ∙ near
+event_near (entry_bound entry) state near = near
 event_near Terminated state near = cc
 
 event_options : (event : Event) (state : State) → (after_event event state).options ≡ state.options
 event_options Initialized state = refl
+event_options (entry_bound entry) state = refl
 event_options Terminated state = refl
 
 -- a note behind the response

@@ -7,15 +7,16 @@ use Rattle.dap_messages.specs.declared.told.Response.{Response}
 use Rattle.machine_model.specs.Asking.{AreAsked, is_aside}
 use Rattle.machine_model.specs.Due.{Picked, asked_hand, asked_now, begun, pick}
 use Rattle.machine_model.specs.Lookups.{finished, found_for, lookup_responds}
-use Rattle.machine_model.specs.Names.{Choice, Does, Doing, Event, Finding, Item, Lookup, Outcome, Part, Phase, Request}
-use Rattle.machine_model.specs.Names.{TargetCommand, a_question, a_request, an_effect, an_event, Initialized}
-use Rattle.machine_model.specs.Names.{Terminated}
+use Rattle.machine_model.specs.Names.{Choice, Does, Doing, Event, Finding, Initialized, Item, Lookup, Outcome, Part}
+use Rattle.machine_model.specs.Names.{Phase, Request, TargetCommand, Terminated, a_composite, a_question, a_raw}
+use Rattle.machine_model.specs.Names.{a_request, an_effect, an_event, entry_bound, target_end}
 use Rattle.machine_model.specs.Outcomes.{AreExplained, IsExplained, IsInHand, Leads, Reason, answer_part, responds}
 use Rattle.machine_model.specs.Outcomes.{result_of}
 use Rattle.machine_model.specs.Plans.{Need, is_done, question_of}
 use Rattle.machine_model.specs.Replying.{given_up, hand_replied, replied_machine}
 use Rattle.machine_model.specs.Rest.{AreAnswered, request_in, requests_of, response_by, responses_of}
-use Rattle.machine_model.specs.Rows.{choice_responds, chosen, gone_parts, gone_row, has_response, is_response, parts_of}
+use Rattle.machine_model.specs.Rows.{choice_responds, chosen, gone_parts, gone_row, has_response, is_response}
+use Rattle.machine_model.specs.Rows.{parts_of, taken}
 use Rattle.machine_model.specs.Runs.{Message, Run}
 use Rattle.machine_model.specs.State.{Hand, Machine, State, in_hand, is_gone, knowing, left}
 use Rattle.machine_model.specs.Telling.{after_event, attached_from, event_told, outcome_told, response_to}
@@ -336,6 +337,13 @@ begun_order {messages} {m} picked request r none is item =
       in_turn = o.responses;
     }
 
+-- what is learnt at its turn decides nothing of what an item does
+parts_taken : (state : State) (item : Item) → parts_of (taken item state) item ≡ parts_of state item
+parts_taken state (a_request request) = refl
+parts_taken state (a_composite at composite) = refl
+parts_taken state (a_raw at body) = refl
+parts_taken state target_end = refl
+
 begun_held : {messages : List Message} {m : Machine} (picked : Picked) → Run messages m → m.hand ≡ None
     → pick (is_gone m.state.phase) m.waiting ≡ Some picked → Run messages (begun m picked.item picked.rest)
     → Held messages (begun m picked.item picked.rest) (in_hand picked.item (parts_of m.state picked.item))
@@ -345,13 +353,14 @@ begun_held {messages} {m} picked r none is now = record {
   turn = begun m picked.item picked.rest;
   messages_are = sym (append-nil messages);
   began = now;
-  begun = refl;
+  begun = ap (λ (parts : List Part). Some (in_hand picked.item parts)) (sym (parts_taken m.state picked.item));
   asked = λ near. AreAsked.none;
   none_told = λ responds. refl;
   stays_gone = λ gone. gone;
   in_order = λ request item. begun_order picked request r none is item;
   leads = λ request item part answers. LeadsNow.same_target refl
-      (Leads.own (ap (λ (item : Item). answer_part (parts_of m.state item)) (sym item) ∙ answers));
+      (Leads.own (ap (λ (item : Item). answer_part (parts_of (taken picked.item m.state) item)) (sym item)
+      ∙ ap answer_part (parts_taken m.state picked.item) ∙ answers));
 }
 
 -- The response is told ------------------------------------------------------------------------------------------------
@@ -528,6 +537,9 @@ told_event {hand = hand} {rest} Initialized h r at =
   where
     same_attached : (phase : Phase) → is_gone (attached_from phase) ≡ is_gone phase
     same_attached phase = grind arith
+told_event {hand = hand} {rest} (entry_bound entry) h r at =
+    passed_on_held _ (record hand { parts = rest }) h at refl refl refl refl refl
+    (λ near. asked_aside _ h refl near)
 told_event {hand = hand} {rest} Terminated h r at =
     ended_held _ h (silent_behind (whole silent_last (tested silent_test r) at)) refl
   where

@@ -3,9 +3,10 @@ use Rattle.std.proofs.Common.{◌≡◌, ℕ, Bool, true, false, List, [], ◌�
 use Rattle.std.proofs.Common.{sym, ap, subst, ◌∙◌, inl, inr, arith}
 use Rattle.machine_model.specs.EventRequests.{IsSettled}
 use Rattle.machine_model.specs.Lookups.{finished}
-use Rattle.machine_model.specs.Names.{Attached, Clear, Command, Does, Effect, Fresh, Initialized, Item, Part}
-use Rattle.machine_model.specs.Names.{Phase, Replied, Set, Terminated, a_composite, a_question, a_raw, a_request}
-use Rattle.machine_model.specs.Names.{an_answer, an_effect, an_error, target_end, Choice, Finding, Lookup, Note}
+use Rattle.machine_model.specs.Names.{Attached, Choice, Clear, Command, Does, Effect, Finding, Fresh, Initialized}
+use Rattle.machine_model.specs.Names.{Item, Leaves, Lookup, Note, Part, Phase, Replied, Set, TellsBound, Terminated}
+use Rattle.machine_model.specs.Names.{a_composite, a_question, a_raw, a_request, an_answer, an_effect, an_error}
+use Rattle.machine_model.specs.Names.{entry_bound, target_end}
 use Rattle.machine_model.specs.Outcomes.{result_of}
 use Rattle.machine_model.specs.Replying.{replied_to}
 use Rattle.machine_model.specs.Requests.{Wishes, effect_due, request_in, set_to, wishes_after}
@@ -16,8 +17,7 @@ use Rattle.machine_model.specs.State.{Hand, Machine, State, is_attached, is_gone
 use Rattle.machine_model.proofs.RestLaws.{no_late}
 use Rattle.machine_model.proofs.SizeLaws.{is_idle}
 use Rattle.machine_model.proofs.Stepping.{IsAt, Moves, Skips, by_runs}
-use Rattle.machine_model.proofs.Tables.{are_followed}
-use Rattle.machine_model.proofs.Tables.{followed, followed_test, rewants, starts_updates}
+use Rattle.machine_model.proofs.Tables.{are_followed, followed, followed_test, rewants, starts_updates, told_alike}
 use Rattle.machine_model.proofs.Testing.{same_noted, same_numbered, same_replied, Passed, passed_on, whole}
 use Rattle.machine_model.proofs.WishLemmas.{new_set_due, none_due_change}
 use Rattle.wish_sets.proofs.LeftLaws.{at_rest}
@@ -27,6 +27,7 @@ use Rattle.wish_sets.specs.Tidy.{IsNewSet, IsTidy}
 use Rattle.machine_model.proofs.RequestSteps.{Step, asked_left, flying_in, flying_of, is_deed, learnt_wishes}
 use Rattle.machine_model.proofs.RequestSteps.{near_before, noted_wishes, numbered_wishes, parts_left, replied_left}
 use Rattle.machine_model.proofs.RequestSteps.{steps, needs_set}
+use Rattle.machine_model.specs.Breakpoints.{newly_verified}
 use Rattle.machine_model.specs.Plans.{Result}
 
 -- What is in flight is still due --------------------------------------------------------------------------------------
@@ -104,10 +105,13 @@ found_needs attached lookup result state rest is = grind (arith, is)
 chosen_needs : (attached : Bool) (choice : Choice) (state : State) (hand : Hand) (rest : List Part)
     → needs_set attached (chosen choice state hand ++ rest) ≡ true
     → needs_set attached (Part.Unfolds choice ∷ rest) ≡ true
-chosen_needs attached choice state hand rest is = grind (arith, is)
+chosen_needs attached (TellsBound below) state hand rest is =
+    sym (told_alike (needs_set attached) (λ entry parts. refl) state.phase
+    (newly_verified below state.bound state.wishes) rest) ∙ is
+chosen_needs attached (Leaves exits) state hand rest is = grind (arith, is)
 
 -- a part in front that isn't `updates` is done
-front_set : (m : Machine) (hand : Hand) (part : Part) (rest : List Part) → IsSet m → IsAt m hand part rest
+pub front_set : (m : Machine) (hand : Hand) (part : Part) (rest : List Part) → IsSet m → IsAt m hand part rest
     → needs_set (is_attached m.state.phase) (part ∷ rest) ≡ true → effect_due m.state.wishes ≡ None
 front_set m hand part rest h at needs =
     h (ap (needs_set (is_attached m.state.phase)) (ap parts_left at.in_hand ∙ at.parts) ∙ needs)
@@ -157,6 +161,8 @@ set_on m next said a f h (Moves.passes_over {hand} {rest = rest} free at (Skips.
     front_set m hand (Part.Responds outcome) rest h at needs
 set_on m next said a f h (Moves.tells {hand} {rest} {event = Initialized} free at) here = λ needs.
     front_set m hand (Part.Tells Initialized) rest h at refl
+set_on m next said a f h (Moves.tells {hand} {rest} {event = entry_bound entry} free at) here = λ needs.
+    front_set m hand (Part.Tells (entry_bound entry)) rest h at needs
 set_on m next said a f h (Moves.tells {event = Terminated} free at) here = cc
 set_on m next said a f h (Moves.sends {hand} {rest} {deed} free at is) here = λ needs.
     front_set m hand (Part.Sends deed) rest h at needs

@@ -35,7 +35,7 @@ abbrev parts_sized : Phase → Option SizesRead → List Part → Bool
 parts_sized phase sizes parts =
     cond (is_gone phase) true (cond (is_attached phase || has_attach parts) (is_some sizes || has_sizes parts) true)
 
-abbrev parts_in : Option Hand → List Part
+abbrev pub parts_in : Option Hand → List Part
 parts_in None = []
 parts_in (Some hand) = hand.parts
 

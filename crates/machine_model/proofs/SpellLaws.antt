@@ -192,7 +192,7 @@ may_spell messages m command k near may = record {
 
 pub are_spelled : (messages : List Message) (m : Machine) → Run messages m → AreSpelled messages m
 are_spelled messages m r = record {
-  once = let once = all.kept.once in omega (arith, once);
+  once = let once = all.stands.kept.once in omega (arith, once);
   sent = all.sent;
   due = λ id_pending command is. is_due command (due_any id_pending m (Message.sends command) is);
 }
@@ -205,6 +205,6 @@ are_spelled messages m r = record {
     is_due : (command : TargetCommand) → said (due false m).act ≡ Some (Message.sends command)
         → IsSpelled m.state.sizes command
     is_due command is =
-        let may = sends_may command all.kept (moved (Allows.acts is)) in
-        subst (λ sizes. IsSpelled sizes command) (sym (all.kept.sizes may.0))
-        (may_spell messages m command all.kept may.0 may.1)
+        let may = sends_may command all.stands.kept (moved (Allows.acts is)) in
+        subst (λ sizes. IsSpelled sizes command) (sym (all.stands.kept.sizes may.0))
+        (may_spell messages m command all.stands.kept may.0 may.1)

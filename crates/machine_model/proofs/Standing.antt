@@ -5,7 +5,7 @@ use Rattle.std.proofs.Common.{None, sym, ap, subst, ◌∙◌, append-nil, refl,
 use Rattle.std.specs.List.{AllByRecursion as All}
 use Rattle.std.proofs.lemmas.List.Concat.{flat_map-append}
 use Rattle.jdwp_commands.specs.declared.question.Question.TheVariants as questions
-use Rattle.machine_model.specs.Ids.{Id}
+use Rattle.machine_model.specs.Ids.{Id, ids_given}
 use Rattle.machine_model.specs.Names.{IdSizes, Initialized, Part, Sent, Success, TargetCommand, Want, a_question}
 use Rattle.machine_model.specs.Names.{an_effect, thread_list, Lines, Classes}
 use Rattle.machine_model.specs.Plans.{question_of}
@@ -128,6 +128,10 @@ at_front {P} {messages} {m} {hand} k at =
     subst (λ left. Kept P messages m.state left hand.queue hand.asked m.late) at.parts (taken_out m k at.in_hand)
 
 -- Moves that change neither what is to be asked nor what was ----------------------------------------------------------
+
+abbrev pub ids_said : Option Message → List Id
+ids_said None = []
+ids_said (Some message) = ids_given message
 
 abbrev pub sizes_said : Option Message → List SizesRead
 sizes_said None = []

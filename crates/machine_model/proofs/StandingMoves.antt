@@ -1,21 +1,23 @@
 -- What each move keeps of the ids that stand in the machine: the parts.
+use Rattle.jdwp_events.specs.declared.kind.Policy.TheVariants.{All as AllThreads, EventThread, NoThread}
+use Rattle.jdwp_events.specs.declared.kind.Policy.{Policy}
 use Rattle.std.proofs.Common.{◌≡◌, Bool, true, false, cond, List, [], ◌∷◌, ◌++◌, Option}
 use Rattle.std.proofs.Common.{Some, None, refl, sym, ap, subst, ◌∙◌, arith}
 use Rattle.std.specs.List.{AllByRecursion as All}
 use Rattle.machine_model.specs.Ids.{Id, class}
 use Rattle.machine_model.specs.Lookups.{finished, found_for, sight_of}
-use Rattle.machine_model.specs.Names.{Attached, Capabilities, Choice, Command, Effect, Event, Failed, Failure, Finding}
-use Rattle.machine_model.specs.Names.{Fresh, Gone, Initialized, Item, Leaves, Lookup, Note, Nothing, Outcome, Part}
-use Rattle.machine_model.specs.Names.{Phase, Replied, Success, Terminated, ThreadId, NamedThread, a_composite, a_raw}
-use Rattle.machine_model.specs.Names.{a_request, threads_found, all_threads, target_end, thread_list, Sent}
-use Rattle.machine_model.specs.Names.{TargetCommand, Want, breakpoint_list, classes_found, class_facts, Lines, Classes}
-use Rattle.machine_model.specs.Names.{Options, Roots, Initialize, Attach, ConfigurationDone, SetBreakpoints, Threads}
-use Rattle.machine_model.specs.Names.{Disconnect, Unsupported, BadArguments}
+use Rattle.machine_model.specs.Names.{Attach, Attached, BadArguments, Capabilities, Choice, Classes, Command}
+use Rattle.machine_model.specs.Names.{ConfigurationDone, Disconnect, Effect, Event, Failed, Failure, Finding, Fresh}
+use Rattle.machine_model.specs.Names.{Gone, Initialize, Initialized, Item, Leaves, Lines, Lookup, NamedThread, Note}
+use Rattle.machine_model.specs.Names.{Nothing, Options, Outcome, Part, Phase, Replied, Roots, Sent, SetBreakpoints}
+use Rattle.machine_model.specs.Names.{Success, TargetCommand, TellsBound, Terminated, ThreadId, Threads, Unsupported}
+use Rattle.machine_model.specs.Names.{Want, a_composite, a_raw, a_request, all_threads, breakpoint_list, class_facts}
+use Rattle.machine_model.specs.Names.{classes_found, entry_bound, target_end, thread_list, threads_found}
 use Rattle.machine_model.specs.Plans.{Need, fails, has, lacks}
 use Rattle.machine_model.specs.Replying.{done_by}
 use Rattle.machine_model.proofs.Testing.{same_numbered}
-use Rattle.machine_model.specs.Rows.{chosen, failure_of, leaves, noted, parts_by, parts_of, request_parts, row_of}
-use Rattle.machine_model.specs.Rows.{wanting}
+use Rattle.machine_model.specs.Rows.{chosen, failure_of, leaves, news, noted, parts_by, parts_of, request_parts}
+use Rattle.machine_model.specs.Rows.{row_of, wanting}
 use Rattle.machine_model.specs.Runs.{Message}
 use Rattle.machine_model.specs.State.{Hand, Machine, State, is_attached, is_gone, is_some, left}
 use Rattle.machine_model.specs.Telling.{after_event, is_among, numbered_by, with_thread, with_threads}
@@ -25,9 +27,12 @@ use Rattle.machine_model.proofs.Stepping.{IsAt, Skips}
 use Rattle.machine_model.specs.Outcomes.{result_of}
 use Rattle.machine_model.proofs.Standing.{IsKept, Kept, Near, PartStands, Same, at_front, same_state, in_order}
 use Rattle.machine_model.proofs.Standing.{awaits_sizes, needs_sizes, stays}
-use Rattle.machine_model.specs.Breakpoints.{behind_roots, key_of, longest_key, short_key, slashed}
+use Rattle.machine_model.proofs.Tables.{told_alike}
+use Rattle.machine_model.specs.Breakpoints.{behind_roots, key_of, longest_key, newly_verified, short_key, slashed}
 use Rattle.std.specs.Prelude.{ℕ, nat_le, length}
 use Rattle.machine_model.proofs.WishIds.{AreWished, IsShortKey, classes_stand, lines_stand}
+use Rattle.machine_model.specs.Composites.{composite_parts}
+use Rattle.wish_sets.specs.declared.entry.LineEntry.{LineEntry}
 
 -- Tables --------------------------------------------------------------------------------------------------------------
 
@@ -128,7 +133,7 @@ row_parts P (Initialize arguments) state = (tt, (tt, tt))
 row_parts P (Attach arguments) state = (tt, (tt, (tt, (tt, (tt, (tt, tt))))))
 row_parts P ConfigurationDone state = (tt, tt)
 row_parts P (SetBreakpoints arguments) state =
-    (key_is_short state.roots arguments.path, (tt, (tt, (tt, (tt, tt)))))
+    (key_is_short state.roots arguments.path, (tt, (tt, (tt, (tt, (tt, tt))))))
 row_parts P Threads state = (tt, tt)
 row_parts P (Disconnect arguments) state = (tt, (tt, (tt, tt)))
 row_parts P Unsupported state = (tt, tt)
@@ -147,15 +152,34 @@ begun_parts P state target_end = by_end state.terminated
     by_end : (told : Bool) → All (PartStands P) (parts_of (record state { terminated = told }) target_end)
     by_end true = tt
     by_end false = (tt, tt)
-begun_parts P state (a_composite at composite) = tt
+begun_parts P state (a_composite at composite) = by_phase state.phase composite.policy
+  where
+    by_phase : (phase : Phase) (policy : Policy)
+        → All (PartStands P) (composite_parts phase policy at state.next_entry)
+    by_phase Fresh policy = tt
+    by_phase Attached NoThread = (tt, (tt, (tt, tt)))
+    by_phase Attached EventThread = (tt, tt)
+    by_phase Attached AllThreads = (tt, (tt, (tt, (tt, tt))))
+    by_phase Gone policy = tt
 begun_parts P state (a_raw at body) = tt
 
 pub chosen_order : (choice : Choice) (state : State) (hand : Hand) (sized attached : Bool) (rest : List Part)
     → in_order sized attached rest ≡ true → in_order sized attached (chosen choice state hand ++ rest) ≡ true
-chosen_order choice state hand sized attached rest h = grind (arith, h)
+chosen_order (TellsBound below) state hand sized attached rest h =
+    told_alike (in_order sized attached) (λ entry parts. refl) state.phase
+    (newly_verified below state.bound state.wishes) rest ∙ h
+chosen_order (Leaves exits) state hand sized attached rest h = grind (arith, h)
 
 pub chosen_parts : (P : Id → Type 0) (choice : Choice) (state : State) (hand : Hand) (rest : List Part)
     → All (PartStands P) rest → All (PartStands P) (chosen choice state hand ++ rest)
+chosen_parts P (TellsBound below) state hand rest h =
+    by_entries state.phase (newly_verified below state.bound state.wishes)
+  where
+    by_entries : (phase : Phase) (entries : List LineEntry) → All (PartStands P) (news phase entries ++ rest)
+    by_entries Fresh entries = h
+    by_entries Gone entries = h
+    by_entries Attached [] = h
+    by_entries Attached (entry ∷ entries) = (tt, by_entries Attached entries)
 chosen_parts P (Leaves exits) state hand rest h = by_phase state.phase
   where
     by_phase : (phase : Phase) → All (PartStands P) (leaves phase exits ++ rest)
@@ -199,6 +223,7 @@ pub event_order : (state : State) (event : Event) (rest : List Part) → is_gone
     → in_order (is_some state.sizes) (is_attached (after_event event state).phase) rest ≡ true
 event_order state Initialized rest near h = in_any_order _ _ rest
     (sized_by (is_some state.sizes) (is_attached state.phase) (Part.Tells Initialized) rest h refl refl)
+event_order state (entry_bound entry) rest near h = h
 event_order state Terminated rest near h = cc
 
 -- a look-up that stands in front, where the sizes are known

@@ -297,29 +297,35 @@ pub only_loaded : (classes : List LoadedClass) (known : Known)
 only_loaded [] known = refl
 only_loaded (c ∷ classes) known = only_loaded classes (with_listed known c)
 
+-- the ids of classes that are listed
+pub loaded_known : (P : Id → Type 0) (classes : List LoadedClass) (known : Known)
+    → All (λ (c : LoadedClass). P (class c.class.0)) classes → AreKnown P known
+    → AreKnown P (fold with_listed known classes)
+loaded_known P classes known r h = subst (AreKnown P) (sym (only_loaded classes known)) (record {
+  loaded = each_listed classes known r h.loaded;
+  methods = h.methods;
+  fields = h.fields;
+  supers = h.supers;
+})
+  where
+    each_listed : (classes : List LoadedClass) (known : Known) → All (λ (c : LoadedClass). P (class c.class.0)) classes
+        → All (λ (entry : ClassId × Loaded). P (class entry.0.0)) known.loaded
+        → All (λ (entry : ClassId × Loaded). P (class entry.0.0)) (fold with_listed known classes).loaded
+    each_listed [] known r h = h
+    each_listed (c ∷ classes) known r h = each_listed classes (with_listed known c) r.1
+        (put_key (λ (c : ClassId). P (class c.0)) same_class c.class _ known.loaded r.0 h)
+
 -- the facts of classes that an answer tells
 learnt_known : (P : Id → Type 0) → P (class 0) → (question : Question) (heard : Option Answer) (known : Known)
     → IsHeard P heard → AreKnown P known → AreKnown P (learnt question heard known)
 learnt_known P null questions.AllClasses heard known r h =
-    subst (AreKnown P) (sym (only_loaded (classes_in heard) known)) (record {
-      loaded = listed_known (classes_in heard) known (by_heard heard r) h.loaded;
-      methods = h.methods;
-      fields = h.fields;
-      supers = h.supers;
-    })
+    loaded_known P (classes_in heard) known (by_heard heard r) h
   where
     by_heard : (heard : Option Answer) → IsHeard P heard → All (λ (c : LoadedClass). P (class c.class.0))
         (classes_in heard)
     by_heard (Some (answers.AllClasses [])) r = tt
     by_heard (Some (answers.AllClasses (c ∷ classes))) r = (r.0, by_heard (Some (answers.AllClasses classes)) r.1)
     by_heard _ r = tt
-
-    listed_known : (classes : List LoadedClass) (known : Known) → All (λ (c : LoadedClass). P (class c.class.0)) classes
-        → All (λ (entry : ClassId × Loaded). P (class entry.0.0)) known.loaded
-        → All (λ (entry : ClassId × Loaded). P (class entry.0.0)) (fold with_listed known classes).loaded
-    listed_known [] known r h = h
-    listed_known (c ∷ classes) known r h = listed_known classes (with_listed known c) r.1
-        (put_key (λ (c : ClassId). P (class c.0)) same_class c.class _ known.loaded r.0 h)
 learnt_known P null (questions.Methods c) heard known r h = record {
   loaded = h.loaded;
   methods = put_all (λ (found : List Method). All P (flat_map (ids_of method_row) found)) same_class c

@@ -1,7 +1,8 @@
 -- Breakpoints as a client lists them: the key of their source, their ids, and how each is told (DAP specification,
 -- SetBreakpoints request; Types, Source, SourceBreakpoint and Breakpoint).
-use Rattle.std.specs.Prelude.{ℕ, pos, ◌+◌, ◌-◌, ◌==◌, ◌∷◌, Bool, true, false, cond, List, [], map, length}
-use Rattle.std.specs.Prelude.{take, drop, min, nat_le, bytes_eq, Option, None, Some}
+use Rattle.std.specs.Prelude.{ℕ, ℤ, pos, ◌+◌, ◌-◌, ◌==◌, ◌∷◌, ◌++◌, ◌||◌, Bool, true, false, not, cond, List, []}
+use Rattle.std.specs.Prelude.{take, drop, min, nat_le, bytes_eq, filter, map, length, Option, None, Some}
+use Rattle.std.specs.Int.{cast_unsigned, w32}
 use Rattle.std.specs.Option.{option_or}
 use Rattle.std.specs.Str.{chars, encode_utf8_all}
 use Rattle.dap_messages.specs.declared.requests.SourceBreakpoint.{SourceBreakpoint}
@@ -10,7 +11,7 @@ use Rattle.dap_messages.specs.declared.told.BreakpointStatus.{BreakpointStatus}
 use Rattle.dap_messages.specs.declared.told.BreakpointStatus.TheVariants as status
 use Rattle.machine_model.specs.Names.{ListedBreakpoint}
 use Rattle.machine_model.specs.Requests.{Wishes}
-use Rattle.wish_sets.specs.Entries.{state_of}
+use Rattle.wish_sets.specs.Entries.{state_of, verified}
 use Rattle.wish_sets.specs.Wanted.{with_lines}
 use Rattle.wish_sets.specs.Wishes.{rewished}
 use Rattle.wish_sets.specs.declared.entry.EntryState.{EntryState}
@@ -111,3 +112,41 @@ breakpoint_told rooted wishes listed = record {
   line = listed.line;
   status = status_of rooted listed.plain (state_of wishes listed.id);
 }
+
+-- What the client knows of them ---------------------------------------------------------------------------------------
+
+abbrev pub has_id : List ℕ → ℕ → Bool
+has_id [] id = false
+has_id (first ∷ ids) id = (first == id) || has_id ids id
+
+-- an id stands behind those that were told before, once
+abbrev pub with_id : List ℕ → ℕ → List ℕ
+with_id ids id = cond (has_id ids id) ids (ids ++ id ∷ [])
+
+abbrev pub is_verified : BreakpointStatus → Bool
+is_verified status.Verified = true
+is_verified _ = false
+
+-- those that are told to be verified are known to be from there on
+abbrev pub with_told : List ℕ → List Breakpoint → List ℕ
+with_told ids [] = ids
+with_told ids (breakpoint ∷ breakpoints) =
+    with_told (cond (is_verified breakpoint.status) (with_id ids breakpoint.id) ids) breakpoints
+
+-- a breakpoint is news, where its id is below this one and the client doesn't know that it is verified
+abbrev pub is_news : ℕ → List ℕ → LineEntry → Bool
+is_news below ids entry = cond (nat_le below entry.id) false (not (has_id ids entry.id))
+
+-- those that are verified, which is news, in order of their ids
+abbrev pub newly_verified : ℕ → List ℕ → Wishes → List LineEntry
+newly_verified below ids wishes = filter (is_news below ids) (verified wishes)
+
+-- a line as the client counts it
+abbrev pub client_line : Bool → ℤ → ℕ
+client_line true line = cast_unsigned w32 line
+client_line false line = cast_unsigned w32 line - 1
+
+-- a breakpoint that is verified, as it is told (DAP specification, Events, Breakpoint)
+abbrev pub verified_told : Bool → LineEntry → Breakpoint
+verified_told from_one entry =
+    record { id = entry.id; line = client_line from_one entry.line; status = status.Verified }

@@ -1,6 +1,7 @@
 -- The events that tell where a session stands, in every run (DAP specification, Events). The law stands at the end,
 -- behind what it speaks of.
 use Rattle.std.specs.Prelude.{◌≡◌, ◌∷◌, ◌++◌, Bool, true, false, cond, List, []}
+use Rattle.dap_messages.specs.declared.told.Breakpoint.{Breakpoint}
 use Rattle.dap_messages.specs.declared.told.Event.TheVariants as events
 use Rattle.dap_messages.specs.declared.told.Outcome.{Outcome as OutcomeTold}
 use Rattle.dap_messages.specs.declared.told.Outcome.TheVariants as outcomes
@@ -50,6 +51,9 @@ pub data AreTold : List Message → List Request → Bool → Type 0 where
       (cond (is_attach request.command) (is_success outcome) false)
   initialized : {messages : List Message} {requests : List Request} → AreTold messages requests true
       → AreTold (messages ++ Message.tells (an_event events.Initialized) ∷ []) requests false
+  breakpoint : {messages : List Message} {requests : List Request} (breakpoint : Breakpoint)
+      → AreTold messages requests false
+      → AreTold (messages ++ Message.tells (an_event (events.Breakpoint breakpoint)) ∷ []) requests false
   terminated : {messages : List Message} {requests : List Request} → AreTold messages requests false
       → AreTold (messages ++ Message.tells (an_event events.Terminated) ∷ []) requests false
 

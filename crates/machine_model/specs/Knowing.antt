@@ -1,9 +1,10 @@
 -- What is known is what the messages say.
 use Rattle.std.specs.Prelude.{ℕ, ◌≡◌, ◌≤◌, ◌<◌, ◌+◌, ◌==◌, ◌∷◌, ◌++◌, Bool, true, false, not, cond, List, [], length}
-use Rattle.std.specs.Prelude.{map, Option, None, Some, ◌||◌}
+use Rattle.std.specs.Prelude.{map, Option, None, Some, ◌||◌, nat_lt}
 use Rattle.std.specs.List.{flat_map}
 use Rattle.class_tables.specs.Facts.{Fact, Known, has_fields, has_lines, has_methods, has_source, has_variables}
 use Rattle.class_tables.specs.Facts.{is_below, is_loaded, nothing, with_fact}
+use Rattle.dap_messages.specs.declared.told.Breakpoint.{Breakpoint}
 use Rattle.dap_messages.specs.declared.told.Event.{Event as EventTold}
 use Rattle.dap_messages.specs.declared.told.Event.TheVariants as events
 use Rattle.dap_messages.specs.declared.told.Outcome.{Outcome as OutcomeTold}
@@ -14,18 +15,23 @@ use Rattle.dap_messages.specs.declared.told.Thread.{Thread}
 use Rattle.jdwp_commands.specs.declared.answer.Answer.TheVariants as answers
 use Rattle.jdwp_commands.specs.declared.question.Question.TheVariants as questions
 use Rattle.jdwp_commands.specs.declared.listed.LoadedClass.{LoadedClass}
+use Rattle.machine_model.specs.Breakpoints.{with_told}
 use Rattle.machine_model.specs.Classes.{classes_in, has_prepared}
+use Rattle.machine_model.specs.Composites.{prepared_in}
 use Rattle.machine_model.specs.Facts.{above_in, fields_in, lines_in, methods_in, source_in, variables_in}
-use Rattle.machine_model.specs.Names.{Answer, Attached, Command, Disconnect, Dispose, Does, Exit, Fresh, Gone, Phase}
-use Rattle.machine_model.specs.Names.{Question, Replied, TargetCommand, ThreadId, Told, a_question, a_response}
-use Rattle.machine_model.specs.Names.{an_answer, an_effect, an_error, an_event, Clear, Effect, Set}
+use Rattle.machine_model.specs.Names.{Answer, Attached, Clear, Command, Composite, Disconnect, Dispose, Does, Effect}
+use Rattle.machine_model.specs.Names.{Exit, Fresh, Gone, Item, Part, Phase, Question, Replied, Resume, Set}
+use Rattle.machine_model.specs.Names.{TargetCommand, ThreadId, Told, a_composite, a_question, a_response, an_answer}
+use Rattle.machine_model.specs.Names.{an_effect, an_error, an_event}
 use Rattle.machine_model.specs.Plans.{answer_in}
 use Rattle.machine_model.specs.Runs.{Message, Run}
-use Rattle.machine_model.specs.State.{Machine, SizesRead, is_gone}
+use Rattle.machine_model.specs.State.{Hand, Machine, SizesRead, is_gone}
+use Rattle.suspend_ledger.specs.Suspensions.{composite as composite_came, resumed, with_happening}
 use Rattle.wish_sets.specs.declared.wish.Wish.{Wish}
 use Rattle.wish_sets.specs.declared.wish.Wish.TheVariants as wishes
 
--- what anybody knows who reads the messages
+-- what anybody knows who reads the messages; of composites those that came and weren't at their turn; and how many
+-- suspensions of the whole target are held, of those that were
 pub record View : Type 0 where
   pub phase : Phase
   pub greeting_sent : Bool
@@ -33,6 +39,9 @@ pub record View : Type 0 where
   pub sizes : Option SizesRead
   pub classes : Known
   pub unlisted : Bool
+  pub composites : List Composite
+  pub held : ℕ
+  pub bound : List ℕ
   pub terminated : Bool
   pub closing : Bool
 
@@ -44,9 +53,16 @@ nothing_said = record {
   sizes = None;
   classes = nothing;
   unlisted = false;
+  composites = [];
+  held = 0;
+  bound = [];
   terminated = false;
   closing = false;
 }
+
+-- the target is gone: nothing that happened in it is learnt any more, and no suspension is held
+abbrev pub gone_view : View → View
+gone_view view = record view { phase = Gone; composites = []; held = 0 }
 
 -- Replies -------------------------------------------------------------------------------------------------------------
 
@@ -119,7 +135,7 @@ learnt_view (an_effect effect) replied view =
 -- until the target is gone, a reply tells something, or that it is gone
 abbrev pub replied_view : Bool → Bool → TargetCommand → Replied → View → View
 replied_view true ended command replied view = view
-replied_view false true command replied view = record view { phase = Gone }
+replied_view false true command replied view = gone_view view
 replied_view false false command replied view = learnt_view command replied view
 
 -- Messages ------------------------------------------------------------------------------------------------------------
@@ -127,10 +143,21 @@ replied_view false false command replied view = learnt_view command replied view
 -- `initialized` attaches the session, `terminated` ends it (DAP specification, Events)
 abbrev pub event_view : EventTold → View → View
 event_view events.Initialized view = record view { phase = Attached }
-event_view events.Terminated view = record view { phase = Gone; terminated = true }
+event_view (events.Breakpoint breakpoint) view = record view { bound = with_told view.bound (breakpoint ∷ []) }
+event_view events.Terminated view = record view { phase = Gone; composites = []; terminated = true }
+
+-- the breakpoints that a body shows (DAP specification, SetBreakpoints request)
+abbrev pub breakpoints_in_shape : Shape → List Breakpoint
+breakpoints_in_shape (shapes.Breakpoints breakpoints) = breakpoints
+breakpoints_in_shape _ = []
+
+abbrev pub breakpoints_in : OutcomeTold → List Breakpoint
+breakpoints_in (outcomes.Success shape) = breakpoints_in_shape shape
+breakpoints_in (outcomes.Failure failure) = []
 
 abbrev pub told_view : Told → View → View
-told_view (a_response response) view = view
+told_view (a_response response) view =
+    record view { bound = with_told view.bound (breakpoints_in response.outcome) }
 told_view (an_event event) view = event_view event view
 
 -- the request that ends the session (DAP specification, Disconnect request)
@@ -138,27 +165,56 @@ abbrev pub closes : Command → Bool
 closes (Disconnect arguments) = true
 closes _ = false
 
+-- a composite came; where the target is gone it is passed over
+abbrev pub come_view : Bool → Composite → View → View
+come_view true composite view = view
+come_view false composite view = record view { composites = view.composites ++ composite ∷ [] }
+
+-- a suspension of the whole target is undone (JDWP, VirtualMachine command set, Resume)
+abbrev pub sent_view : TargetCommand → View → View
+sent_view (an_effect (Does Resume)) view = record view { held = with_happening resumed view.held }
+sent_view command view = view
+
 -- what a message says
 abbrev pub says : Message → View → View
 says (Message.hears request) view = record view { closing = closes request.command }
 says (Message.tells told) view = told_view told view
+says (Message.sends command) view = sent_view command view
 says Message.greets view = record view { greeting_sent = true }
 says Message.greeted view = record view { greeting_heard = true }
 says (Message.answers command replied) view =
     replied_view (is_gone view.phase) (cond (is_farewell command) false (says_dead replied)) command replied view
-says Message.ends view = record view { phase = Gone }
+says Message.ends view = gone_view view
+says (Message.comes at composite) view = come_view (is_gone view.phase) composite view
+says (Message.reads at body composite) view = come_view (is_gone view.phase) composite view
 says _ view = view
+
+-- A composite is at its turn: the classes that it tells of are learnt, and under its suspend policy one suspension more
+-- is held (JDWP, Event command set, Composite; JDWP, Constants, SuspendPolicy).
+abbrev pub turned_view : Composite → List Composite → View → View
+turned_view composite others view = record view {
+  composites = others;
+  held = with_happening (composite_came composite.policy) view.held;
+  classes = with_facts (map class_said (prepared_in composite)) view.classes;
+}
 
 abbrev pub is_fresh : Phase → Bool
 is_fresh Fresh = true
 is_fresh Attached = false
 is_fresh Gone = false
 
--- the session is attached once, and before its target is gone; that the target is gone is told once, and only then
+-- the session is attached once, and before its target is gone; a breakpoint is told until then; that the target is gone
+-- is told once, and only then
 abbrev pub may_tell : Told → View → Bool
 may_tell (a_response response) view = true
 may_tell (an_event events.Initialized) view = is_fresh view.phase
+may_tell (an_event (events.Breakpoint breakpoint)) view = not (is_gone view.phase)
 may_tell (an_event events.Terminated) view = cond (is_gone view.phase) (not view.terminated) false
+
+-- a suspension is undone only where one is held
+abbrev pub may_send : TargetCommand → View → Bool
+may_send (an_effect (Does Resume)) view = nat_lt 0 view.held
+may_send command view = true
 
 -- When a message may be: nothing is heard behind `disconnect`; each side of the handshake is there once; and nothing
 -- goes to a target that is gone.
@@ -167,14 +223,40 @@ may_be view (Message.hears request) = not view.closing
 may_be view (Message.tells told) = may_tell told view
 may_be view Message.greets = cond view.greeting_sent false (not (is_gone view.phase))
 may_be view Message.greeted = not view.greeting_heard
-may_be view (Message.sends command) = not (is_gone view.phase)
+may_be view (Message.sends command) = cond (is_gone view.phase) false (may_send command view)
 may_be view _ = true
 
--- Read in order, the messages say this, each of which may be where it stands.
+-- Read in order, the messages say this, each of which may be where it stands. Between two of them a composite may be at
+-- its turn, the first that waits, once the session is attached.
 pub data AreSaid : List Message → View → Type 0 where
   none : AreSaid [] nothing_said
+  turns : {messages : List Message} {view : View} (composite : Composite) (others : List Composite)
+      → AreSaid messages view → view.phase ≡ Attached → view.composites ≡ composite ∷ others
+      → AreSaid messages (turned_view composite others view)
   one_more : {messages : List Message} {view : View} (message : Message) → may_be view message ≡ true
       → AreSaid messages view → AreSaid (messages ++ message ∷ []) (says message view)
+
+-- the composites that wait for their turn
+abbrev pub composite_in : Item → List Composite
+composite_in (a_composite at composite) = composite ∷ []
+composite_in _ = []
+
+abbrev pub waiting_composites : Bool → List Item → List Composite
+waiting_composites true items = []
+waiting_composites false items = flat_map composite_in items
+
+abbrev pub is_resume : Part → Bool
+is_resume (Part.Sends Resume) = true
+is_resume _ = false
+
+-- the suspensions that an item in hand holds are those that it is still to undo
+abbrev pub resumes_in : List Part → ℕ
+resumes_in [] = 0
+resumes_in (part ∷ parts) = cond (is_resume part) (resumes_in parts + 1) (resumes_in parts)
+
+abbrev pub held_by : Option Hand → ℕ
+held_by None = 0
+held_by (Some hand) = resumes_in hand.parts
 
 -- what the machine knows of it
 abbrev pub view_of : Machine → View
@@ -185,6 +267,9 @@ view_of m = record {
   sizes = m.state.sizes;
   classes = m.state.classes;
   unlisted = m.state.unlisted;
+  composites = waiting_composites (is_gone m.state.phase) m.waiting;
+  held = held_by m.hand;
+  bound = m.state.bound;
   terminated = m.state.terminated;
   closing = m.closing;
 }

@@ -2,6 +2,7 @@ pub mod Asking
 pub mod Binding
 pub mod Breakpoints
 pub mod Classes
+pub mod Composites
 pub mod Due
 pub mod EventRequests
 pub mod Events
@@ -26,5 +27,6 @@ pub mod Rows
 pub mod Runs
 pub mod Spelling
 pub mod State
+pub mod Suspending
 pub mod Telling
 pub mod Waiting

@@ -12,6 +12,7 @@ pub use Rattle.jdwp_commands.specs.declared.asked.Replied.{Replied}
 pub use Rattle.jdwp_commands.specs.declared.asked.Replied.TheVariants.{Answer as an_answer, Error as an_error}
 pub use Rattle.jdwp_commands.specs.declared.question.Question.{Question}
 pub use Rattle.jdwp_events.specs.declared.composite.Composite.{Composite}
+pub use Rattle.jdwp_commands.specs.declared.listed.LoadedClass.{LoadedClass}
 pub use Rattle.jdwp_values.specs.declared.id.ClassId.{ClassId}
 pub use Rattle.jdwp_values.specs.declared.id.ThreadId.{ThreadId}
 pub use Rattle.machine_model.specs.declared.acts.Act.{Act}
@@ -33,16 +34,16 @@ pub use Rattle.machine_model.specs.declared.parts.Body.TheVariants.{Nothing, Cap
 pub use Rattle.machine_model.specs.declared.parts.Body.TheVariants.{Breakpoints as breakpoint_list}
 pub use Rattle.machine_model.specs.declared.parts.Body.TheVariants.{Threads as thread_list}
 pub use Rattle.machine_model.specs.declared.parts.Choice.{Choice}
-pub use Rattle.machine_model.specs.declared.parts.Choice.TheVariants.{Leaves}
+pub use Rattle.machine_model.specs.declared.parts.Choice.TheVariants.{TellsBound, Leaves}
 pub use Rattle.machine_model.specs.declared.parts.Deed.{Deed}
-pub use Rattle.machine_model.specs.declared.parts.Deed.TheVariants.{Dispose, Exit}
+pub use Rattle.machine_model.specs.declared.parts.Deed.TheVariants.{Resume, Dispose, Exit}
 pub use Rattle.machine_model.specs.declared.parts.Event.{Event}
-pub use Rattle.machine_model.specs.declared.parts.Event.TheVariants.{Initialized, Terminated}
+pub use Rattle.machine_model.specs.declared.parts.Event.TheVariants.{Initialized, Breakpoint as entry_bound, Terminated}
 pub use Rattle.machine_model.specs.declared.parts.Finding.{Finding}
 pub use Rattle.machine_model.specs.declared.parts.Finding.TheVariants.{Threads as threads_found}
 pub use Rattle.machine_model.specs.declared.parts.Finding.TheVariants.{Classes as classes_found}
 pub use Rattle.machine_model.specs.declared.parts.Finish.{Finish}
-pub use Rattle.machine_model.specs.declared.parts.Finish.TheVariants.{Done}
+pub use Rattle.machine_model.specs.declared.parts.Finish.TheVariants.{Done, OneThread}
 pub use Rattle.machine_model.specs.declared.parts.Guard.{Guard}
 pub use Rattle.machine_model.specs.declared.parts.Guard.TheVariants.{Handshake, IdSizes}
 pub use Rattle.machine_model.specs.declared.parts.ListedBreakpoint.{ListedBreakpoint}

@@ -1,8 +1,7 @@
 -- How the client is served is what its last `initialize` asked for.
 use Rattle.std.specs.Prelude.{◌≡◌, ◌∷◌, ◌++◌, false, cond, List, [], Option, None, Some}
 use Rattle.machine_model.specs.Names.{Classes, ClientOptions, Command, Initialize, Lines, Note, Options, Part}
-use Rattle.machine_model.specs.Names.{Request, Roots}
-use Rattle.machine_model.specs.Names.{a_response}
+use Rattle.machine_model.specs.Names.{Request, Roots, a_response}
 use Rattle.machine_model.specs.Rest.{IsAnswer, request_by, response_by, without_response}
 use Rattle.dap_messages.specs.declared.told.Response.{Response}
 use Rattle.machine_model.specs.Rows.{has_response}

@@ -16,8 +16,8 @@ use Rattle.jdwp_values.specs.declared.sizes.IdSizes.{IdSizes}
 use Rattle.machine_model.specs.Classes.{classes_in, with_listed}
 use Rattle.machine_model.specs.Facts.{above_in, fields_in, lines_in, methods_in, source_in, variables_in}
 use Rattle.machine_model.specs.Names.{Answer, Clear, Deed, Dispose, Does, Doing, Effect, Exit, Gone, Phase, Question}
-use Rattle.machine_model.specs.Names.{Replied, Sent, Set, TargetCommand, Want, a_question, an_answer, an_effect}
-use Rattle.machine_model.specs.Names.{an_error, target_end}
+use Rattle.machine_model.specs.Names.{Replied, Resume, Sent, Set, TargetCommand, Want, a_question, an_answer}
+use Rattle.machine_model.specs.Names.{an_effect, an_error, target_end}
 use Rattle.machine_model.specs.Plans.{answer_in, asks_for, question_of}
 use Rattle.machine_model.specs.Requests.{clear_of, request_in, set_of, wishes_after}
 use Rattle.machine_model.specs.Rows.{gone_parts, has_response}
@@ -28,6 +28,7 @@ use Rattle.wish_sets.specs.declared.wish.Wish.TheVariants as wish
 -- Commands as they are sent (JDWP, Detailed Command Information) ------------------------------------------------------
 
 abbrev pub wire_deed : Deed → WireEffect
+wire_deed Resume = effects.Resume
 wire_deed Dispose = effects.Dispose
 wire_deed Exit = effects.Exit (pos 0)
 
@@ -49,10 +50,15 @@ is_essential_question questions.AllClasses = true
 is_essential_question _ = false
 
 -- the effects whose refusal does
+abbrev pub is_essential_deed : Deed → Bool
+is_essential_deed Resume = true
+is_essential_deed Dispose = false
+is_essential_deed Exit = false
+
 abbrev pub is_essential_effect : Effect → Bool
 is_essential_effect (Clear wish request) = true
 is_essential_effect (Set wish) = false
-is_essential_effect (Does deed) = false
+is_essential_effect (Does deed) = is_essential_deed deed
 
 -- the commands whose refusal ends a session, since nothing can stand in for their answer
 abbrev pub is_essential : TargetCommand → Bool

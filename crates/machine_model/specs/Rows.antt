@@ -3,17 +3,20 @@ use Rattle.std.specs.Prelude.{ℕ, ◌+◌, ◌∷◌, ◌||◌, Bool, true, fal
 use Rattle.class_tables.specs.Lookups.{found_in}
 use Rattle.dap_messages.specs.Telling.{already_attached, bad_arguments, not_attached, target_gone, unsupported}
 use Rattle.dap_messages.specs.declared.requests.InitializeArguments.{InitializeArguments}
-use Rattle.machine_model.specs.Breakpoints.{entry_of, key_of, lines_wished, numbered_from}
+use Rattle.machine_model.specs.Breakpoints.{entry_of, key_of, lines_wished, newly_verified, numbered_from}
+use Rattle.machine_model.specs.Composites.{composite_parts, learnt_by}
 use Rattle.machine_model.specs.Lookups.{lookup_responds}
 use Rattle.machine_model.specs.Names.{Attach, Attached, BadArguments, Capabilities, Choice, Classes, ClientOptions}
 use Rattle.machine_model.specs.Names.{Command, ConfigurationDone, Deed, Disconnect, Dispose, Done, Exit, Failed}
 use Rattle.machine_model.specs.Names.{Failure, Fresh, Gone, Handshake, IdSizes, Initialize, Initialized, Item, Leaves}
 use Rattle.machine_model.specs.Names.{Lines, ListedBreakpoint, Note, Nothing, Options, Part, Phase, Roots}
-use Rattle.machine_model.specs.Names.{SetBreakpoints, Success, Terminated, Threads, Unsupported, a_composite, a_raw}
-use Rattle.machine_model.specs.Names.{a_request, all_threads, breakpoint_list, class_facts, target_end}
+use Rattle.machine_model.specs.Names.{SetBreakpoints, Success, TellsBound, Terminated, Threads, Unsupported}
+use Rattle.machine_model.specs.Names.{a_composite, a_raw, a_request, all_threads, breakpoint_list, class_facts}
+use Rattle.machine_model.specs.Names.{entry_bound, target_end}
 use Rattle.machine_model.specs.State.{Hand, State, is_some}
 use Rattle.wish_sets.specs.Wanted.{with_known}
 use Rattle.wish_sets.specs.Wishes.{rewished}
+use Rattle.wish_sets.specs.declared.entry.LineEntry.{LineEntry}
 
 -- Requests ------------------------------------------------------------------------------------------------------------
 
@@ -26,11 +29,11 @@ options_of arguments = record {
 }
 
 -- Breakpoints are written down, and what isn't wished any more is cleared; classes are asked for what has to be known of
--- them; and what is wished then is set.
-abbrev pub breakpoint_parts : Bool → Option (List ℕ) → List ListedBreakpoint → List Part
-breakpoint_parts from_one key listed =
+-- them; what is wished then is set; and the client is told of older breakpoints that are verified by it.
+abbrev pub breakpoint_parts : Bool → Option (List ℕ) → List ListedBreakpoint → ℕ → List Part
+breakpoint_parts from_one key listed below =
     Part.Notes (Lines key (map (entry_of from_one) listed)) ∷ Part.Updates ∷ Part.Looks class_facts ∷ Part.Updates
-    ∷ Part.Responds (Success (breakpoint_list (is_some key) listed)) ∷ []
+    ∷ Part.Unfolds (TellsBound below) ∷ Part.Responds (Success (breakpoint_list (is_some key) listed)) ∷ []
 
 -- the table of requests
 abbrev pub row_of : Command → State → List Part
@@ -42,7 +45,7 @@ row_of (Attach arguments) state =
 row_of ConfigurationDone state = Part.Responds (Success Nothing) ∷ []
 row_of (SetBreakpoints arguments) state =
     breakpoint_parts state.options.lines_from_one (key_of state.roots arguments.path)
-    (numbered_from state.next_entry arguments.breakpoints)
+    (numbered_from state.next_entry arguments.breakpoints) state.next_entry
 row_of Threads state = Part.Looks all_threads ∷ []
 row_of (Disconnect arguments) state =
     Part.Unfolds (Leaves arguments.terminate_debuggee) ∷ Part.Responds (Success Nothing) ∷ Part.Ends Done ∷ []
@@ -103,12 +106,25 @@ leaves Fresh exits = []
 leaves Attached exits = Part.Sends (leaving exits) ∷ []
 leaves Gone exits = []
 
+-- each of these breakpoints is told
+abbrev pub breakpoints_told : List LineEntry → List Part
+breakpoints_told [] = []
+breakpoints_told (entry ∷ entries) = Part.Tells (entry_bound entry) ∷ breakpoints_told entries
+
+-- as long as the session is attached
+abbrev pub news : Phase → List LineEntry → List Part
+news Fresh entries = []
+news Attached entries = breakpoints_told entries
+news Gone entries = []
+
 -- the table of choices: what a part becomes when its turn comes
 abbrev pub chosen : Choice → State → Hand → List Part
+chosen (TellsBound below) state hand = news state.phase (newly_verified below state.bound state.wishes)
 chosen (Leaves exits) state hand = leaves state.phase exits
 
 -- whether it brings the response
 abbrev pub choice_responds : Choice → Bool
+choice_responds (TellsBound below) = false
 choice_responds (Leaves exits) = false
 
 -- Notes ---------------------------------------------------------------------------------------------------------------
@@ -132,17 +148,16 @@ abbrev pub end_parts : Bool → List Part
 end_parts true = []
 end_parts false = Part.Tells Terminated ∷ []
 
--- What an item does when its turn comes. A composite is not served yet: it comes to its turn only where the target is
--- gone, and does nothing.
+-- what an item does when its turn comes
 abbrev pub parts_of : State → Item → List Part
 parts_of state (a_request request) = request_parts request.command state
-parts_of state (a_composite at composite) = []
+parts_of state (a_composite at composite) = composite_parts state.phase composite.policy at state.next_entry
 parts_of state (a_raw at body) = []
 parts_of state target_end = end_parts state.terminated
 
 -- what is known once an item is taken
 abbrev pub taken : Item → State → State
-taken item state = state
+taken item state = record state { classes = learnt_by state.phase item state.classes }
 
 -- Responses -----------------------------------------------------------------------------------------------------------
 

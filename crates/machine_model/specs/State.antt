@@ -16,8 +16,8 @@ pub record SizesRead : Type 0 where
 -- What is known: how the client wants to be served; where the session stands with its target, and which sides of the
 -- handshake went out and came; the sizes of ids; the folders that sources stand in; the id that the next breakpoint
 -- gets; which event requests are wished and which stand; whether a watch was set since all classes were listed; the
--- facts of classes; the threads that were told, in the order of their numbers; and whether the client was told that
--- nothing more comes of the target.
+-- facts of classes; the threads that were told, in the order of their numbers; the ids of the breakpoints that were told
+-- to be verified; and whether the client was told that nothing more comes of the target.
 pub record State : Type 0 where
   pub options : ClientOptions
   pub phase : Phase
@@ -30,6 +30,7 @@ pub record State : Type 0 where
   pub unlisted : Bool
   pub classes : Known
   pub threads : List ThreadId
+  pub bound : List ℕ
   pub terminated : Bool
 
 -- The item in hand, what is left of it to do, what is to be asked for it, what was asked for it in order of sending,
@@ -69,6 +70,7 @@ nothing_known = record {
   unlisted = false;
   classes = nothing;
   threads = [];
+  bound = [];
   terminated = false;
 }
 

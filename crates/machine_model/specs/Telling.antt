@@ -8,11 +8,10 @@ use Rattle.dap_messages.specs.declared.told.Shape.{Shape}
 use Rattle.dap_messages.specs.declared.told.Shape.TheVariants as shapes
 use Rattle.dap_messages.specs.declared.told.Thread.{Thread}
 use Rattle.jdwp_values.specs.Lossy.{lossy}
-use Rattle.machine_model.specs.Breakpoints.{breakpoint_told}
-use Rattle.machine_model.specs.Names.{breakpoint_list}
+use Rattle.machine_model.specs.Breakpoints.{breakpoint_told, verified_told, with_id, with_told}
 use Rattle.machine_model.specs.Names.{Attached, Body, Capabilities, Event, Failed, Fresh, Gone, Initialized}
 use Rattle.machine_model.specs.Names.{NamedThread, Nothing, Outcome, Phase, Request, Success, Terminated, ThreadId}
-use Rattle.machine_model.specs.Names.{Told, a_response, thread_list}
+use Rattle.machine_model.specs.Names.{Told, a_response, breakpoint_list, entry_bound, thread_list}
 use Rattle.machine_model.specs.State.{State}
 
 -- Numbers of threads --------------------------------------------------------------------------------------------------
@@ -41,7 +40,8 @@ number_among (first ∷ threads) thread = cond (first.0 == thread.0) 1 (number_a
 abbrev pub numbered : Body → State → State
 numbered Nothing state = state
 numbered Capabilities state = state
-numbered (breakpoint_list rooted listed) state = state
+numbered (breakpoint_list rooted listed) state =
+    record state { bound = with_told state.bound (map (breakpoint_told rooted state.wishes) listed) }
 numbered (thread_list named) state = record state { threads = with_threads state.threads named }
 
 -- a thread as it is told, its name as text (DAP specification, Types, Thread)
@@ -77,12 +77,16 @@ attached_from Fresh = Attached
 attached_from Attached = Attached
 attached_from Gone = Gone
 
--- what the telling of an event changes: the session is attached, or its target gone, from there on
+-- what the telling of an event changes: the session is attached, or its target gone, from there on; or the client knows
+-- that a breakpoint is verified
 abbrev pub after_event : Event → State → State
 after_event Initialized state = record state { phase = attached_from state.phase }
+after_event (entry_bound entry) state = record state { bound = with_id state.bound entry.id }
 after_event Terminated state = record state { phase = Gone; terminated = true }
 
 -- and how it is told then
 abbrev pub event_told : Event → State → EventTold
 event_told Initialized state = events.Initialized
+event_told (entry_bound entry) state =
+    events.Breakpoint (verified_told state.options.lines_from_one entry)
 event_told Terminated state = events.Terminated

@@ -14,6 +14,7 @@ ghost use Rattle.machine_model.specs.PlanLaws.{Errors, Wants, Worlds};
 ghost use Rattle.machine_model.specs.Questions.{Questions};
 ghost use Rattle.machine_model.specs.Responses.{Responses, Rests};
 ghost use Rattle.machine_model.specs.Spelling.{Spells};
+ghost use Rattle.machine_model.specs.Suspending.{BindsFirst, RunsOn};
 ghost use Rattle.machine_model.specs.Waiting.{Waits};
 
 /// The responses answer the first of the requests, one each, in order; at rest all requests are answered (DAP
@@ -75,6 +76,20 @@ pub fn breakpoints_are_bound_by_all_that_is_known()
     ensures { Binds }
 {}
 
+/// Before a suspension of the whole target is undone, no event request is to be set or cleared, and breakpoints are bound
+/// by all that is known: so in a class that was prepared each breakpoint that is wished is installed or refused (JDWP,
+/// Event command set, Composite, ClassPrepare; JDWP, VirtualMachine command set, Resume).
+pub fn breakpoints_are_bound_before_the_target_runs_on()
+    ensures { BindsFirst }
+{}
+
+/// At rest, once the session is attached, each composite that came was at its turn, and each suspension of the whole
+/// target was undone: as many Resumes were sent as composites suspended it (JDWP, Event command set, Composite; JDWP,
+/// VirtualMachine command set, Resume).
+pub fn the_target_runs_on_at_rest()
+    ensures { RunsOn }
+{}
+
 /// What is pending was sent and has no reply, also what an item that was given up left; each reply is to a command
 /// that is pending then. No question goes beside a command that changes the target, and such a command goes alone. The
 /// handshake goes out once, commands only behind both sides of it, and nothing to a target that is gone (JDWP, JDWP
@@ -101,9 +116,10 @@ pub fn all_that_is_lacking_was_asked()
 {}
 
 /// What is known is what the messages say: where the session stands with its target, the two sides of the handshake,
-/// the sizes of ids, the facts of classes, whether a watch was set since all classes were listed, and whether the client
-/// was told that the target is gone. `initialized` is told once, before the target is gone; `terminated` once, behind it.
-/// Threads are numbered 1, 2, 3 as they are first told.
+/// the sizes of ids, the facts of classes, whether a watch was set since all classes were listed, which composites wait
+/// for their turn, how many suspensions are held, which breakpoints the client was told to be verified, and whether it was
+/// told that the target is gone. `initialized` is told once, before the target is gone; `terminated` once, behind it. A
+/// Resume is sent only while a suspension is held. Threads are numbered 1, 2, 3 as they are first told.
 pub fn what_is_known_is_what_messages_say()
     ensures { Knows }
 {}

@@ -12,8 +12,8 @@ pub use acts::{Act, Doing, Effect, Sent, TargetCommand, Want};
 pub use items::{Item, Phase};
 pub use laws::{
     a_disconnect_is_answered_once_the_target_is_left, all_that_is_lacking_was_asked,
-    at_most_sixteen_commands_are_pending, breakpoints_are_bound_by_all_that_is_known,
-    client_options_are_those_of_the_last_initialize,
+    at_most_sixteen_commands_are_pending, breakpoints_are_bound_before_the_target_runs_on,
+    breakpoints_are_bound_by_all_that_is_known, client_options_are_those_of_the_last_initialize,
     commands_are_pending_until_they_are_replied_to, commands_have_a_spelling,
     commands_use_ids_that_were_read, each_event_request_is_set_once, event_requests_are_as_replied,
     event_requests_are_settled, event_requests_stand_as_the_messages_say,
@@ -21,7 +21,7 @@ pub use laws::{
     look_ups_show_the_world, nothing_is_asked_but_what_is_lacking, nothing_waits_at_rest,
     outcomes_are_what_rows_lead_to, requests_are_answered_in_order, the_first_error_decides,
     the_handshake_goes_out_for_an_attach, the_target_is_left_once_for_a_disconnect,
-    what_is_known_is_what_messages_say,
+    the_target_runs_on_at_rest, what_is_known_is_what_messages_say,
 };
 pub use options::ClientOptions;
 pub use parts::{

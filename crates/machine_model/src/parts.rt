@@ -48,12 +48,16 @@ pub enum Outcome {
 #[derive(Clone, Copy, Debug, PartialEq, Eq)]
 pub enum Event {
     Initialized,
+    /// A breakpoint is verified, which the client doesn't know yet.
+    Breakpoint(LineEntry),
     Terminated,
 }
 
 /// What an item does to the target, but for event requests (JDWP, VirtualMachine command set).
 #[derive(Clone, Copy, Debug, PartialEq, Eq)]
 pub enum Deed {
+    /// One suspension of the whole target is undone.
+    Resume,
     Dispose,
     Exit,
 }
@@ -107,6 +111,9 @@ pub enum Note {
 /// What is decided when its turn comes.
 #[derive(Clone, Copy, Debug, PartialEq, Eq)]
 pub enum Choice {
+    /// The client is told of each breakpoint that is verified now and wasn't told to be, of those with an id below this
+    /// one (DAP specification, Events, Breakpoint).
+    TellsBound(u64),
     /// A target that is attached is left; it ends where this holds (DAP specification, Disconnect request).
     Leaves(bool),
 }
@@ -116,6 +123,9 @@ pub enum Choice {
 pub enum Finish {
     /// `disconnect` was answered.
     Done,
+    /// The composite whose packet stands at this offset suspended one thread alone, which was never asked for (JDWP,
+    /// Constants, SuspendPolicy).
+    OneThread(u64),
 }
 
 /// One part of what an item does. Each is done, and the tail of the list is left.

@@ -16,7 +16,7 @@ use Rattle.session_model.specs.Causes.{Cause, link_ending}
 use Rattle.session_model.specs.Endings.{IsDone}
 use Rattle.session_model.specs.Hearing.{AreRead}
 use Rattle.session_model.specs.Names.{a_request, Act, Client, Done, Ending, Entry}
-use Rattle.session_model.specs.Names.{Finish, Limits, Nothing, Part, Request, Side, Success}
+use Rattle.session_model.specs.Names.{finish_done, finish_one_thread, Limits, Nothing, Part, Request, Side, Success}
 use Rattle.session_model.specs.Names.{Target}
 use Rattle.session_model.specs.Saying.{Speaks}
 use Rattle.session_model.specs.Session.{Ended, EndedState, Going}
@@ -76,24 +76,24 @@ none_after (first ∷ before) request after last is = none_after before request 
 record IsReady (messages : List Message) (m : Machine) : Type 0 where
   pub done : IsDone messages
   pub hand : Hand
-  pub finish : Finish
   pub rest : List Part
   pub free : load_of m ≡ clear
   pub held : m.hand ≡ Some hand
-  pub parts : hand.parts ≡ Part.Ends finish ∷ rest
+  pub parts : hand.parts ≡ Part.Ends finish_done ∷ rest
 
 data Stands (messages : List Message) (m : Machine) : Type 0 where
   on : hand_on m.hand ≡ true → Stands messages m
   ready : IsReady messages m → Stands messages m
 
 over_ready : {messages : List Message} {m : Machine} (id_pending : Bool) (r : IsReady messages m)
-    → (due id_pending m).act ≡ Act.Over r.finish
-over_ready {m = m} id_pending r = over_now id_pending m r.hand r.finish r.rest r.free r.held r.parts
+    → (due id_pending m).act ≡ Act.Over finish_done
+over_ready {m = m} id_pending r = over_now id_pending m r.hand r.rest r.free r.held r.parts
 
-only_is : (rest : List Part) → only_end rest ≡ true → (finish : Finish) × (rest ≡ Part.Ends finish ∷ [])
+only_is : (rest : List Part) → only_end rest ≡ true → rest ≡ Part.Ends finish_done ∷ []
 only_is [] is = cc
-only_is (Part.Ends finish ∷ []) is = (finish, refl)
-only_is (Part.Ends finish ∷ part ∷ rest) is = cc
+only_is (Part.Ends finish_done ∷ []) is = refl
+only_is (Part.Ends finish_done ∷ part ∷ rest) is = cc
+only_is (Part.Ends (finish_one_thread at) ∷ rest) is = cc
 only_is (Part.Responds outcome ∷ rest) is = cc
 only_is (Part.Tells event ∷ rest) is = cc
 only_is (Part.Sends deed ∷ rest) is = cc
@@ -110,13 +110,12 @@ silent_move {m} is = rw is at (walks_due m)
 -- the success of a `disconnect` is told
 told_last : {limits : Limits} {log : List Entry} {messages : List Message} {turns : ℕ} {s : SessionState}
     {message : Message} {next : Machine} → IsSteady frame_front → Going limits log messages turns s
-    → Run (messages ++ message ∷ []) next → (hand : Hand) (request : Request) (finish : Finish)
-    → load_of s.machine ≡ clear
-    → IsAt s.machine hand (Part.Responds (Success Nothing)) (Part.Ends finish ∷ []) → hand.item ≡ a_request request
+    → Run (messages ++ message ∷ []) next → (hand : Hand) (request : Request) → load_of s.machine ≡ clear
+    → IsAt s.machine hand (Part.Responds (Success Nothing)) (Part.Ends finish_done ∷ []) → hand.item ≡ a_request request
     → is_disconnect request.command ≡ true
     → message ≡ Message.tells (response_to request (outcomes.Success shapes.Nothing))
-    → next ≡ left s.machine hand (Part.Ends finish ∷ []) → IsReady (messages ++ message ∷ []) next
-told_last {messages} {s} {message} {next} steady g run hand request finish free at item leaves is becomes =
+    → next ≡ left s.machine hand (Part.Ends finish_done ∷ []) → IsReady (messages ++ message ∷ []) next
+told_last {messages} {s} {message} {next} steady g run hand request free at item leaves is becomes =
     let before = owing (is_run g) in
     let now = owing run in
     let left_now : without_response s.machine ≡ request ∷ without_response next =
@@ -139,10 +138,9 @@ told_last {messages} {s} {message} {next} steady g run hand request finish free 
         answered = subst (λ requests. AreAnswered requests (responses_of (messages ++ message ∷ [])))
             (sym (now.requests ∙ ap (λ left. now.answered ++ left) none ∙ append-nil now.answered)) now.responses;
       };
-      hand = record hand { parts = Part.Ends finish ∷ [] };
-      finish = finish;
+      hand = record hand { parts = Part.Ends finish_done ∷ [] };
       rest = [];
-      free = ap load_of becomes ∙ clear_behind s.machine hand _ finish free at;
+      free = ap load_of becomes ∙ clear_behind s.machine hand _ free at;
       held = ap (λ n. n.hand) becomes;
       parts = refl;
     }
@@ -159,14 +157,14 @@ step_said : {limits : Limits} {log : List Entry} {messages : List Message} {turn
     → Stands (messages ++ message ∷ []) next
 step_said steady g run (Steps.on is) = Stands.on is
 step_said {s} {message} steady g run (Steps.last hand request rest free at item is only says becomes) =
-    let (finish, rest_is) = only_is rest only in
+    let rest_is = only_is rest only in
     let told : message ≡ Message.tells (response_to request (outcomes.Success shapes.Nothing)) = cc in
-    Stands.ready (told_last steady g run hand request finish free
+    Stands.ready (told_last steady g run hand request free
     (subst (λ r. IsAt s.machine hand (Part.Responds (Success Nothing)) r) rest_is at) item is told
     (becomes ∙ ap (λ r. left s.machine hand r) rest_is))
 
-no_over : {act : Act} {finish : Finish} → act ≡ Act.Over finish → act ≡ Act.Waits → ⊥
-no_over {finish = finish} over waits = let no : Act.Over finish ≡ Act.Waits = sym over ∙ waits in cc
+no_over : {act : Act} → act ≡ Act.Over finish_done → act ≡ Act.Waits → ⊥
+no_over over waits = let no : Act.Over finish_done ≡ Act.Waits = sym over ∙ waits in cc
 
 -- what goes out is what is due
 due_said : {s : SessionState} {message : Message} {side : Side} {bytes : List ℕ} {streams : StreamState}
@@ -176,11 +174,11 @@ due_said Speaks.tells (Allows.acts is) = is
 due_said Speaks.greets (Allows.acts is) = is
 due_said (Speaks.sends apart serves) (Allows.acts is) = is
 
-none_said : {act : Act} {finish : Finish} (message : Message) → act ≡ Act.Over finish → said act ≡ Some message → ⊥
+none_said : {act : Act} (message : Message) → act ≡ Act.Over finish_done → said act ≡ Some message → ⊥
 none_said message over is = let no : None ≡ Some message = ap said (sym over) ∙ is in cc
 
-no_going : {act : Act} {finish : Finish} → act ≡ Act.Over finish → act ≡ Act.Goes → ⊥
-no_going {finish = finish} over goes = let no : Act.Over finish ≡ Act.Goes = sym over ∙ goes in cc
+no_going : {act : Act} → act ≡ Act.Over finish_done → act ≡ Act.Goes → ⊥
+no_going over goes = let no : Act.Over finish_done ≡ Act.Goes = sym over ∙ goes in cc
 
 -- a step from here, unless the end is due
 step_from : {messages : List Message} {m next : Machine} → (IsReady messages m → ⊥) → Moves m None next

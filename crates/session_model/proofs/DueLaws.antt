@@ -12,21 +12,21 @@ use Rattle.machine_model.specs.State.{Hand, Machine, State, has_waiting, is_empt
 use Rattle.machine_model.proofs.RestLaws.{is_free}
 use Rattle.machine_model.proofs.Stepping.{IsAt}
 use Rattle.session_model.specs.Names.{a_composite, a_raw, a_request, Act, Effect, Finding}
-use Rattle.session_model.specs.Names.{Finish, Item, Outcome, Part}
+use Rattle.session_model.specs.Names.{finish_done, finish_one_thread, Item, Outcome, Part}
 use Rattle.session_model.specs.Names.{target_end, Want}
 use Rattle.session_model.specs.States.{id_pending}
 use Rattle.session_model.proofs.PartLaws.{ends_first}
 
--- The end is due where it is in front ---------------------------------------------------------------------------------
+-- The end of one that is done is due where it is in front ------------------------------------------------------------------------------
 
-pub over_now : (id_pending : Bool) (m : Machine) (hand : Hand) (finish : Finish) (rest : List Part) → load_of m ≡ clear
-    → m.hand ≡ Some hand → hand.parts ≡ Part.Ends finish ∷ rest → (due id_pending m).act ≡ Act.Over finish
+pub over_now : (id_pending : Bool) (m : Machine) (hand : Hand) (rest : List Part) → load_of m ≡ clear
+    → m.hand ≡ Some hand → hand.parts ≡ Part.Ends finish_done ∷ rest → (due id_pending m).act ≡ Act.Over finish_done
 unfolding due wanted
-over_now id_pending m hand finish rest free held parts = rw (free, held, parts) refl
+over_now id_pending m hand rest free held parts = rw (free, held, parts) refl
 
 -- and nowhere else
 abbrev pub is_over : Act → Bool
-is_over (Act.Over finish) = true
+is_over (Act.Over finish_done) = true
 is_over _ = false
 
 abbrev pub ends_now : Option Hand → Bool
@@ -59,7 +59,8 @@ over_updated (Some effect) m hand rest = refl
 over_part : (m : Machine) (hand : Hand) (parts : List Part) → is_over (hand_due m hand parts).act ≡ true
     → ends_first parts ≡ true
 over_part m hand [] is = cc
-over_part m hand (Part.Ends finish ∷ rest) is = refl
+over_part m hand (Part.Ends finish_done ∷ rest) is = refl
+over_part m hand (Part.Ends (finish_one_thread at) ∷ rest) is = cc
 over_part m hand (Part.Responds outcome ∷ rest) is = let no = over_responded hand.item outcome m hand rest in cc
 over_part m hand (Part.Tells event ∷ rest) is = cc
 over_part m hand (Part.Sends deed ∷ rest) is = cc
@@ -124,19 +125,19 @@ gate_open : (gone read : Bool) (load : Load) → (gone ≡ false → (read ≡ f
 gate_open true read load h = refl
 gate_open false read load h = rw ((h refl).0, (h refl).1) refl
 
-end_load : (state : State) (hand : Hand) (finish : Finish) → is_flying hand.effect ≡ false
+end_load : (state : State) (hand : Hand) → is_flying hand.effect ≡ false
     → is_empty hand.queue ≡ true → has_waiting hand.asked ≡ false
-    → hand_load state (Some (record hand { parts = Part.Ends finish ∷ [] })) ≡ clear
+    → hand_load state (Some (record hand { parts = Part.Ends finish_done ∷ [] })) ≡ clear
 unfolding newly_lacked
-end_load state hand finish lands none silent = rw (lands, none, silent) refl
+end_load state hand lands none silent = rw (lands, none, silent) refl
 
-pub clear_behind : (m : Machine) (hand : Hand) (part : Part) (finish : Finish) → load_of m ≡ clear
-    → IsAt m hand part (Part.Ends finish ∷ []) → load_of (left m hand (Part.Ends finish ∷ [])) ≡ clear
+pub clear_behind : (m : Machine) (hand : Hand) (part : Part) → load_of m ≡ clear
+    → IsAt m hand part (Part.Ends finish_done ∷ []) → load_of (left m hand (Part.Ends finish_done ∷ [])) ≡ clear
 unfolding load_of
-clear_behind m hand part finish free at =
+clear_behind m hand part free at =
     gate_open (is_gone m.state.phase) (can_read m)
-    (hand_load m.state (Some (record hand { parts = Part.Ends finish ∷ [] })))
+    (hand_load m.state (Some (record hand { parts = Part.Ends finish_done ∷ [] })))
     (λ near. let f = is_free m hand free near at.in_hand in (
       near_read (is_gone m.state.phase) (can_read m) (hand_load m.state m.hand) near free,
-      end_load m.state hand finish f.lands f.no_queue f.silent,
+      end_load m.state hand f.lands f.no_queue f.silent,
     ))

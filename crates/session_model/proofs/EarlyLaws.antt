@@ -1,13 +1,14 @@
 -- While the sizes of ids aren't known, nothing is pending whose reply has an id.
 use Rattle.std.proofs.Common.{◌≡◌, ℕ, ◌+◌, ◌==◌, Bool, true, false, cond, not, List, [], ◌∷◌, ◌++◌, Option, Some, None}
 use Rattle.std.proofs.Common.{refl, sym, ap, subst, ◌∙◌, arith}
+use Rattle.dap_messages.specs.declared.told.Event.TheVariants as events
 use Rattle.jdwp_commands.specs.declared.asked.Asked.{Asked}
 use Rattle.jdwp_commands.specs.declared.asked.Asked.TheVariants as commands
 use Rattle.jdwp_commands.specs.declared.effect.Effect.TheVariants as effects
 use Rattle.jdwp_commands.specs.declared.answer.Answer.TheVariants as answers
 use Rattle.jdwp_commands.specs.declared.question.Question.TheVariants as questions
-use Rattle.machine_model.specs.Knowing.{AreSaid, View, learnt_view, nothing_said, replied_view, says}
-use Rattle.machine_model.specs.Knowing.{sizes_said, told_view, is_farewell, says_dead}
+use Rattle.machine_model.specs.Knowing.{AreSaid, View, come_view, is_farewell, learnt_view, nothing_said}
+use Rattle.machine_model.specs.Knowing.{replied_view, says, says_dead, sent_view, sizes_said, told_view}
 use Rattle.machine_model.specs.Pending.{bit}
 use Rattle.machine_model.specs.Pending.{count as count_of}
 use Rattle.machine_model.specs.Replying.{pending_of, wire}
@@ -19,8 +20,9 @@ use Rattle.machine_model.proofs.PendingLaws.{all_open}
 use Rattle.machine_model.proofs.PlanIds.{is_sizes}
 use Rattle.machine_model.proofs.Stepping.{Moves, by_runs, with_said}
 use Rattle.machine_model.proofs.TurnLaws.{Turns, turned}
-use Rattle.session_model.specs.Names.{a_question, an_answer, an_effect, an_error, Clear, Dispose, Does, Exit, Replied}
-use Rattle.session_model.specs.Names.{Question, Set, TargetCommand, Told}
+use Rattle.session_model.specs.Names.{Clear, Composite, Dispose, Does, Exit, Question, Replied, Resume, Set}
+use Rattle.session_model.specs.Names.{TargetCommand, Told, a_question, a_response, an_answer, an_effect, an_error}
+use Rattle.session_model.specs.Names.{an_event}
 use Rattle.session_model.specs.Replies.{count_under}
 use Rattle.session_model.proofs.SizeLaws.{any_id, early_sent, is_early}
 use Rattle.pending_table.specs.Windows.{pending_under}
@@ -37,15 +39,59 @@ unfolding view_from
 view_more view [] message = refl
 view_more view (first ∷ messages) message = view_more (says first view) messages message
 
-view_is : {messages : List Message} {view : View} → AreSaid messages view → view ≡ view_from nothing_said messages
+-- they agree in what the sizes are learnt by
+abbrev Alike : View → View → Type 0
+Alike a b = (a.phase ≡ b.phase) × (a.sizes ≡ b.sizes)
+
+replied_alike : (gone last : Bool) (command : TargetCommand) (replied : Replied) (a b : View) → Alike a b
+    → Alike (replied_view gone last command replied a) (replied_view gone last command replied b)
+replied_alike true last command replied a b h = h
+replied_alike false true command replied a b h = (refl, h.1)
+replied_alike false false (an_effect effect) replied a b h = h
+replied_alike false false (a_question questions.IdSizes) replied a b h = (h.0, ap (sizes_said replied) h.1)
+replied_alike false false (a_question _) replied a b h = h
+
+told_alike : (told : Told) (a b : View) → Alike a b → Alike (told_view told a) (told_view told b)
+told_alike (a_response response) a b h = h
+told_alike (an_event events.Initialized) a b h = (refl, h.1)
+told_alike (an_event (events.Breakpoint breakpoint)) a b h = h
+told_alike (an_event events.Terminated) a b h = (refl, h.1)
+
+come_alike : (gone other : Bool) (composite : Composite) (a b : View) → Alike a b
+    → Alike (come_view gone composite a) (come_view other composite b)
+come_alike true true composite a b h = h
+come_alike true false composite a b h = h
+come_alike false true composite a b h = h
+come_alike false false composite a b h = h
+
+sent_alike : (command : TargetCommand) (a b : View) → Alike a b → Alike (sent_view command a) (sent_view command b)
+sent_alike (an_effect (Does Resume)) a b h = h
+sent_alike _ a b h = h
+
+says_alike : (message : Message) (a b : View) → Alike a b → Alike (says message a) (says message b)
+says_alike (Message.answers command replied) a b h =
+    subst (λ (gone : Bool). Alike (says (Message.answers command replied) a)
+    (replied_view gone (cond (is_farewell command) false (says_dead replied)) command replied b)) (ap is_gone h.0)
+    (replied_alike (is_gone a.phase) (cond (is_farewell command) false (says_dead replied)) command replied a b h)
+says_alike (Message.tells told) a b h = told_alike told a b h
+says_alike Message.ends a b h = (refl, h.1)
+says_alike (Message.sends command) a b h = sent_alike command a b h
+says_alike (Message.comes at composite) a b h = come_alike (is_gone a.phase) (is_gone b.phase) composite a b h
+says_alike (Message.reads at body composite) a b h = come_alike (is_gone a.phase) (is_gone b.phase) composite a b h
+says_alike _ a b h = h
+
+view_is : {messages : List Message} {view : View} → AreSaid messages view
+    → Alike view (view_from nothing_said messages)
 unfolding view_from
-view_is AreSaid.none = refl
-view_is (AreSaid.one_more {messages} message may said) =
-    ap (says message) (view_is said) ∙ sym (view_more nothing_said messages message)
+view_is AreSaid.none = (refl, refl)
+view_is (AreSaid.turns composite others said attached first) = view_is said
+view_is (AreSaid.one_more {messages} {view} message may said) =
+    subst (λ (after : View). Alike (says message view) after) (sym (view_more nothing_said messages message))
+    (says_alike message view (view_from nothing_said messages) (view_is said))
 
 sizes_are : {messages : List Message} {m : Machine} → Run messages m
     → m.state.sizes ≡ (view_from nothing_said messages).sizes
-sizes_are {messages} {m} run = ap (λ (view : View). view.sizes) (view_is (is_known messages m run).said)
+sizes_are {messages} {m} run = (view_is (is_known messages m run).said).1
 
 -- once they are known they stay so
 sizes_none : (replied : Replied) (sizes : Option SizesRead) → is_some (sizes_said replied sizes) ≡ false
@@ -69,11 +115,24 @@ replied_none false false (an_effect effect) replied view is = is
 told_none : (told : Told) (view : View) → is_some (told_view told view).sizes ≡ false → is_some view.sizes ≡ false
 told_none told view is = grind (arith, is)
 
+come_none : (gone : Bool) (composite : Composite) (view : View)
+    → is_some (come_view gone composite view).sizes ≡ false → is_some view.sizes ≡ false
+come_none true composite view is = is
+come_none false composite view is = is
+
+sent_none : (command : TargetCommand) (view : View) → is_some (sent_view command view).sizes ≡ false
+    → is_some view.sizes ≡ false
+sent_none (an_effect (Does Resume)) view is = is
+sent_none _ view is = is
+
 says_none : (message : Message) (view : View) → is_some (says message view).sizes ≡ false
     → is_some view.sizes ≡ false
 says_none (Message.answers command replied) view is =
     replied_none (is_gone view.phase) (cond (is_farewell command) false (says_dead replied)) command replied view is
+says_none (Message.sends command) view is = sent_none command view is
 says_none (Message.tells told) view is = told_none told view is
+says_none (Message.comes at composite) view is = come_none (is_gone view.phase) composite view is
+says_none (Message.reads at body composite) view is = come_none (is_gone view.phase) composite view is
 says_none _ view is = is
 
 none_before : (messages : List Message) (m next : Machine) (said : Option Message) → Run messages m
@@ -135,12 +194,14 @@ all_early r = by_runs {Holds = IsEarly} (record {
 -- a command of the wire whose answer has no id
 abbrev pub early_asked : Asked → Bool
 early_asked (commands.Question question) = is_sizes question
+early_asked (commands.Effect effects.Resume) = true
 early_asked (commands.Effect effects.Dispose) = true
 early_asked (commands.Effect (effects.Exit code)) = true
 early_asked _ = false
 
 early_wire : (command : TargetCommand) → is_early command ≡ true → early_asked (wire command) ≡ true
 early_wire (a_question question) is = is
+early_wire (an_effect (Does Resume)) is = refl
 early_wire (an_effect (Does Dispose)) is = refl
 early_wire (an_effect (Does Exit)) is = refl
 early_wire (an_effect (Set wish)) is = cc

@@ -80,6 +80,7 @@ module _ {limits : Limits} {log : List Entry} {messages : List Message} {turns :
       })
   shows_by is took (Cause.spent waits all) = let turns = h.turns_are in omega (arith, turns, took, all)
   shows_by is took (Cause.over on done) = tt
+  shows_by is took (Cause.one_thread on over) = tt
   shows_by is took (Cause.misread reads bad) = tt
   shows_by is took (Cause.misheard reads bad) = tt
   shows_by is took (Cause.misheard_kept reads bad) = tt

@@ -1,25 +1,28 @@
--- A `disconnect` goes on to its success and ends directly behind it; nothing else ends a session.
+-- A `disconnect` goes on to its success and is done directly behind it; nothing else is.
 use Rattle.std.proofs.Common.{◌≡◌, Bool, true, false, cond, not, List, [], ◌∷◌, ◌++◌, Option, Some, None, refl, sym}
-use Rattle.std.proofs.Common.{ap, subst, ◌∙◌, option_map, arith, ◌||◌}
+use Rattle.std.proofs.Common.{ap, append-nil, subst, ◌∙◌, option_map, arith, ◌||◌}
+use Rattle.machine_model.specs.Breakpoints.{newly_verified}
 use Rattle.machine_model.specs.Due.{asked_hand, clear, load_of}
 use Rattle.machine_model.specs.Lookups.{finished}
 use Rattle.machine_model.specs.Outcomes.{result_of}
 use Rattle.machine_model.specs.Plans.{Result}
 use Rattle.machine_model.specs.Replying.{given_up, hand_replied}
 use Rattle.machine_model.specs.Rest.{request_in}
-use Rattle.machine_model.specs.Rows.{chosen, gone_parts, has_response, is_response, parts_of}
+use Rattle.machine_model.specs.Rows.{chosen, gone_parts, has_response, is_response, news, parts_of}
 use Rattle.machine_model.specs.Runs.{Message, is_disconnect}
 use Rattle.machine_model.specs.State.{Hand, Machine, State, is_empty, knowing, left}
 use Rattle.machine_model.specs.Telling.{numbered_by, outcome_told, response_to}
 use Rattle.machine_model.proofs.Stepping.{IsAt, Moves, Skips}
-use Rattle.session_model.specs.Names.{a_composite, a_question, a_raw, a_request, an_effect, Choice, Finding, Item}
-use Rattle.session_model.specs.Names.{Lookup, Nothing, Outcome, Part, Replied, Request, Success, target_end}
-use Rattle.session_model.specs.Names.{TargetCommand, Want}
+use Rattle.machine_model.proofs.Tables.{told_alike}
+use Rattle.session_model.specs.Names.{a_composite, a_question, a_raw, a_request, an_effect, Choice}
+use Rattle.session_model.specs.Names.{Finding, finish_done, Item, Leaves, Lookup, Nothing, Outcome, Part}
+use Rattle.session_model.specs.Names.{Replied, Request, Success, target_end, TargetCommand, TellsBound, Want}
 
 -- Lists of parts ------------------------------------------------------------------------------------------------------
 
+-- the end of a session that is done
 abbrev pub is_ends : Part → Bool
-is_ends (Part.Ends finish) = true
+is_ends (Part.Ends finish_done) = true
 is_ends _ = false
 
 -- the end is in front
@@ -104,7 +107,11 @@ are_silent [] = true
 are_silent (part ∷ parts) = cond (is_ends part) false (cond (strays part) false (are_silent parts))
 
 chosen_silent : (choice : Choice) (state : State) (hand : Hand) → are_silent (chosen choice state hand) ≡ true
-chosen_silent choice state hand = grind arith
+chosen_silent (TellsBound below) state hand =
+    let entries = newly_verified below state.bound state.wishes in
+    ap are_silent (sym (append-nil (news state.phase entries)))
+    ∙ told_alike are_silent (λ entry parts. refl) state.phase entries []
+chosen_silent (Leaves exits) state hand = grind arith
 
 -- a response that is a success is a response
 thanks_respond : (part : Part) → strays part ≡ false → is_thanks part ≡ false

@@ -104,6 +104,7 @@ cause_gives : (side : Side) {limits : Limits} {turns : ℕ} {s : SessionState} {
     {taken : ℕ} → Cause limits turns s ending entries taken → CauseGives side s ending entries
 cause_gives side (Cause.broken {side = to} {kept} on allows speaks proper) = cut_by side to kept allows speaks proper
 cause_gives side (Cause.over on is) = CauseGives.nothing refl
+cause_gives side (Cause.one_thread on is) = CauseGives.nothing refl
 cause_gives side (Cause.shut listens) = CauseGives.nothing refl
 cause_gives side (Cause.lost to listens) = CauseGives.nothing refl
 cause_gives side (Cause.misread reads bad) = CauseGives.nothing refl

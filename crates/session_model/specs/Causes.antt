@@ -1,5 +1,5 @@
 -- Why a session ends. Each cause is said once, of where the session stands when it comes.
-use Rattle.std.specs.Prelude.{ℕ, ◌≡◌, ◌<◌, ◌≤◌, ◌∷◌, ◌⊎◌, true, false, List, [], length}
+use Rattle.std.specs.Prelude.{ℕ, ◌≡◌, ◌+◌, ◌<◌, ◌≤◌, ◌∷◌, ◌⊎◌, true, false, List, [], length}
 use Rattle.std.specs.Prelude.{take}
 use Rattle.dap_frames.specs.Frames.{frame_front}
 use Rattle.jdwp_commands.specs.Commands.{number_of}
@@ -9,10 +9,10 @@ use Rattle.machine_model.specs.Runs.{Allows, Message}
 use Rattle.machine_model.specs.State.{Machine}
 use Rattle.session_model.specs.Names.{Act, BadClient}
 use Rattle.session_model.specs.Names.{BadTarget, Client, ClientFault, ClientLink, Done}
-use Rattle.session_model.specs.Names.{Ending, Entry, Failed, finish_done, Flood, Idle, Left, Limits}
-use Rattle.session_model.specs.Names.{Shut, Side, Spent, Target}
+use Rattle.session_model.specs.Names.{Ending, Entry, Failed, finish_done, finish_one_thread, Flood, Idle, Left, Limits}
+use Rattle.session_model.specs.Names.{PolicyThread, Shut, Side, Spent, Target}
 use Rattle.session_model.specs.Names.{TargetCommand, TargetFault, TargetLink, TargetRefused}
-use Rattle.session_model.specs.Faults.{HasReply, IsClientFault, IsKeptFault, IsTargetFault}
+use Rattle.session_model.specs.Faults.{header, HasReply, IsClientFault, IsKeptFault, IsTargetFault}
 use Rattle.session_model.specs.Saying.{Speaks}
 use Rattle.session_model.specs.States.{SessionState, StreamState, due_now, target_front}
 use Rattle.wire_core.specs.Outside.{broken_send}
@@ -64,13 +64,17 @@ link_ending Client = ClientLink
 link_ending Target = TargetLink
 
 -- Why a session that stands here, after so many turns, ends so; which entries the cause leaves in the log, and whether
--- it takes a turn. The machine is done. The client's stream has ended, or a link has failed, where the session waited;
+-- it takes a turn. The machine is done; or the composite that is served suspended one thread alone, and the ending says
+-- where in its packet that stands, behind the header (JDWP, Event command set, Composite; JDWP, Constants,
+-- SuspendPolicy). The client's stream has ended, or a link has failed, where the session waited;
 -- or a link failed in the middle of a message that was due. The client's next bytes have a fault, or the target's, or
 -- the next of the composites that were kept; or the target refuses a pending command with an error that isn't
 -- tolerated; and nothing is due that came before. More items wait than may. Nothing is left to do, and as many waits in
 -- a row as may be were in vain, or as many turns were taken as may be: of the two limits that on turns comes first.
 pub data Cause (limits : Limits) (turns : ℕ) (s : SessionState) : Ending → List Entry → ℕ → Type 0 where
   over : IsOn limits s → (due_now s).act ≡ Act.Over finish_done → Cause limits turns s Done [] 0
+  one_thread : {at : ℕ} → IsOn limits s → (due_now s).act ≡ Act.Over (finish_one_thread at)
+      → Cause limits turns s (BadTarget PolicyThread (at + header) 0) [] 0
   shut : Listens limits turns s → Cause limits turns s Left (Shut Client ∷ []) 1
   lost : (side : Side) → Listens limits turns s → Cause limits turns s (link_ending side) (Failed side ∷ []) 1
   broken : {message : Message} {next : Machine} {side : Side} {bytes : List ℕ} {streams : StreamState} {kept : ℕ}

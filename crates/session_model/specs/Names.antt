@@ -2,7 +2,7 @@
 pub use Rattle.dap_messages.specs.declared.requests.Command.{Command}
 pub use Rattle.dap_messages.specs.declared.requests.Request.{Request}
 pub use Rattle.dap_messages.specs.declared.told.Told.{Told}
-pub use Rattle.dap_messages.specs.declared.told.Told.TheVariants.{Event as an_event}
+pub use Rattle.dap_messages.specs.declared.told.Told.TheVariants.{Event as an_event, Response as a_response}
 pub use Rattle.jdwp_commands.specs.declared.answer.Answer.{Answer}
 pub use Rattle.jdwp_commands.specs.declared.asked.Replied.{Replied}
 pub use Rattle.jdwp_commands.specs.declared.asked.Replied.TheVariants.{Answer as an_answer, Error as an_error}
@@ -21,11 +21,12 @@ pub use Rattle.machine_model.specs.declared.items.Phase.{Phase}
 pub use Rattle.machine_model.specs.declared.items.Phase.TheVariants.{Attached, Fresh, Gone}
 pub use Rattle.machine_model.specs.declared.parts.Body.TheVariants.{Nothing}
 pub use Rattle.machine_model.specs.declared.parts.Choice.{Choice}
-pub use Rattle.machine_model.specs.declared.parts.Deed.TheVariants.{Dispose, Exit}
+pub use Rattle.machine_model.specs.declared.parts.Choice.TheVariants.{Leaves, TellsBound}
+pub use Rattle.machine_model.specs.declared.parts.Deed.TheVariants.{Dispose, Exit, Resume}
 pub use Rattle.machine_model.specs.declared.parts.Event.{Event}
 pub use Rattle.machine_model.specs.declared.parts.Finding.{Finding}
 pub use Rattle.machine_model.specs.declared.parts.Finish.{Finish}
-pub use Rattle.machine_model.specs.declared.parts.Finish.TheVariants.{Done as finish_done}
+pub use Rattle.machine_model.specs.declared.parts.Finish.TheVariants.{Done as finish_done, OneThread as finish_one_thread}
 pub use Rattle.machine_model.specs.declared.parts.Lookup.{Lookup}
 pub use Rattle.machine_model.specs.declared.parts.Outcome.{Outcome}
 pub use Rattle.machine_model.specs.declared.parts.Outcome.TheVariants.{Success}
@@ -40,7 +41,7 @@ pub use Rattle.session_model.specs.declared.ending.Limits.{Limits}
 pub use Rattle.session_model.specs.declared.ending.TargetFault.{TargetFault}
 pub use Rattle.session_model.specs.declared.ending.TargetFault.TheVariants.{BadCommand, BadCount, BadKind, BadPolicy}
 pub use Rattle.session_model.specs.declared.ending.TargetFault.TheVariants.{BadSizes, BadTag, Packet as mispacked}
-pub use Rattle.session_model.specs.declared.ending.TargetFault.TheVariants.{Short, Trailing, UnknownReply}
+pub use Rattle.session_model.specs.declared.ending.TargetFault.TheVariants.{PolicyThread, Short, Trailing, UnknownReply}
 pub use Rattle.wire_core.specs.declared.outside.Entry.{Entry}
 pub use Rattle.wire_core.specs.declared.outside.Entry.TheVariants.{Failed, In, Out, Quiet, Shut}
 pub use Rattle.wire_core.specs.declared.outside.Side.{Side}

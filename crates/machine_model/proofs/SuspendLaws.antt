@@ -1,0 +1,236 @@
+-- What is done before a suspension is undone, and that at rest none is held.
+use Rattle.std.proofs.Common.{◌≡◌, Bool, true, false, cond, List, [], ◌∷◌, ◌++◌, Option, Some, None, refl, ap, subst}
+use Rattle.std.proofs.Common.{◌∙◌, option_map, arith}
+use Rattle.machine_model.specs.Breakpoints.{newly_verified}
+use Rattle.machine_model.specs.Due.{asked_hand, due}
+use Rattle.machine_model.specs.Knowing.{is_resume, view_of}
+use Rattle.machine_model.specs.Lookups.{finished}
+use Rattle.machine_model.specs.Names.{Act, Attached, Choice, Command, Deed, Does, Event, Failure, Finding}
+use Rattle.machine_model.specs.Names.{Item, Leaves, Lookup, Part, Phase, Replied, Resume}
+use Rattle.machine_model.specs.Names.{TargetCommand, TellsBound, Want, a_composite, a_question, a_raw}
+use Rattle.machine_model.specs.Names.{a_request, all_threads, an_effect, class_facts, target_end}
+use Rattle.machine_model.specs.Outcomes.{result_of}
+use Rattle.machine_model.specs.Plans.{Result}
+use Rattle.machine_model.specs.Replying.{hand_replied}
+use Rattle.machine_model.specs.Rest.{IsAtRest}
+use Rattle.machine_model.specs.Rows.{chosen, failure_of, parts_by, parts_of, row_of, wanting}
+use Rattle.machine_model.specs.Runs.{Allows, Message, Run, said}
+use Rattle.machine_model.specs.State.{Hand, Machine, State, is_attached, is_empty, is_gone}
+use Rattle.machine_model.specs.Suspending.{AllRunsOn, IsBoundFirst}
+use Rattle.machine_model.specs.Telling.{after_event}
+use Rattle.machine_model.proofs.BindingLaws.{binding, in_front}
+use Rattle.machine_model.proofs.BindingParts.{IsBinding}
+use Rattle.machine_model.proofs.HeldLaws.{due_sends}
+use Rattle.machine_model.proofs.KnowingLaws.{is_known}
+use Rattle.machine_model.proofs.RequestLaws.{Settling, front_set, settles, settling}
+use Rattle.machine_model.proofs.SizeLaws.{parts_in}
+use Rattle.machine_model.proofs.Stepping.{IsAt, Loses, Moves, by_runs, moved}
+use Rattle.machine_model.proofs.Tables.{told_alike}
+use Rattle.machine_model.proofs.Testing.{IsTest, Passed, same_noted, same_numbered, same_replied, tested, whole}
+
+-- A Resume is the last part -------------------------------------------------------------------------------------------
+
+abbrev resume_last : List Part → Bool
+resume_last [] = true
+resume_last (part ∷ parts) = cond (cond (is_resume part) (is_empty parts) true) (resume_last parts) false
+
+abbrev ends_resumed : Bool → List Part → Bool
+ends_resumed gone parts = resume_last parts
+
+row_last : (failure : Option Failure) (command : Command) (state : State)
+    → resume_last (parts_by failure (row_of command state)) ≡ true
+row_last failure command state = grind arith
+
+begun_last : (state : State) (item : Item) → resume_last (parts_of state item) ≡ true
+begun_last state (a_request request) = row_last (failure_of (wanting request.command) state) request.command state
+begun_last state target_end = grind arith
+begun_last state (a_composite at composite) = grind arith
+begun_last state (a_raw at body) = refl
+
+rest_last : (part : Part) (rest : List Part) → resume_last (part ∷ rest) ≡ true → resume_last rest ≡ true
+rest_last part rest is = grind (arith, is)
+
+chosen_last : (choice : Choice) (state : State) (hand : Hand) (rest : List Part) → resume_last rest ≡ true
+    → resume_last (chosen choice state hand ++ rest) ≡ true
+chosen_last (TellsBound below) state hand rest is =
+    told_alike resume_last (λ entry parts. refl) state.phase (newly_verified below state.bound state.wishes) rest ∙ is
+chosen_last (Leaves exits) state hand rest is = grind (arith, is)
+
+last_test : IsTest ends_resumed
+last_test = record {
+  none = λ gone. refl;
+  tail = λ gone part rest is. rest_last part rest is;
+  begins = begun_last;
+  unfolds = λ choice state hand rest is. chosen_last choice state hand rest (rest_last (Part.Unfolds choice) rest is);
+  finds = λ lookup result state rest is. grind (arith, is);
+  gives_up = λ responds item. grind arith;
+}
+
+none_behind : (rest : List Part) → resume_last (Part.Sends Resume ∷ rest) ≡ true → rest ≡ []
+none_behind [] is = refl
+none_behind (part ∷ rest) is = cc
+
+-- It stands in an attached session ------------------------------------------------------------------------------------
+
+abbrev has_resume : List Part → Bool
+has_resume [] = false
+has_resume (part ∷ parts) = cond (is_resume part) true (has_resume parts)
+
+abbrev resumes_attached : Phase → List Part → Bool
+resumes_attached phase parts = cond (is_gone phase) true (cond (has_resume parts) (is_attached phase) true)
+
+abbrev IsResumed : Machine → Type 0
+IsResumed m = resumes_attached m.state.phase (parts_in m.hand) ≡ true
+
+row_none : (failure : Option Failure) (command : Command) (state : State)
+    → has_resume (parts_by failure (row_of command state)) ≡ false
+row_none failure command state = grind arith
+
+begun_resumed : (state : State) (item : Item) → resumes_attached state.phase (parts_of state item) ≡ true
+begun_resumed state (a_request request) =
+    rw (row_none (failure_of (wanting request.command) state) request.command state) (by_gone (is_gone state.phase))
+  where
+    by_gone : (gone : Bool) → cond gone true true ≡ true
+    by_gone true = refl
+    by_gone false = refl
+begun_resumed state target_end = grind arith
+begun_resumed state (a_composite at composite) = grind arith
+begun_resumed state (a_raw at body) = grind arith
+
+at_front : {m : Machine} {hand : Hand} {part : Part} {rest : List Part} → IsResumed m → IsAt m hand part rest
+    → resumes_attached m.state.phase (part ∷ rest) ≡ true
+at_front {m} h at = subst (λ (parts : List Part). resumes_attached m.state.phase parts ≡ true) at.parts
+    (subst (λ (held : Option Hand). resumes_attached m.state.phase (parts_in held) ≡ true) at.in_hand h)
+
+rest_resumed : (phase : Phase) (part : Part) (rest : List Part) → resumes_attached phase (part ∷ rest) ≡ true
+    → resumes_attached phase rest ≡ true
+rest_resumed phase part rest is = grind (arith, is)
+
+found_same : (lookup : Lookup) (result : Result Finding) (state : State) (rest : List Part)
+    → has_resume (finished lookup result state ++ rest) ≡ has_resume rest
+found_same all_threads result state rest = refl
+found_same class_facts result state rest = refl
+
+chosen_same : (choice : Choice) (state : State) (hand : Hand) (rest : List Part)
+    → has_resume (chosen choice state hand ++ rest) ≡ has_resume rest
+chosen_same (TellsBound below) state hand rest =
+    told_alike has_resume (λ entry parts. refl) state.phase (newly_verified below state.bound state.wishes) rest
+chosen_same (Leaves exits) state hand rest = grind arith
+
+event_resumed : (event : Event) (state : State) (rest : List Part) → resumes_attached state.phase rest ≡ true
+    → resumes_attached (after_event event state).phase rest ≡ true
+event_resumed event state rest is = grind (arith, is)
+
+replied_parts : (command : TargetCommand) (replied : Replied) (hand : Option Hand)
+    → parts_in (option_map (hand_replied command replied) hand) ≡ parts_in hand
+replied_parts command replied None = refl
+replied_parts (a_question question) replied (Some hand) = refl
+replied_parts (an_effect effect) replied (Some hand) = refl
+
+asked_parts : (want : Want) (hand : Option Hand) → parts_in (option_map (asked_hand want) hand) ≡ parts_in hand
+asked_parts want None = refl
+asked_parts want (Some hand) = refl
+
+resumed_on : (m next : Machine) (said : Option Message) → IsResumed m → Moves m said next → IsResumed next
+resumed_on m next said h (Moves.begins picked free none is) = begun_resumed m.state picked.item
+resumed_on m next said h (Moves.drops {hand} free is none) =
+    subst (λ (parts : List Part). resumes_attached m.state.phase parts ≡ true) none
+    (subst (λ (held : Option Hand). resumes_attached m.state.phase (parts_in held) ≡ true) is h)
+resumed_on m next said h (Moves.responds {rest = rest} {outcome = outcome} free at is) =
+    rw (same_numbered outcome m.state) (rest_resumed m.state.phase (Part.Responds outcome) rest (at_front h at))
+resumed_on m next said h (Moves.finds {rest = rest} {lookup} found free at needs done) =
+    rw (found_same lookup (result_of found) m.state rest)
+    (rest_resumed m.state.phase (Part.Looks lookup) rest (at_front h at))
+resumed_on m next said h (Moves.passes_over {part = part} {rest} free at why) =
+    rest_resumed m.state.phase part rest (at_front h at)
+resumed_on m next said h (Moves.tells {rest = rest} {event} free at) =
+    event_resumed event m.state rest (rest_resumed m.state.phase (Part.Tells event) rest (at_front h at))
+resumed_on m next said h (Moves.sends {rest = rest} {deed} free at near) =
+    rest_resumed m.state.phase (Part.Sends deed) rest (at_front h at)
+resumed_on m next said h (Moves.updates free at is near) = at_front h at
+resumed_on m next said h (Moves.greets free at is near) = h
+resumed_on m next said h (Moves.notes {note = note} {rest} free at) =
+    rw (same_noted note m.state) (rest_resumed m.state.phase (Part.Notes note) rest (at_front h at))
+resumed_on m next said h (Moves.unfolds {hand} {choice} {rest} free at) =
+    rw (chosen_same choice m.state hand rest) (rest_resumed m.state.phase (Part.Unfolds choice) rest (at_front h at))
+resumed_on m next said h (Moves.queues free is) =
+    subst (λ (held : Option Hand). resumes_attached m.state.phase (parts_in held) ≡ true) is h
+resumed_on m next said h (Moves.asks {want = want} free room is are) = rw (asked_parts want m.hand) h
+resumed_on m next said h (Moves.hears read is) = h
+resumed_on m next said h (Moves.greeted read is) = h
+resumed_on m next said h (Moves.answers {question} {replied} is waits reply stays) =
+    rw (same_replied (a_question question) replied m.state, replied_parts (a_question question) replied m.hand) h
+resumed_on m next said h (Moves.replies {effect} {replied} is flies reply stays) =
+    rw (same_replied (an_effect effect) replied m.state, replied_parts (an_effect effect) replied m.hand) h
+resumed_on m next said h (Moves.late before after is reply) = h
+resumed_on m next said h (Moves.ends gone) = h
+resumed_on m next said h (Moves.loses late near why) = refl
+resumed_on m next said h (Moves.comes read sized taken) = h
+resumed_on m next said h (Moves.keeps is) = h
+resumed_on m next said h (Moves.reads before after read is none taken) = h
+
+resumed : {messages : List Message} {m : Machine} → Run messages m → IsResumed m
+resumed r = by_runs {Holds = λ (messages : List Message) (m : Machine). IsResumed m} (record {
+  starts = refl;
+  moves = λ messages m next said before h moved after. resumed_on m next said h moved;
+}) r
+
+-- Bound before the target runs on -------------------------------------------------------------------------------------
+
+attached_there : (phase : Phase) (rest : List Part) → is_gone phase ≡ false
+    → resumes_attached phase (Part.Sends Resume ∷ rest) ≡ true → is_attached phase ≡ true
+attached_there phase rest near is = grind (arith, near, is)
+
+-- the part in front undoes a suspension
+bound_at : (m : Machine) (hand : Hand) (deed : Deed) (rest : List Part) → Settling m → IsBinding m
+    → Passed ends_resumed m → IsResumed m → is_gone m.state.phase ≡ false → IsAt m hand (Part.Sends deed) rest
+    → deed ≡ Resume → IsBoundFirst m.state
+bound_at m hand Resume rest s b t h near at is =
+    let none = none_behind rest (whole ends_resumed t at) in
+    let front : IsAt m hand (Part.Sends Resume) [] =
+    subst (λ (rest : List Part). IsAt m hand (Part.Sends Resume) rest) none at in
+    record {
+      none_due = front_set m hand (Part.Sends Resume) [] s.set front
+          (attached_there m.state.phase [] near (at_front h front));
+      bound = (in_front b front).bound refl;
+    }
+bound_at m hand deed rest s b t h near at is = cc
+
+resume_at : (m next : Machine) (said : Option Message) → Settling m → IsBinding m → Passed ends_resumed m
+    → IsResumed m → said ≡ Some (Message.sends (an_effect (Does Resume))) → Moves m said next → IsBoundFirst m.state
+resume_at m next said s b t h is (Moves.sends {hand} {rest} {deed} free at near) =
+    bound_at m hand deed rest s b t h near at cc
+resume_at m next said s b t h is (Moves.updates {effect = effect} free at due near) =
+    let same : effect ≡ Does Resume = cc in
+    let may = (due_sends m.state.wishes (Does Resume) (record (view_of m) { held = 0 })
+    (due ∙ ap Some same)).0 in cc
+resume_at m next said s b t h is (Moves.loses late near Loses.by_end) = cc
+resume_at m next said s b t h is (Moves.loses late near (Loses.by_question held waits reply last)) = cc
+resume_at m next said s b t h is (Moves.loses late near (Loses.by_effect held flies reply last)) = cc
+resume_at m next said s b t h is _ = cc
+
+near_sends : (m next : Machine) (said : Option Message) → said ≡ Some (Message.sends (an_effect (Does Resume)))
+    → Moves m said next → is_gone m.state.phase ≡ false
+near_sends m next said is (Moves.sends free at near) = near
+near_sends m next said is (Moves.updates free at due near) = near
+near_sends m next said is (Moves.loses late near why) = near
+near_sends m next said is _ = cc
+
+pub binds_first : (messages : List Message) (m : Machine) → Run messages m
+    → (due false m).act ≡ Act.Sends (Does Resume) → IsBoundFirst m.state
+binds_first messages m r is =
+    let moves = moved (Allows.acts (ap said is)) in
+    let near = near_sends m (due false m).next _ refl moves in
+    resume_at m (due false m).next _ (settling r near) (binding r near) (tested last_test r) (resumed r) refl moves
+
+-- At rest -------------------------------------------------------------------------------------------------------------
+
+pub runs_on : (messages : List Message) (m : Machine) → Run messages m → IsAtRest m → m.state.phase ≡ Attached
+    → AllRunsOn messages
+runs_on messages m r rests attached =
+    let s = settles messages m r rests attached in record {
+      view = view_of m;
+      said = (is_known messages m r).said;
+      none_waits = rw (attached, s.none_waits) refl;
+      none_held = rw s.none_in_hand refl;
+    }
