@@ -1,8 +1,10 @@
 pub mod AskedLemmas
 pub mod AskingLaws
+pub mod BoundLaws
 pub mod ClassLaws
 pub mod DueLaws
 pub mod EffectLaws
+pub mod OpenLaws
 pub mod PlanLaws
 pub mod ReplyLaws
 pub mod TalkLaws

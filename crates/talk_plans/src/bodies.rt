@@ -1,11 +1,12 @@
 //! What the client is told, with numbers in place of the target's ids.
 ghost use Rattle.std.specs.Prelude.{◌≡◌, IfOk, OnOk, map};
-ghost use Rattle.machine_model.specs.Breakpoints.{breakpoint_told};
-ghost use Rattle.machine_model.specs.State.{State as AState};
+ghost use Rattle.machine_model.specs.Breakpoints.{breakpoint_told, with_told};
 ghost use Rattle.machine_model.specs.Telling.{body_told, event_told, numbered, numbered_by, outcome_told, response_to};
 ghost use Rattle.machine_model.specs.Telling.{thread_told, with_threads};
 
+use crate::bound::BoundIds;
 use crate::breakpoints::breakpoint_told;
+use crate::news::verified_told;
 use crate::state::State;
 use crate::threads::ThreadNumbers;
 use dap_messages::{
@@ -26,16 +27,14 @@ fn add_threads(threads: &mut ThreadNumbers, named: &[NamedThread]) -> Result<(),
     Ok(())
 }
 
-// What a body numbers first.
-fn number(body: &Body, state: &mut State) -> Result<(), NoMemory>
-    ensures { OnOk result (state.new ≡ numbered body.now state.old) }
+// The client knows of those that are told to be verified.
+fn add_told(bound: &mut BoundIds, told: &[Breakpoint]) -> Result<(), NoMemory>
+    ensures { OnOk result (bound.new ≡ with_told bound.old told.now) }
 {
-    match body {
-        Body::Nothing => Ok(()),
-        Body::Capabilities => Ok(()),
-        Body::Breakpoints { .. } => Ok(()),
-        Body::Threads(named) => add_threads(&mut state.threads, named.as_slice()),
+    for breakpoint in told {
+        bound.add_told(*breakpoint)?;
     }
+    Ok(())
 }
 
 fn threads_told(
@@ -70,23 +69,27 @@ fn breakpoints_told(
     Ok(told)
 }
 
-fn body_told(alloc: Global, body: &Body, state: &State) -> Result<Shape, NoMemory>
-    ensures { IfOk result (λ shape. shape ≡ body_told body.now state.now) }
+// How a body is told, once its threads have their numbers; the client knows of its breakpoints from there on.
+fn body_told(alloc: Global, body: &Body, state: &mut State) -> Result<Shape, NoMemory>
+    ensures told { IfOk result (λ shape. shape ≡ body_told body.now (numbered body.now state.old)) }
+    ensures numbered { OnOk result (state.new ≡ numbered body.now state.old) }
 {
     match body {
         Body::Nothing => Ok(Shape::Nothing),
         Body::Capabilities => Ok(Shape::Capabilities),
         Body::Breakpoints { rooted, listed } => {
             let told = breakpoints_told(alloc, *rooted, &state.wishes, listed.as_slice())?;
+            add_told(&mut state.bound, told.as_slice())?;
             Ok(Shape::Breakpoints(told))
         }
         Body::Threads(named) => {
+            add_threads(&mut state.threads, named.as_slice())?;
             Ok(Shape::Threads(threads_told(alloc, &state.threads, named.as_slice())?))
         }
     }
 }
 
-/// How an outcome is told, once its threads have their numbers.
+/// How an outcome is told, once its threads have their numbers; the client knows of its breakpoints from there on.
 pub(crate) fn outcome_told(
     alloc: Global,
     outcome: Outcome,
@@ -96,10 +99,7 @@ pub(crate) fn outcome_told(
     ensures numbered { OnOk result (state.new ≡ numbered_by outcome state.old) }
 {
     match outcome {
-        Outcome::Success(body) => {
-            number(&body, state)?;
-            Ok(OutcomeTold::Success(body_told(alloc, &body, state)?))
-        }
+        Outcome::Success(body) => Ok(OutcomeTold::Success(body_told(alloc, &body, state)?)),
         Outcome::Failure(failure) => Ok(OutcomeTold::Failure(failure)),
     }
 }
@@ -117,11 +117,14 @@ pub fn response_to(alloc: Global, request: &Request, outcome: OutcomeTold) -> Re
 }
 
 /// How an event is told.
-pub(crate) fn event_told(event: Event) -> EventTold
-    ensures { (state : AState) → result ≡ event_told event state }
+pub(crate) fn event_told(event: Event, state: &State) -> EventTold
+    ensures { result ≡ event_told event state.now }
 {
     match event {
         Event::Initialized => EventTold::Initialized,
+        Event::Breakpoint(entry) => {
+            EventTold::Breakpoint(verified_told(state.options.lines_from_one, entry))
+        }
         Event::Terminated => EventTold::Terminated,
     }
 }

@@ -7,7 +7,7 @@ ghost use Rattle.machine_model.specs.Rows.{breakpoint_parts};
 
 use crate::state::State;
 use dap_messages::{Breakpoint, BreakpointStatus, SetBreakpointsArguments, SourceBreakpoint};
-use machine_model::{Body, ListedBreakpoint, Lookup, Note, Outcome, Part};
+use machine_model::{Body, Choice, ListedBreakpoint, Lookup, Note, Outcome, Part};
 use std::alloc::Global;
 use std::collections::VecDeque;
 use wire_core::{List, NoMemory, Text};
@@ -187,8 +187,9 @@ fn breakpoint_parts(
     from_one: bool,
     key: Option<Text>,
     listed: List<ListedBreakpoint>,
+    below: u64,
 ) -> Result<VecDeque<Part>, NoMemory>
-    ensures { IfOk result (λ parts. parts.items ≡ breakpoint_parts from_one key listed) }
+    ensures { IfOk result (λ parts. parts.items ≡ breakpoint_parts from_one key listed below) }
 {
     let rooted = key.is_some();
     let entries = entries_of(alloc, from_one, listed.as_slice())?;
@@ -199,13 +200,15 @@ fn breakpoint_parts(
             Part::Updates,
             Part::Looks(Lookup::Classes),
             Part::Updates,
+            Part::Unfolds(Choice::TellsBound(below)),
             Part::Responds(Outcome::Success(Body::Breakpoints { rooted, listed })),
         ],
     )?)
 }
 
-/// What `setBreakpoints` does: its breakpoints get their ids, and are written down under the key of their source.
-/// `NoMemory` comes where memory is refused, or where the ids have no room (DAP specification, SetBreakpoints request).
+/// What `setBreakpoints` does: its breakpoints get their ids, and are written down under the key of their source; and
+/// the client is told of older ones that are verified by it. `NoMemory` comes where memory is refused, or where the ids
+/// have no room (DAP specification, SetBreakpoints request).
 pub(crate) fn breakpoints_row(
     alloc: Global,
     arguments: &SetBreakpointsArguments,
@@ -213,11 +216,17 @@ pub(crate) fn breakpoints_row(
 ) -> Result<VecDeque<Part>, NoMemory>
     ensures { IfOk result (λ parts. parts.items
         ≡ breakpoint_parts state.now.options.lines_from_one (key_of state.now.roots arguments.now.path)
-        (numbered_from state.now.next_entry arguments.now.breakpoints)) }
+        (numbered_from state.now.next_entry arguments.now.breakpoints) state.now.next_entry) }
 {
     let key = key_of(alloc, state.roots.as_slice(), arguments.path.as_str())?;
     let listed = numbered_from(alloc, state.next_entry, arguments.breakpoints.as_slice())?;
-    breakpoint_parts(alloc, state.options.lines_from_one, key, listed)
+    breakpoint_parts(
+        alloc,
+        state.options.lines_from_one,
+        key,
+        listed,
+        state.next_entry,
+    )
 }
 
 fn status_by(stands: Option<EntryState>) -> BreakpointStatus

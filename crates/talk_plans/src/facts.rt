@@ -7,7 +7,7 @@ ghost use Rattle.machine_model.specs.Replying.{learnt};
 
 use class_tables::Classes;
 use jdwp_commands::{Answer, LoadedClass, Question, Replied};
-use jdwp_values::{ClassId, Field, LineTable, Method, Variable};
+use jdwp_values::{ClassId, Field, LineTable, Method, TypeTag, Variable};
 use std::alloc::Global;
 use wire_core::{Blob, List, NoMemory};
 
@@ -135,15 +135,34 @@ fn has_prepared(status: i32) -> bool
     status.cast_unsigned() / 2 % 2 == 1
 }
 
+/// Learns a class by what a list of all classes has of it, or the event that it was prepared (JDWP, VirtualMachine
+/// command set, AllClasses; JDWP, Event command set, Composite, ClassPrepare).
+pub(crate) fn learn_loaded(
+    alloc: Global,
+    classes: &mut Classes,
+    class: ClassId,
+    tag: TypeTag,
+    signature: &[u8],
+    status: i32,
+) -> Result<(), NoMemory>
+    ensures { OnOk result (classes.new ≡ with_listed classes.old
+        (record { tag = tag; class = class; signature = signature.now; status = status })) }
+{
+    let signature = Blob::from_slice(alloc, signature)?;
+    classes.learn(class, tag, signature, has_prepared(status))
+}
+
 fn learn_listed(alloc: Global, classes: &mut Classes, class: &LoadedClass) -> Result<(), NoMemory>
     ensures { OnOk result (classes.new ≡ with_listed classes.old class.now) }
 {
-    let signature = Blob::from_slice(alloc, class.signature.as_slice())?;
-    classes.learn(
+    let signature = class.signature.as_slice();
+    learn_loaded(
+        alloc,
+        classes,
         class.class,
         class.tag,
         signature,
-        has_prepared(class.status),
+        class.status,
     )
 }
 

@@ -12,7 +12,7 @@ ghost use Rattle.talk_plans.specs.Planning.{lacking_name, lacks_or, name_known, 
 ghost use Rattle.talk_plans.specs.Planning.{need_or, sight_in};
 
 use crate::asked::Asked;
-use crate::class_plans::all_needs;
+use crate::class_plans::{all_found, all_lacking};
 use crate::question_key::QuestionKey;
 use crate::state::State;
 use dap_messages::Failure;
@@ -159,10 +159,9 @@ fn classes_need(alloc: Global, state: &State, asked: &Asked) -> Result<Need, NoM
     if state.unlisted {
         return listing_need(alloc, asked);
     }
-    let needs = all_needs(alloc, state, asked)?;
-    match lacks(needs.lacking) {
+    match lacks(all_lacking(alloc, state, asked)?) {
         Some(found) => Ok(found),
-        None => Ok(Need::Has(Finding::Classes(needs.found))),
+        None => Ok(Need::Has(Finding::Classes(all_found(alloc, state, asked)?))),
     }
 }
 

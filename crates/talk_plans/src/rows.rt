@@ -11,7 +11,9 @@ ghost use Rattle.machine_model.specs.State.{Hand as AHand};
 ghost use Rattle.machine_model.specs.declared.parts.Part.TheVariants.{Responds};
 
 use crate::breakpoints::breakpoints_row;
+use crate::composites::composite_parts;
 use crate::copies::text_copies;
+use crate::news::news;
 use crate::state::State;
 use dap_messages::{Command, Failure, InitializeArguments};
 use machine_model::{
@@ -170,7 +172,9 @@ pub(crate) fn parts_of(
 {
     match item {
         Item::Request(request) => request_parts(alloc, &request.command, state),
-        Item::Composite { .. } => Ok(VecDeque::new(alloc)),
+        Item::Composite { at, composite } => {
+            composite_parts(alloc, state.phase, composite.policy, *at, state.next_entry)
+        }
         Item::Raw { .. } => Ok(VecDeque::new(alloc)),
         Item::TargetEnd => end_parts(alloc, state.terminated),
     }
@@ -202,6 +206,7 @@ pub(crate) fn chosen(
     ensures { IfOk result (λ parts. (hand : AHand) → parts.items ≡ chosen choice state.now hand) }
 {
     match choice {
+        Choice::TellsBound(below) => news(alloc, below, state),
         Choice::Leaves(exits) => leaves(alloc, state.phase, exits),
     }
 }
@@ -219,6 +224,7 @@ fn choice_responds(choice: Choice) -> bool
     ensures { result ≡ choice_responds choice }
 {
     match choice {
+        Choice::TellsBound(_) => false,
         Choice::Leaves(_) => false,
     }
 }

@@ -1,32 +1,38 @@
 //! What a session knows.
 ghost use Rattle.std.specs.Prelude.{◌≡◌, true, IfOk, OnOk, option_map};
-ghost use Rattle.machine_model.specs.Replying.{done_by, told_by};
+ghost use Rattle.machine_model.specs.Plans.{answer_in};
+ghost use Rattle.machine_model.specs.Replying.{done_by, learnt, told_by};
 ghost use Rattle.talk_plans.specs.Sizes.{sizes_seen};
 ghost use Rattle.talk_plans.specs.Talking.{IsNext};
 ghost use Rattle.machine_model.specs.Rest.{awaits_greeting};
-ghost use Rattle.machine_model.specs.Rows.{noted};
+ghost use Rattle.machine_model.specs.Rows.{noted, taken};
 ghost use Rattle.machine_model.specs.State.{is_attached, is_gone, nothing_known};
 ghost use Rattle.machine_model.specs.Telling.{after_event, attached_from};
 ghost use Rattle.machine_model.specs.declared.items.Phase.TheVariants.{Gone};
 ghost use Rattle.machine_model.specs.declared.parts.Note.TheVariants.{Lines};
 
+use crate::bound::BoundIds;
+use crate::composites::learn_in;
 use crate::effects::{settle, unlisted_by};
 use crate::facts::learn;
+use crate::open_classes::{OpenClasses, all_open, stays_open, trimmed};
 use crate::sizes::{SizesRead, sizes_in};
 use crate::threads::ThreadNumbers;
 use class_tables::Classes;
 use jdwp_commands::{Question, Replied};
-use machine_model::{ClientOptions, Effect, Event, Note, Phase};
+use machine_model::{ClientOptions, Effect, Event, Item, Note, Phase};
 use std::alloc::Global;
 use std::marker::Model;
+use std::mem;
 use wire_core::{List, NoMemory, Text};
 use wish_sets::{LineEntry, Wishes};
 
 /// What a session knows: how the client wants to be served; where it stands with its target, which sides of the
 /// handshake went out and came, and the sizes of ids; the folders that sources stand in; the id that the next
 /// breakpoint gets; which event requests are wished and which stand; whether a watch was set since all classes were
-/// listed; the facts of classes; the threads that were told; and whether the client was told that nothing more comes of
-/// the target.
+/// listed; the facts of classes; the threads that were told; the breakpoints that were told to be verified; whether the
+/// client was told that nothing more comes of the target; and, where that was found out, which classes may lack
+/// something, of which contracts see nothing.
 #[derive(Debug, Drop)]
 pub struct State {
     pub(crate) options: ClientOptions,
@@ -40,12 +46,16 @@ pub struct State {
     pub(crate) unlisted: bool,
     pub(crate) classes: Classes,
     pub(crate) threads: ThreadNumbers,
+    pub(crate) bound: BoundIds,
     pub(crate) terminated: bool,
+    pub(crate) left: Option<OpenClasses>,
 }
 
 impl Model for State {
-    ghost use Rattle.std.specs.Prelude.{option_map};
+    ghost use Rattle.std.specs.Prelude.{IfSome, option_map};
+    ghost use Rattle.class_tables.specs.Lookups.{found_in};
     ghost use Rattle.machine_model.specs.State.{State as AState};
+    ghost use Rattle.talk_plans.specs.OpenClasses.{AreOpen};
     ghost use Rattle.talk_plans.specs.Sizes.{sizes_seen};
 
     ghost Value = { AState };
@@ -62,8 +72,11 @@ impl Model for State {
       unlisted = s.unlisted;
       classes = s.classes;
       threads = s.threads;
+      bound = s.bound;
       terminated = s.terminated;
     } };
+
+    ghost invariant = { λ s. IfSome s.left (λ left. AreOpen s.wishes.wanted (found_in s.classes) left) };
 }
 
 impl State {
@@ -87,7 +100,9 @@ impl State {
             unlisted: false,
             classes: Classes::new(alloc),
             threads: ThreadNumbers::new(alloc),
+            bound: BoundIds::new(alloc),
             terminated: false,
+            left: None,
         })
     }
 
@@ -165,15 +180,35 @@ impl State {
     }
 
     // What the telling of an event changes.
-    pub(crate) fn tell(&mut self, event: Event)
-        ensures { self.new ≡ after_event event self.old }
+    pub(crate) fn tell(&mut self, event: Event) -> Result<(), NoMemory>
+        ensures { OnOk result (self.new ≡ after_event event self.old) }
     {
         match event {
-            Event::Initialized => self.phase = attached_from(self.phase),
+            Event::Initialized => {
+                self.phase = attached_from(self.phase);
+                Ok(())
+            }
+            Event::Breakpoint(entry) => self.bound.add(entry.id),
             Event::Terminated => {
                 self.phase = Phase::Gone;
                 self.terminated = true;
+                Ok(())
             }
+        }
+    }
+
+    // What an item tells of classes is learnt as it is begun.
+    pub(crate) fn take(&mut self, alloc: Global, item: &Item) -> Result<(), NoMemory>
+        ensures { OnOk result (self.new ≡ taken item.now self.old) }
+    {
+        match item {
+            Item::Request(_) => Ok(()),
+            Item::Composite { composite, .. } => {
+                self.left = None;
+                learn_in(alloc, self.phase, composite, &mut self.classes)
+            }
+            Item::Raw { .. } => Ok(()),
+            Item::TargetEnd => Ok(()),
         }
     }
 
@@ -192,6 +227,7 @@ impl State {
             }
             Note::Lines { key, entries } => self.list_lines(alloc, key, entries),
             Note::Classes(those) => {
+                self.left = None;
                 self.wishes
                     .classes_known(alloc, &self.classes, those.as_slice())
             }
@@ -211,6 +247,7 @@ impl State {
             return Err(NoMemory);
         };
         if let Some(key) = key {
+            self.left = None;
             self.wishes.set_lines(alloc, key, entries)?;
         }
         self.next_entry = next;
@@ -232,12 +269,45 @@ impl State {
                 Ok(())
             }
             Question::AllClasses => {
+                self.left = None;
                 learn(alloc, question, replied, &mut self.classes)?;
                 self.unlisted = false;
                 Ok(())
             }
-            _ => learn(alloc, question, replied, &mut self.classes),
+            _ => self.learn_fact(alloc, question, replied),
         }
+    }
+
+    // The fact of a class is learnt. Where it is new, classes that lack nothing still do.
+    #[tactic(auto, using(crate::proofs::OpenLaws::stay_found_out))]
+    fn learn_fact(
+        &mut self,
+        alloc: Global,
+        question: &Question,
+        replied: &Replied,
+    ) -> Result<(), NoMemory>
+        ensures { OnOk result (self.new
+            ≡ record self.old { classes = learnt question.now (answer_in replied.now) self.old.classes }) }
+    {
+        let stays = stays_open(&self.classes, question);
+        let left = mem::replace(&mut self.left, None);
+        learn(alloc, question, replied, &mut self.classes)?;
+        if stays {
+            self.left = left;
+        }
+        Ok(())
+    }
+
+    // It is found out which classes may lack something, by what is known now.
+    pub(crate) fn open_classes(&mut self, alloc: Global) -> Result<(), NoMemory>
+        ensures { OnOk result (self.new ≡ self.old) }
+    {
+        let left = match mem::replace(&mut self.left, None) {
+            None => all_open(alloc, &self.classes, &self.wishes)?,
+            Some(left) => trimmed(alloc, &self.classes, &self.wishes, left)?,
+        };
+        self.left = Some(left);
+        Ok(())
     }
 
     // What the reply to the effect that was due tells.
@@ -245,6 +315,7 @@ impl State {
         requires { IsNext effect.now self.old.wishes }
         ensures { self.new ≡ done_by effect.now replied.now self.old }
     {
+        self.left = None;
         self.unlisted = unlisted_by(effect, replied, self.unlisted);
         settle(&mut self.wishes, effect, replied);
     }

@@ -2,7 +2,7 @@
 ghost use Rattle.std.specs.Prelude.{◌≡◌, ◌++◌, IfOk, OnOk};
 ghost use Rattle.machine_model.specs.Due.{asked_by, asked_first, lacked_by, way};
 ghost use Rattle.machine_model.specs.Plans.{lacking};
-ghost use Rattle.machine_model.specs.Rows.{parts_of};
+ghost use Rattle.machine_model.specs.Rows.{parts_of, taken};
 ghost use Rattle.machine_model.specs.State.{Machine, State as AState, in_hand};
 ghost use Rattle.talk_plans.specs.Talking.{AreSized, StaysSized, asks, does, goes_on, holding, step_of, talk_due};
 ghost use Rattle.talk_plans.specs.Planning.{need_of};
@@ -76,12 +76,15 @@ fn lacking(alloc: Global, need: Need) -> Result<VecDeque<Want>, NoMemory>
 }
 
 impl Talk {
-    /// An item is begun.
-    pub fn start(alloc: Global, item: Item, state: &State) -> Result<Talk, NoMemory>
-        ensures begun { IfOk result (λ talk. talk ≡ in_hand item (parts_of state.now item)) }
-        ensures sized { IfOk result (λ talk. AreSized state.now talk) }
+    /// An item is begun. The classes that a composite tells of are learnt; `NoMemory` comes where memory is refused
+    /// (JDWP, Event command set, Composite, ClassPrepare).
+    pub fn start(alloc: Global, item: Item, state: &mut State) -> Result<Talk, NoMemory>
+        ensures begun { IfOk result (λ talk. talk ≡ in_hand item (parts_of state.old item)) }
+        ensures taken { OnOk result (state.new ≡ taken item state.old) }
+        ensures sized { IfOk result (λ talk. AreSized state.new talk) }
     {
         let parts = parts_of(alloc, state, &item)?;
+        state.take(alloc, &item)?;
         Ok(Talk {
             item,
             parts,
@@ -121,11 +124,13 @@ impl Talk {
 
 impl Talk {
     // What the part in front lacks.
-    fn lacked(&self, alloc: Global, state: &State) -> Result<VecDeque<Want>, NoMemory>
-        ensures { IfOk result (λ wants. wants.items ≡ lacked_by state.now self.now self.now.parts) }
+    fn lacked(&self, alloc: Global, state: &mut State) -> Result<VecDeque<Want>, NoMemory>
+        ensures wants { IfOk result (λ wants. wants.items ≡ lacked_by state.old self.now self.now.parts) }
+        ensures same { OnOk result (state.new ≡ state.old) }
     {
         match self.parts.front() {
             Some(Part::Looks(lookup)) => {
+                look_ahead(alloc, *lookup, state)?;
                 lacking(
                     alloc,
                     found_for(alloc, *lookup, state, self.asking.asked())?,
@@ -170,8 +175,8 @@ impl Talk {
         match part {
             Part::Responds(outcome) => self.responds(alloc, state, outcome),
             Part::Tells(event) => {
-                state.tell(event);
-                Ok(Next::Tell(Told::Event(event_told(event))))
+                state.tell(event)?;
+                Ok(Next::Tell(Told::Event(event_told(event, state))))
             }
             Part::Sends(deed) => self.sends(state, deed),
             Part::Looks(lookup) => self.looks(alloc, state, lookup),
@@ -307,6 +312,21 @@ impl Talk {
                 });
                 Ok(Next::Send(effect))
             }
+        }
+    }
+}
+
+// Before classes are gone through, it is found out which may lack something, once all are listed.
+fn look_ahead(alloc: Global, lookup: Lookup, state: &mut State) -> Result<(), NoMemory>
+    ensures { OnOk result (state.new ≡ state.old) }
+{
+    match lookup {
+        Lookup::Threads => Ok(()),
+        Lookup::Classes => {
+            if state.unlisted {
+                return Ok(());
+            }
+            state.open_classes(alloc)
         }
     }
 }

@@ -5,17 +5,20 @@ use super::*;
 use crate::breakpoints::key_of;
 use dap_messages::{AttachArguments, Command, DisconnectArguments, Outcome, Request, Told};
 use jdwp_commands::{Answer, Question, Replied};
-use machine_model::Item;
+use jdwp_events::{Composite, Event as TargetEvent, Policy};
+use jdwp_values::{ClassId, ThreadId, TypeTag};
+use machine_model::{Event, Finish, Item};
 use std::alloc::Global;
 use std::rt::HostRuntime;
 use std::test::Fail;
-use wire_core::{List, NoMemory, Text};
+use wire_core::{Blob, List, NoMemory, Text};
 
 // What was seen of a step. A response that succeeds has the code 0.
 #[derive(Clone, Copy, Debug, PartialEq, Eq)]
 enum Seen {
     Goes,
     Responds(u8),
+    Ends(u64),
     Else,
 }
 
@@ -33,6 +36,7 @@ fn next_seen(next: &Next) -> Seen {
     match next {
         Next::Go => Seen::Goes,
         Next::Tell(message) => told(message),
+        Next::Over(Finish::OneThread(at)) => Seen::Ends(*at),
         _ => Seen::Else,
     }
 }
@@ -54,8 +58,8 @@ fn request(alloc: Global, name: &str, command: Command) -> Result<Item, NoMemory
     }))
 }
 
-fn attach(alloc: Global, state: &State) -> Result<Talk, NoMemory>
-    ensures { IfOk result (λ talk. AreSized state.now talk) }
+fn attach(alloc: Global, state: &mut State) -> Result<Talk, NoMemory>
+    ensures { IfOk result (λ talk. AreSized state.new talk) }
 {
     let mut source_roots = List::new(alloc);
     source_roots.push(Text::from_str(alloc, "/p/src")?)?;
@@ -63,8 +67,8 @@ fn attach(alloc: Global, state: &State) -> Result<Talk, NoMemory>
     Talk::start(alloc, request(alloc, "attach", command)?, state)
 }
 
-fn disconnect(alloc: Global, state: &State) -> Result<Talk, NoMemory>
-    ensures { IfOk result (λ talk. AreSized state.now talk) }
+fn disconnect(alloc: Global, state: &mut State) -> Result<Talk, NoMemory>
+    ensures { IfOk result (λ talk. AreSized state.new talk) }
 {
     let arguments = DisconnectArguments {
         terminate_debuggee: false,
@@ -133,6 +137,49 @@ fn leaving(alloc: Global, state: &mut State) -> Result<Seen, NoMemory> {
 fn a_disconnect_is_answered(rt: HostRuntime) -> Result<(), Fail> {
     let mut state = State::new(rt.alloc())?;
     assert_eq!(rt; leaving(rt.alloc(), &mut state)?, Seen::Responds(0));
+    Ok(())
+}
+
+// A class was prepared, which suspended so many threads.
+fn prepared(alloc: Global, policy: Policy) -> Result<Item, NoMemory> {
+    let mut events = List::new(alloc);
+    events.push(TargetEvent::ClassPrepare {
+        request: 3,
+        thread: ThreadId(1),
+        tag: TypeTag::Class,
+        class: ClassId(5),
+        signature: Blob::from_slice(alloc, b"La/B;")?,
+        status: 7,
+    })?;
+    Ok(Item::Composite {
+        at: 14,
+        composite: Composite { policy, events },
+    })
+}
+
+// Its first step in a session that is attached, and whether the class is known then.
+fn taken(alloc: Global, policy: Policy, state: &mut State) -> Result<(Seen, bool), NoMemory> {
+    state.tell(Event::Initialized)?;
+    let mut talk = Talk::start(alloc, prepared(alloc, policy)?, state)?;
+    let seen = stepped(alloc, &mut talk, state, false)?;
+    Ok((seen, state.classes.class(ClassId(5)).is_some()))
+}
+
+fn prepared_in(alloc: Global, policy: Policy) -> Result<(Seen, bool), NoMemory> {
+    let mut state = State::new(alloc)?;
+    taken(alloc, policy, &mut state)
+}
+
+#[test]
+fn a_class_that_was_prepared_is_known(rt: HostRuntime) -> Result<(), Fail> {
+    let table = [
+        (Policy::NoThread, Seen::Goes, true),
+        (Policy::EventThread, Seen::Ends(14), false),
+        (Policy::All, Seen::Goes, true),
+    ];
+    for (policy, seen, known) in table {
+        assert_eq!(rt; prepared_in(rt.alloc(), policy)?, (seen, known));
+    }
     Ok(())
 }
 
