@@ -9,7 +9,8 @@ use Rattle.machine_model.specs.Telling.{after_event, numbered_by}
 use Rattle.machine_model.proofs.Stepping.{Moves}
 use Rattle.bridge_core.specs.Names.{Event, Item, Note, Outcome}
 use Rattle.bridge_core.specs.Working.{is_work}
-use Rattle.bridge_core.proofs.WorkLaws.{due_moves, due_stays, is_own, not_lost, own_said}
+use Rattle.bridge_core.proofs.OwnMoves.{is_own, not_lost}
+use Rattle.bridge_core.proofs.WorkLaws.{due_moves, due_stays, own_said}
 
 -- What was heard is as it was, and so are the sizes of ids, and whether a `disconnect` was heard; a target that is gone stays gone; and where no
 -- composite could be read none can.
@@ -133,7 +134,7 @@ noted_same note state = record {
 
 framed_on : (m next : Machine) (said : Option Message) → is_own said ≡ true → Moves m said next → Framed m next
 framed_on m next said own (Moves.begins picked free none is) =
-    framed_by m next refl (no_change m.state) (picked_raw (is_gone m.state.phase) m.waiting picked is)
+    framed_by m next refl (record { heard = refl; sizes = refl; gone = λ is. is }) (picked_raw (is_gone m.state.phase) m.waiting picked is)
 framed_on m next said own (Moves.responds {outcome = outcome} free at is) =
     framed_by m next refl (numbered_same outcome m.state) (λ none. none)
 framed_on m next said own (Moves.tells {event = event} free at) =

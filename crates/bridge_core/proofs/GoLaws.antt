@@ -16,15 +16,16 @@ use Rattle.machine_model.specs.Runs.{Allows, Message, Run, said}
 use Rattle.machine_model.specs.State.{Hand, Machine}
 use Rattle.machine_model.specs.declared.acts.TargetCommand.{TargetCommand}
 use Rattle.machine_model.specs.declared.parts.Finish.{Finish}
-use Rattle.machine_model.specs.declared.parts.Finish.TheVariants.{Done as finish_done}
 use Rattle.machine_model.proofs.PendingLaws.{in_window}
 use Rattle.pending_table.specs.Windows.{Window, id_of, is_full, pending_under, with_sent}
 use Rattle.bridge_core.specs.Aligning.{Aligned}
 use Rattle.bridge_core.proofs.Pending.{sent_by}
-use Rattle.bridge_core.specs.Calls.{Finds, Goes, IsIdle, Sends}
+use Rattle.bridge_core.specs.Calls.{Finds, Goes, IsIdle, IsOver, Sends, finish_ending}
 use Rattle.bridge_core.specs.Cores.{CoreState, IsReady, fresh_core, with_machine}
 use Rattle.bridge_core.specs.Going.{Comes, IsSent, IsStep, IsTold, MaySend, is_hidden}
 use Rattle.bridge_core.specs.Names.{Act, Effect, Question, a_question, an_effect}
+use Rattle.bridge_core.specs.Hearing.{MayBe}
+use Rattle.bridge_core.proofs.HearLaws.{may_hold}
 use Rattle.bridge_core.specs.Working.{is_wait, is_work, work}
 use Rattle.bridge_core.proofs.FrameLaws.{due_framed}
 use Rattle.bridge_core.proofs.RunLaws.{asks_fits, hand_sized, sends_fits}
@@ -32,7 +33,7 @@ use Rattle.bridge_core.proofs.WindowLaws.{acts_aligned, aligned_length, asks_ali
 use Rattle.bridge_core.proofs.WorkLaws.{asks_free, due_any, due_less, due_stays, due_waiting, sends_alone}
 use Rattle.session_model.specs.Saying.{Speaks, nth_command, told_bytes}
 use Rattle.session_model.specs.States.{id_pending}
-use Rattle.session_model.specs.declared.ending.Ending.TheVariants.{Done}
+use Rattle.session_model.specs.declared.ending.Ending.{Ending}
 use Rattle.talk_plans.specs.Talking.{AreSized, act_of}
 use Rattle.talk_plans.specs.declared.next.Next.{Next}
 use Rattle.talk_plans.specs.declared.next.Next.TheVariants as nexts
@@ -445,14 +446,19 @@ rests_ready old mid c =
     (ap (λ (m : Machine). with_machine old m) (waits_same old mid nexts.Wait c refl) ∙ sym c.same) c.ready
 
 -- the session is over
-pub ends_so : (old mid : CoreState) (finish : Finish) → Comes old (nexts.Over finish) mid → Finds old mid Done
-ends_so old mid finish_done c =
-    let same = waits_same old mid (nexts.Over finish_done) c refl in
-    Finds.over (record {
+over_so : (old mid : CoreState) (finish : Finish) → Comes old (nexts.Over finish) mid → IsOver old finish mid
+over_so old mid finish c =
+    let same = waits_same old mid (nexts.Over finish) c refl in
+    record {
       goes = subst (λ (m : Machine). Goes old.machine m) same c.goes;
       is_due = ap (λ (w : Window). (due (id_pending w) mid.machine).act)
           (ap (λ (core : CoreState). core.commands) c.same)
           ∙ ap (λ (m : Machine). (due (id_pending old.commands) m).act) (sym same)
           ∙ ap (λ (to : Due). to.act) (sym c.is_due);
       same = c.same;
-    })
+    }
+
+pub ends_so : (old mid : CoreState) (finish : Finish) (ending : Ending) → Comes old (nexts.Over finish) mid
+    → MayBe ending (finish_ending finish) → Finds old mid ending
+ends_so old mid finish ending c may =
+    may_hold (Finds old mid) ending (finish_ending finish) Finds.no_memory (Finds.over (over_so old mid finish c)) may

@@ -1,7 +1,7 @@
 -- How what is judged of a packet ends a session.
-use Rattle.std.proofs.Common.{◌≡◌, ℕ, ◌+◌, ◌*◌, ◌||◌, ◌++◌, ◌∷◌, Bool, true, false, List, [], Option, None, Some, Ok, Err}
-use Rattle.std.proofs.Common.{refl, sym, ap, subst, ◌∙◌, get_or}
-use Rattle.std.specs.Prelude.{IfErr, IfOk, Result, ◌<◌, position}
+use Rattle.std.proofs.Common.{◌≡◌, ℕ, ◌+◌, ◌*◌, ◌||◌, ◌++◌, ◌∷◌, Bool, true, false, List, [], Option, None, Some, Ok}
+use Rattle.std.proofs.Common.{Err, refl, sym, ap, subst, ◌∙◌, get_or, ◌&&◌, ◌<◌, cond, arith, OnOk}
+use Rattle.std.specs.Prelude.{IfErr, IfOk, Result, ◌<◌, position, set}
 use Rattle.jdwp_commands.specs.Commands.{number_of}
 use Rattle.jdwp_commands.specs.declared.asked.Replied.{Replied}
 use Rattle.jdwp_commands.specs.declared.asked.Replied.TheVariants.{Error as an_error}
@@ -18,14 +18,18 @@ use Rattle.jdwp_values.specs.Sizes.{is_no_size}
 use Rattle.jdwp_values.specs.declared.sizes.IdSizes.{IdSizes}
 use Rattle.machine_model.specs.Due.{can_read}
 use Rattle.machine_model.specs.Replying.{SizesFor, sizes_of}
-use Rattle.machine_model.specs.Runs.{takes}
-use Rattle.machine_model.specs.State.{Machine, SizesRead, has_raw, is_gone, is_raw}
+use Rattle.machine_model.specs.Runs.{Allows, Message, Run, is_served, takes}
+use Rattle.machine_model.specs.State.{Machine, SizesRead, has_raw, is_gone, is_raw, is_some}
 use Rattle.machine_model.specs.declared.items.Item.{Item}
-use Rattle.machine_model.specs.declared.items.Item.TheVariants.{Raw as a_raw}
-use Rattle.bridge_core.specs.Hearing.{HasBadSizes, IsBadBody, IsFirstKept, IsRefused, IsUnserved, MayBe}
-use Rattle.bridge_core.specs.Hearing.{IsJudged, MayBeKept, answer_fault, composite_fault, is_tolerated_asked}
+use Rattle.machine_model.specs.declared.items.Item.TheVariants.{Composite as a_composite, Raw as a_raw}
+use Rattle.bridge_core.specs.Hearing.{AreServed, HasBadSizes, IsBadBody, IsFirstKept, IsJudged, IsReadFirst}
+use Rattle.bridge_core.specs.Hearing.{IsRefused, IsUnserved, MayBe, MayBeKept, MayBeUnserved, ReadsComposite, answer_fault}
+use Rattle.bridge_core.specs.Hearing.{composite_fault, is_tolerated_asked}
 use Rattle.bridge_core.specs.Moving.{RefusesKept}
 use Rattle.bridge_core.proofs.PickLaws.{kept_at}
+use Rattle.bridge_core.specs.Calls.{AreRead}
+use Rattle.jdwp_events.specs.declared.event.Event.{Event as TargetEvent}
+use Rattle.machine_model.specs.Composites.{are_prepares, is_prepare}
 use Rattle.session_model.specs.Faults.{IsBodyFault, IsCompositeFault, RefusesComposite, header, numbers_in}
 use Rattle.session_model.specs.declared.ending.Ending.{Ending}
 use Rattle.session_model.specs.declared.ending.Ending.TheVariants.{BadClient, BadTarget, ClientLink, Done, Flood, Idle}
@@ -33,6 +37,7 @@ use Rattle.session_model.specs.declared.ending.Ending.TheVariants.{Left, NoMemor
 use Rattle.session_model.specs.declared.ending.TargetFault.{TargetFault}
 use Rattle.session_model.specs.declared.ending.TargetFault.TheVariants.{BadCount, BadKind, BadPolicy, BadSizes, BadTag}
 use Rattle.session_model.specs.declared.ending.TargetFault.TheVariants.{Short, Trailing}
+use Rattle.std.specs.List.{list_all}
 
 -- a fault that was found at a place is that fault, and stands there
 found_at : (P : TargetFault → ℕ → Type 0) {at place : ℕ} {fault : TargetFault} (found : TargetFault)
@@ -80,7 +85,7 @@ is_answer_fault (body_faults.Trailing at) fault place is =
     found_at (IsBodyFault (body_faults.Trailing at)) Trailing is IsBodyFault.trailing
 
 -- what holds of want of memory and of an ending holds of what may be it
-may_hold : (P : Ending → Type 0) (ending wanted : Ending) → P NoMemory → P wanted → MayBe ending wanted → P ending
+pub may_hold : (P : Ending → Type 0) (ending wanted : Ending) → P NoMemory → P wanted → MayBe ending wanted → P ending
 may_hold P NoMemory wanted none is may = none
 may_hold P Done wanted none is may = subst P (sym may) is
 may_hold P Left wanted none is may = subst P (sym may) is
@@ -126,54 +131,136 @@ known_serve sizes found used is same =
     subst (λ (s : Option SizesRead). SizesFor s used) (sym (is ∙ ap (λ (s : SizesRead). Some s) same))
     SizesFor.sizes_read
 
+-- Composites that are served ------------------------------------------------------------------------------------------
+
+-- each event tells of a class that was prepared
+pub all_prepares : (events : List TargetEvent) → list_all is_prepare events ≡ are_prepares events
+all_prepares [] = refl
+all_prepares (event ∷ events) = by_test (is_prepare event) (all_prepares events)
+  where
+    by_test : (first : Bool) → list_all is_prepare events ≡ are_prepares events
+        → (first && list_all is_prepare events) ≡ cond first (are_prepares events) false
+    by_test true rest = rest
+    by_test false rest = refl
+
 -- Composites that were kept -------------------------------------------------------------------------------------------
 
--- the first of them ends the session
-refuses_first : (m : Machine) (used : IdSizes) (ending : Ending) → is_gone m.state.phase ≡ false
-    → m.state.sizes ≡ Some (sizes_of used) → IsFirstKept used m.waiting ending → RefusesKept m ending
-refuses_first m used ending near sizes first = by_unserved first.unserved
+or_true : (raw : Bool) → (raw || true) ≡ true
+or_true true = refl
+or_true false = refl
+
+raw_within : (before : List Item) (at : ℕ) (body : List ℕ) (after : List Item)
+    → has_raw (before ++ a_raw at body ∷ after) ≡ true
+raw_within [] at body after = refl
+raw_within (item ∷ before) at body after =
+    ap (λ (rest : Bool). is_raw item || rest) (raw_within before at body after) ∙ or_true (is_raw item)
+
+-- how many are left to be read
+abbrev pub raws : List Item → ℕ
+raws [] = 0
+raws (item ∷ items) = cond (is_raw item) (raws items + 1) (raws items)
+
+pub fewer_raws : (used : IdSizes) (left now : List Item) → IsReadFirst used left now → raws now < raws left
+fewer_raws used left now r =
+    let less = one_less r.before in
+    let were : raws left ≡ raws (r.before ++ a_raw r.at r.body ∷ r.after) = ap raws r.were in
+    let are : raws now ≡ raws (r.before ++ a_composite r.at r.composite ∷ r.after) = ap raws r.are in
+    omega arith
   where
-    waits : can_read m ≡ true
-    waits =
-        rw (near, sizes, first.waiting_are) (raw_within first.before first.at first.body first.after)
+    one_less : (before : List Item) → raws (before ++ a_composite r.at r.composite ∷ r.after) + 1
+        ≡ raws (before ++ a_raw r.at r.body ∷ r.after)
+    one_less [] = refl
+    one_less (item ∷ before) = by_test (is_raw item) (one_less before)
       where
-        or_true : (raw : Bool) → (raw || true) ≡ true
-        or_true true = refl
-        or_true false = refl
+        by_test : (raw : Bool) → raws (before ++ a_composite r.at r.composite ∷ r.after) + 1
+            ≡ raws (before ++ a_raw r.at r.body ∷ r.after)
+            → cond raw (raws (before ++ a_composite r.at r.composite ∷ r.after) + 1)
+            (raws (before ++ a_composite r.at r.composite ∷ r.after)) + 1
+            ≡ cond raw (raws (before ++ a_raw r.at r.body ∷ r.after) + 1)
+            (raws (before ++ a_raw r.at r.body ∷ r.after))
+        by_test true rest = ap (λ (n : ℕ). n + 1) rest
+        by_test false rest = rest
 
-        raw_within : (before : List Item) (at : ℕ) (body : List ℕ) (after : List Item)
-            → has_raw (before ++ a_raw at body ∷ after) ≡ true
-        raw_within [] at body after = refl
-        raw_within (item ∷ before) at body after =
-            ap (λ (rest : Bool). is_raw item || rest) (raw_within before at body after) ∙ or_true (is_raw item)
-
-    untaken : (composite : Composite) → takes m.state.phase composite ≡ false
-    untaken composite = rw near refl
-
-    fault_by : {fault : TargetFault} {offset : ℕ} → RefusesComposite m first.body first.at fault offset
-        → RefusesKept m (BadTarget fault offset 0)
-    fault_by refused = RefusesKept.faulty (record {
+-- the machine reads them
+pub reads_all : (m : Machine) (used : IdSizes) (left : List Item) → is_gone m.state.phase ≡ false
+    → m.state.sizes ≡ Some (sizes_of used) → AreServed used m.waiting left
+    → AreRead m (record m { waiting = left })
+reads_all m used left near sizes AreServed.none = AreRead.none
+reads_all m used left near sizes (AreServed.one_more middle served first) =
+    AreRead.one_more (record m { waiting = middle }) (reads_all m used middle near sizes served) (record {
       before = first.before;
       after = first.after;
       at = first.at;
       body = first.body;
-      can_be_read = waits;
+      composite = first.composite;
+      used = used;
+      serves = serves;
+      reads = first.reads.reads;
+      can = rw (near, sizes, first.were) (raw_within first.before first.at first.body first.after);
+      were = first.were;
+      is_first = first.is_first;
+      taken = record {
+        used = used;
+        serves = serves;
+        fits = first.reads.fits;
+        is_taken = rw (near, first.served) refl;
+      };
+      are = ap (λ (waiting : List Item). record m { waiting = waiting }) first.are;
+    })
+  where
+    serves : SizesFor m.state.sizes used
+    serves = subst (λ (known : Option SizesRead). SizesFor known used) (sym sizes) SizesFor.sizes_read
+
+-- the first that is left ends the session
+refuses_first : (m next : Machine) (used : IdSizes) (ending : Ending) → AreRead m next
+    → is_gone next.state.phase ≡ false → next.state.sizes ≡ Some (sizes_of used)
+    → IsFirstKept used next.waiting ending → RefusesKept m next ending
+refuses_first m next used ending read near sizes first = by_unserved first.unserved
+  where
+    fault_by : {fault : TargetFault} {offset : ℕ} → RefusesComposite next first.body first.at fault offset
+        → RefusesKept m next (BadTarget fault offset 0)
+    fault_by refused = RefusesKept.faulty read (record {
+      before = first.before;
+      after = first.after;
+      at = first.at;
+      body = first.body;
+      can_be_read = rw (near, sizes, first.waiting_are) (raw_within first.before first.at first.body first.after);
       waiting = first.waiting_are;
       is_first = first.is_first;
       refused = refused;
     })
 
-    by_body : {ending : Ending} → IsBadBody used first.body first.at ending → RefusesKept m ending
+    by_body : {ending : Ending} → IsBadBody used first.body first.at ending → RefusesKept m next ending
     by_body IsBadBody.no_memory = RefusesKept.no_memory
     by_body (IsBadBody.faulty {found} {fault} {place} reads is) =
         fault_by (RefusesComposite.bad_body used sizes reads (is_composite_fault found fault place is))
 
-    by_unserved : {ending : Ending} → IsUnserved used first.body first.at ending → RefusesKept m ending
+    by_unserved : {ending : Ending} → IsUnserved used first.body first.at ending → RefusesKept m next ending
     by_unserved (IsUnserved.bad_body bad) = by_body bad
-    by_unserved (IsUnserved.unserved {composite} reads) =
-        fault_by (RefusesComposite.not_taken used sizes reads (untaken composite))
+    by_unserved (IsUnserved.unserved {composite} reads other) =
+        fault_by (RefusesComposite.not_taken used sizes reads (rw (near, other) refl))
 
--- the composite that was kept at a place is the first
+-- the composite that was kept at a place is the first, and is read
+pub read_so : (used : IdSizes) (items : List Item) (place at : ℕ) (item : Item) (body : List ℕ)
+    (composite : Composite) → position is_raw items ≡ Some place → item ≡ get_or items place item
+    → item ≡ a_raw at body → ReadsComposite used body composite × (is_served composite ≡ true)
+    → IsReadFirst used items (set items place (a_composite at composite))
+read_so used items place at item body composite first there is read =
+    let k = kept_at items place item first there in
+    record {
+      before = k.before;
+      after = k.after;
+      at = at;
+      body = body;
+      composite = composite;
+      were = k.items_are ∙ ap (λ (i : Item). k.before ++ i ∷ k.after) is;
+      is_first = k.is_first;
+      reads = read.0;
+      served = read.1;
+      are = k.replaced (a_composite at composite);
+    }
+
+-- or it ends the session
 pub kept_so : (used : IdSizes) (items : List Item) (place at : ℕ) (item : Item) (body : List ℕ) (ending : Ending)
     → position is_raw items ≡ Some place → item ≡ get_or items place item → item ≡ a_raw at body
     → IsUnserved used body at ending → MayBeKept used items ending
@@ -189,16 +276,58 @@ kept_so used items place at item body ending first there is cause =
       unserved = cause;
     })
 
-pub refuses_kept : (m : Machine) (used : IdSizes) (ending : Ending) → is_gone m.state.phase ≡ false
-    → m.state.sizes ≡ Some (sizes_of used) → MayBeKept used m.waiting ending → RefusesKept m ending
-refuses_kept m used ending near sizes MayBeKept.no_memory = RefusesKept.no_memory
-refuses_kept m used ending near sizes (MayBeKept.kept first) = refuses_first m used ending near sizes first
+-- one that isn't served ends the session, behind those that were read
+pub unserved_behind : (used : IdSizes) (kept left now : List Item) (ending : Ending) → AreServed used kept left
+    → now ≡ left → MayBeKept used left ending → MayBeUnserved used kept now ending
+unserved_behind used kept left now ending served same MayBeKept.no_memory = MayBeUnserved.no_memory
+unserved_behind used kept left now ending served same (MayBeKept.kept first) =
+    subst (λ (items : List Item). MayBeUnserved used kept items ending) (sym same)
+    (MayBeUnserved.unserved served first)
 
-pub refuses_kept_so : {A : Type 0} (result : Result A Ending) (m : Machine) (used : IdSizes)
+pub refuses_kept : (m : Machine) (used : IdSizes) (left : List Item) (ending : Ending) → is_gone m.state.phase ≡ false
+    → m.state.sizes ≡ Some (sizes_of used) → MayBeUnserved used m.waiting left ending
+    → RefusesKept m (record m { waiting = left }) ending
+refuses_kept m used left ending near sizes MayBeUnserved.no_memory = RefusesKept.no_memory
+refuses_kept m used left ending near sizes (MayBeUnserved.unserved served first) =
+    refuses_first m (record m { waiting = left }) used ending (reads_all m used left near sizes served) near sizes first
+
+pub refuses_kept_so : {A : Type 0} (result : Result A Ending) (m : Machine) (used : IdSizes) (left : List Item)
     → is_gone m.state.phase ≡ false → m.state.sizes ≡ Some (sizes_of used)
-    → IfErr result (MayBeKept used m.waiting) → IfErr result (RefusesKept m)
-refuses_kept_so (Ok a) m used near sizes h = tt
-refuses_kept_so (Err ending) m used near sizes h = refuses_kept m used ending near sizes h
+    → IfErr result (MayBeUnserved used m.waiting left) → IfErr result (RefusesKept m (record m { waiting = left }))
+refuses_kept_so (Ok a) m used left near sizes h = tt
+refuses_kept_so (Err ending) m used left near sizes h = refuses_kept m used left ending near sizes h
+
+-- or all are read
+pub reads_kept_so : {A E : Type 0} (result : Result A E) (m : Machine) (used : IdSizes) (left : List Item)
+    → is_gone m.state.phase ≡ false → m.state.sizes ≡ Some (sizes_of used)
+    → OnOk result (AreServed used m.waiting left) → OnOk result (AreRead m (record m { waiting = left }))
+reads_kept_so (Ok a) m used left near sizes h = reads_all m used left near sizes h
+reads_kept_so (Err ending) m used left near sizes h = tt
+
+-- and none can be read then
+pub none_left_so : {A E : Type 0} (result : Result A E) (m : Machine) (left : List Item)
+    → OnOk result (has_raw left ≡ false) → OnOk result (can_read (record m { waiting = left }) ≡ false)
+none_left_so (Ok a) m left h = rw h (by_bools (is_gone m.state.phase) (is_some m.state.sizes))
+  where
+    by_bools : (gone sized : Bool) → cond gone false (cond sized false false) ≡ false
+    by_bools gone sized = grind arith
+none_left_so (Err ending) m left h = tt
+
+-- Runs ----------------------------------------------------------------------------------------------------------------
+
+-- a machine that is that of a run
+pub record RunTo (m : Machine) : Type 0 where
+  pub messages : List Message
+  pub run : Run messages m
+
+pub read_run : {m next : Machine} → RunTo m → AreRead m next → RunTo next
+read_run r AreRead.none = r
+read_run r (AreRead.one_more middle are one) =
+    let earlier = read_run r are in
+    subst RunTo (sym one.are) (record {
+      messages = earlier.messages ++ Message.reads one.at one.body one.composite ∷ [];
+      run = Run.moves earlier.run (Allows.reads one.before one.after one.can one.were one.is_first one.taken);
+    })
 
 -- Errors --------------------------------------------------------------------------------------------------------------
 

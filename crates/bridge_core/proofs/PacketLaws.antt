@@ -1,15 +1,15 @@
 -- What the target's packets do to a core: moves of the machine, and endings.
-use Rattle.std.proofs.Common.{◌≡◌, ℕ, ◌<◌, ◌++◌, ◌∷◌, Bool, true, false, cond, List, [], length, None}
-use Rattle.std.proofs.Common.{Some, Ok, Err, refl, sym, ap, subst, ◌≤◌}
+use Rattle.std.proofs.Common.{◌≡◌, ℕ, ◌<◌, ◌++◌, ◌∷◌, Bool, true, false, cond, List, [], length, None, Some, Ok, Err}
+use Rattle.std.proofs.Common.{refl, sym, ap, subst, ◌≤◌, ◌||◌}
 use Rattle.std.specs.Prelude.{IfErr, OnOk, Result}
 use Rattle.jdwp_packets.specs.Packets.{Packet, command_packet}
 use Rattle.jdwp_values.specs.declared.sizes.IdSizes.{IdSizes}
 use Rattle.machine_model.specs.Due.{can_read}
 use Rattle.machine_model.specs.Replying.{SizesFor, sizes_of}
 use Rattle.machine_model.specs.Runs.{Allows, Message, Run, with_item}
-use Rattle.machine_model.specs.State.{Machine, is_gone, is_some}
+use Rattle.machine_model.specs.State.{Machine, has_raw, is_gone, is_raw, is_some}
 use Rattle.bridge_core.specs.Names.{Item, a_composite, a_raw}
-use Rattle.bridge_core.specs.Calls.{IsLike, RefusesPacket, TakesPacket}
+use Rattle.bridge_core.specs.Calls.{AreRead, IsLike, RefusesPacket, TakesPacket}
 use Rattle.bridge_core.specs.Cores.{CoreState, IsReady, session_in, with_machine}
 use Rattle.bridge_core.specs.Hearing.{IsBadBody, IsUnserved}
 use Rattle.bridge_core.specs.Packets.{Hears, IsTakenIn, IsUntaken}
@@ -32,8 +32,14 @@ unread_early m item early = rw early (by_gone (is_gone m.state.phase))
     by_gone true = refl
     by_gone false = refl
 
-unread_gone : (m : Machine) (item : Item) → is_gone m.state.phase ≡ true → can_read (with_item m item) ≡ false
-unread_gone m item gone = rw gone refl
+raw_same : (items : List Item) (item : Item) → is_raw item ≡ false
+    → has_raw (items ++ item ∷ []) ≡ has_raw items
+raw_same [] item is = rw is refl
+raw_same (first ∷ items) item is = ap (λ (rest : Bool). is_raw first || rest) (raw_same items item is)
+
+pub unread_more : (m : Machine) (item : Item) → is_raw item ≡ false → can_read m ≡ false
+    → can_read (with_item m item) ≡ false
+unread_more m item is none = rw (raw_same m.waiting item is) none
 
 -- a composite is kept, before the sizes of ids are known
 pub keeps_so : (old new : CoreState) (at id set number : ℕ) (body : List ℕ) → IsReady old
@@ -46,7 +52,9 @@ keeps_so old new at id set number body ready is early same =
         message = Message.keeps at body;
         says = λ unheard there. subst (λ (offset : ℕ). PacketSays (session_in old unheard)
             (command_packet id set number body) (Message.keeps offset body) old.commands) there (PacketSays.keeps is);
+        behind = with_item old.machine (a_raw at body);
         allows = allowed;
+        reads = AreRead.none;
         same = refl;
       };
       sound = record {
@@ -60,7 +68,7 @@ keeps_so old new at id set number body ready is early same =
     allowed : Allows old.machine (Message.keeps at body) (with_item old.machine (a_raw at body))
     allowed = Allows.keeps (ap is_some early)
 
--- a composite is taken in a target that is gone
+-- a composite is taken
 pub takes_so : (old new : CoreState) (used : IdSizes) (at id set number : ℕ) (body : List ℕ) → IsReady old
     → is_composite set number ≡ true → old.machine.state.sizes ≡ Some (sizes_of used)
     → IsTakenIn old used at body new → Hears old at (command_packet id set number body) new
@@ -71,14 +79,16 @@ takes_so old new used at id set number body ready is sizes taken =
         says = λ unheard there. subst (λ (offset : ℕ). PacketSays (session_in old unheard)
             (command_packet id set number body) (Message.comes offset taken.composite) old.commands) there
             (PacketSays.comes is serves taken.reads.reads);
+        behind = with_item old.machine (a_composite at taken.composite);
         allows = allowed;
+        reads = AreRead.none;
         same = refl;
       };
       sound = record {
         messages = ready.sound.messages ++ Message.comes at taken.composite ∷ [];
         run = Run.moves ready.sound.run allowed;
         aligned = item_aligned old.commands.sent old.machine (a_composite at taken.composite) ready.sound.aligned;
-        none_to_read = unread_gone old.machine (a_composite at taken.composite) taken.gone;
+        none_to_read = unread_more old.machine (a_composite at taken.composite) refl ready.sound.none_to_read;
       };
     })
   where
@@ -91,7 +101,7 @@ takes_so old new used at id set number body ready is sizes taken =
       used = used;
       serves = serves;
       fits = taken.reads.fits;
-      is_taken = rw taken.gone refl;
+      is_taken = taken.taken;
     })
 
 -- where nothing changed
@@ -127,8 +137,8 @@ refuses_untaken old new used at id set number body ending is sizes untaken = by_
     by_unserved : {ending : Ending} → is_gone old.machine.state.phase ≡ false → new ≡ old
         → IsUnserved used body at ending → RefusesPacket old at (command_packet id set number body) new ending
     by_unserved near same (IsUnserved.bad_body bad) = by_body same bad
-    by_unserved near same (IsUnserved.unserved {composite} reads) =
-        faulty same (RefusesComposite.not_taken used sizes reads (rw near refl))
+    by_unserved near same (IsUnserved.unserved {composite} reads other) =
+        faulty same (RefusesComposite.not_taken used sizes reads (rw (near, other) refl))
 
     by_cause : {ending : Ending} → IsUntaken old used at body new ending
         → RefusesPacket old at (command_packet id set number body) new ending

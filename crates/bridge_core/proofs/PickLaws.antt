@@ -1,7 +1,7 @@
 -- The item that is next, by its place.
 use Rattle.std.proofs.Common.{◌≡◌, ℕ, ◌+◌, suc, Bool, true, false, cond, not, List, [], ◌∷◌, ◌++◌, Option, Some, None}
 use Rattle.std.proofs.Common.{refl, sym, ap, subst, ◌∙◌, arith, length, get_or}
-use Rattle.std.specs.Prelude.{nat_lt, option_map, position}
+use Rattle.std.specs.Prelude.{nat_lt, option_map, position, set}
 use Rattle.std.specs.List.{position_or_len, remove}
 use Rattle.machine_model.specs.Due.{Picked, passed_by, pick}
 use Rattle.machine_model.specs.State.{has_raw, is_raw}
@@ -118,14 +118,15 @@ none_kept (item ∷ items) is =
     by_raw false at is rest = rw (at, rest (rest_none (position is_raw items) is)) refl
 
 -- the first of them, between those before it and those behind it
-pub record IsKeptAt (items : List Item) (item : Item) : Type 0 where
+pub record IsKeptAt (items : List Item) (place : ℕ) (item : Item) : Type 0 where
   pub before : List Item
   pub after : List Item
   pub items_are : items ≡ before ++ item ∷ after
   pub is_first : has_raw before ≡ false
+  pub replaced : (other : Item) → set items place other ≡ before ++ other ∷ after
 
 pub kept_at : (items : List Item) (place : ℕ) (item : Item) → position is_raw items ≡ Some place
-    → item ≡ get_or items place item → IsKeptAt items item
+    → item ≡ get_or items place item → IsKeptAt items place item
 kept_at [] place item is at = cc
 kept_at (first ∷ items) place item is at =
     by_raw (is_raw first) refl (sym (position_first is_raw first items) ∙ is)
@@ -133,8 +134,8 @@ kept_at (first ∷ items) place item is at =
   where
     by_rest : (found : Option ℕ) → position is_raw items ≡ found → is_raw first ≡ false
         → option_map (λ (n : ℕ). 1 + n) found ≡ Some place
-        → ((n : ℕ) → position is_raw items ≡ Some n → item ≡ get_or items n item → IsKeptAt items item)
-        → IsKeptAt (first ∷ items) item
+        → ((n : ℕ) → position is_raw items ≡ Some n → item ≡ get_or items n item → IsKeptAt items n item)
+        → IsKeptAt (first ∷ items) place item
     by_rest None there none is rest = cc
     by_rest (Some n) there none is rest =
         let more : 1 + n ≡ place = cc in
@@ -145,12 +146,14 @@ kept_at (first ∷ items) place item is at =
           after = found.after;
           items_are = ap (λ (others : List Item). first ∷ others) found.items_are;
           is_first = rw (none, found.is_first) refl;
+          replaced = λ other. ap (λ (k : ℕ). set (first ∷ items) k other) place_is
+              ∙ ap (λ (others : List Item). first ∷ others) (found.replaced other);
         }
 
     by_raw : (raw : Bool) → is_raw first ≡ raw
         → cond raw (Some 0) (option_map (λ (n : ℕ). 1 + n) (position is_raw items)) ≡ Some place
-        → ((n : ℕ) → position is_raw items ≡ Some n → item ≡ get_or items n item → IsKeptAt items item)
-        → IsKeptAt (first ∷ items) item
+        → ((n : ℕ) → position is_raw items ≡ Some n → item ≡ get_or items n item → IsKeptAt items n item)
+        → IsKeptAt (first ∷ items) place item
     by_raw true here is rest =
         let zero_is : 0 ≡ place = cc in
         let same : item ≡ first = at ∙ ap (λ (k : ℕ). get_or (first ∷ items) k item) (sym zero_is) in
@@ -159,5 +162,6 @@ kept_at (first ∷ items) place item is at =
           after = items;
           items_are = ap (λ (i : Item). i ∷ items) (sym same);
           is_first = refl;
+          replaced = λ other. ap (λ (k : ℕ). set (first ∷ items) k other) (sym zero_is);
         }
     by_raw false here is rest = by_rest (position is_raw items) refl here is rest

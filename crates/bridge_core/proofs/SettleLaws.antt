@@ -1,6 +1,6 @@
 -- Replies: moves of the machine, and endings.
 use Rattle.std.proofs.Common.{◌≡◌, ℕ, ◌+◌, ◌*◌, ◌<◌, ◌++◌, ◌∷◌, Bool, true, false, cond, List, [], length, Option}
-use Rattle.std.proofs.Common.{None, Some, Ok, Err, refl, sym, ap, subst, ◌∙◌, arith}
+use Rattle.std.proofs.Common.{None, Some, Ok, Err, refl, sym, ap, subst, ◌∙◌, arith, OnOk}
 use Rattle.std.specs.Prelude.{option_map, IfErr, Result}
 use Rattle.std.specs.List.{position_or_len, remove}
 use Rattle.jdwp_commands.specs.Answers.{answer_at}
@@ -21,15 +21,15 @@ use Rattle.pending_table.specs.Windows.{Window, pending_under, place_under, sett
 use Rattle.bridge_core.specs.Aligning.{Aligned}
 use Rattle.bridge_core.proofs.Pending as pending
 use Rattle.bridge_core.proofs.Pending.{has_id}
-use Rattle.bridge_core.specs.Calls.{IsAtFront, IsLike, RefusesPacket, TakesPacket}
-use Rattle.bridge_core.specs.Cores.{CoreState, IsReady, Unheard, session_in}
+use Rattle.bridge_core.specs.Calls.{AreRead, IsAtFront, IsLike, RefusesPacket, TakesPacket}
+use Rattle.bridge_core.specs.Cores.{CoreState, IsReady, Unheard, session_in, with_machine}
 use Rattle.bridge_core.specs.Hearing.{HasBadSizes, IsJudged, IsRefused, is_tolerated_asked}
 use Rattle.bridge_core.specs.Moving.{IsFlight, RefusesKept}
-use Rattle.bridge_core.specs.Names.{Effect, a_question, an_effect}
+use Rattle.bridge_core.specs.Names.{Effect, a_composite, a_question, an_effect}
 use Rattle.bridge_core.specs.Packets.{CanReply, Hears, IsSettled, IsUnsettled, Replies}
-use Rattle.bridge_core.proofs.HearLaws.{is_answer_fault}
+use Rattle.bridge_core.proofs.HearLaws.{is_answer_fault, read_run}
 use Rattle.bridge_core.proofs.RunLaws.{hand_next, near_late}
-use Rattle.bridge_core.proofs.WindowLaws.{effect_under, found, late_under, none_held, question_under}
+use Rattle.bridge_core.proofs.WindowLaws.{effect_under, found, items_aligned, late_under, none_held, question_under}
 use Rattle.session_model.specs.Faults.{HasReply, IsTargetFault, header}
 use Rattle.session_model.specs.Saying.{PacketSays, SaysReply}
 use Rattle.session_model.specs.declared.ending.Ending.{Ending}
@@ -183,10 +183,11 @@ says_reply sizes used command error body replied serves (IsJudged.answers reads 
 says_reply sizes used command error body replied serves (IsJudged.refuses positive tolerated) =
     SaysReply.refuses positive
 
-takes_to : (old : CoreState) (id place error at : ℕ) (body : List ℕ) (new : CoreState) → IsReady old
+-- a reply is taken, and behind it composites are read that were kept
+takes_to : (old : CoreState) (id place error at : ℕ) (body : List ℕ) (new : CoreState) (next : Machine) → IsReady old
     → place_under id old.commands.sent ≡ Some place → IsSettled old id place error body new
-    → TakesPacket old at (reply_packet id error body) new
-takes_to old id place error at body new ready there s =
+    → AreRead new.machine next → TakesPacket old at (reply_packet id error body) (with_machine new next)
+takes_to old id place error at body new next ready there s read =
     let r = is_replied old id place s.asked s.replied new.machine ready s.has there s.replies in
     let judged = subst (λ (a : Asked). IsJudged s.used a error body s.replied) (sym r.is_sent) s.judged in
     record {
@@ -195,40 +196,57 @@ takes_to old id place error at body new ready there s =
           (Message.answers r.command s.replied) window) (sym (ap (λ (c : CoreState). c.commands) s.same))
           (PacketSays.answers (s.has ∙ ap (λ (a : Asked). Some a) (sym r.is_sent))
           (says_reply old.machine.state.sizes s.used r.command error body s.replied s.serves judged));
+      behind = new.machine;
       allows = r.allows (is_reply old.machine.state.sizes s.used r.command error body s.replied s.serves judged);
-      same = s.same ∙ ap (λ window. record old { machine = new.machine; commands = window })
-          (sym (ap (λ (c : CoreState). c.commands) s.same));
+      reads = read;
+      same = ap (λ (c : CoreState). with_machine c next) s.same ∙ ap (λ window. record old {
+        machine = next;
+        commands = window;
+      }) (sym (ap (λ (c : CoreState). c.commands) s.same));
     }
 
+-- composites that are read leave what is pending
+read_aligned : (sent : List (ℕ × Asked)) {m next : Machine} → Aligned sent m → AreRead m next → Aligned sent next
+read_aligned sent a AreRead.none = a
+read_aligned sent a (AreRead.one_more middle are one) =
+    subst (λ (now : Machine). Aligned sent now) (sym one.are)
+    (items_aligned sent middle (one.before ++ a_composite one.at one.composite ∷ one.after) (read_aligned sent a are))
+
 -- a reply is taken
-pub settles_so : (old : CoreState) (id place error at : ℕ) (body : List ℕ) (new : CoreState) → IsReady old
-    → place_under id old.commands.sent ≡ Some place → IsSettled old id place error body new
-    → can_read new.machine ≡ false → Hears old at (reply_packet id error body) new
-settles_so old id place error at body new ready there s none =
-    let t = takes_to old id place error at body new ready there s in
+pub settles_so : (old : CoreState) (id place error at : ℕ) (body : List ℕ) (new : CoreState) (next : Machine)
+    → IsReady old → place_under id old.commands.sent ≡ Some place → IsSettled old id place error body new
+    → AreRead new.machine next → can_read next ≡ false
+    → Hears old at (reply_packet id error body) (with_machine new next)
+settles_so old id place error at body new next ready there s read none =
+    let t = takes_to old id place error at body new next ready there s read in
     let r = is_replied old id place s.asked s.replied new.machine ready s.has there s.replies in
+    let run = read_run (record {
+      messages = ready.sound.messages ++ t.message ∷ [];
+      run = Run.moves ready.sound.run t.allows;
+    }) t.reads in
     record {
       takes = t;
       sound = record {
-        messages = ready.sound.messages ++ t.message ∷ [];
-        run = Run.moves ready.sound.run t.allows;
-        aligned = subst (λ (sent : List (ℕ × Asked)). Aligned sent new.machine)
-            (sym (ap (λ (c : CoreState). c.commands.sent) s.same)) r.aligned;
+        messages = run.messages;
+        run = run.run;
+        aligned = read_aligned _ (subst (λ (sent : List (ℕ × Asked)). Aligned sent new.machine)
+            (sym (ap (λ (c : CoreState). c.commands.sent) s.same)) r.aligned) read;
         none_to_read = none;
       };
     }
 
--- the first of the composites that were kept ends the session behind it
-pub refuses_behind : (old : CoreState) (id place error at : ℕ) (body : List ℕ) (new : CoreState) (ending : Ending)
-    → IsReady old → place_under id old.commands.sent ≡ Some place → IsSettled old id place error body new
-    → RefusesKept new.machine ending → RefusesPacket old at (reply_packet id error body) new ending
-refuses_behind old id place error at body new ending ready there s refuses = by_cause refuses
+-- one of the composites that were kept ends the session behind it
+pub refuses_behind : (old : CoreState) (id place error at : ℕ) (body : List ℕ) (new : CoreState) (next : Machine)
+    (ending : Ending) → IsReady old → place_under id old.commands.sent ≡ Some place
+    → IsSettled old id place error body new → RefusesKept new.machine next ending
+    → RefusesPacket old at (reply_packet id error body) (with_machine new next) ending
+refuses_behind old id place error at body new next ending ready there s refuses = by_cause refuses
   where
-    by_cause : {ending : Ending} → RefusesKept new.machine ending
-        → RefusesPacket old at (reply_packet id error body) new ending
+    by_cause : {ending : Ending} → RefusesKept new.machine next ending
+        → RefusesPacket old at (reply_packet id error body) (with_machine new next) ending
     by_cause RefusesKept.no_memory = RefusesPacket.no_memory
-    by_cause (RefusesKept.faulty fault) =
-        RefusesPacket.kept (takes_to old id place error at body new ready there s) fault
+    by_cause (RefusesKept.faulty read fault) =
+        RefusesPacket.kept (takes_to old id place error at body new next ready there s read) fault
 
 -- Replies that end the session ----------------------------------------------------------------------------------------
 
@@ -373,9 +391,29 @@ unsettled_in core old window at id error body ending asked used same has serves 
 
 -- as `refuses_behind`, of a call's result
 pub refuses_behind_so : {A : Type 0} (result : Result A Ending) (old : CoreState) (id place error at : ℕ)
-    (body : List ℕ) (new : CoreState) → IsReady old → place_under id old.commands.sent ≡ Some place
-    → IsSettled old id place error body new → IfErr result (RefusesKept new.machine)
-    → IfErr result (RefusesPacket old at (reply_packet id error body) new)
-refuses_behind_so (Ok a) old id place error at body new ready there s h = tt
-refuses_behind_so (Err ending) old id place error at body new ready there s h =
-    refuses_behind old id place error at body new ending ready there s h
+    (body : List ℕ) (new : CoreState) (next : Machine) → IsReady old → place_under id old.commands.sent ≡ Some place
+    → IsSettled old id place error body new → IfErr result (RefusesKept new.machine next)
+    → IfErr result (RefusesPacket old at (reply_packet id error body) (with_machine new next))
+refuses_behind_so (Ok a) old id place error at body new next ready there s h = tt
+refuses_behind_so (Err ending) old id place error at body new next ready there s h =
+    refuses_behind old id place error at body new next ending ready there s h
+
+-- what reading does to the core that settled a reply, by what became of its machine
+pub settles_on : {A : Type 0} (result : Result A Ending) (old : CoreState) (id place error at : ℕ) (body : List ℕ)
+    (new : CoreState) (next : Machine) {core : CoreState} → IsReady old
+    → place_under id old.commands.sent ≡ Some place → IsSettled old id place error body new → core ≡ new
+    → OnOk result (AreRead core.machine next) → OnOk result (can_read next ≡ false)
+    → OnOk result (Hears old at (reply_packet id error body) (with_machine core next))
+settles_on (Ok a) old id place error at body new next {core} ready there s is read none =
+    settles_so old id place error at body core next ready there
+    (subst (λ (c : CoreState). IsSettled old id place error body c) (sym is) s) read none
+settles_on (Err ending) old id place error at body new next ready there s is read none = tt
+
+pub refuses_on : {A : Type 0} (result : Result A Ending) (old : CoreState) (id place error at : ℕ) (body : List ℕ)
+    (new : CoreState) (next : Machine) {core : CoreState} → IsReady old
+    → place_under id old.commands.sent ≡ Some place → IsSettled old id place error body new → core ≡ new
+    → IfErr result (RefusesKept core.machine next)
+    → IfErr result (RefusesPacket old at (reply_packet id error body) (with_machine core next))
+refuses_on result old id place error at body new next {core} ready there s is h =
+    refuses_behind_so result old id place error at body core next ready there
+    (subst (λ (c : CoreState). IsSettled old id place error body c) (sym is) s) h

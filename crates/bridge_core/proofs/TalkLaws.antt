@@ -6,7 +6,7 @@ use Rattle.jdwp_commands.specs.declared.asked.Asked.TheVariants as commands
 use Rattle.jdwp_commands.specs.declared.asked.Replied.{Replied}
 use Rattle.machine_model.specs.Due.{can_read, due, due_as, is_full, next_item, pick}
 use Rattle.machine_model.specs.Replying.{answered, ended_with, hand_replied, is_dead, is_leaving, pending_in}
-use Rattle.machine_model.specs.Rows.{parts_of}
+use Rattle.machine_model.specs.Rows.{parts_of, taken}
 use Rattle.machine_model.specs.State.{Hand, Machine, State, in_hand, is_gone}
 use Rattle.bridge_core.specs.Moving.{IsFlight, StepsTo}
 use Rattle.bridge_core.specs.Names.{Act, Effect, Item, Question, WireEffect, a_question, an_effect}
@@ -32,14 +32,19 @@ begins_none id_pending m waiting none read picked same =
     ap (λ (items : List Item). due_as Act.Waits (record m { waiting = items })) same
     ∙ sym (item_is_due id_pending m none read ∙ ap (next_item m) picked)
 
-pub begins_some : (id_pending : Bool) (m : Machine) (item : Item) (rest : List Item) (talk : Hand) (held : Option Hand)
-    → m.hand ≡ None → can_read m ≡ false
+pub begins_some : (id_pending : Bool) (m : Machine) (item : Item) (rest : List Item) (now : State) (talk : Hand)
+    (held : Option Hand) → m.hand ≡ None → can_read m ≡ false
     → pick (is_gone m.state.phase) m.waiting ≡ Some (record { item = item; rest = rest })
-    → talk ≡ in_hand item (parts_of m.state item) → held ≡ Some talk
-    → due_as Act.Goes (record m { waiting = rest; hand = held }) ≡ due id_pending m
-begins_some id_pending m item rest talk held none read picked begun is =
-    ap (λ (hand : Option Hand). due_as Act.Goes (record m { waiting = rest; hand = hand })) is
-    ∙ ap (λ (t : Hand). due_as Act.Goes (record m { waiting = rest; hand = Some t })) begun
+    → now ≡ taken item m.state → talk ≡ in_hand item (parts_of m.state item) → held ≡ Some talk
+    → due_as Act.Goes (record m { state = now; waiting = rest; hand = held }) ≡ due id_pending m
+begins_some id_pending m item rest now talk held none read picked learns begun is =
+    ap (λ (hand : Option Hand). due_as Act.Goes (record m { state = now; waiting = rest; hand = hand })) is
+    ∙ ap (λ (t : Hand). due_as Act.Goes (record m { state = now; waiting = rest; hand = Some t })) begun
+    ∙ ap (λ (s : State). due_as Act.Goes (record m {
+      state = s;
+      waiting = rest;
+      hand = Some (in_hand item (parts_of m.state item));
+    })) learns
     ∙ sym (item_is_due id_pending m none read ∙ ap (next_item m) picked)
 
 -- the item in hand goes on

@@ -12,14 +12,14 @@ use Rattle.machine_model.specs.Due.{lets, load_of, looked, newly_lacked, next_it
 use Rattle.machine_model.specs.Due.{queued_next, responded, updated, waiting, wanted, wanted_in, way}
 use Rattle.machine_model.specs.Due.Way.{passes, greets as greets_way, holds as holds_way, asks as asks_way}
 use Rattle.machine_model.specs.Lookups.{finished, found_for}
-use Rattle.bridge_core.specs.Names.{Act, Choice, Command, Does, Effect, Event, Failure, Finding, Item, Lookup, Note}
-use Rattle.bridge_core.specs.Names.{Outcome, Part, Question, TargetCommand, Want, a_composite, a_question, a_raw}
-use Rattle.bridge_core.specs.Names.{a_request, an_effect, target_end}
+use Rattle.bridge_core.specs.Names.{Act, Attached, Choice, Fresh, Gone, Leaves, Phase, TellsBound, Command, Does, Effect, Event, Failure, Finding, Item, Leaves, Lookup}
+use Rattle.bridge_core.specs.Names.{Note, Outcome, Part, Phase, Question, TargetCommand, TellsBound, Want}
+use Rattle.bridge_core.specs.Names.{a_composite, a_question, a_raw, a_request, an_effect, target_end}
 use Rattle.machine_model.specs.Outcomes.{result_of}
 use Rattle.machine_model.specs.Plans.{Need, Result, fails, has, lacks, question_of}
 use Rattle.machine_model.specs.Replying.{pending_in, pending_of, unanswered, unanswered_effect}
 use Rattle.machine_model.specs.Requests.{effect_due}
-use Rattle.machine_model.specs.Rows.{chosen, end_parts, failure_of, leaves, noted, parts_by, parts_of, row_of, wanting}
+use Rattle.machine_model.specs.Rows.{chosen, end_parts, failure_of, leaves, news, noted, parts_by, parts_of, row_of, wanting}
 use Rattle.machine_model.specs.Runs.{Allows, Message, Run, said}
 use Rattle.machine_model.specs.State.{Hand, Machine, State, has_waiting, is_empty, is_flying, is_gone, is_raw, knowing}
 use Rattle.machine_model.specs.State.{left}
@@ -30,8 +30,15 @@ use Rattle.machine_model.proofs.QuietLaws.{lacking_hand, load_in}
 use Rattle.machine_model.proofs.RestLaws.{is_free, near_queue}
 use Rattle.machine_model.proofs.Stepping.{IsAt, Loses, Moves, moved, walks_due}
 use Rattle.machine_model.proofs.TurnLaws.{Turns, turned, unsent}
-use Rattle.bridge_core.specs.Working.{hand_work, is_wait, is_work, one_if, one_unless, weight, weights}
-use Rattle.bridge_core.specs.Working.{work}
+use Rattle.bridge_core.specs.Working.{choice_weight, hand_work, is_wait, is_work, lines_of, one_if, one_unless}
+use Rattle.bridge_core.specs.Working.{waiting_work, weight, weights, work, work_of}
+use Rattle.jdwp_events.specs.declared.kind.Policy.{Policy}
+use Rattle.wish_sets.specs.Entries.{all_lines}
+use Rattle.wish_sets.specs.declared.entry.LineEntry.{LineEntry}
+use Rattle.machine_model.specs.Breakpoints.{newly_verified}
+use Rattle.machine_model.specs.Composites.{composite_parts}
+use Rattle.bridge_core.proofs.LineLaws.{lines_on, news_few}
+use Rattle.bridge_core.proofs.OwnMoves.{is_own, is_own_message, not_lost}
 
 -- Whether the next id is pending --------------------------------------------------------------------------------------
 
@@ -144,34 +151,52 @@ sends_alone {messages} {m} r id_pending effect is =
 
 -- The tables ----------------------------------------------------------------------------------------------------------
 
-finished_light : (lookup : Lookup) (result : Result Finding) (state : State)
-    → weights (finished lookup result state) < 10
-finished_light lookup result state = grind arith
+finished_light : (lines : ℕ) (lookup : Lookup) (result : Result Finding) (state : State)
+    → weights lines (finished lookup result state) < 10
+finished_light lines lookup result state = grind arith
 
-leaves_light : (exits : Bool) (state : State) → weights (leaves state.phase exits) < 10
-leaves_light exits state = grind arith
+leaves_light : (lines : ℕ) (exits : Bool) (state : State) → weights lines (leaves state.phase exits) < 10
+leaves_light lines exits state = grind arith
 
-chosen_light : (choice : Choice) (state : State) (hand : Hand) → weights (chosen choice state hand) < 10
-chosen_light choice state hand = grind arith
+news_light : (lines : ℕ) (phase : Phase) (entries : List LineEntry) → weights lines (news phase entries) ≤ length entries
+news_light lines Fresh entries = omega arith
+news_light lines Gone entries = omega arith
+news_light lines Attached [] = omega arith
+news_light lines Attached (entry ∷ entries) =
+    let more = news_light lines Attached entries in omega (arith, more)
 
-row_light : (command : Command) (state : State) → weights (row_of command state) < 60
-row_light command state = grind arith
+chosen_light : (lines : ℕ) (choice : Choice) (state : State) (hand : Hand)
+    → length (all_lines state.wishes.wanted) ≤ lines
+    → weights lines (chosen choice state hand) < choice_weight lines choice
+chosen_light lines (TellsBound below) state hand few =
+    let told = news_light lines state.phase (newly_verified below state.bound state.wishes) in
+    let listed = news_few below state.bound state.wishes in omega (arith, few, told, listed)
+chosen_light lines (Leaves exits) state hand few = leaves_light lines exits state
 
-parts_light : (failure : Option Failure) (row : List Part) → weights row < 60 → weights (parts_by failure row) < 60
-parts_light None row light = light
-parts_light (Some failure) row light = omega arith
+row_light : (lines : ℕ) (command : Command) (state : State) → weights lines (row_of command state) < 60 + lines
+row_light lines command state = grind arith
 
-end_light : (terminated : Bool) → weights (end_parts terminated) < 60
-end_light true = omega arith
-end_light false = omega arith
+parts_light : (lines : ℕ) (failure : Option Failure) (row : List Part) → weights lines row < 60 + lines
+    → weights lines (parts_by failure row) < 60 + lines
+parts_light lines None row light = light
+parts_light lines (Some failure) row light = omega arith
 
-begun_light : (state : State) (item : Item) → weights (parts_of state item) < 60
-begun_light state (a_request request) =
-    parts_light (failure_of (wanting request.command) state) (row_of request.command state)
-    (row_light request.command state)
-begun_light state (a_composite at composite) = omega arith
-begun_light state (a_raw at body) = omega arith
-begun_light state target_end = end_light state.terminated
+composite_light : (lines : ℕ) (phase : Phase) (policy : Policy) (at below : ℕ)
+    → weights lines (composite_parts phase policy at below) < 60 + lines
+composite_light lines phase policy at below = grind arith
+
+end_light : (lines : ℕ) (terminated : Bool) → weights lines (end_parts terminated) < 60 + lines
+end_light lines true = omega arith
+end_light lines false = omega arith
+
+begun_light : (lines : ℕ) (state : State) (item : Item) → weights lines (parts_of state item) < 60 + lines
+begun_light lines state (a_request request) =
+    parts_light lines (failure_of (wanting request.command) state) (row_of request.command state)
+    (row_light lines request.command state)
+begun_light lines state (a_composite at composite) =
+    composite_light lines state.phase composite.policy at state.next_entry
+begun_light lines state (a_raw at body) = omega arith
+begun_light lines state target_end = end_light lines state.terminated
 
 numbered_greets : (outcome : Outcome) (state : State) → (numbered_by outcome state).greeting_sent ≡ state.greeting_sent
 numbered_greets outcome state = grind arith
@@ -182,9 +207,11 @@ told_greets event state = grind arith
 noted_greets : (note : Note) (state : State) → (noted note state).greeting_sent ≡ state.greeting_sent
 noted_greets note state = grind arith
 
-weights_joined : (some others : List Part) → weights (some ++ others) ≡ weights some + weights others
-weights_joined [] others = omega arith
-weights_joined (part ∷ some) others = let more = weights_joined some others in omega arith
+weights_joined : (lines : ℕ) (some others : List Part)
+    → weights lines (some ++ others) ≡ weights lines some + weights lines others
+weights_joined lines [] others = omega arith
+weights_joined lines (part ∷ some) others =
+    let more = weights_joined lines some others in omega (arith, more)
 
 -- one item fewer waits
 picked_less : (gone : Bool) (items : List Item) (picked : Picked) → pick gone items ≡ Some picked
@@ -211,51 +238,98 @@ picked_less gone (item ∷ items) picked is =
         let rest : items ≡ picked.rest = cc in
         let long : length items ≡ length picked.rest = ap length rest in omega arith
 
+-- all but what it counts for is left
+picked_work : (lines : ℕ) (gone : Bool) (items : List Item) (picked : Picked) → pick gone items ≡ Some picked
+    → waiting_work lines picked.rest + (100 + lines) ≡ waiting_work lines items
+picked_work lines gone [] picked is = cc
+picked_work lines gone (item ∷ items) picked is =
+    by_test (cond gone false (is_raw item)) (pick gone items) is
+    (λ other same. picked_work lines gone items other same)
+  where
+    by_below : (below : Option Picked) → passed_by item below ≡ Some picked
+        → ((other : Picked) → below ≡ Some other
+        → waiting_work lines other.rest + (100 + lines) ≡ waiting_work lines items)
+        → waiting_work lines picked.rest + (100 + lines) ≡ waiting_work lines (item ∷ items)
+    by_below None is all = cc
+    by_below (Some other) is all =
+        let more = all other refl in
+        let rest : item ∷ other.rest ≡ picked.rest = cc in
+        let same = ap (waiting_work lines) rest in omega (arith, more, same)
+
+    by_test : (skips : Bool) (below : Option Picked)
+        → cond skips (passed_by item below) (Some (record { item = item; rest = items })) ≡ Some picked
+        → ((other : Picked) → below ≡ Some other
+        → waiting_work lines other.rest + (100 + lines) ≡ waiting_work lines items)
+        → waiting_work lines picked.rest + (100 + lines) ≡ waiting_work lines (item ∷ items)
+    by_test true below is all = by_below below is all
+    by_test false below is all =
+        let rest : items ≡ picked.rest = cc in
+        let same = ap (waiting_work lines) rest in omega (arith, same)
+
+-- Fewer breakpoints ---------------------------------------------------------------------------------------------------
+
+weight_fewer : (few many : ℕ) (part : Part) → few ≤ many → weight few part ≤ weight many part
+weight_fewer few many (Part.Unfolds (TellsBound below)) less = omega (arith, less)
+weight_fewer few many (Part.Unfolds (Leaves exits)) less = omega arith
+weight_fewer few many (Part.Looks lookup) less = omega arith
+weight_fewer few many (Part.Responds outcome) less = omega arith
+weight_fewer few many (Part.Tells event) less = omega arith
+weight_fewer few many (Part.Sends deed) less = omega arith
+weight_fewer few many (Part.Awaits guard) less = omega arith
+weight_fewer few many Part.Updates less = omega arith
+weight_fewer few many (Part.Notes note) less = omega arith
+weight_fewer few many (Part.Ends finish) less = omega arith
+
+weights_fewer : (few many : ℕ) (parts : List Part) → few ≤ many → weights few parts ≤ weights many parts
+weights_fewer few many [] less = omega arith
+weights_fewer few many (part ∷ parts) less =
+    let one = weight_fewer few many part less in
+    let others = weights_fewer few many parts less in omega (arith, one, others)
+
+hand_fewer : (few many : ℕ) (hand : Option Hand) → few ≤ many → hand_work few hand ≤ hand_work many hand
+hand_fewer few many None less = omega arith
+hand_fewer few many (Some hand) less = let all = weights_fewer few many hand.parts less in omega (arith, all)
+
+waiting_fewer : (few many : ℕ) (items : List Item) → few ≤ many → waiting_work few items ≤ waiting_work many items
+waiting_fewer few many [] less = omega arith
+waiting_fewer few many (item ∷ items) less =
+    let others = waiting_fewer few many items less in omega (arith, less, others)
+
+work_fewer : (few many : ℕ) (m : Machine) → few ≤ many → work_of few m ≤ work_of many m
+work_fewer few many m less =
+    let items = waiting_fewer few many m.waiting less in
+    let hand = hand_fewer few many m.hand less in omega (arith, items, hand)
+
 -- The moves -----------------------------------------------------------------------------------------------------------
 
--- the machine's own message, and not one that comes
-abbrev pub is_own_message : Message → Bool
-is_own_message (Message.tells told) = true
-is_own_message Message.greets = true
-is_own_message (Message.sends command) = true
-is_own_message _ = false
+begun_less : (lines : ℕ) (m : Machine) (picked : Picked) → m.hand ≡ None
+    → pick (is_gone m.state.phase) m.waiting ≡ Some picked
+    → work_of lines (begun m picked.item picked.rest) < work_of lines m
+begun_less lines m picked none is =
+    let less = picked_work lines (is_gone m.state.phase) m.waiting picked is in
+    let light = begun_light lines m.state picked.item in
+    let was : hand_work lines m.hand ≡ 0 = ap (hand_work lines) none in omega (arith, less, light, was)
 
-abbrev pub is_own : Option Message → Bool
-is_own None = true
-is_own (Some message) = is_own_message message
-
-pub not_lost : (m : Machine) (message : Message) (late : List TargetCommand) → Loses m message late
-    → is_own_message message ≡ false
-not_lost m message late Loses.by_end = refl
-not_lost m message late (Loses.by_question held waits reply last) = refl
-not_lost m message late (Loses.by_effect held flying reply last) = refl
-
-begun_less : (m : Machine) (picked : Picked) → m.hand ≡ None
-    → pick (is_gone m.state.phase) m.waiting ≡ Some picked → work (begun m picked.item picked.rest) < work m
-begun_less m picked none is =
-    let less = picked_less (is_gone m.state.phase) m.waiting picked is in
-    let light = begun_light m.state picked.item in
-    let was : hand_work m.hand ≡ 0 = ap hand_work none in omega arith
-
-part_less : (m : Machine) (hand : Hand) (part : Part) (rest parts : List Part) (state : State) → IsAt m hand part rest
-    → state.greeting_sent ≡ m.state.greeting_sent → weights parts < weight part + weights rest
-    → work (left (knowing m state) hand parts) < work m
-part_less m hand part rest parts state at greets less =
-    let was : hand_work m.hand ≡ hand_work (Some hand) = ap hand_work at.in_hand in
-    let heavy : weights hand.parts ≡ weight part + weights rest = ap weights at.parts in
+part_less : (lines : ℕ) (m : Machine) (hand : Hand) (part : Part) (rest parts : List Part) (state : State) → IsAt m hand part rest
+    → state.greeting_sent ≡ m.state.greeting_sent → weights lines parts < weight lines part + weights lines rest
+    → work_of lines (left (knowing m state) hand parts) < work_of lines m
+part_less lines m hand part rest parts state at greets less =
+    let was : hand_work lines m.hand ≡ hand_work lines (Some hand) = ap (hand_work lines) at.in_hand in
+    let heavy : weights lines hand.parts ≡ weight lines part + weights lines rest = ap (weights lines) at.parts in
     let same : one_unless state.greeting_sent ≡ one_unless m.state.greeting_sent = ap one_unless greets in
     omega arith
 
 -- an effect is sent for the part in front
-sent_less : (m : Machine) (hand : Hand) (part : Part) (rest : List Part) (now : Hand) → IsAt m hand part rest
-    → hand_work (Some now) < hand_work (Some hand) → work (record m { hand = Some now }) < work m
-sent_less m hand part rest now at less =
-    let was : hand_work m.hand ≡ hand_work (Some hand) = ap hand_work at.in_hand in omega arith
+sent_less : (lines : ℕ) (m : Machine) (hand : Hand) (part : Part) (rest : List Part) (now : Hand) → IsAt m hand part rest
+    → hand_work lines (Some now) < hand_work lines (Some hand)
+    → work_of lines (record m { hand = Some now }) < work_of lines m
+sent_less lines m hand part rest now at less =
+    let was : hand_work lines m.hand ≡ hand_work lines (Some hand) = ap (hand_work lines) at.in_hand in omega arith
 
-queued_less : (m : Machine) (hand : Hand) → load_of m ≡ lacking_more → m.hand ≡ Some hand
-    → work (record m { hand = Some (record hand { queue = newly_lacked m.state hand }) }) < work m
-queued_less m hand free is =
-    let was : hand_work m.hand ≡ hand_work (Some hand) = ap hand_work is in
+queued_less : (lines : ℕ) (m : Machine) (hand : Hand) → load_of m ≡ lacking_more → m.hand ≡ Some hand
+    → work_of lines (record m { hand = Some (record hand { queue = newly_lacked m.state hand }) }) < work_of lines m
+queued_less lines m hand free is =
+    let was : hand_work lines m.hand ≡ hand_work lines (Some hand) = ap (hand_work lines) is in
     let before : one_if (is_empty hand.queue) ≡ 1 = ap one_if
     (by_bools (can_read m) (is_flying hand.effect) (is_empty hand.queue) (is_empty (newly_lacked m.state hand))
     (has_waiting hand.asked) (load_in m hand lacking_more free (near_queue m free) is)) in
@@ -271,13 +345,13 @@ at_most : (b : Bool) → one_if b ≤ 1
 at_most true = omega arith
 at_most false = omega arith
 
-asked_less : (m : Machine) (hand : Hand) (want : Want) (wants : List Want) → is_full false m ≡ false
+asked_less : (lines : ℕ) (m : Machine) (hand : Hand) (want : Want) (wants : List Want) → is_full false m ≡ false
     → m.hand ≡ Some hand → hand.queue ≡ want ∷ wants
-    → work (record m { hand = option_map (asked_hand want) m.hand }) < work m
-asked_less m hand want wants room is are =
-    let was : hand_work m.hand ≡ hand_work (Some hand) = ap hand_work is in
-    let now : hand_work (option_map (asked_hand want) m.hand) ≡ hand_work (Some (asked_hand want hand)) =
-    ap (λ (held : Option Hand). hand_work (option_map (asked_hand want) held)) is in
+    → work_of lines (record m { hand = option_map (asked_hand want) m.hand }) < work_of lines m
+asked_less lines m hand want wants room is are =
+    let was : hand_work lines m.hand ≡ hand_work lines (Some hand) = ap (hand_work lines) is in
+    let now : hand_work lines (option_map (asked_hand want) m.hand) ≡ hand_work lines (Some (asked_hand want hand)) =
+    ap (λ (held : Option Hand). hand_work lines (option_map (asked_hand want) held)) is in
     let before : one_if (is_empty hand.queue) ≡ 0 = ap (λ (queue : List Want). one_if (is_empty queue)) are in
     let one : List TargetCommand = a_question (question_of want) ∷ [] in
     let more : length (flat_map unanswered (hand.asked ++ record { want = want; reply = None } ∷ []))
@@ -300,52 +374,62 @@ asked_less m hand want wants room is are =
         let outer = length-append m.late (flat_map unanswered hand.asked ++ unanswered_effect hand.effect) in
         let inner = length-append (flat_map unanswered hand.asked) (unanswered_effect hand.effect) in omega arith
 
-some_weight : (part : Part) (rest : ℕ) → rest < weight part + rest
-some_weight part rest = grind arith
+some_weight : (lines : ℕ) (part : Part) (rest : ℕ) → rest < weight lines part + rest
+some_weight lines part rest = grind arith
 
--- each move of the machine's own lessens what it can still do
-less_on : (m next : Machine) (said : Option Message) → is_own said ≡ true → Moves m said next → work next < work m
-less_on m next said own (Moves.begins picked free none is) = begun_less m picked none is
-less_on m next said own (Moves.drops {hand} free is none) =
-    let was : hand_work m.hand ≡ hand_work (Some hand) = ap hand_work is in omega arith
-less_on m next said own (Moves.responds {hand} {rest} {outcome = outcome} free at is) =
-    part_less m hand (Part.Responds outcome) rest rest (numbered_by outcome m.state) at
+-- each move of the machine's own lessens what it can still do, where so many breakpoints may be listed
+less_by : (lines : ℕ) (m next : Machine) (said : Option Message) → length (all_lines m.state.wishes.wanted) ≤ lines
+    → is_own said ≡ true → Moves m said next → work_of lines next < work_of lines m
+less_by lines m next said few own (Moves.begins picked free none is) = begun_less lines m picked none is
+less_by lines m next said few own (Moves.drops {hand} free is none) =
+    let was : hand_work lines m.hand ≡ hand_work lines (Some hand) = ap (hand_work lines) is in omega (arith, was)
+less_by lines m next said few own (Moves.responds {hand} {rest} {outcome = outcome} free at is) =
+    part_less lines m hand (Part.Responds outcome) rest rest (numbered_by outcome m.state) at
     (numbered_greets outcome m.state) (omega arith)
-less_on m next said own (Moves.finds {hand} {rest} {lookup} found free at needs done) =
+less_by lines m next said few own (Moves.finds {hand} {rest} {lookup} found free at needs done) =
     let parts = finished lookup (result_of found) m.state in
-    let light = finished_light lookup (result_of found) m.state in
-    let both = weights_joined parts rest in
-    part_less m hand (Part.Looks lookup) rest (parts ++ rest) m.state at refl (omega arith)
-less_on m next said own (Moves.passes_over {hand} {part} {rest} free at why) =
-    part_less m hand part rest rest m.state at refl (some_weight part (weights rest))
-less_on m next said own (Moves.tells {hand} {rest} {event} free at) =
-    part_less m hand (Part.Tells event) rest rest (after_event event m.state) at (told_greets event m.state)
+    let light = finished_light lines lookup (result_of found) m.state in
+    let both = weights_joined lines parts rest in
+    part_less lines m hand (Part.Looks lookup) rest (parts ++ rest) m.state at refl (omega (arith, light, both))
+less_by lines m next said few own (Moves.passes_over {hand} {part} {rest} free at why) =
+    part_less lines m hand part rest rest m.state at refl (some_weight lines part (weights lines rest))
+less_by lines m next said few own (Moves.tells {hand} {rest} {event} free at) =
+    part_less lines m hand (Part.Tells event) rest rest (after_event event m.state) at (told_greets event m.state)
     (omega arith)
-less_on m next said own (Moves.sends {hand} {rest} {deed} free at near) =
-    let heavy : weights hand.parts ≡ 1 + weights rest = ap weights at.parts in
-    sent_less m hand (Part.Sends deed) rest
-    (record hand { parts = rest; effect = Some (record { effect = Does deed; reply = None }) }) at (omega arith)
-less_on m next said own (Moves.updates {hand} {effect} {rest} free at is near) =
-    let heavy : weights hand.parts ≡ 1 + weights rest = ap weights at.parts in
+less_by lines m next said few own (Moves.sends {hand} {rest} {deed} free at near) =
+    let heavy : weights lines hand.parts ≡ 1 + weights lines rest = ap (weights lines) at.parts in
+    sent_less lines m hand (Part.Sends deed) rest
+    (record hand { parts = rest; effect = Some (record { effect = Does deed; reply = None }) }) at
+    (omega (arith, heavy))
+less_by lines m next said few own (Moves.updates {hand} {effect} {rest} free at is near) =
+    let heavy : weights lines hand.parts ≡ 1 + weights lines rest = ap (weights lines) at.parts in
     let lands : one_unless (is_flying hand.effect) ≡ 1 = ap one_unless (is_free m hand free near at.in_hand).lands in
-    sent_less m hand Part.Updates rest
+    sent_less lines m hand Part.Updates rest
     (record hand { parts = Part.Updates ∷ rest; effect = Some (record { effect = effect; reply = None }) }) at
+    (omega (arith, heavy, lands))
+less_by lines m next said few own (Moves.greets {hand} {guard} free at is near) =
+    let before : one_unless m.state.greeting_sent ≡ 1 = ap one_unless (unsent m guard is) in omega (arith, before)
+less_by lines m next said few own (Moves.notes {hand} {note} {rest} free at) =
+    part_less lines m hand (Part.Notes note) rest rest (noted note m.state) at (noted_greets note m.state)
     (omega arith)
-less_on m next said own (Moves.greets {hand} {guard} free at is near) =
-    let before : one_unless m.state.greeting_sent ≡ 1 = ap one_unless (unsent m guard is) in omega arith
-less_on m next said own (Moves.notes {hand} {note} {rest} free at) =
-    part_less m hand (Part.Notes note) rest rest (noted note m.state) at (noted_greets note m.state) (omega arith)
-less_on m next said own (Moves.unfolds {hand} {choice} {rest} free at) =
+less_by lines m next said few own (Moves.unfolds {hand} {choice} {rest} free at) =
     let parts = chosen choice m.state hand in
-    let light = chosen_light choice m.state hand in
-    let both = weights_joined parts rest in
-    part_less m hand (Part.Unfolds choice) rest (parts ++ rest) m.state at refl (omega arith)
-less_on m next said own (Moves.queues {hand} free is) = queued_less m hand free is
-less_on m next said own (Moves.asks {hand} {want} {wants} free room is are) =
-    asked_less m hand want wants room is are
-less_on m next said own (Moves.loses {message} late near why) =
+    let light = chosen_light lines choice m.state hand few in
+    let both = weights_joined lines parts rest in
+    part_less lines m hand (Part.Unfolds choice) rest (parts ++ rest) m.state at refl (omega (arith, light, both))
+less_by lines m next said few own (Moves.queues {hand} free is) = queued_less lines m hand free is
+less_by lines m next said few own (Moves.asks {hand} {want} {wants} free room is are) =
+    asked_less lines m hand want wants room is are
+less_by lines m next said few own (Moves.loses {message} late near why) =
     let no : true ≡ false = sym own ∙ not_lost m message late why in cc
-less_on m next said own _ = cc
+less_by lines m next said few own _ = cc
+
+-- and makes the breakpoints no more
+less_on : (m next : Machine) (said : Option Message) → is_own said ≡ true → Moves m said next → work next < work m
+less_on m next said own move =
+    let less = less_by (lines_of m) m next said (omega arith) own move in
+    let few = work_fewer (lines_of next) (lines_of m) next (lines_on m next said own move) in
+    omega (arith, less, few)
 
 goes : (m : Machine) → (due false m).act ≡ Act.Goes → Moves m None (due false m).next
 goes m is = rw is at (walks_due m)

@@ -1,5 +1,6 @@
 -- What the calls of a core do: moves of the translation machine, message by message.
-use Rattle.std.specs.Prelude.{ℕ, ◌≡◌, ◌<◌, ◌^◌, ◌∷◌, true, false, List, [], Option, None, Some, Ok, Err, length}
+use Rattle.std.specs.Prelude.{ℕ, ◌≡◌, ◌<◌, ◌^◌, ◌∷◌, true, false, List, [], Option, None, Some, Ok, Err, length, ◌+◌}
+use Rattle.std.specs.Prelude.{◌++◌}
 use Rattle.dap_messages.specs.Reading.{reading_of}
 use Rattle.dap_messages.specs.declared.requests.Incoming.TheVariants.{Ignored as ignored, Request as a_request}
 use Rattle.dap_messages.specs.declared.requests.ReadFault.TheVariants.{NotAMessage as no_message, NotJson as no_json}
@@ -8,16 +9,22 @@ use Rattle.jdwp_commands.specs.Commands.{number_of}
 use Rattle.jdwp_packets.specs.Packets.{Packet, command_packet, reply_packet}
 use Rattle.jdwp_packets.specs.declared.cutter.Packet.{Packet as Shown}
 use Rattle.jdwp_packets.specs.declared.cutter.Packet.TheVariants.{Command, Reply}
-use Rattle.machine_model.specs.Due.{due}
-use Rattle.machine_model.specs.Replying.{ended, is_tolerated, wire}
-use Rattle.machine_model.specs.Runs.{Allows, Message, heard}
-use Rattle.machine_model.specs.State.{Machine, is_gone}
+use Rattle.machine_model.specs.Due.{can_read, due}
+use Rattle.machine_model.specs.Replying.{SizesFor, ended, is_tolerated, wire}
+use Rattle.machine_model.specs.Runs.{Allows, Message, Takes as IsTaken, heard}
+use Rattle.machine_model.specs.State.{Machine, has_raw, is_gone}
 use Rattle.machine_model.specs.declared.acts.Act.{Act}
 use Rattle.machine_model.specs.declared.acts.TargetCommand.{TargetCommand}
 use Rattle.machine_model.specs.declared.items.Phase.{Phase}
-use Rattle.machine_model.specs.declared.parts.Finish.TheVariants.{Done as finish_done}
+use Rattle.machine_model.specs.declared.parts.Finish.TheVariants.{Done as finish_done, OneThread as finish_one_thread}
 use Rattle.bridge_core.specs.Cores.{CoreState, Unheard, session_in, streams_in, with_machine}
-use Rattle.session_model.specs.Faults.{HasReply, IsKeptFault, IsTargetFault}
+use Rattle.jdwp_events.specs.Composites.{composite_at}
+use Rattle.jdwp_events.specs.declared.composite.Composite.{Composite}
+use Rattle.jdwp_values.specs.declared.sizes.IdSizes.{IdSizes}
+use Rattle.machine_model.specs.declared.items.Item.TheVariants.{Composite as a_composite, Raw as a_raw}
+use Rattle.machine_model.specs.declared.items.Item.{Item}
+use Rattle.machine_model.specs.declared.parts.Finish.{Finish}
+use Rattle.session_model.specs.Faults.{HasReply, IsKeptFault, IsTargetFault, header}
 use Rattle.session_model.specs.LastWords.{LastWord, last_word_said, last_words, word_bytes, word_side}
 use Rattle.session_model.specs.Saying.{PacketSays, Speaks}
 use Rattle.session_model.specs.States.{id_pending, target_front}
@@ -25,6 +32,7 @@ use Rattle.session_model.specs.declared.ending.ClientFault.TheVariants.{NotAMess
 use Rattle.session_model.specs.declared.ending.Ending.{Ending}
 use Rattle.session_model.specs.declared.ending.Ending.TheVariants.{BadClient, BadTarget, Done, Flood, NoMemory}
 use Rattle.session_model.specs.declared.ending.Ending.TheVariants.{TargetRefused}
+use Rattle.session_model.specs.declared.ending.TargetFault.TheVariants.{PolicyThread}
 use Rattle.session_model.specs.declared.ending.TargetFault.{TargetFault}
 use Rattle.wire_core.specs.Streams.{Front}
 use Rattle.wire_core.specs.declared.outside.Side.{Side}
@@ -55,16 +63,23 @@ pub record IsIdle (old new : CoreState) : Type 0 where
   pub nothing_due : (due (id_pending new.commands) new.machine).act ≡ Act.Waits
   pub same : new ≡ with_machine old new.machine
 
+-- How the machine's end ends the session: it is done; or a composite suspended one thread alone, and the fault stands at
+-- its suspend policy, behind the header of its packet (JDWP, Event command set, Composite; JDWP, Constants,
+-- SuspendPolicy).
+abbrev pub finish_ending : Finish → Ending
+finish_ending finish_done = Done
+finish_ending (finish_one_thread at) = BadTarget PolicyThread (at + header) 0
+
 -- the machine found that the session is over
-pub record IsOver (old new : CoreState) : Type 0 where
+pub record IsOver (old : CoreState) (finish : Finish) (new : CoreState) : Type 0 where
   pub goes : Goes old.machine new.machine
-  pub is_due : (due (id_pending new.commands) new.machine).act ≡ Act.Over finish_done
+  pub is_due : (due (id_pending new.commands) new.machine).act ≡ Act.Over finish
   pub same : new ≡ with_machine old new.machine
 
--- want of memory is free; the only other ending is that the session is done
+-- want of memory is free; any other ending is the machine's
 pub data Finds (old new : CoreState) : Ending → Type 0 where
   no_memory : Finds old new NoMemory
-  over : IsOver old new → Finds old new Done
+  over : {finish : Finish} → IsOver old finish new → Finds old new (finish_ending finish)
 
 -- What the client says ------------------------------------------------------------------------------------------------
 
@@ -101,12 +116,36 @@ abbrev pub packet_of : Shown → Packet
 packet_of (Command at id set number body) = command_packet id set number body.now
 packet_of (Reply at id error body) = reply_packet id error body.now
 
--- a packet was heard: a composite is taken or kept, or a command is replied to
+-- the first of the composites that were kept is read
+pub record ReadsOne (m next : Machine) : Type 0 where
+  pub before : List Item
+  pub after : List Item
+  pub at : ℕ
+  pub body : List ℕ
+  pub composite : Composite
+  pub used : IdSizes
+  pub serves : SizesFor m.state.sizes used
+  pub reads : composite_at used body ≡ Ok composite
+  pub can : can_read m ≡ true
+  pub were : m.waiting ≡ before ++ a_raw at body ∷ after
+  pub is_first : has_raw before ≡ false
+  pub taken : IsTaken m.state composite
+  pub are : next ≡ record m { waiting = before ++ a_composite at composite ∷ after }
+
+-- some of them are read, one by one
+pub data AreRead : Machine → Machine → Type 0 where
+  none : {m : Machine} → AreRead m m
+  one_more : {m next : Machine} (middle : Machine) → AreRead m middle → ReadsOne middle next → AreRead m next
+
+-- A packet was heard: a composite is taken or kept, or a command is replied to; and behind it composites are read that
+-- were kept.
 pub record TakesPacket (old : CoreState) (at : ℕ) (packet : Packet) (new : CoreState) : Type 0 where
   pub message : Message
   pub says : (unheard : Unheard) → unheard.target.stream.at ≡ at
       → PacketSays (session_in old unheard) packet message new.commands
-  pub allows : Allows old.machine message new.machine
+  pub behind : Machine
+  pub allows : Allows old.machine message behind
+  pub reads : AreRead behind new.machine
   pub same : new ≡ record old { machine = new.machine; commands = new.commands }
 
 -- this packet stands at the front of the target's uncut bytes, at this offset
@@ -120,8 +159,8 @@ pub record IsLike (old new : CoreState) : Type 0 where
   pub same : new ≡ record old { commands = new.commands }
   pub next : new.commands.next ≡ old.commands.next
 
--- A packet ends the session: by a fault of its own, by a refusal that isn't tolerated, by a fault of a composite that
--- was kept until its reply gave the sizes of ids, or since there is no room for it.
+-- A packet ends the session: by a fault of its own, by a refusal that isn't tolerated, by a fault of the next composite
+-- that was kept until its reply gave the sizes of ids, or since there is no room for it.
 pub data RefusesPacket (old : CoreState) (at : ℕ) (packet : Packet) (new : CoreState) : Ending → Type 0 where
   no_memory : RefusesPacket old at packet new NoMemory
   faulty : {fault : TargetFault} {offset id : ℕ}

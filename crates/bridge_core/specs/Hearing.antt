@@ -18,9 +18,10 @@ use Rattle.jdwp_events.specs.declared.composite.CompositeFault.TheVariants as co
 use Rattle.jdwp_values.specs.Sizes.{is_no_size}
 use Rattle.jdwp_values.specs.declared.sizes.IdSizes.{IdSizes}
 use Rattle.machine_model.specs.Replying.{has_good_sizes, is_essential_question}
+use Rattle.machine_model.specs.Runs.{is_served}
 use Rattle.machine_model.specs.State.{has_raw}
 use Rattle.machine_model.specs.declared.items.Item.{Item}
-use Rattle.machine_model.specs.declared.items.Item.TheVariants.{Raw as a_raw}
+use Rattle.machine_model.specs.declared.items.Item.TheVariants.{Composite as a_composite, Raw as a_raw}
 use Rattle.session_model.specs.Faults.{header, numbers_in}
 use Rattle.session_model.specs.declared.ending.Ending.{Ending}
 use Rattle.session_model.specs.declared.ending.Ending.TheVariants.{BadTarget, NoMemory, TargetRefused}
@@ -68,10 +69,29 @@ pub data IsBadBody (used : IdSizes) (body : List ℕ) (at : ℕ) : Ending → Ty
 -- a composite that isn't served ends the session: at a fault of its body, or at its packet
 pub data IsUnserved (used : IdSizes) (body : List ℕ) (at : ℕ) : Ending → Type 0 where
   bad_body : {ending : Ending} → IsBadBody used body at ending → IsUnserved used body at ending
-  unserved : {composite : Composite} → composite_at used body ≡ Ok composite
+  unserved : {composite : Composite} → composite_at used body ≡ Ok composite → is_served composite ≡ false
       → IsUnserved used body at (BadTarget BadCommand at 0)
 
--- the first of the composites that were kept ends it
+-- the first of the composites that were kept is read, and is served
+pub record IsReadFirst (used : IdSizes) (old new : List Item) : Type 0 where
+  pub before : List Item
+  pub after : List Item
+  pub at : ℕ
+  pub body : List ℕ
+  pub composite : Composite
+  pub were : old ≡ before ++ a_raw at body ∷ after
+  pub is_first : has_raw before ≡ false
+  pub reads : ReadsComposite used body composite
+  pub served : is_served composite ≡ true
+  pub are : new ≡ before ++ a_composite at composite ∷ after
+
+-- some are read, one by one
+pub data AreServed (used : IdSizes) (kept : List Item) : List Item → Type 0 where
+  none : AreServed used kept kept
+  one_more : {left : List Item} (middle : List Item) → AreServed used kept middle → IsReadFirst used middle left
+      → AreServed used kept left
+
+-- the first that is left ends the session
 pub record IsFirstKept (used : IdSizes) (waiting : List Item) (ending : Ending) : Type 0 where
   pub before : List Item
   pub after : List Item
@@ -86,12 +106,19 @@ pub data MayBeKept (used : IdSizes) (waiting : List Item) : Ending → Type 0 wh
   no_memory : MayBeKept used waiting NoMemory
   kept : {ending : Ending} → IsFirstKept used waiting ending → MayBeKept used waiting ending
 
+-- some were read, and then one ends the session, unless memory ran out
+pub data MayBeUnserved (used : IdSizes) (kept left : List Item) : Ending → Type 0 where
+  no_memory : MayBeUnserved used kept left NoMemory
+  unserved : {ending : Ending} → AreServed used kept left → IsFirstKept used left ending
+      → MayBeUnserved used kept left ending
+
 -- Replies -------------------------------------------------------------------------------------------------------------
 
 -- the commands whose refusal ends a session, as they are sent
 abbrev pub is_essential_asked : Asked → Bool
 is_essential_asked (commands.Question question) = is_essential_question question
 is_essential_asked (commands.Effect (effects.Clear kind request)) = true
+is_essential_asked (commands.Effect effects.Resume) = true
 is_essential_asked (commands.Effect _) = false
 
 -- an error other than that of a dead target ends the session where the command is essential

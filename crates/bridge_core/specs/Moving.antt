@@ -1,4 +1,5 @@
 -- The machine's moves, in the words of the code that makes them.
+use Rattle.bridge_core.specs.Calls.{AreRead}
 use Rattle.std.specs.Prelude.{ℕ, ◌≡◌, Bool, cond, true, not, Option, None, Some}
 use Rattle.machine_model.specs.State.{Hand, Machine, State, is_raw}
 use Rattle.machine_model.specs.declared.acts.Effect.{Effect}
@@ -23,11 +24,11 @@ pub record IsFlight (m : Machine) (hand : Hand) (effect : Effect) : Type 0 where
 abbrev pub is_next : Bool → Item → Bool
 is_next gone item = cond gone true (not (is_raw item))
 
--- the first of the composites that were kept ends the session
-pub data RefusesKept (m : Machine) : Ending → Type 0 where
-  no_memory : RefusesKept m NoMemory
-  faulty : {fault : TargetFault} {offset : ℕ} → IsKeptFault m fault offset
-      → RefusesKept m (BadTarget fault offset 0)
+-- of the composites that were kept some are read, and then one ends the session
+pub data RefusesKept (m next : Machine) : Ending → Type 0 where
+  no_memory : RefusesKept m next NoMemory
+  faulty : {fault : TargetFault} {offset : ℕ} → AreRead m next → IsKeptFault next fault offset
+      → RefusesKept m next (BadTarget fault offset 0)
 
 -- what a talk has next in any machine, and the talk behind it
 pub record StepsTo (next : Next) (full : Bool) (state : State) (talk : Hand) (now : State) (held : Option Hand) : Type 0

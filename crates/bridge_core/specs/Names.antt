@@ -1,5 +1,6 @@
 -- The words of the machine and of commands, under the names that the definitions and lemmas use.
 pub use Rattle.dap_messages.specs.declared.requests.Command.{Command}
+pub use Rattle.dap_messages.specs.declared.requests.Command.TheVariants.{SetBreakpoints}
 pub use Rattle.dap_messages.specs.declared.requests.Request.{Request}
 pub use Rattle.dap_messages.specs.declared.told.Failure.{Failure}
 pub use Rattle.dap_messages.specs.declared.told.Told.{Told}
@@ -18,10 +19,14 @@ pub use Rattle.machine_model.specs.declared.acts.Want.{Want}
 pub use Rattle.machine_model.specs.declared.items.Item.{Item}
 pub use Rattle.machine_model.specs.declared.items.Item.TheVariants.{Composite as a_composite, Raw as a_raw}
 pub use Rattle.machine_model.specs.declared.items.Item.TheVariants.{Request as a_request, TargetEnd as target_end}
+pub use Rattle.machine_model.specs.declared.items.Phase.{Phase}
+pub use Rattle.machine_model.specs.declared.items.Phase.TheVariants.{Attached, Fresh, Gone}
 pub use Rattle.machine_model.specs.declared.parts.Choice.{Choice}
+pub use Rattle.machine_model.specs.declared.parts.Choice.TheVariants.{Leaves, TellsBound}
 pub use Rattle.machine_model.specs.declared.parts.Event.{Event}
 pub use Rattle.machine_model.specs.declared.parts.Finding.{Finding}
 pub use Rattle.machine_model.specs.declared.parts.Lookup.{Lookup}
 pub use Rattle.machine_model.specs.declared.parts.Note.{Note}
+pub use Rattle.machine_model.specs.declared.parts.Note.TheVariants.{Classes, Lines, Options, Roots}
 pub use Rattle.machine_model.specs.declared.parts.Outcome.{Outcome}
 pub use Rattle.machine_model.specs.declared.parts.Part.{Part}

@@ -9,7 +9,7 @@ use Rattle.jdwp_events.specs.declared.composite.Composite.{Composite}
 use Rattle.jdwp_packets.specs.Packets.{Packet}
 use Rattle.jdwp_values.specs.declared.sizes.IdSizes.{IdSizes}
 use Rattle.machine_model.specs.Replying.{SizesFor, answered}
-use Rattle.machine_model.specs.Runs.{with_item}
+use Rattle.machine_model.specs.Runs.{takes, with_item}
 use Rattle.machine_model.specs.State.{Hand, Machine, is_gone}
 use Rattle.machine_model.specs.declared.acts.Effect.{Effect}
 use Rattle.machine_model.specs.declared.acts.TargetCommand.TheVariants.{Effect as an_effect, Question as a_question}
@@ -30,11 +30,11 @@ pub record Hears (old : CoreState) (at : ℕ) (packet : Packet) (new : CoreState
 
 -- Composites ----------------------------------------------------------------------------------------------------------
 
--- a composite that can be read is taken in a target that is gone
+-- a composite that can be read is taken where it is served, or the target is gone
 pub record IsTakenIn (old : CoreState) (used : IdSizes) (at : ℕ) (body : List ℕ) (new : CoreState) : Type 0 where
   pub composite : Composite
   pub reads : ReadsComposite used body composite
-  pub gone : is_gone old.machine.state.phase ≡ true
+  pub taken : takes old.machine.state.phase composite ≡ true
   pub same : new ≡ with_machine old (with_item old.machine (a_composite at composite))
 
 -- a composite that can be read ends the session

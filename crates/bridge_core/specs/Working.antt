@@ -1,9 +1,11 @@
 -- How much a machine can still do by itself: a measure that each act lessens but a wait and an end.
 use Rattle.std.specs.Prelude.{ℕ, ◌+◌, ◌-◌, ◌*◌, Bool, true, false, List, [], ◌∷◌, length, Option, Some, None}
 use Rattle.std.specs.List.{flat_map}
-use Rattle.bridge_core.specs.Names.{Act, Part, Sent}
+use Rattle.bridge_core.specs.Names.{Act, Choice, Command, Item, Leaves, Lines, Note, Part, Sent, SetBreakpoints}
+use Rattle.bridge_core.specs.Names.{TellsBound, a_composite, a_raw, a_request, target_end}
 use Rattle.machine_model.specs.Replying.{unanswered}
 use Rattle.machine_model.specs.State.{Hand, Machine, is_empty, is_flying}
+use Rattle.wish_sets.specs.Entries.{all_lines}
 
 -- a wait: the machine does nothing until something comes
 abbrev pub is_wait : Act → Bool
@@ -25,22 +27,69 @@ is_work (Act.Sends effect) = true
 is_work (Act.Asks question) = true
 is_work (Act.Over finish) = false
 
--- a part weighs more than those that it may become
-abbrev pub weight : Part → ℕ
-weight (Part.Looks lookup) = 10
-weight (Part.Unfolds choice) = 10
-weight (Part.Responds outcome) = 1
-weight (Part.Tells event) = 1
-weight (Part.Sends deed) = 1
-weight (Part.Awaits guard) = 1
-weight Part.Updates = 1
-weight (Part.Notes note) = 1
-weight (Part.Ends finish) = 1
+-- Breakpoints of sources ----------------------------------------------------------------------------------------------
+
+-- how many breakpoints of sources a note lists
+abbrev pub lines_noted : Note → ℕ
+lines_noted (Lines key entries) = length entries
+lines_noted _ = 0
+
+abbrev pub lines_in_part : Part → ℕ
+lines_in_part (Part.Notes note) = lines_noted note
+lines_in_part _ = 0
+
+abbrev pub lines_in : List Part → ℕ
+lines_in [] = 0
+lines_in (part ∷ parts) = lines_in_part part + lines_in parts
+
+abbrev pub lines_in_hand : Option Hand → ℕ
+lines_in_hand None = 0
+lines_in_hand (Some hand) = lines_in hand.parts
+
+-- how many a request lists (DAP specification, SetBreakpoints request)
+abbrev pub lines_listed : Command → ℕ
+lines_listed (SetBreakpoints arguments) = length arguments.breakpoints
+lines_listed _ = 0
+
+abbrev pub lines_in_item : Item → ℕ
+lines_in_item (a_request request) = lines_listed request.command
+lines_in_item (a_composite at composite) = 0
+lines_in_item (a_raw at body) = 0
+lines_in_item target_end = 0
+
+abbrev pub lines_waiting : List Item → ℕ
+lines_waiting [] = 0
+lines_waiting (item ∷ items) = lines_in_item item + lines_waiting items
+
+-- How many breakpoints of sources are listed, or are still to be written down: no act of the machine makes them more,
+-- and no more of them are told to be verified at once.
+abbrev pub lines_of : Machine → ℕ
+lines_of m =
+    length (all_lines m.state.wishes.wanted) + (lines_in_hand m.hand + lines_waiting m.waiting)
+
+-- What is left to do --------------------------------------------------------------------------------------------------
+
+-- a choice weighs more than what it becomes
+abbrev pub choice_weight : ℕ → Choice → ℕ
+choice_weight lines (TellsBound below) = 10 + lines
+choice_weight lines (Leaves exits) = 10
+
+-- a part weighs more than those that it may become, where there are at most so many breakpoints of sources
+abbrev pub weight : ℕ → Part → ℕ
+weight lines (Part.Looks lookup) = 10
+weight lines (Part.Unfolds choice) = choice_weight lines choice
+weight lines (Part.Responds outcome) = 1
+weight lines (Part.Tells event) = 1
+weight lines (Part.Sends deed) = 1
+weight lines (Part.Awaits guard) = 1
+weight lines Part.Updates = 1
+weight lines (Part.Notes note) = 1
+weight lines (Part.Ends finish) = 1
 
 -- what the parts of a list weigh
-abbrev pub weights : List Part → ℕ
-weights [] = 0
-weights (part ∷ parts) = weight part + weights parts
+abbrev pub weights : ℕ → List Part → ℕ
+weights lines [] = 0
+weights lines (part ∷ parts) = weight lines part + weights lines parts
 
 -- one where this holds
 abbrev pub one_if : Bool → ℕ
@@ -57,12 +106,22 @@ abbrev pub free_places : List Sent → ℕ
 free_places asked = 16 - length (flat_map unanswered asked)
 
 -- what an item in hand can still do
-abbrev pub hand_work : Option Hand → ℕ
-hand_work None = 0
-hand_work (Some hand) =
-    1 + (weights hand.parts + (one_unless (is_flying hand.effect) + (one_if (is_empty hand.queue)
+abbrev pub hand_work : ℕ → Option Hand → ℕ
+hand_work lines None = 0
+hand_work lines (Some hand) =
+    1 + (weights lines hand.parts + (one_unless (is_flying hand.effect) + (one_if (is_empty hand.queue)
     + 2 * free_places hand.asked)))
 
--- what the whole machine can still do: each item that waits counts for more than it can do once it is begun
+-- each item that waits counts for more than it can do once it is begun
+abbrev pub waiting_work : ℕ → List Item → ℕ
+waiting_work lines [] = 0
+waiting_work lines (item ∷ items) = 100 + (lines + waiting_work lines items)
+
+-- what a machine can still do, where there are at most so many breakpoints of sources
+abbrev pub work_of : ℕ → Machine → ℕ
+work_of lines m =
+    waiting_work lines m.waiting + (hand_work lines m.hand + one_unless m.state.greeting_sent)
+
+-- what the whole machine can still do
 abbrev pub work : Machine → ℕ
-work m = 100 * length m.waiting + (hand_work m.hand + one_unless m.state.greeting_sent)
+work m = work_of (lines_of m) m

@@ -1,6 +1,7 @@
 //! What the target's packets say, and how they end a session.
 ghost use Rattle.std.specs.Prelude.{◌≡◌, ◌+◌, ◌<◌, Err, false, true, IfErr, IfOk, MatchOption, OnOk};
-ghost use Rattle.std.specs.Prelude.{position, ℕ, List, Ok, Some};
+ghost use Rattle.std.specs.List.{list_all};
+ghost use Rattle.std.specs.Prelude.{position, set, OnErr, ℕ, List, Ok, Some};
 ghost use Rattle.jdwp_commands.specs.Answers.{answer_at};
 ghost use Rattle.jdwp_commands.specs.Bodies.{IsRead as AreReadSo};
 ghost use Rattle.jdwp_commands.specs.declared.asked.Asked.{Asked as AnAsked};
@@ -9,8 +10,11 @@ ghost use Rattle.jdwp_events.specs.Composites.{composite_at, IsRead};
 ghost use Rattle.jdwp_values.specs.Sizes.{is_no_size};
 ghost use Rattle.jdwp_values.specs.declared.sizes.IdSizes.{IdSizes as Sizes};
 ghost use Rattle.machine_model.specs.Replying.{has_good_sizes, is_dead};
+ghost use Rattle.machine_model.specs.Composites.{is_prepare};
+ghost use Rattle.machine_model.specs.Runs.{is_served};
 ghost use Rattle.machine_model.specs.State.{has_raw, is_raw};
-ghost use Rattle.bridge_core.specs.Hearing.{IsBadBody, IsJudged, IsRefused, IsUnserved, MayBe, MayBeKept};
+ghost use Rattle.bridge_core.specs.Hearing.{AreServed, IsBadBody, IsJudged, IsReadFirst, IsRefused, IsUnserved};
+ghost use Rattle.bridge_core.specs.Hearing.{MayBe, MayBeKept, MayBeUnserved};
 ghost use Rattle.bridge_core.specs.Hearing.{is_essential_asked, is_tolerated_asked};
 ghost use Rattle.bridge_core.specs.Hearing.{HasBadSizes, ReadsComposite, answer_fault, composite_fault};
 ghost use Rattle.session_model.specs.Faults.{header, numbers_in};
@@ -18,9 +22,9 @@ ghost use Rattle.session_model.specs.Saying.{is_composite};
 ghost use Rattle.session_model.specs.declared.ending.Ending.TheVariants.{BadTarget, TargetRefused};
 ghost use Rattle.jdwp_commands.specs.declared.asked.Replied.TheVariants.{Error as an_error};
 
-use crate::waiting::first_kept;
+use crate::waiting::{first_kept, put_at};
 use jdwp_commands::{Answer, Asked, BodyFault, Effect, Question, Replied, read_answer};
-use jdwp_events::{Composite, CompositeFault, read_composite};
+use jdwp_events::{Composite, CompositeFault, Event, read_composite};
 use jdwp_values::IdSizes;
 use machine_model::Item;
 use session_model::{Ending, TargetFault};
@@ -48,8 +52,8 @@ pub(crate) fn is_composite(set: u8, command: u8) -> bool
     set == EVENT_SET && command == COMPOSITE
 }
 
-// The ending by a fault at this place of a packet's body. An offset of 2^64 or more takes more memory than there is.
-fn bad_body(fault: TargetFault, at: u64, place: u32) -> Ending
+/// The ending by a fault at this place of a packet's body. An offset of 2^64 or more takes more memory than there is.
+pub(crate) fn bad_body(fault: TargetFault, at: u64, place: u32) -> Ending
     ensures { MayBe result (BadTarget fault (at + header + place) 0) }
 {
     match at.checked_add(HEADER + place as u64) {
@@ -104,46 +108,101 @@ pub(crate) fn composite(
     }
 }
 
-/// How a composite that isn't served ends the session.
-pub(crate) fn unserved(alloc: Global, sizes: IdSizes, at: u64, body: &[u8]) -> Ending
-    ensures { IsUnserved sizes body.now at result }
+fn is_prepare(event: &Event) -> bool
+    ensures { result ≡ is_prepare event.now }
 {
-    match composite(alloc, sizes, at, body) {
-        Ok(_) => Ending::BadTarget {
+    matches!(event, Event::ClassPrepare { .. })
+}
+
+// Whether each event tells of a class that was prepared.
+fn are_prepares(events: &[Event]) -> bool
+    ensures { result ≡ list_all is_prepare events.now }
+{
+    events.iter().all(is_prepare)
+}
+
+// Whether a composite is served: it tells of classes that were prepared alone.
+#[tactic(auto, using(crate::proofs::HearLaws::all_prepares))]
+fn is_served(composite: &Composite) -> bool
+    ensures { result ≡ is_served composite.now }
+{
+    are_prepares(composite.events.as_slice())
+}
+
+/// Reads a composite that is served, whose packet stands at this offset; another one ends the session.
+pub(crate) fn served(
+    alloc: Global,
+    sizes: IdSizes,
+    at: u64,
+    body: &[u8],
+) -> Result<Composite, Ending>
+    ensures ok { IfOk result (λ read. ReadsComposite sizes body.now read × (is_served read ≡ true)) }
+    ensures err { IfErr result (IsUnserved sizes body.now at) }
+{
+    let composite = composite(alloc, sizes, at, body)?;
+    if !is_served(&composite) {
+        return Err(Ending::BadTarget {
             fault: TargetFault::BadCommand,
             at,
             id: 0,
-        },
-        Err(ending) => ending,
+        });
     }
+    Ok(composite)
 }
 
-// The composite that was kept at this place ends the session.
-#[tactic(auto, using(crate::proofs::HearLaws::kept_so))]
-fn refuse_kept(alloc: Global, sizes: IdSizes, waiting: &VecDeque<Item>, place: usize) -> Ending
-    requires { position is_raw waiting.now.items ≡ Some place }
-    ensures { MayBeKept sizes waiting.now.items result }
-{
-    match waiting.get(place) {
-        Some(Item::Raw { at, body }) => unserved(alloc, sizes, *at, body.as_slice()),
-        _ => Ending::NoMemory,
-    }
-}
-
-/// Reads the composites that were kept. None is served yet, so the first one ends the session.
-#[tactic(auto, using(crate::proofs::PickLaws::none_kept))]
-pub(crate) fn read_kept(
+// Reads the composite that was kept at this place; one that isn't served ends the session.
+#[tactic(auto, using(crate::proofs::HearLaws::read_so, crate::proofs::HearLaws::kept_so))]
+fn read_at(
     alloc: Global,
     sizes: IdSizes,
     waiting: &VecDeque<Item>,
-) -> Result<(), Ending>
-    ensures ok { OnOk result (has_raw waiting.now.items ≡ false) }
+    place: usize,
+) -> Result<Item, Ending>
+    requires { position is_raw waiting.now.items ≡ Some place }
+    ensures ok { IfOk result (λ item. IsReadFirst sizes waiting.now.items (set waiting.now.items place item)) }
     ensures err { IfErr result (MayBeKept sizes waiting.now.items) }
 {
-    match first_kept(waiting) {
-        None => Ok(()),
-        Some(place) => Err(refuse_kept(alloc, sizes, waiting, place)),
+    match waiting.get(place) {
+        Some(Item::Raw { at, body }) => Ok(Item::Composite {
+            at: *at,
+            composite: served(alloc, sizes, *at, body.as_slice())?,
+        }),
+        _ => Err(Ending::NoMemory),
     }
+}
+
+// The composite that was kept at this place waits as it reads.
+fn read_first(
+    alloc: Global,
+    sizes: IdSizes,
+    waiting: &mut VecDeque<Item>,
+    place: usize,
+) -> Result<(), Ending>
+    requires { position is_raw waiting.old.items ≡ Some place }
+    ensures ok { OnOk result (IsReadFirst sizes waiting.old.items waiting.new.items) }
+    ensures err { IfErr result (MayBeKept sizes waiting.old.items) }
+    ensures same { OnErr result (waiting.new.items ≡ waiting.old.items) }
+{
+    let item = read_at(alloc, sizes, waiting, place)?;
+    put_at(waiting, place, item);
+    Ok(())
+}
+
+/// Reads the composites that were kept, in order; the first that isn't served ends the session.
+#[tactic(auto, using(crate::proofs::PickLaws::none_kept, crate::proofs::HearLaws::fewer_raws))]
+pub(crate) fn read_kept(
+    alloc: Global,
+    sizes: IdSizes,
+    waiting: &mut VecDeque<Item>,
+) -> Result<(), Ending>
+    ensures ok { OnOk result (AreServed sizes waiting.old.items waiting.new.items) }
+    ensures none { OnOk result (has_raw waiting.new.items ≡ false) }
+    ensures err { IfErr result (MayBeUnserved sizes waiting.old.items waiting.new.items) }
+{
+    while let Some(place) = first_kept(waiting) {
+        read_first(alloc, sizes, waiting, place)?;
+    }
+    Ok(())
 }
 
 fn is_essential(asked: &Asked) -> bool
@@ -154,6 +213,7 @@ fn is_essential(asked: &Asked) -> bool
         Asked::Question(Question::AllClasses) => true,
         Asked::Question(_) => false,
         Asked::Effect(Effect::Clear { .. }) => true,
+        Asked::Effect(Effect::Resume) => true,
         Asked::Effect(_) => false,
     }
 }

@@ -8,6 +8,7 @@ ghost use Rattle.machine_model.specs.State.{Hand, Machine as AMachine, fresh, is
 ghost use Rattle.machine_model.specs.declared.acts.Effect.{Effect as AnEffect};
 ghost use Rattle.machine_model.specs.declared.acts.TargetCommand.TheVariants.{Effect as an_effect};
 ghost use Rattle.machine_model.specs.declared.acts.TargetCommand.TheVariants.{Question as a_question};
+ghost use Rattle.bridge_core.specs.Calls.{AreRead};
 ghost use Rattle.bridge_core.specs.Moving.{IsFlight, RefusesKept};
 ghost use Rattle.bridge_core.specs.Packets.{CanReply, Replies};
 ghost use Rattle.talk_plans.specs.Sizes.{sizes_seen};
@@ -136,19 +137,19 @@ impl Machine {
         self.closing
     }
 
-    /// Reads the composites that were kept, once the sizes of ids are known. None is served yet, so the first one ends
-    /// the session (JDWP, Event command set, Composite).
-    #[tactic(auto, using(crate::proofs::HearLaws::refuses_kept))]
-    pub(crate) fn read_kept(&self, alloc: Global) -> Result<(), Ending>
-        ensures ok { OnOk result (can_read self.now ≡ false) }
-        ensures err { IfErr result (RefusesKept self.now) }
+    /// Reads the composites that were kept, once the sizes of ids are known; the first that isn't served ends the
+    /// session (JDWP, Event command set, Composite).
+    pub(crate) fn read_kept(&mut self, alloc: Global) -> Result<(), Ending>
+        ensures ok { OnOk result (AreRead self.old self.new) }
+        ensures none { OnOk result (can_read self.new ≡ false) }
+        ensures err { IfErr result (RefusesKept self.old self.new) }
     {
         if self.state.is_gone() {
             return Ok(());
         }
         match self.state.sizes() {
             None => Ok(()),
-            Some(sizes) => read_kept(alloc, known(sizes)?, &self.waiting),
+            Some(sizes) => read_kept(alloc, known(sizes)?, &mut self.waiting),
         }
     }
 
@@ -175,7 +176,7 @@ impl Machine {
         match take_next(self.state.is_gone(), &mut self.waiting) {
             None => Ok(Next::Wait),
             Some(item) => {
-                let talk = Talk::start(alloc, item, &self.state)?;
+                let talk = Talk::start(alloc, item, &mut self.state)?;
                 hold(&mut self.talk, talk);
                 Ok(Next::Go)
             }

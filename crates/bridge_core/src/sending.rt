@@ -3,9 +3,11 @@ ghost use Rattle.std.specs.Prelude.{◌≡◌, [], false, IfErr, IfNone, IfOk, I
 ghost use Rattle.jdwp_packets.specs.Packets.{command_packet, handshake, packet_bytes};
 ghost use Rattle.bridge_core.specs.Cores.{IsReady};
 ghost use Rattle.bridge_core.specs.Going.{Comes, IsSent, IsStep, IsTold, MaySend, is_hidden};
-ghost use Rattle.bridge_core.specs.Calls.{Finds, IsIdle, Sends};
+ghost use Rattle.bridge_core.specs.Calls.{Finds, IsIdle, Sends, finish_ending};
+ghost use Rattle.bridge_core.specs.Hearing.{MayBe};
 ghost use Rattle.wire_core.specs.declared.outside.Side.TheVariants.{Target};
 
+use crate::hearing::bad_body;
 use crate::session::{Core, Out};
 use crate::sizes::serving;
 use crate::telling::{framed, packed};
@@ -13,7 +15,7 @@ use dap_messages::Told;
 use jdwp_commands::Asked;
 use jdwp_packets::write_command;
 use machine_model::Finish;
-use session_model::Ending;
+use session_model::{Ending, TargetFault};
 use std::alloc::Global;
 use talk_plans::{Next, wire_effect};
 use wire_core::{Blob, NoMemory, Side};
@@ -47,7 +49,7 @@ impl Core {
                 Ok(Some(self.send(alloc, Asked::Effect(effect))?))
             }
             Next::Ask(question) => Ok(Some(self.send(alloc, Asked::Question(question))?)),
-            Next::Over(Finish::Done) => Err(Ending::Done),
+            Next::Over(finish) => Err(ending_of(finish)),
         }
     }
 
@@ -109,6 +111,16 @@ pub(crate) fn disposing(alloc: Global, id: u32) -> Result<Out, NoMemory>
         side: Side::Target,
         bytes: write_command(alloc, id, MACHINE_SET, DISPOSE, &[])?,
     })
+}
+
+// How the machine's end ends the session.
+fn ending_of(finish: Finish) -> Ending
+    ensures { MayBe result (finish_ending finish) }
+{
+    match finish {
+        Finish::Done => Ending::Done,
+        Finish::OneThread(at) => bad_body(TargetFault::PolicyThread, at, 0),
+    }
 }
 
 // A step that nobody sees.

@@ -1,5 +1,5 @@
 //! The items that wait for their turn.
-ghost use Rattle.std.specs.Prelude.{◌≡◌, None, position, Some, IfNone, IfSome};
+ghost use Rattle.std.specs.Prelude.{◌≡◌, ◌<◌, None, length, position, set, Some, IfNone, IfSome};
 ghost use Rattle.machine_model.specs.Due.{pick};
 ghost use Rattle.machine_model.specs.Runs.{is_disconnect};
 ghost use Rattle.machine_model.specs.State.{is_raw};
@@ -28,6 +28,14 @@ pub(crate) fn first_kept(waiting: &VecDeque<Item>) -> Option<usize>
     ensures { result ≡ position is_raw waiting.now.items }
 {
     waiting.iter().position(is_raw)
+}
+
+/// The item at this place becomes this one.
+pub(crate) fn put_at(waiting: &mut VecDeque<Item>, place: usize, item: Item)
+    requires { place < length waiting.old.items }
+    ensures { waiting.new.items ≡ set waiting.old.items place item }
+{
+    waiting[place] = item;
 }
 
 // The place of the item that is next: the first one, but for composites that can't be read yet while there is a target.

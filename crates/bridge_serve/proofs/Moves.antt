@@ -1,7 +1,7 @@
 -- How each message that goes out leads a session from one place to another.
 use Rattle.std.proofs.Common.{◌≡◌, ℕ, ◌+◌, ◌<◌, ◌≤◌, refl, sym, ap, subst, ◌∙◌, arith, false, true, List, [], ◌∷◌, ◌++◌}
 use Rattle.std.proofs.Common.{append-nil, length}
-use Rattle.bridge_core.specs.Calls.{Finds, Goes, IsIdle, IsOver, Sends, in_phase}
+use Rattle.bridge_core.specs.Calls.{Finds, Goes, IsIdle, IsOver, Sends, finish_ending, in_phase}
 use Rattle.bridge_core.specs.Cores.{CoreState, Unheard, session_in, with_machine}
 use Rattle.bridge_core.specs.Cores.{IsReady as is_ready}
 use Rattle.bridge_serve.specs.Following.{CoreGoesOn, CoreStops, HasEnded, HasWords, IsCounted, Leads}
@@ -20,7 +20,8 @@ use Rattle.session_model.proofs.EndedRules.{ended_by, ends_by}
 use Rattle.session_model.specs.Causes.{Cause, IsOn, link_ending}
 use Rattle.session_model.specs.LastWords.{LastWord, last_words, target_words, word_side}
 use Rattle.session_model.specs.Session.{Going}
-use Rattle.session_model.specs.States.{SessionState, id_pending}
+use Rattle.session_model.specs.Names.{Act, Finish, finish_done, finish_one_thread}
+use Rattle.session_model.specs.States.{SessionState, due_now, id_pending}
 use Rattle.wire_core.specs.Outside.{Adds, FailsToSend, IsOpen, Outside}
 use Rattle.wire_core.specs.Outside.{Sends as sends}
 
@@ -278,30 +279,42 @@ stops_for_memory o core core' = record {
 }
 
 -- the machine found the session over
-over_stops : (o : Outside) (core core' : CoreState) → MayTell o core → IsOver core core' → CoreStops o o core core' Done
-over_stops o core core' may over =
+over_cause : (limits : Limits) (turns : ℕ) (s : SessionState) (finish : Finish) → IsOn limits s
+    → (due_now s).act ≡ Act.Over finish → Cause limits turns s (finish_ending finish) [] 0
+over_cause limits turns s finish_done on is = Cause.over on is
+over_cause limits turns s (finish_one_thread at) on is = Cause.one_thread on is
+
+over_no_link : (finish : Finish) → IsNoLink (finish_ending finish)
+over_no_link finish_done = tt
+over_no_link (finish_one_thread at) = tt
+
+over_stops : (o : Outside) (core core' : CoreState) (finish : Finish) → MayTell o core → IsOver core finish core'
+    → CoreStops o o core core' (finish_ending finish)
+over_stops o core core' finish may over =
     let hidden = goes_hidden over.goes in
     let fewer = hidden.fewer in
     let room = may.ready.room in
+    let ending = finish_ending finish in
     record {
       stopped = λ limits unheard turns limit.
-          subst (λ (c : CoreState). Stopped limits o turns (session_in core unheard) o turns c Done) (sym over.same)
-          (stopped_on limits o o o turns turns turns _ _ (with_machine core core'.machine) Done
+          subst (λ (c : CoreState). Stopped limits o turns (session_in core unheard) o turns c ending) (sym over.same)
+          (stopped_on limits o o o turns turns turns _ _ (with_machine core core'.machine) ending
           (leads_hidden limits o turns core unheard core'.machine over.goes limit room)
-          (stopped_here limits o turns _ (with_machine core core'.machine) Done
-          (Cause.over (is_on limits (with_machine core core'.machine) unheard limit (omega (arith, room, fewer)))
+          (stopped_here limits o turns _ (with_machine core core'.machine) ending
+          (over_cause limits turns _ finish
+          (is_on limits (with_machine core core'.machine) unheard limit (omega (arith, room, fewer)))
           (ap (λ (c : CoreState). (due (id_pending c.commands) core'.machine).act) (sym over.same) ∙ over.is_due))
-          (words_here o (with_machine core core'.machine) _ Done may.unspoken may.client
+          (words_here o (with_machine core core'.machine) _ ending may.unspoken may.client
           (λ near. may.target (ap is_gone (sym hidden.phase) ∙ near)) refl refl refl)));
       keeps = keeps_same o;
-      blames = no_link o Done tt;
-      awake = no_idle Done tt;
+      blames = no_link o ending (over_no_link finish);
+      awake = no_idle ending (over_no_link finish);
     }
 
 pub finds_stops : (o : Outside) (core core' : CoreState) (ending : Ending) → MayTell o core → Finds core core' ending
     → CoreStops o o core core' ending
 finds_stops o core core' ending may Finds.no_memory = stops_for_memory o core core'
-finds_stops o core core' ending may (Finds.over over) = over_stops o core core' may over
+finds_stops o core core' ending may (Finds.over {finish} over) = over_stops o core core' finish may over
 
 -- One after the other -------------------------------------------------------------------------------------------------
 

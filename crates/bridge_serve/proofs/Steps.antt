@@ -2,7 +2,8 @@
 use Rattle.std.proofs.Common.{◌≡◌, ℕ, ◌<◌, ◌≤◌, refl, sym, ap, subst, ◌∙◌, arith, Bool, true, false, List, []}
 use Rattle.std.proofs.Common.{length, Option, None, Some}
 use Rattle.bridge_core.proofs.FrameLaws.{due_framed}
-use Rattle.bridge_core.proofs.WorkLaws.{due_less, due_moves, due_waiting, is_own_message}
+use Rattle.bridge_core.proofs.OwnMoves.{is_own_message}
+use Rattle.bridge_core.proofs.WorkLaws.{due_less, due_moves, due_waiting}
 use Rattle.bridge_core.specs.Calls.{Goes, Sends}
 use Rattle.bridge_core.specs.Cores.{CoreState, IsReady}
 use Rattle.bridge_core.specs.Names.{Act, Note}

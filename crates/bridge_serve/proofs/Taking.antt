@@ -1,16 +1,17 @@
 -- How what came of the target is taken up: its end, its handshake, and its packets.
 use Rattle.std.proofs.Common.{◌≡◌, ℕ, ◌+◌, ◌<◌, ◌≤◌, refl, sym, ap, subst, ◌∙◌, arith, Bool, true, false, List, [], ◌∷◌, ◌++◌}
-use Rattle.std.proofs.Common.{cond, length, Option, None, Some, Result, Ok, Err, OnOk, IfErr}
+use Rattle.std.proofs.Common.{cond, length, length-append, Option, None, Some, Result, Ok, Err, OnOk, IfErr}
 use Rattle.std.proofs.lemmas.List.{length-drop}
-use Rattle.bridge_core.specs.Calls.{IsLike, RefusesEnd, RefusesPacket, TakesPacket, offset_of}
+use Rattle.bridge_core.specs.Calls.{AreRead, IsLike, RefusesEnd, RefusesPacket, TakesPacket, offset_of}
 use Rattle.bridge_core.specs.Calls.{packet_of, without_target}
 use Rattle.bridge_core.specs.Cores.{CoreState, Unheard, session_in, streams_in, with_machine}
 use Rattle.bridge_core.specs.Cores.{IsReady as is_ready}
 use Rattle.bridge_serve.specs.Following.{CoreGoesOn, CoreStops, GoesOn, Handles, HandlesLast, HasEnded}
 use Rattle.bridge_serve.specs.Following.{IsMispacked, IsTakenUp, Leads, MayTake, MayTell, SameEnds, Stops}
 use Rattle.bridge_serve.specs.Following.{packet_taken}
-use Rattle.bridge_core.specs.Names.{Question, Replied}
-use Rattle.bridge_serve.specs.Names.{BadTarget, Client, Ending, Flood, Limits, NoMemory, Target, mispacked}
+use Rattle.bridge_core.specs.Names.{Question, Replied, a_composite}
+use Rattle.bridge_core.proofs.PacketLaws.{unread_more}
+use Rattle.bridge_serve.specs.Names.{BadTarget, Client, Ending, Entry, Flood, Limits, NoMemory, Target, mispacked}
 use Rattle.bridge_serve.proofs.LastWords.{words_here}
 use Rattle.bridge_serve.proofs.Logs.{blames_on, keeps_on, keeps_same}
 use Rattle.bridge_serve.proofs.Moves.{IsNoLink, is_on, leads_in_place, no_idle, no_link, stopped_here, stopped_on}
@@ -27,6 +28,7 @@ use Rattle.machine_model.specs.Due.{Load, can_read, due, due_by, hand_load, is_f
 use Rattle.machine_model.specs.Replying.{ended, told_by}
 use Rattle.machine_model.specs.Runs.{Allows, Message, greeting_heard}
 use Rattle.machine_model.specs.State.{Machine, State, has_raw, is_gone, is_some}
+use Rattle.machine_model.specs.declared.items.Item.{Item}
 use Rattle.machine_model.specs.declared.acts.Act.{Act}
 use Rattle.session_model.specs.Causes.{Cause, ReadsOn, ReadsTarget}
 use Rattle.session_model.specs.Faults.{IsKeptFault, IsTargetFault}
@@ -343,19 +345,53 @@ taken_by (Moves.late before after is reply) says =
     record { heard = refl; gone = λ gone. gone; fewer = λ read. omega arith }
 taken_by (Moves.ends gone) says = cc
 taken_by (Moves.loses late near why) says = record { heard = refl; gone = λ gone. refl; fewer = λ read. cc }
-taken_by {m} (Moves.comes {composite = composite} read sized taken) says = record {
+taken_by {m} (Moves.comes {at = at} {composite = composite} read sized taken) says = record {
   heard = refl;
   gone = λ gone. gone;
-  fewer = λ reads. let served = taken.is_taken in grind (arith, served, reads);
+  fewer = λ reads. (let no : true ≡ false = sym reads ∙ unread_more m (a_composite at composite) refl read in cc);
 }
 taken_by {m} (Moves.keeps unsized) says =
     record { heard = refl; gone = λ gone. gone; fewer = λ reads. grind (arith, unsized, reads) }
 taken_by (Moves.reads before after read is none taken) says = cc
 
+-- composites that were kept are read: as many items wait as before
+read_length : (before after : List Item) (old new : Item)
+    → length (before ++ new ∷ after) ≡ length (before ++ old ∷ after)
+read_length before after old new = length-append before (new ∷ after) ∙ sym (length-append before (old ∷ after))
+
+read_lengths : {m next : Machine} → AreRead m next → length next.waiting ≡ length m.waiting
+read_lengths AreRead.none = refl
+read_lengths (AreRead.one_more middle are one) =
+    ap (λ (now : Machine). length now.waiting) one.are ∙ read_length one.before one.after _ _
+    ∙ ap length (sym one.were) ∙ read_lengths are
+
+read_state : {m next : Machine} → AreRead m next → next.state ≡ m.state
+read_state AreRead.none = refl
+read_state (AreRead.one_more middle are one) = ap (λ (now : Machine). now.state) one.are ∙ read_state are
+
+could_read : {m next : Machine} → AreRead m next → can_read next ≡ true → can_read m ≡ true
+could_read AreRead.none can = can
+could_read (AreRead.one_more middle are one) can = could_read are one.can
+
+taken_read : {m behind next : Machine} → Taken m behind → AreRead behind next → Taken m next
+taken_read taken reads = record {
+  heard = ap (λ (state : State). state.greeting_heard) (read_state reads) ∙ taken.heard;
+  gone = λ gone. ap (λ (state : State). is_gone state.phase) (read_state reads) ∙ taken.gone gone;
+  fewer = λ can.
+      let lengths = read_lengths reads in
+      let fewer = taken.fewer (could_read reads can) in
+      omega (arith, lengths, fewer);
+}
+
+behind_left : (core middle : CoreState) (unheard : Unheard) (packet : Packet)
+    → (takes : TakesPacket core unheard.target.stream.at packet middle) → Taken core.machine takes.behind
+behind_left core middle unheard packet takes =
+    taken_by (moved takes.allows) (packet_says (takes.says unheard refl))
+
 pub packet_left : (core middle : CoreState) (unheard : Unheard) (packet : Packet)
     → TakesPacket core unheard.target.stream.at packet middle → Taken core.machine middle.machine
 packet_left core middle unheard packet takes =
-    taken_by (moved takes.allows) (packet_says (takes.says unheard refl))
+    taken_read (behind_left core middle unheard packet takes) takes.reads
 
 -- the packet is cut
 abbrev pub packet_cut : Unheard → ℕ → Unheard
@@ -391,21 +427,55 @@ front_greeted false bytes packet n h = absurd (by (greeting_front bytes) h)
     by (Front.whole greeting k) h = cc
     by (Front.faulty fault place) h = cc
 
+-- a composite that can be read is read first
+busy_first : (gone reads : Bool) (other : Load) → cond gone false reads ≡ true
+    → cond gone Load.clear (cond (cond gone false reads) Load.busy other) ≡ Load.busy
+busy_first true reads other is = cc
+busy_first false true other is = refl
+busy_first false false other is = cc
+
+waits_to_read : (full : Bool) (m : Machine) → can_read m ≡ true → (due full m).act ≡ Act.Waits
+unfolding due load_of
+waits_to_read full m is = ap (λ (load : Load). (due_by (is_full full m) load m).act)
+    (busy_first (is_gone m.state.phase) (cond (is_some m.state.sizes) (has_raw m.waiting) false)
+    (hand_load m.state m.hand) is)
+
+-- composites that were kept are read, one by one
+reads_all : {limits : Limits} {log : List Entry} {turns : ℕ} {m next : Machine} (core : CoreState) (unheard : Unheard)
+    → core.limit ≡ limits.waiting → (can_read m ≡ true → length m.waiting ≤ core.limit) → AreRead m next
+    → (messages : List Message) → Going limits log messages turns (session_in (with_machine core m) unheard)
+    → (later : List Message) × Going limits log later turns (session_in (with_machine core next) unheard)
+reads_all core unheard limit room AreRead.none messages g = (messages, g)
+reads_all {limits} {log} {turns} core unheard limit room (AreRead.one_more {next = next} middle are one) messages g =
+    let so_far = reads_all core unheard limit room are messages g in
+    let lengths = read_lengths are in
+    let fits = room (could_read are one.can) in (
+      _,
+      subst (λ (now : Machine). Going limits log (so_far.0 ++ Message.reads one.at one.body one.composite ∷ []) turns
+          (session_in (with_machine core now) unheard)) (sym one.are) (Going.hears so_far.1 (record {
+            nothing_due = waits_to_read (id_pending core.commands) middle one.can;
+            on = is_on limits (with_machine core middle) unheard limit (omega (arith, lengths, fits));
+          }) (Allows.reads one.before one.after one.can one.were one.is_first one.taken)
+          (Brings.reads one.serves one.reads)),
+    )
+
 packet_leads : (o : Outside) (core middle : CoreState) (unheard : Unheard) (packet : Packet) (n : ℕ)
     → IsReading o core unheard → target_front (streams_in core unheard) ≡ Front.whole packet n
     → TakesPacket core unheard.target.stream.at packet middle → (limits : Limits) (turns : ℕ)
     → core.limit ≡ limits.waiting
     → Leads limits o turns (session_in core unheard) o turns (session_in middle (packet_cut unheard n))
 packet_leads o core middle unheard packet n reading front takes limits turns limit =
-    leads_in_place limits o turns _ _ (λ log messages g. (
-      _,
-      subst (λ (c : CoreState). Going limits log (messages ++ takes.message ∷ []) turns
-          (session_in c (packet_cut unheard n))) (sym takes.same)
-          (Going.hears g (reads_on limits o core unheard reading.may limit) takes.allows
-          (Brings.packet (reading.taken_up.greeted
-          ∙ (front_greeted unheard.target.greeted unheard.target.stream.pending packet n front).0) front
-          (takes.says unheard refl))),
-    ))
+    let room = reading.may.ready.room in
+    let left = behind_left core middle unheard packet takes in
+    leads_in_place limits o turns _ _ (λ log messages g.
+    subst (λ (c : CoreState). (later : List Message)
+    × Going limits log later turns (session_in c (packet_cut unheard n))) (sym takes.same)
+    (reads_all (record core { commands = middle.commands }) (packet_cut unheard n) limit
+    (λ can. let fewer = left.fewer can in omega (arith, fewer, room)) takes.reads _
+    (Going.hears g (reads_on limits o core unheard reading.may limit) takes.allows
+    (Brings.packet (reading.taken_up.greeted
+    ∙ (front_greeted unheard.target.greeted unheard.target.stream.pending packet n front).0) front
+    (takes.says unheard refl)))))
 
 -- what the cutter hands out
 pub record IsWhole (old : Received) (shown : Shown) : Type 0 where
@@ -534,19 +604,6 @@ tells_packet o core middle at packet may ready takes =
       client = may.client;
       target = λ near. may.target (still_near left.gone near);
     }
-
--- a composite that can be read is read first
-busy_first : (gone reads : Bool) (other : Load) → cond gone false reads ≡ true
-    → cond gone Load.clear (cond (cond gone false reads) Load.busy other) ≡ Load.busy
-busy_first true reads other is = cc
-busy_first false true other is = refl
-busy_first false false other is = cc
-
-waits_to_read : (full : Bool) (m : Machine) → can_read m ≡ true → (due full m).act ≡ Act.Waits
-unfolding due load_of
-waits_to_read full m is = ap (λ (load : Load). (due_by (is_full full m) load m).act)
-    (busy_first (is_gone m.state.phase) (cond (is_some m.state.sizes) (has_raw m.waiting) false)
-    (hand_load m.state m.hand) is)
 
 -- A packet ends the session.
 kept_ends : (o : Outside) (core middle : CoreState) (unheard : Unheard) (packet : Packet) (n : ℕ) (fault : _)

@@ -36,37 +36,49 @@ pub(crate) struct Course<'a> {
     pub(crate) ending: Ending,
 }
 
+/// The sizes of ids: eight bytes each (JDWP, VirtualMachine command set, IDSizes).
+pub(crate) const SIZES: Came<'static> = Came::Bytes(
+    Side::Target,
+    b"\x00\x00\x00\x1f\x00\x00\x00\x01\x80\x00\x00\x00\x00\x00\x08\x00\x00\x00\x08\x00\x00\x00\x08\x00\x00\x00\x08\x00\x00\x00\x08",
+);
+
+/// The event requests for the start and the death of threads are set (JDWP, EventRequest command set, Set).
+pub(crate) const STARTS_SET: Came<'static> = Came::Bytes(
+    Side::Target,
+    b"\x00\x00\x00\x0f\x00\x00\x00\x02\x80\x00\x00\x00\x00\x00\x01",
+);
+
+pub(crate) const DEATHS_SET: Came<'static> = Came::Bytes(
+    Side::Target,
+    b"\x00\x00\x00\x0f\x00\x00\x00\x03\x80\x00\x00\x00\x00\x00\x02",
+);
+
 /// How a session attaches to a target with ids of eight bytes: what comes.
 pub(crate) const ATTACHING: [Came<'static>; 5] = [
     Came::Bytes(Side::Client, ATTACH),
     Came::Bytes(Side::Target, b"JDWP-Handshake"),
-    Came::Bytes(
-        Side::Target,
-        b"\x00\x00\x00\x1f\x00\x00\x00\x01\x80\x00\x00\x00\x00\x00\x08\x00\x00\x00\x08\x00\x00\x00\x08\x00\x00\x00\x08\x00\x00\x00\x08",
-    ),
-    Came::Bytes(
-        Side::Target,
-        b"\x00\x00\x00\x0f\x00\x00\x00\x02\x80\x00\x00\x00\x00\x00\x01",
-    ),
-    Came::Bytes(
-        Side::Target,
-        b"\x00\x00\x00\x0f\x00\x00\x00\x03\x80\x00\x00\x00\x00\x00\x02",
-    ),
+    SIZES,
+    STARTS_SET,
+    DEATHS_SET,
 ];
 
-// What the client is told then.
-const TOLD_ATTACHED: [&[u8]; 2] = [
+/// What the client is told then.
+pub(crate) const TOLD_ATTACHED: [&[u8]; 2] = [
     b"Content-Length: 77\r\n\r\n{\"command\":\"attach\",\"request_seq\":1,\"seq\":1,\"success\":true,\"type\":\"response\"}",
     b"Content-Length: 46\r\n\r\n{\"event\":\"initialized\",\"seq\":2,\"type\":\"event\"}",
 ];
 
+/// What the target is sent for them (JDWP, VirtualMachine command set, IDSizes; JDWP, EventRequest command set, Set).
+pub(crate) const ASK_SIZES: &[u8] = b"\x00\x00\x00\x0b\x00\x00\x00\x01\x00\x01\x07";
+
+pub(crate) const SET_STARTS: &[u8] =
+    b"\x00\x00\x00\x11\x00\x00\x00\x02\x00\x0f\x01\x06\x00\x00\x00\x00\x00";
+
+pub(crate) const SET_DEATHS: &[u8] =
+    b"\x00\x00\x00\x11\x00\x00\x00\x03\x00\x0f\x01\x07\x00\x00\x00\x00\x00";
+
 /// What the target is sent then.
-pub(crate) const SENT_ATTACHED: [&[u8]; 4] = [
-    b"JDWP-Handshake",
-    b"\x00\x00\x00\x0b\x00\x00\x00\x01\x00\x01\x07",
-    b"\x00\x00\x00\x11\x00\x00\x00\x02\x00\x0f\x01\x06\x00\x00\x00\x00\x00",
-    b"\x00\x00\x00\x11\x00\x00\x00\x03\x00\x0f\x01\x07\x00\x00\x00\x00\x00",
-];
+pub(crate) const SENT_ATTACHED: [&[u8]; 4] = [b"JDWP-Handshake", ASK_SIZES, SET_STARTS, SET_DEATHS];
 
 /// Limits that no short session reaches.
 pub(crate) const USUAL: Limits = Limits {

@@ -4,6 +4,8 @@
 #[cfg(test)]
 mod breakpoint_tests;
 #[cfg(test)]
+mod composite_tests;
+#[cfg(test)]
 mod courses;
 mod handling;
 mod hearing;

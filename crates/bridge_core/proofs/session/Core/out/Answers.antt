@@ -96,6 +96,7 @@ returns-in_ok-send-in-Ask-clause-ready c =
     c.in_ok-send-in-Ask.field-0.side c.in_ok-send-in-Ask.field-0.bytes
     (rw c.in-Ask.is at c.in_ok-go.ensures.comes) c.in_ok-send-in-Ask.ensures).ready
 
-pub returns-in-Over-Done-clause-over : goal.returns-in-Over-Done-clause-over
-returns-in-Over-Done-clause-over c =
-    ends_so c.args.self.now c.go.new.core c.in-Over-Done.field-0 (rw c.in-Over-Done.is at c.in_ok-go.ensures.comes)
+pub returns-in-Over-clause-over : goal.returns-in-Over-clause-over
+returns-in-Over-clause-over c =
+    ends_so c.args.self.now c.go.new.core c.in-Over.finish c.ending_of.result
+    (rw c.in-Over.is at c.in_ok-go.ensures.comes) c.ending_of.ensures

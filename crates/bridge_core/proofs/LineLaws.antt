@@ -1,0 +1,265 @@
+-- How many breakpoints of sources are listed, or still to be: no act of the machine makes them more, and no more are told
+-- to be verified at once.
+use Rattle.std.proofs.Common.{◌≡◌, ℕ, ◌+◌, ◌<◌, ◌≤◌, Bool, true, false, cond, List, [], ◌∷◌, ◌++◌, length, Option, Some}
+use Rattle.std.proofs.Common.{None, refl, sym, ap, ◌∙◌, arith, map, length-append, option_map, subst}
+use Rattle.std.proofs.lemmas.List.{length-map}
+use Rattle.std.specs.BTreeSet.{insert_key}
+use Rattle.std.specs.List.{flat_map, fold}
+use Rattle.std.specs.Ordering.{match_ordering, nat_cmp, on}
+use Rattle.std.specs.declared.cmp.Ordering.{Ordering}
+use Rattle.std.specs.declared.cmp.Ordering.TheVariants.{Less, Equal, Greater}
+use Rattle.std.specs.Prelude.{bytes_eq, filter, if◌then◌else◌}
+use Rattle.class_tables.specs.Lookups.{Lookups, found_in}
+use Rattle.class_tables.specs.Tables.{put}
+use Rattle.dap_messages.specs.declared.requests.SourceBreakpoint.{SourceBreakpoint}
+use Rattle.jdwp_values.specs.declared.id.ClassId.{ClassId}
+use Rattle.jdwp_events.specs.declared.kind.Policy.{Policy}
+use Rattle.machine_model.specs.Breakpoints.{entry_of, is_news, newly_verified, numbered_from}
+use Rattle.machine_model.specs.Composites.{composite_parts}
+use Rattle.machine_model.specs.Due.{Picked, asked_hand, passed_by, pick}
+use Rattle.class_tables.specs.Lookups.{found_in}
+use Rattle.machine_model.specs.Lookups.{finished}
+use Rattle.machine_model.specs.Outcomes.{result_of}
+use Rattle.machine_model.specs.Plans.{Result}
+use Rattle.machine_model.specs.Requests.{Wishes}
+use Rattle.machine_model.specs.Rows.{chosen, end_parts, failure_of, news, noted, parts_by, parts_of, row_of, wanting}
+use Rattle.machine_model.specs.Runs.{Message}
+use Rattle.machine_model.specs.State.{Hand, Machine, State, is_gone, is_raw, knowing, left}
+use Rattle.machine_model.specs.Telling.{after_event, numbered_by}
+use Rattle.machine_model.proofs.Stepping.{IsAt, Moves}
+use Rattle.bridge_core.specs.Names.{Attached, Choice, Classes, Command, Event, Failure, Finding, Fresh, Gone, Item}
+use Rattle.bridge_core.specs.Names.{Leaves, Lines, Lookup, Note, Options, Outcome, Part, Phase, Roots, SetBreakpoints, TellsBound, a_composite, a_raw}
+use Rattle.bridge_core.specs.Names.{a_request, target_end}
+use Rattle.bridge_core.specs.Working.{lines_in, lines_in_hand, lines_in_item, lines_in_part, lines_listed, lines_noted}
+use Rattle.bridge_core.specs.Working.{lines_of, lines_waiting}
+use Rattle.bridge_core.proofs.OwnMoves.{is_own, not_lost}
+use Rattle.wish_sets.specs.Entries.{all_lines, is_verified, verified}
+use Rattle.wish_sets.specs.Wanted.{Wanted, with_class, with_known, with_lines}
+use Rattle.wish_sets.specs.declared.entry.LineEntry.{LineEntry}
+
+-- Lists ---------------------------------------------------------------------------------------------------------------
+
+insert_few : {K : Type 0} (cmp : K → K → Ordering) (keys : List K) (key : K)
+    → length (insert_key cmp keys key) ≤ length keys + 1
+insert_few cmp [] key = omega arith
+insert_few cmp (first ∷ keys) key = by_order (cmp key first) (insert_few cmp keys key)
+  where
+    by_order : (order : Ordering) → length (insert_key cmp keys key) ≤ length keys + 1
+        → length (match_ordering order (key ∷ first ∷ keys) (first ∷ keys) (first ∷ insert_key cmp keys key))
+        ≤ length (first ∷ keys) + 1
+    by_order Less few = omega arith
+    by_order Equal few = omega arith
+    by_order Greater few = omega (arith, few)
+
+fold_few : {K : Type 0} (cmp : K → K → Ordering) (keys more : List K)
+    → length (fold (insert_key cmp) keys more) ≤ length keys + length more
+fold_few cmp keys [] = omega arith
+fold_few cmp keys (key ∷ more) =
+    let one = insert_few cmp keys key in
+    let all = fold_few cmp (insert_key cmp keys key) more in omega (arith, one, all)
+
+filter_few : {A : Type 0} (test : A → Bool) (items : List A) → length (filter test items) ≤ length items
+filter_few test [] = omega arith
+filter_few test (item ∷ items) = by_test (test item) (filter_few test items)
+  where
+    by_test : (passes : Bool) → length (filter test items) ≤ length items
+        → length (cond passes (item ∷ filter test items) (filter test items)) ≤ length (item ∷ items)
+    by_test true few = omega (arith, few)
+    by_test false few = omega (arith, few)
+
+-- no more are told to be verified than are listed
+pub news_few : (below : ℕ) (ids : List ℕ) (wishes : Wishes)
+    → length (newly_verified below ids wishes) ≤ length (all_lines wishes.wanted)
+news_few below ids wishes =
+    let news = filter_few (is_news below ids) (verified wishes) in
+    let each = fold_few (on (λ (entry : LineEntry). entry.id) nat_cmp) []
+        (filter (is_verified wishes) (all_lines wishes.wanted)) in
+    let some = filter_few (is_verified wishes) (all_lines wishes.wanted) in omega (arith, news, each, some)
+
+-- What is listed ------------------------------------------------------------------------------------------------------
+
+abbrev lines_under : List (List ℕ × List LineEntry) → ℕ
+lines_under lists = length (flat_map (λ (list : List ℕ × List LineEntry). list.1) lists)
+
+put_few : (key : List ℕ) (entries : List LineEntry) (lists : List (List ℕ × List LineEntry))
+    → lines_under (put bytes_eq key entries lists) ≤ length entries + lines_under lists
+put_few key entries [] = let both = length-append entries [] in omega (arith, both)
+put_few key entries (list ∷ lists) = by_test (bytes_eq key list.0) (put_few key entries lists)
+  where
+    by_test : (same : Bool) → lines_under (put bytes_eq key entries lists) ≤ length entries + lines_under lists
+        → lines_under (if same then (list.0, entries) ∷ lists else list ∷ put bytes_eq key entries lists)
+        ≤ length entries + lines_under (list ∷ lists)
+    by_test true few =
+        let now = length-append entries (flat_map (λ (list : List ℕ × List LineEntry). list.1) lists) in
+        let was = length-append list.1 (flat_map (λ (list : List ℕ × List LineEntry). list.1) lists) in
+        omega (arith, now, was)
+    by_test false few =
+        let now = length-append list.1
+            (flat_map (λ (list : List ℕ × List LineEntry). list.1) (put bytes_eq key entries lists)) in
+        let was = length-append list.1 (flat_map (λ (list : List ℕ × List LineEntry). list.1) lists) in
+        omega (arith, few, now, was)
+
+known_lists : (known : Lookups) (classes : List ClassId) (wanted : Wanted)
+    → (with_known known classes wanted).lists ≡ wanted.lists
+known_lists known [] wanted = refl
+known_lists known (class ∷ classes) wanted = known_lists known classes (with_class known class wanted)
+
+-- what is written down was to be
+pub noted_few : (note : Note) (state : State)
+    → length (all_lines (noted note state).wishes.wanted)
+    ≤ lines_noted note + length (all_lines state.wishes.wanted)
+noted_few (Options options) state = omega arith
+noted_few (Roots roots) state = omega arith
+noted_few (Lines None entries) state = omega arith
+noted_few (Lines (Some key) entries) state = put_few key entries state.wishes.wanted.lists
+noted_few (Classes classes) state =
+    let same = ap lines_under (known_lists (found_in state.classes) classes state.wishes.wanted) in
+    omega (arith, same)
+
+-- Parts ---------------------------------------------------------------------------------------------------------------
+
+pub lines_joined : (some others : List Part) → lines_in (some ++ others) ≡ lines_in some + lines_in others
+lines_joined [] others = omega arith
+lines_joined (part ∷ some) others = let more = lines_joined some others in omega (arith, more)
+
+numbered_length : (id : ℕ) (breakpoints : List SourceBreakpoint)
+    → length (numbered_from id breakpoints) ≡ length breakpoints
+numbered_length id [] = refl
+numbered_length id (breakpoint ∷ breakpoints) =
+    let more = numbered_length (id + 1) breakpoints in omega (arith, more)
+
+pub finished_lines : (lookup : Lookup) (result : Result Finding) (state : State)
+    → lines_in (finished lookup result state) ≡ 0
+finished_lines lookup result state = grind arith
+
+pub chosen_lines : (choice : Choice) (state : State) (hand : Hand) → lines_in (chosen choice state hand) ≡ 0
+chosen_lines (TellsBound below) state hand = by_phase state.phase (newly_verified below state.bound state.wishes)
+  where
+    by_phase : (phase : Phase) (entries : List LineEntry) → lines_in (news phase entries) ≡ 0
+    by_phase Fresh entries = refl
+    by_phase Gone entries = refl
+    by_phase Attached [] = refl
+    by_phase Attached (entry ∷ entries) = let more = by_phase Attached entries in omega (arith, more)
+chosen_lines (Leaves exits) state hand = grind arith
+
+row_lines : (command : Command) (state : State) → lines_in (row_of command state) ≡ lines_listed command
+row_lines (SetBreakpoints arguments) state =
+    let listed = numbered_from state.next_entry arguments.breakpoints in
+    let long = length-map listed (entry_of state.options.lines_from_one) in
+    let all = numbered_length state.next_entry arguments.breakpoints in omega (arith, long, all)
+row_lines command state = grind arith
+
+parts_lines : (failure : Option Failure) (row : List Part) → lines_in (parts_by failure row) ≤ lines_in row
+parts_lines None row = omega arith
+parts_lines (Some failure) row = omega arith
+
+composite_lines : (phase : Phase) (policy : Policy) (at below : ℕ)
+    → lines_in (composite_parts phase policy at below) ≡ 0
+composite_lines phase policy at below = grind arith
+
+end_lines : (terminated : Bool) → lines_in (end_parts terminated) ≡ 0
+end_lines true = refl
+end_lines false = refl
+
+-- an item that is begun lists no more than it did while it waited
+pub begun_lines : (state : State) (item : Item) → lines_in (parts_of state item) ≤ lines_in_item item
+begun_lines state (a_request request) =
+    let row = row_lines request.command state in
+    let few = parts_lines (failure_of (wanting request.command) state) (row_of request.command state) in
+    omega (arith, row, few)
+begun_lines state (a_composite at composite) =
+    let none = composite_lines state.phase composite.policy at state.next_entry in omega (arith, none)
+begun_lines state (a_raw at body) = omega arith
+begun_lines state target_end = let none = end_lines state.terminated in omega (arith, none)
+
+-- Items ---------------------------------------------------------------------------------------------------------------
+
+pub picked_lines : (gone : Bool) (items : List Item) (picked : Picked) → pick gone items ≡ Some picked
+    → lines_in_item picked.item + lines_waiting picked.rest ≡ lines_waiting items
+picked_lines gone [] picked is = cc
+picked_lines gone (item ∷ items) picked is =
+    by_test (cond gone false (is_raw item)) (pick gone items) is (λ other same. picked_lines gone items other same)
+  where
+    by_below : (below : Option Picked) → passed_by item below ≡ Some picked
+        → ((other : Picked) → below ≡ Some other
+        → lines_in_item other.item + lines_waiting other.rest ≡ lines_waiting items)
+        → lines_in_item picked.item + lines_waiting picked.rest ≡ lines_waiting (item ∷ items)
+    by_below None is all = cc
+    by_below (Some other) is all =
+        let more = all other refl in
+        let one : record { item = other.item; rest = item ∷ other.rest } ≡ picked = cc in
+        subst (λ (p : Picked). lines_in_item p.item + lines_waiting p.rest ≡ lines_waiting (item ∷ items)) one
+        (omega (arith, more))
+
+    by_test : (skips : Bool) (below : Option Picked)
+        → cond skips (passed_by item below) (Some (record { item = item; rest = items })) ≡ Some picked
+        → ((other : Picked) → below ≡ Some other
+        → lines_in_item other.item + lines_waiting other.rest ≡ lines_waiting items)
+        → lines_in_item picked.item + lines_waiting picked.rest ≡ lines_waiting (item ∷ items)
+    by_test true below is all = by_below below is all
+    by_test false below is all =
+        let one : record { item = item; rest = items } ≡ picked = cc in
+        subst (λ (p : Picked). lines_in_item p.item + lines_waiting p.rest ≡ lines_waiting (item ∷ items)) one refl
+
+-- The moves -----------------------------------------------------------------------------------------------------------
+
+numbered_wishes : (outcome : Outcome) (state : State) → (numbered_by outcome state).wishes ≡ state.wishes
+numbered_wishes outcome state = grind arith
+
+told_wishes : (event : Event) (state : State) → (after_event event state).wishes ≡ state.wishes
+told_wishes event state = grind arith
+
+-- a part makes room for others
+part_lines : (m : Machine) (hand : Hand) (part : Part) (rest parts : List Part) (state : State)
+    → IsAt m hand part rest
+    → length (all_lines state.wishes.wanted) + lines_in parts
+    ≤ length (all_lines m.state.wishes.wanted) + (lines_in_part part + lines_in rest)
+    → lines_of (left (knowing m state) hand parts) ≤ lines_of m
+part_lines m hand part rest parts state at few =
+    let was : lines_in_hand m.hand ≡ lines_in hand.parts = ap lines_in_hand at.in_hand in
+    let all : lines_in hand.parts ≡ lines_in_part part + lines_in rest = ap lines_in at.parts in
+    omega (arith, few, was, all)
+
+-- no act makes them more
+pub lines_on : (m next : Machine) (said : Option Message) → is_own said ≡ true → Moves m said next
+    → lines_of next ≤ lines_of m
+lines_on m next said own (Moves.begins picked free none is) =
+    let one = picked_lines (is_gone m.state.phase) m.waiting picked is in
+    let few = begun_lines m.state picked.item in
+    let was : lines_in_hand m.hand ≡ 0 = ap lines_in_hand none in omega (arith, one, few, was)
+lines_on m next said own (Moves.drops {hand} free is none) = omega arith
+lines_on m next said own (Moves.responds {hand} {rest} {outcome = outcome} free at is) =
+    let same = ap (λ (wishes : Wishes). length (all_lines wishes.wanted)) (numbered_wishes outcome m.state) in
+    part_lines m hand (Part.Responds outcome) rest rest (numbered_by outcome m.state) at (omega (arith, same))
+lines_on m next said own (Moves.finds {hand} {rest} {lookup} found free at needs done) =
+    let parts = finished lookup (result_of found) m.state in
+    let none = finished_lines lookup (result_of found) m.state in
+    let both = lines_joined parts rest in
+    part_lines m hand (Part.Looks lookup) rest (parts ++ rest) m.state at (omega (arith, none, both))
+lines_on m next said own (Moves.passes_over {hand} {part} {rest} free at why) =
+    part_lines m hand part rest rest m.state at (omega arith)
+lines_on m next said own (Moves.tells {hand} {rest} {event} free at) =
+    let same = ap (λ (wishes : Wishes). length (all_lines wishes.wanted)) (told_wishes event m.state) in
+    part_lines m hand (Part.Tells event) rest rest (after_event event m.state) at (omega (arith, same))
+lines_on m next said own (Moves.sends {hand} {rest} {deed} free at near) =
+    part_lines m hand (Part.Sends deed) rest rest m.state at (omega arith)
+lines_on m next said own (Moves.updates {hand} {effect} {rest} free at is near) =
+    part_lines m hand Part.Updates rest (Part.Updates ∷ rest) m.state at (omega arith)
+lines_on m next said own (Moves.greets {hand} {guard} free at is near) = omega arith
+lines_on m next said own (Moves.notes {hand} {note} {rest} free at) =
+    let few = noted_few note m.state in
+    part_lines m hand (Part.Notes note) rest rest (noted note m.state) at (omega (arith, few))
+lines_on m next said own (Moves.unfolds {hand} {choice} {rest} free at) =
+    let parts = chosen choice m.state hand in
+    let none = chosen_lines choice m.state hand in
+    let both = lines_joined parts rest in
+    part_lines m hand (Part.Unfolds choice) rest (parts ++ rest) m.state at (omega (arith, none, both))
+lines_on m next said own (Moves.queues {hand} free is) =
+    let was : lines_in_hand m.hand ≡ lines_in hand.parts = ap lines_in_hand is in omega (arith, was)
+lines_on m next said own (Moves.asks {hand} {want} {wants} free room is are) =
+    let was : lines_in_hand m.hand ≡ lines_in hand.parts = ap lines_in_hand is in
+    let now : lines_in_hand (option_map (asked_hand want) m.hand) ≡ lines_in hand.parts =
+    ap (λ (held : Option Hand). lines_in_hand (option_map (asked_hand want) held)) is in omega (arith, was, now)
+lines_on m next said own (Moves.loses {message} late near why) =
+    let no : true ≡ false = sym own ∙ not_lost m message late why in cc
+lines_on m next said own _ = cc
