@@ -6,11 +6,13 @@
 - Twenty connections that stay open and say nothing, before the client comes; and a client that speaks late, with
   fifteen silent ones behind it.
 - A target that resets its link with bytes under way, which is its end: the client is told so.
-- Requests that come byte by byte.
+- Requests that come byte by byte; a request of a million bytes, whose answer, as long, is read late.
 - Answers to a client that sent more behind its `disconnect`, and reads late: all of them come.
 - The end of the session at a fault of the target, while the client goes on sending: the client is told.
 - The last command to a target that goes on sending: it comes, and the link ends without a reset.
+- Peers that neither close their links nor say more behind the end of the session: the program ends all the same.
 - Words that aren't UTF-8, and a word too many: the usage line.
+- A standard output that takes only the front of the line: its status.
 - A standard stream that is closed: nothing is opened.
 - The program in the background of a terminal: it isn't stopped.
 
@@ -18,20 +20,24 @@ usage: examples/hard_links.py [PROGRAM]
 """
 import os
 import pty
+import resource
 import signal
 import socket
 import struct
 import subprocess
 import sys
+import tempfile
 import threading
 import time
 
 from building import PATIENCE, USAGE
 from many_threads import ATTACH, HANDSHAKE, receive, reply
-from over_tcp import INITIALIZED, DISCONNECTED, Bridge, Client, built, dial, request
+from over_tcp import INITIALIZED, DISCONNECTED, Bridge, Client, built, dial, request, unsupported
 
 TERMINATED = b'{"event":"terminated","seq":2,"type":"event"}'
 DISPOSE = struct.pack(">IIBBB", 11, 4, 0, 1, 6)
+# how many bytes of a line a file takes that takes no more
+FRONT = 5
 
 
 def two_requests(client, by=None):
@@ -89,6 +95,16 @@ def byte_by_byte(bridge):
     return two_requests(bridge.client(), by=1) and bridge.status() == 0
 
 
+def long_messages(bridge):
+    client = bridge.client()
+    name = "x" * 1000000
+    client.send(request(1, name))
+    time.sleep(0.5)
+    answer = client.receive()
+    client.send(request(2, "disconnect"))
+    return [answer, client.receive()] == [unsupported(1, 1, name), DISCONNECTED] and bridge.status() == 0
+
+
 def more_behind_disconnect(bridge):
     client = bridge.client()
     for seq in range(1, 51):
@@ -128,6 +144,12 @@ def last_command(bridge):
     load.join()
     bridge.target.shutdown(socket.SHUT_WR)
     return bridge.heard_by_target() == DISPOSE and bridge.status() == 1
+
+
+def peers_that_stay(bridge):
+    client = attached(bridge)
+    client.stream.sendall(b"\r")
+    return bridge.status() == 3 and receive(bridge.target, len(DISPOSE)) == DISPOSE
 
 
 def attached(bridge):
@@ -173,6 +195,19 @@ def words_of_other_bytes(program):
 
 def one_word_more(program):
     return is_usage([program, "serve", "--listen", "127.0.0.1:0", "--target", "127.0.0.1:1", "more"])
+
+
+def cut_line(program):
+    with tempfile.TemporaryFile() as output:
+        ran = subprocess.run([program], stdin=subprocess.DEVNULL, stdout=output, stderr=subprocess.DEVNULL,
+                             preexec_fn=limit_files, timeout=PATIENCE, check=False)
+        return ran.returncode == 9 and os.fstat(output.fileno()).st_size == FRONT
+
+
+def limit_files():
+    """Lets this process write no more than a few bytes to a file, and be told so by an error."""
+    signal.signal(signal.SIGXFSZ, signal.SIG_IGN)
+    resource.setrlimit(resource.RLIMIT_FSIZE, (FRONT, FRONT))
 
 
 def closed_input(program):
@@ -234,8 +269,8 @@ def is_usage(command):
 
 
 LINKS = (late_client, probed_port, silent_connections, late_speaker, reset_by_target, byte_by_byte,
-         more_behind_disconnect, end_under_load, last_command)
-ALONE = (words_of_other_bytes, one_word_more, closed_input, closed_output, closed_error,
+         long_messages, more_behind_disconnect, end_under_load, last_command, peers_that_stay)
+ALONE = (words_of_other_bytes, one_word_more, cut_line, closed_input, closed_output, closed_error,
          in_the_background)
 
 

@@ -2,10 +2,11 @@
 """Measures `setBreakpoints` over a target of many classes, beside a plain loop that sends the same target the same
 commands.
 
-The target has 500 prepared classes of 40 methods, in ten packages. The client lists four lines in each of some files.
-Printed are the seconds until all breakpoints are told, of the plain loop and of the bridge, and the processor time that
-the bridge took for it: the least of three runs in turn. The target is a process of this script. Both keep sixteen
-questions in flight, and send a command that changes the target alone.
+The target has so many prepared classes with so many methods each, in ten packages, and maybe others in packages in
+which nothing is listed. The client lists four lines in each of some files. Printed are the seconds until all
+breakpoints are told, of the plain loop and of the bridge, and the processor time that the bridge took for it: the least
+of three runs in turn. The target is a process of this script. Both keep sixteen questions in flight, and send a command
+that changes the target alone.
 
 usage: examples/many_breakpoints.py [PROGRAM]
 """
@@ -21,12 +22,11 @@ from many_threads import HANDSHAKE, IN_FLIGHT, PIECE, SIZES, cut, receive
 from over_tcp import Bridge, request
 from round_trips import processor_seconds
 
-CLASSES = 500
-METHODS = 40
 PACKAGES = 10
 LINES = 4
-FILES = (10, 50)
 RUNS = 3
+# classes, their methods, other classes, and files that are listed
+CASES = ((50, 40, 0, 50), (500, 40, 0, 10), (500, 40, 0, 50), (500, 40, 1000, 50), (5000, 40, 0, 50), (500, 400, 0, 50))
 ATTACH = {"sourceRoots": ["/src"]}
 EFFECTS = ((15, 1), (15, 2))
 
@@ -40,16 +40,18 @@ def path_of(number):
     return "p%d" % (number % PACKAGES), "C%d" % number
 
 
-def all_classes():
-    body = struct.pack(">I", CLASSES)
-    for number in range(1, CLASSES + 1):
-        body += struct.pack(">BQ", 1, number) + text("L%s/%s;" % path_of(number)) + struct.pack(">I", 7)
+def all_classes(classes, others):
+    body = struct.pack(">I", classes + others)
+    for number in range(1, classes + others + 1):
+        package, name = path_of(number)
+        signature = "L%s%s/%s;" % ("other/" if number > classes else "", package, name)
+        body += struct.pack(">BQ", 1, number) + text(signature) + struct.pack(">I", 7)
     return body
 
 
-def methods():
-    body = struct.pack(">I", METHODS)
-    for number in range(1, METHODS + 1):
+def all_methods(methods):
+    body = struct.pack(">I", methods)
+    for number in range(1, methods + 1):
         body += struct.pack(">Q", number) + text("m%d" % number) + text("()V") + struct.pack(">I", 1)
     return body
 
@@ -60,22 +62,24 @@ def line_table(method):
     return struct.pack(">QQI", 0, 9, 10) + lines
 
 
-FIXED = {(1, 7): SIZES, (1, 3): all_classes(), (2, 5): methods()}
-TABLES = [line_table(method) for method in range(METHODS + 1)]
+def tables(classes, methods, others):
+    """What a target replies to questions: the same to each of a kind, or by the method."""
+    fixed = {(1, 7): SIZES, (1, 3): all_classes(classes, others), (2, 5): all_methods(methods)}
+    return fixed, [line_table(method) for method in range(methods + 1)]
 
 
-def answer(numbers, body):
+def answer(numbers, body, fixed, lines):
     """What the target replies to a command, but for the ids of event requests: a body."""
-    if numbers in FIXED:
-        return FIXED[numbers]
+    if numbers in fixed:
+        return fixed[numbers]
     if numbers == (2, 7):
         return text(path_of(struct.unpack(">Q", body)[0])[1] + ".java")
     if numbers == (6, 1):
-        return TABLES[struct.unpack(">QQ", body)[1]]
+        return lines[struct.unpack(">QQ", body)[1]]
     return b""
 
 
-def serve_target(stream, log):
+def serve_target(stream, log, fixed, lines):
     """Answers each command until the link ends, and says then which commands came."""
     stream.setsockopt(socket.IPPROTO_TCP, socket.TCP_NODELAY, 1)
     commands = []
@@ -88,7 +92,10 @@ def serve_target(stream, log):
             for packet in packets:
                 number, _, *numbers = struct.unpack_from(">IBBB", packet, 4)
                 commands.append((tuple(numbers), packet[11:]))
-                body = struct.pack(">I", number) if numbers == [15, 1] else answer(tuple(numbers), packet[11:])
+                if numbers == [15, 1]:
+                    body = struct.pack(">I", number)
+                else:
+                    body = answer(tuple(numbers), packet[11:], fixed, lines)
                 replies += struct.pack(">IIBH", 11 + len(body), number, 0x80, 0) + body
             if replies:
                 stream.sendall(replies)
@@ -97,8 +104,9 @@ def serve_target(stream, log):
     log.put(commands)
 
 
-def target_of(stream, log):
-    target = multiprocessing.get_context("fork").Process(target=serve_target, args=(stream, log), daemon=True)
+def target_of(stream, log, shape):
+    told = (stream, log, *tables(*shape))
+    target = multiprocessing.get_context("fork").Process(target=serve_target, args=told, daemon=True)
     target.start()
     stream.close()
     return target
@@ -132,13 +140,13 @@ def send_wave(stream, first, commands):
         done += len(packets)
 
 
-def plain_loop(commands):
+def plain_loop(commands, shape):
     """The seconds that the commands take without a bridge."""
     listener = socket.create_server(("127.0.0.1", 0))
     near = socket.create_connection(listener.getsockname())
     far, _ = listener.accept()
     near.setsockopt(socket.IPPROTO_TCP, socket.TCP_NODELAY, 1)
-    target = target_of(far, multiprocessing.get_context("fork").Queue())
+    target = target_of(far, multiprocessing.get_context("fork").Queue(), shape)
     near.sendall(HANDSHAKE)
     receive(near, len(HANDSHAKE))
     start = time.monotonic()
@@ -159,11 +167,11 @@ def list_of(number):
     return {"source": {"path": "/src/%s/%s.java" % (package, name)}, "breakpoints": lines}
 
 
-def bridged(program, files):
+def bridged(program, files, shape):
     """The seconds that the lists take, the processor time of the bridge for them, and the commands for them."""
     log = multiprocessing.get_context("fork").Queue()
     with Bridge(program) as bridge:
-        target_of(bridge.target, log)
+        target_of(bridge.target, log, shape)
         client = bridge.client()
         for seq, (command, arguments) in enumerate([("initialize", {"adapterID": "jdwp"}), ("attach", ATTACH)]):
             client.send(request(seq + 1, command, arguments))
@@ -184,16 +192,17 @@ def bridged(program, files):
 
 def main():
     program = program_of(sys.argv[1:])
-    for files in FILES:
+    for *shape, files in CASES:
         plain, bridge = [], []
         for _ in range(RUNS):
-            took, spent, commands = bridged(program, files)
+            took, spent, commands = bridged(program, files, shape)
             bridge.append((took, spent))
-            plain.append(plain_loop(commands))
+            plain.append(plain_loop(commands, shape))
         took, spent = min(bridge)
-        print("%3d lists of %d lines, %5d commands: plain loop %7.3f s, bridge %7.3f s, which is %.2f of it; "
-              "its processor time %7.3f s, %.1f us a command"
-              % (files, LINES, len(commands), min(plain), took, took / min(plain), spent, 1e6 * spent / len(commands)))
+        print("%4d classes of %3d methods, %4d others, %2d lists of %d lines, %5d commands: plain loop %7.3f s, "
+              "bridge %7.3f s, which is %5.2f of it; its processor time %7.3f s, %5.1f us a command"
+              % (*shape, files, LINES, len(commands), min(plain), took, took / min(plain), spent,
+                 1e6 * spent / len(commands)), flush=True)
 
 
 if __name__ == "__main__":
