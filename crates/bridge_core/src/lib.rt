@@ -15,6 +15,3 @@ mod waiting;
 mod words;
 
 pub use session::{Core, Out};
-
-#[cfg(test)]
-mod tests;

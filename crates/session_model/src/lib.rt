@@ -4,9 +4,6 @@
 
 mod ending;
 mod laws;
-#[cfg(test)]
-mod tests;
-
 pub use ending::{ClientFault, Ending, Limits, TargetFault};
 pub use laws::{
     answers_read_alike_with_sizes_that_serve, done_is_a_disconnect_that_succeeded,

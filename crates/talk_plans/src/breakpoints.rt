@@ -104,7 +104,7 @@ fn short_key(alloc: Global, key: Option<&[u8]>) -> Result<Option<Text>, NoMemory
 /// with `/` between its parts; `None` exactly where it stands in none, or the key is longer than 2^24 bytes. `NoMemory`
 /// comes where memory is refused (DAP specification, Types, Source, path).
 #[tactic(auto, unfolding(machine_model::specs::Breakpoints::key_of))]
-pub(crate) fn key_of(alloc: Global, roots: &[Text], path: &str) -> Result<Option<Text>, NoMemory>
+pub fn key_of(alloc: Global, roots: &[Text], path: &str) -> Result<Option<Text>, NoMemory>
     ensures { IfOk result (λ key. key ≡ key_of roots.now path.now) }
 {
     let path = slashed(alloc, path)?;

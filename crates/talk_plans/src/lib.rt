@@ -27,12 +27,10 @@ mod threads;
 mod wire;
 
 pub use bodies::response_to;
+pub use breakpoints::key_of;
 pub use laws::{a_composite_is_read_first, the_next_item_is_due, what_a_talk_has_next_is_due};
 pub use next::Next;
 pub use sizes::SizesRead;
 pub use state::State;
 pub use talk::Talk;
 pub use wire::wire_effect;
-
-#[cfg(test)]
-mod tests;

@@ -35,6 +35,3 @@ pub use laws::{
 };
 pub use wish::{Depth, StepWish, Wish};
 pub use wishes::Wishes;
-
-#[cfg(test)]
-mod tests;

@@ -4,7 +4,7 @@ ghost use Rattle.wire_core.specs.MemoryWires.{outside_of};
 ghost use Rattle.wire_core.specs.Outside.{IsOpen};
 ghost use Rattle.wire_core.specs.declared.outside.Side.TheVariants.{Client, Target};
 
-use crate::serve;
+use bridge_serve::serve;
 use session_model::{Ending, Limits};
 use std::alloc::Global;
 use std::test::Fail;

@@ -1,0 +1,16 @@
+//! Whole sessions over wires in memory, byte for byte: tests and nothing else. A crate with tests is proved a second
+//! time with them, so the large crates below have none of their own.
+#![tactic(auto)]
+
+#[cfg(test)]
+mod breakpoints;
+#[cfg(test)]
+mod composites;
+#[cfg(test)]
+mod courses;
+#[cfg(test)]
+mod keys;
+#[cfg(test)]
+mod listed_classes;
+#[cfg(test)]
+mod sessions;
