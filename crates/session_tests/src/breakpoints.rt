@@ -1,4 +1,4 @@
-use crate::courses::{Came, Course, USUAL, check};
+use crate::courses::{ATTACHES, Came, Course, USUAL, check};
 use crate::listed_classes::LISTED_CLASSES;
 use session_model::Ending;
 use std::test::Fail;
@@ -82,7 +82,7 @@ const STOPPED_AT_5: &[u8] = b"\x00\x00\x00\x0f\x00\x00\x00\x0c\x80\x00\x00\x00\x
 const NOT_BOUND: &[Course<'static>] = &[
     // no class of the source is loaded
     Course {
-        attached: true,
+        first: &[ATTACHES],
         steps: &[
             Came::Bytes(Side::Client, LIST_OF_LINE_10),
             Came::Bytes(Side::Target, WATCHED),
@@ -100,7 +100,7 @@ const NOT_BOUND: &[Course<'static>] = &[
     },
     // the watch is refused, and no classes are asked for
     Course {
-        attached: true,
+        first: &[ATTACHES],
         steps: &[
             Came::Bytes(Side::Client, LIST_OF_LINE_10),
             Came::Bytes(
@@ -116,7 +116,7 @@ const NOT_BOUND: &[Course<'static>] = &[
     },
     // the location is refused
     Course {
-        attached: true,
+        first: &[ATTACHES],
         steps: &[
             Came::Bytes(Side::Client, LIST_OF_LINE_10),
             Came::Bytes(Side::Target, WATCHED),
@@ -145,7 +145,7 @@ const NOT_BOUND: &[Course<'static>] = &[
     },
     // sources outside all roots, one breakpoint with a condition
     Course {
-        attached: true,
+        first: &[ATTACHES],
         steps: &[
             Came::Bytes(
                 Side::Client,
@@ -186,7 +186,7 @@ fn breakpoints_are_not_bound(rt: HostRuntime) -> Result<(), Fail> {
 const BOUND: &[Course<'static>] = &[
     // the class of the source is loaded
     Course {
-        attached: true,
+        first: &[ATTACHES],
         steps: &[
             Came::Bytes(Side::Client, LIST_OF_LINE_10),
             Came::Bytes(Side::Target, WATCHED),
@@ -208,7 +208,7 @@ const BOUND: &[Course<'static>] = &[
     },
     // a client that counts lines from 0
     Course {
-        attached: true,
+        first: &[ATTACHES],
         steps: &[
             Came::Bytes(
                 Side::Client,
@@ -259,7 +259,7 @@ fn breakpoints_are_bound(rt: HostRuntime) -> Result<(), Fail> {
 const REPLACED: &[Course<'static>] = &[
     // the first location goes, the second stays, and another comes
     Course {
-        attached: true,
+        first: &[ATTACHES],
         steps: &[
             Came::Bytes(
                 Side::Client,
@@ -316,7 +316,7 @@ const REPLACED: &[Course<'static>] = &[
     },
     // an empty list leaves nothing of its source
     Course {
-        attached: true,
+        first: &[ATTACHES],
         steps: &[
             Came::Bytes(Side::Client, LIST_OF_LINE_10),
             Came::Bytes(Side::Target, WATCHED),
@@ -368,7 +368,7 @@ fn lists_are_replaced(rt: HostRuntime) -> Result<(), Fail> {
 const ENDINGS: &[Course<'static>] = &[
     // the link fails as the watch is set
     Course {
-        attached: true,
+        first: &[ATTACHES],
         steps: &[Came::Bytes(Side::Client, LIST_OF_LINE_10)],
         limits: USUAL,
         failing: &[(Side::Target, 4, 5)],
@@ -378,7 +378,7 @@ const ENDINGS: &[Course<'static>] = &[
     },
     // the list of all classes is refused
     Course {
-        attached: true,
+        first: &[ATTACHES],
         steps: &[
             Came::Bytes(Side::Client, LIST_OF_LINE_10),
             Came::Bytes(Side::Target, WATCHED),
@@ -414,7 +414,7 @@ fn a_list_ends_with_its_session(rt: HostRuntime) -> Result<(), Fail> {
 const CONFIGURED: &[Course<'static>] = &[
     // in a session that is attached
     Course {
-        attached: true,
+        first: &[ATTACHES],
         steps: &[Came::Bytes(
             Side::Client,
             b"Content-Length: 56\r\n\r\n{\"seq\":2,\"type\":\"request\",\"command\":\"configurationDone\"}",
@@ -430,7 +430,7 @@ const CONFIGURED: &[Course<'static>] = &[
     },
     // before it is, as a list
     Course {
-        attached: false,
+        first: &[],
         steps: &[
             Came::Bytes(
                 Side::Client,
@@ -463,7 +463,7 @@ fn configuration_is_done(rt: HostRuntime) -> Result<(), Fail> {
 
 // Two of many classes stand in the package.
 const TWO_OF_PACKAGE: Course<'static> = Course {
-    attached: true,
+    first: &[ATTACHES],
     steps: &[
         Came::Bytes(Side::Client, LIST_OF_LINE_10),
         Came::Bytes(Side::Target, WATCHED),
@@ -489,7 +489,7 @@ fn sources_of_prepared_classes_are_asked(rt: HostRuntime) -> Result<(), Fail> {
 
 // Nineteen of many classes stand in the package, and sixteen questions go before a reply.
 const NINETEEN_OF_PACKAGE: Course<'static> = Course {
-    attached: true,
+    first: &[ATTACHES],
     steps: &[
         Came::Bytes(
             Side::Client,

@@ -1,6 +1,6 @@
 use crate::courses::{
-    ASK_SIZES, ATTACH, Came, Course, DEATHS_SET, SET_DEATHS, SET_STARTS, SIZES, STARTS_SET,
-    TOLD_ATTACHED, USUAL, check,
+    ASK_SIZES, ATTACH, ATTACHES, Came, Course, DEATHS_SET, SET_DEATHS, SET_STARTS, SIZES,
+    STARTS_SET, Stage, TOLD_ATTACHED, USUAL, check,
 };
 use session_model::{Ending, TargetFault};
 use std::test::Fail;
@@ -71,47 +71,67 @@ const RESUME: &[u8] = b"\x00\x00\x00\x0b\x00\x00\x00\x0a\x00\x01\x09";
 
 const RESUMED: &[u8] = b"\x00\x00\x00\x0b\x00\x00\x00\x0a\x80\x00\x00";
 
+// The list is answered, and no class is loaded.
+const LISTED: Stage<'static> = Stage {
+    steps: &[
+        Came::Bytes(Side::Client, LIST),
+        Came::Bytes(Side::Target, WATCHED),
+        Came::Bytes(Side::Target, NO_CLASSES),
+    ],
+    told: &[WAITS],
+    sent: &[WATCH, ASK_CLASSES],
+};
+
+// Its class is prepared, and all is asked of it.
+const PREPARES: Stage<'static> = Stage {
+    steps: &[
+        Came::Bytes(Side::Target, PREPARED),
+        Came::Bytes(Side::Target, SOURCE),
+        Came::Bytes(Side::Target, METHODS),
+        Came::Bytes(Side::Target, LINES),
+    ],
+    told: &[],
+    sent: &[ASK_SOURCE, ASK_METHODS, ASK_LINES, STOP],
+};
+
+// An empty list takes the watch away (JDWP, EventRequest command set, Clear).
+const UNLISTED: Stage<'static> = Stage {
+    steps: &[
+        Came::Bytes(
+            Side::Client,
+            b"Content-Length: 129\r\n\r\n{\"seq\":3,\"type\":\"request\",\"command\":\"setBreakpoints\",\
+            \"arguments\":{\"source\":{\"path\":\"/p/src/com/acme/Foo.java\"},\"breakpoints\":[]}}",
+        ),
+        Came::Bytes(
+            Side::Target,
+            b"\x00\x00\x00\x0b\x00\x00\x00\x06\x80\x00\x00",
+        ),
+    ],
+    told: &[
+        b"Content-Length: 111\r\n\r\n{\"body\":{\"breakpoints\":[]},\"command\":\"setBreakpoints\",\
+        \"request_seq\":3,\"seq\":4,\"success\":true,\"type\":\"response\"}",
+    ],
+    sent: &[b"\x00\x00\x00\x10\x00\x00\x00\x06\x00\x0f\x02\x08\x00\x00\x00\x03"],
+};
+
 const LATER: &[Course<'static>] = &[
     // its class is prepared once the list was answered
     Course {
-        attached: true,
+        first: &[ATTACHES, LISTED, PREPARES],
         steps: &[
-            Came::Bytes(Side::Client, LIST),
-            Came::Bytes(Side::Target, WATCHED),
-            Came::Bytes(Side::Target, NO_CLASSES),
-            Came::Bytes(Side::Target, PREPARED),
-            Came::Bytes(Side::Target, SOURCE),
-            Came::Bytes(Side::Target, METHODS),
-            Came::Bytes(Side::Target, LINES),
             Came::Bytes(Side::Target, STOPPED),
             Came::Bytes(Side::Target, RESUMED),
         ],
         limits: USUAL,
         failing: &[],
-        told: &[WAITS, BOUND],
-        sent: &[
-            WATCH,
-            ASK_CLASSES,
-            ASK_SOURCE,
-            ASK_METHODS,
-            ASK_LINES,
-            STOP,
-            RESUME,
-            b"\x00\x00\x00\x0b\x00\x00\x00\x0b\x00\x01\x06",
-        ],
+        told: &[BOUND],
+        sent: &[RESUME, b"\x00\x00\x00\x0b\x00\x00\x00\x0b\x00\x01\x06"],
         ending: Ending::Left,
     },
     // its location is refused
     Course {
-        attached: true,
+        first: &[ATTACHES, LISTED, PREPARES],
         steps: &[
-            Came::Bytes(Side::Client, LIST),
-            Came::Bytes(Side::Target, WATCHED),
-            Came::Bytes(Side::Target, NO_CLASSES),
-            Came::Bytes(Side::Target, PREPARED),
-            Came::Bytes(Side::Target, SOURCE),
-            Came::Bytes(Side::Target, METHODS),
-            Came::Bytes(Side::Target, LINES),
             Came::Bytes(
                 Side::Target,
                 b"\x00\x00\x00\x0b\x00\x00\x00\x09\x80\x00\x18",
@@ -120,26 +140,14 @@ const LATER: &[Course<'static>] = &[
         ],
         limits: USUAL,
         failing: &[],
-        told: &[WAITS],
-        sent: &[
-            WATCH,
-            ASK_CLASSES,
-            ASK_SOURCE,
-            ASK_METHODS,
-            ASK_LINES,
-            STOP,
-            RESUME,
-            b"\x00\x00\x00\x0b\x00\x00\x00\x0b\x00\x01\x06",
-        ],
+        told: &[],
+        sent: &[RESUME, b"\x00\x00\x00\x0b\x00\x00\x00\x0b\x00\x01\x06"],
         ending: Ending::Left,
     },
     // the target runs on by itself
     Course {
-        attached: true,
+        first: &[ATTACHES, LISTED],
         steps: &[
-            Came::Bytes(Side::Client, LIST),
-            Came::Bytes(Side::Target, WATCHED),
-            Came::Bytes(Side::Target, NO_CLASSES),
             Came::Bytes(
                 Side::Target,
                 b"\x00\x00\x00\x3c\x00\x00\x00\x01\x00\x40\x64\x00\x00\x00\x00\x01\x08\x00\x00\x00\x03\x00\x00\
@@ -153,10 +161,8 @@ const LATER: &[Course<'static>] = &[
         ],
         limits: USUAL,
         failing: &[],
-        told: &[WAITS, BOUND],
+        told: &[BOUND],
         sent: &[
-            WATCH,
-            ASK_CLASSES,
             ASK_SOURCE,
             ASK_METHODS,
             ASK_LINES,
@@ -167,7 +173,7 @@ const LATER: &[Course<'static>] = &[
     },
     // it is prepared between the watch and the list of all classes, and both tell of it
     Course {
-        attached: true,
+        first: &[ATTACHES],
         steps: &[
             Came::Bytes(Side::Client, LIST),
             Came::Bytes(Side::Target, WATCHED),
@@ -203,7 +209,7 @@ const LATER: &[Course<'static>] = &[
     },
     // a second class of the source is prepared while the first is asked
     Course {
-        attached: true,
+        first: &[ATTACHES],
         steps: &[
             Came::Bytes(
                 Side::Client,
@@ -281,11 +287,8 @@ const LATER: &[Course<'static>] = &[
     },
     // the list of all classes for another source tells of it, and its own event comes later
     Course {
-        attached: true,
+        first: &[ATTACHES, LISTED],
         steps: &[
-            Came::Bytes(Side::Client, LIST),
-            Came::Bytes(Side::Target, WATCHED),
-            Came::Bytes(Side::Target, NO_CLASSES),
             Came::Bytes(
                 Side::Client,
                 b"Content-Length: 136\r\n\r\n{\"seq\":3,\"type\":\"request\",\"command\":\"setBreakpoints\",\
@@ -328,15 +331,12 @@ const LATER: &[Course<'static>] = &[
         limits: USUAL,
         failing: &[],
         told: &[
-            WAITS,
             BOUND,
             b"Content-Length: 171\r\n\r\n{\"body\":{\"breakpoints\":[{\"id\":2,\"line\":3,\
             \"message\":\"not bound yet\",\"verified\":false}]},\"command\":\"setBreakpoints\",\"request_seq\":3,\
             \"seq\":5,\"success\":true,\"type\":\"response\"}",
         ],
         sent: &[
-            WATCH,
-            ASK_CLASSES,
             b"\x00\x00\x00\x1d\x00\x00\x00\x06\x00\x0f\x01\x08\x02\x00\x00\x00\x01\x05\x00\x00\x00\x07org.x.*",
             b"\x00\x00\x00\x0b\x00\x00\x00\x07\x00\x01\x03",
             b"\x00\x00\x00\x13\x00\x00\x00\x08\x00\x02\x07\x00\x00\x00\x00\x00\x00\x00\x10",
@@ -361,22 +361,10 @@ fn breakpoints_are_bound_in_classes_that_are_prepared_later(rt: HostRuntime) -> 
 }
 
 const WATCHES: &[Course<'static>] = &[
-    // an empty list takes the watch away, and the next list sets it and lists all classes anew
+    // the next list sets the watch again and lists all classes anew
     Course {
-        attached: true,
+        first: &[ATTACHES, LISTED, UNLISTED],
         steps: &[
-            Came::Bytes(Side::Client, LIST),
-            Came::Bytes(Side::Target, WATCHED),
-            Came::Bytes(Side::Target, NO_CLASSES),
-            Came::Bytes(
-                Side::Client,
-                b"Content-Length: 129\r\n\r\n{\"seq\":3,\"type\":\"request\",\"command\":\"setBreakpoints\",\
-                \"arguments\":{\"source\":{\"path\":\"/p/src/com/acme/Foo.java\"},\"breakpoints\":[]}}",
-            ),
-            Came::Bytes(
-                Side::Target,
-                b"\x00\x00\x00\x0b\x00\x00\x00\x06\x80\x00\x00",
-            ),
             Came::Bytes(
                 Side::Client,
                 b"Content-Length: 140\r\n\r\n{\"seq\":4,\"type\":\"request\",\"command\":\"setBreakpoints\",\
@@ -395,17 +383,11 @@ const WATCHES: &[Course<'static>] = &[
         limits: USUAL,
         failing: &[],
         told: &[
-            WAITS,
-            b"Content-Length: 111\r\n\r\n{\"body\":{\"breakpoints\":[]},\"command\":\"setBreakpoints\",\
-            \"request_seq\":3,\"seq\":4,\"success\":true,\"type\":\"response\"}",
             b"Content-Length: 172\r\n\r\n{\"body\":{\"breakpoints\":[{\"id\":2,\"line\":10,\
             \"message\":\"not bound yet\",\"verified\":false}]},\"command\":\"setBreakpoints\",\"request_seq\":4,\
             \"seq\":5,\"success\":true,\"type\":\"response\"}",
         ],
         sent: &[
-            WATCH,
-            ASK_CLASSES,
-            b"\x00\x00\x00\x10\x00\x00\x00\x06\x00\x0f\x02\x08\x00\x00\x00\x03",
             b"\x00\x00\x00\x20\x00\x00\x00\x07\x00\x0f\x01\x08\x02\x00\x00\x00\x01\x05\x00\x00\x00\x0acom.acme.*",
             b"\x00\x00\x00\x0b\x00\x00\x00\x08\x00\x01\x03",
             b"\x00\x00\x00\x0b\x00\x00\x00\x09\x00\x01\x06",
@@ -414,20 +396,8 @@ const WATCHES: &[Course<'static>] = &[
     },
     // a class of a package that is watched no longer is not asked
     Course {
-        attached: true,
+        first: &[ATTACHES, LISTED, UNLISTED],
         steps: &[
-            Came::Bytes(Side::Client, LIST),
-            Came::Bytes(Side::Target, WATCHED),
-            Came::Bytes(Side::Target, NO_CLASSES),
-            Came::Bytes(
-                Side::Client,
-                b"Content-Length: 129\r\n\r\n{\"seq\":3,\"type\":\"request\",\"command\":\"setBreakpoints\",\
-                \"arguments\":{\"source\":{\"path\":\"/p/src/com/acme/Foo.java\"},\"breakpoints\":[]}}",
-            ),
-            Came::Bytes(
-                Side::Target,
-                b"\x00\x00\x00\x0b\x00\x00\x00\x06\x80\x00\x00",
-            ),
             Came::Bytes(Side::Target, PREPARED),
             Came::Bytes(
                 Side::Target,
@@ -436,15 +406,8 @@ const WATCHES: &[Course<'static>] = &[
         ],
         limits: USUAL,
         failing: &[],
-        told: &[
-            WAITS,
-            b"Content-Length: 111\r\n\r\n{\"body\":{\"breakpoints\":[]},\"command\":\"setBreakpoints\",\
-            \"request_seq\":3,\"seq\":4,\"success\":true,\"type\":\"response\"}",
-        ],
+        told: &[],
         sent: &[
-            WATCH,
-            ASK_CLASSES,
-            b"\x00\x00\x00\x10\x00\x00\x00\x06\x00\x0f\x02\x08\x00\x00\x00\x03",
             b"\x00\x00\x00\x0b\x00\x00\x00\x07\x00\x01\x09",
             b"\x00\x00\x00\x0b\x00\x00\x00\x08\x00\x01\x06",
         ],
@@ -463,7 +426,7 @@ fn a_watch_goes_with_the_last_list_of_its_package(rt: HostRuntime) -> Result<(),
 const EARLY: &[Course<'static>] = &[
     // it comes before the client attaches, is kept until the sizes are known, and stands behind the `attach`
     Course {
-        attached: false,
+        first: &[],
         steps: &[
             Came::Bytes(Side::Target, b"JDWP-Handshake"),
             Came::Bytes(Side::Target, PREPARED),
@@ -502,7 +465,7 @@ fn composites_before_the_attach_stand_behind_it(rt: HostRuntime) -> Result<(), F
 const ENDS: &[Course<'static>] = &[
     // one thread alone is suspended
     Course {
-        attached: true,
+        first: &[ATTACHES],
         steps: &[Came::Bytes(
             Side::Target,
             b"\x00\x00\x00\x3c\x00\x00\x00\x01\x00\x40\x64\x01\x00\x00\x00\x01\x08\x00\x00\x00\x03\x00\x00\
@@ -523,7 +486,7 @@ const ENDS: &[Course<'static>] = &[
     },
     // a thread starts at the same time, and no such event is served yet
     Course {
-        attached: true,
+        first: &[ATTACHES],
         steps: &[Came::Bytes(
             Side::Target,
             b"\x00\x00\x00\x49\x00\x00\x00\x01\x00\x40\x64\x02\x00\x00\x00\x02\x08\x00\x00\x00\x03\x00\x00\
@@ -544,7 +507,7 @@ const ENDS: &[Course<'static>] = &[
     },
     // the Resume is refused
     Course {
-        attached: true,
+        first: &[ATTACHES],
         steps: &[
             Came::Bytes(Side::Target, PREPARED),
             Came::Bytes(

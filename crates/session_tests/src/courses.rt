@@ -23,11 +23,19 @@ pub(crate) enum Came<'a> {
     Quiet,
 }
 
-/// A session: whether it attaches first; what comes then; its limits; the sends that fail, each with the bytes that go
-/// out all the same; what the client is told then, and the target is sent; and the ending.
+/// A part of a session that many share: what comes, what the client is told for it, and what the target is sent.
+#[derive(Clone, Copy, Drop)]
+pub(crate) struct Stage<'a> {
+    pub(crate) steps: &'a [Came<'a>],
+    pub(crate) told: &'a [&'a [u8]],
+    pub(crate) sent: &'a [&'a [u8]],
+}
+
+/// A session: the stages that it begins with; what comes then; its limits; the sends that fail, each with the bytes that
+/// go out all the same; what the client is told then, and the target is sent; and the ending.
 #[derive(Drop)]
 pub(crate) struct Course<'a> {
-    pub(crate) attached: bool,
+    pub(crate) first: &'a [Stage<'a>],
     pub(crate) steps: &'a [Came<'a>],
     pub(crate) limits: Limits,
     pub(crate) failing: &'a [(Side, u64, u32)],
@@ -80,6 +88,13 @@ pub(crate) const SET_DEATHS: &[u8] =
 /// What the target is sent then.
 pub(crate) const SENT_ATTACHED: [&[u8]; 4] = [b"JDWP-Handshake", ASK_SIZES, SET_STARTS, SET_DEATHS];
 
+/// A session attaches.
+pub(crate) const ATTACHES: Stage<'static> = Stage {
+    steps: &ATTACHING,
+    told: &TOLD_ATTACHED,
+    sent: &SENT_ATTACHED,
+};
+
 /// Limits that no short session reaches.
 pub(crate) const USUAL: Limits = Limits {
     turns: 99,
@@ -104,8 +119,8 @@ fn wires_of(alloc: Global, course: &Course<'_>) -> Result<MemoryWires, Fail>
     ensures target { IfOk result (λ wires. IsOpen Target (outside_of wires)) }
 {
     let mut steps = List::new(alloc);
-    if course.attached {
-        add_steps(alloc, &mut steps, &ATTACHING)?;
+    for stage in course.first {
+        add_steps(alloc, &mut steps, stage.steps)?;
     }
     add_steps(alloc, &mut steps, course.steps)?;
     let mut failing = List::new(alloc);
@@ -131,17 +146,29 @@ fn sent_to(alloc: Global, to: Side, wires: &MemoryWires) -> Result<Vec<u8>, Fail
     Ok(sent)
 }
 
-fn joined(alloc: Global, attached: bool, first: &[&[u8]], then: &[&[u8]]) -> Result<Vec<u8>, Fail> {
-    let mut all = Vec::new(alloc);
-    if attached {
-        for bytes in first {
-            all.extend_from_slice(bytes)?;
-        }
-    }
-    for bytes in then {
+fn add_all(all: &mut Vec<u8>, texts: &[&[u8]]) -> Result<(), Fail> {
+    for bytes in texts {
         all.extend_from_slice(bytes)?;
     }
-    Ok(all)
+    Ok(())
+}
+
+fn told_in(alloc: Global, course: &Course<'_>) -> Result<Vec<u8>, Fail> {
+    let mut told = Vec::new(alloc);
+    for stage in course.first {
+        add_all(&mut told, stage.told)?;
+    }
+    add_all(&mut told, course.told)?;
+    Ok(told)
+}
+
+fn sent_in(alloc: Global, course: &Course<'_>) -> Result<Vec<u8>, Fail> {
+    let mut sent = Vec::new(alloc);
+    for stage in course.first {
+        add_all(&mut sent, stage.sent)?;
+    }
+    add_all(&mut sent, course.sent)?;
+    Ok(sent)
 }
 
 // Limits that a session can be run with.
@@ -162,11 +189,11 @@ pub(crate) fn check(alloc: Global, course: &Course<'_>) -> Result<(), Fail> {
     if serve(alloc, &limits, &mut wires) != course.ending {
         return Err("another ending".into());
     }
-    let told = joined(alloc, course.attached, &TOLD_ATTACHED, course.told)?;
+    let told = told_in(alloc, course)?;
     if sent_to(alloc, Side::Client, &wires)?.as_slice() != told.as_slice() {
         return Err("the client is told something else".into());
     }
-    let sent = joined(alloc, course.attached, &SENT_ATTACHED, course.sent)?;
+    let sent = sent_in(alloc, course)?;
     if sent_to(alloc, Side::Target, &wires)?.as_slice() != sent.as_slice() {
         return Err("the target is sent something else".into());
     }

@@ -1,4 +1,4 @@
-use crate::courses::{ATTACH, ATTACHING, Came, Course, SENT_ATTACHED, USUAL, check};
+use crate::courses::{ATTACH, ATTACHES, ATTACHING, Came, Course, SENT_ATTACHED, USUAL, check};
 use dap_frames::FrameFault;
 use jdwp_packets::PacketFault;
 use session_model::{ClientFault, Ending, Limits, TargetFault};
@@ -29,7 +29,7 @@ const TERMINATED_THIRD: &[u8] =
 const A_CLIENT_ALONE: &[Course<'static>] = &[
     // two requests, each as one frame
     Course {
-        attached: false,
+        first: &[],
         steps: &[
             Came::Bytes(Side::Client, INITIALIZE),
             Came::Bytes(Side::Client, DISCONNECT),
@@ -42,7 +42,7 @@ const A_CLIENT_ALONE: &[Course<'static>] = &[
     },
     // cut in a header, with bytes of the other side in between
     Course {
-        attached: false,
+        first: &[],
         steps: &[
             Came::Bytes(Side::Client, b"Content-Len"),
             Came::Bytes(Side::Target, b"JDWP"),
@@ -60,7 +60,7 @@ const A_CLIENT_ALONE: &[Course<'static>] = &[
     },
     // cut inside a character; then the client's stream ends
     Course {
-        attached: false,
+        first: &[],
         steps: &[
             Came::Bytes(
                 Side::Client,
@@ -78,7 +78,7 @@ const A_CLIENT_ALONE: &[Course<'static>] = &[
     },
     // a client that leaves before it attaches
     Course {
-        attached: false,
+        first: &[],
         steps: &[Came::Shut(Side::Client)],
         limits: USUAL,
         failing: &[],
@@ -91,7 +91,7 @@ const A_CLIENT_ALONE: &[Course<'static>] = &[
 const ATTACHED: &[Course<'static>] = &[
     // and one that leaves its target to run on
     Course {
-        attached: true,
+        first: &[ATTACHES],
         steps: &[Came::Shut(Side::Client)],
         limits: USUAL,
         failing: &[],
@@ -101,7 +101,7 @@ const ATTACHED: &[Course<'static>] = &[
     },
     // the target exits, and its stream ends before its reply
     Course {
-        attached: true,
+        first: &[ATTACHES],
         steps: &[
             Came::Bytes(
                 Side::Client,
@@ -119,7 +119,7 @@ const ATTACHED: &[Course<'static>] = &[
     },
     // attached twice
     Course {
-        attached: true,
+        first: &[ATTACHES],
         steps: &[
             Came::Bytes(
                 Side::Client,
@@ -145,7 +145,7 @@ const ATTACHED: &[Course<'static>] = &[
     },
     // without roots, and without a target
     Course {
-        attached: false,
+        first: &[],
         steps: &[
             Came::Bytes(
                 Side::Client,
@@ -167,7 +167,7 @@ const ATTACHED: &[Course<'static>] = &[
     },
     // the wishes are refused, and the session goes on
     Course {
-        attached: false,
+        first: &[],
         steps: &[
             Came::Bytes(Side::Client, ATTACH),
             Came::Bytes(Side::Target, b"JDWP-Handshake"),
@@ -260,7 +260,7 @@ const TOLD_TWENTY: &[u8] =
 const THREADS: &[Course<'static>] = &[
     // two threads, of which one has no name any more; then the target is left
     Course {
-        attached: true,
+        first: &[ATTACHES],
         steps: &[
             Came::Bytes(
                 Side::Client,
@@ -300,7 +300,7 @@ const THREADS: &[Course<'static>] = &[
     },
     // threads keep their numbers
     Course {
-        attached: true,
+        first: &[ATTACHES],
         steps: &[
             Came::Bytes(
                 Side::Client,
@@ -349,7 +349,7 @@ const THREADS: &[Course<'static>] = &[
     },
     // sixteen names are asked at once, the others as replies come
     Course {
-        attached: true,
+        first: &[ATTACHES],
         steps: &[
             Came::Bytes(
                 Side::Client,
@@ -383,7 +383,7 @@ const THREADS: &[Course<'static>] = &[
     },
     // no more than sixteen are asked before a reply
     Course {
-        attached: true,
+        first: &[ATTACHES],
         steps: &[
             Came::Bytes(
                 Side::Client,
@@ -406,7 +406,7 @@ const THREADS: &[Course<'static>] = &[
 const ENDS: &[Course<'static>] = &[
     // the target's end, with requests open
     Course {
-        attached: true,
+        first: &[ATTACHES],
         steps: &[
             Came::Bytes(
                 Side::Client,
@@ -432,7 +432,7 @@ const ENDS: &[Course<'static>] = &[
     },
     // an error of a dead target is its end, once; what comes of it later changes nothing
     Course {
-        attached: true,
+        first: &[ATTACHES],
         steps: &[
             Came::Bytes(
                 Side::Client,
@@ -473,7 +473,7 @@ const ENDS: &[Course<'static>] = &[
     },
     // which threads there are is refused
     Course {
-        attached: true,
+        first: &[ATTACHES],
         steps: &[
             Came::Bytes(
                 Side::Client,
@@ -507,7 +507,7 @@ const ENDS: &[Course<'static>] = &[
 const REFUSED: &[Course<'static>] = &[
     // a size of ids that is none
     Course {
-        attached: false,
+        first: &[],
         steps: &[
             Came::Bytes(Side::Client, ATTACH),
             Came::Bytes(Side::Target, b"JDWP-Handshake"),
@@ -531,7 +531,7 @@ const REFUSED: &[Course<'static>] = &[
     },
     // a reply to no command
     Course {
-        attached: true,
+        first: &[ATTACHES],
         steps: &[Came::Bytes(Side::Target, b"\x00\x00\x00\x0b\x00\x00\x00c\x80\x00\x00")],
         limits: USUAL,
         failing: &[],
@@ -545,7 +545,7 @@ const REFUSED: &[Course<'static>] = &[
     },
     // the sizes of ids are refused
     Course {
-        attached: false,
+        first: &[],
         steps: &[
             Came::Bytes(Side::Client, ATTACH),
             Came::Bytes(Side::Target, b"JDWP-Handshake"),
@@ -569,7 +569,7 @@ const REFUSED: &[Course<'static>] = &[
 const FAULTS: &[Course<'static>] = &[
     // a packet that is too short
     Course {
-        attached: true,
+        first: &[ATTACHES],
         steps: &[Came::Bytes(Side::Target, b"\x00\x00\x00\n")],
         limits: USUAL,
         failing: &[],
@@ -583,7 +583,7 @@ const FAULTS: &[Course<'static>] = &[
     },
     // an event of no kind
     Course {
-        attached: true,
+        first: &[ATTACHES],
         steps: &[Came::Bytes(
             Side::Target,
             b"\x00\x00\x00\x11\x00\x00\x00\x01\x00@d\x00\x00\x00\x00\x01\x03",
@@ -600,7 +600,7 @@ const FAULTS: &[Course<'static>] = &[
     },
     // an event that is served by nobody
     Course {
-        attached: true,
+        first: &[ATTACHES],
         steps: &[Came::Bytes(
             Side::Target,
             b"\x00\x00\x00\x1d\x00\x00\x00\x01\x00@d\x00\x00\x00\x00\x01\x06\x00\x00\x00\x01\x00\x00\x00\x00\x00\x00\x00\x01",
@@ -617,7 +617,7 @@ const FAULTS: &[Course<'static>] = &[
     },
     // and one that comes before it can be read
     Course {
-        attached: false,
+        first: &[],
         steps: &[
             Came::Bytes(Side::Client, ATTACH),
             Came::Bytes(
@@ -644,7 +644,7 @@ const FAULTS: &[Course<'static>] = &[
     },
     // no handshake
     Course {
-        attached: false,
+        first: &[],
         steps: &[Came::Bytes(Side::Target, b"JDWX")],
         limits: USUAL,
         failing: &[],
@@ -663,7 +663,7 @@ const FAULTS: &[Course<'static>] = &[
 const LIMITS: &[Course<'static>] = &[
     // nothing comes for long
     Course {
-        attached: false,
+        first: &[],
         steps: &[Came::Quiet, Came::Quiet, Came::Quiet],
         limits: Limits {
             turns: 99,
@@ -679,7 +679,7 @@ const LIMITS: &[Course<'static>] = &[
     },
     // and then something does
     Course {
-        attached: false,
+        first: &[],
         steps: &[
             Came::Quiet,
             Came::Quiet,
@@ -703,7 +703,7 @@ const LIMITS: &[Course<'static>] = &[
     },
     // all turns are taken
     Course {
-        attached: false,
+        first: &[],
         steps: &[Came::Quiet, Came::Quiet],
         limits: Limits {
             turns: 2,
@@ -717,7 +717,7 @@ const LIMITS: &[Course<'static>] = &[
     },
     // too many requests wait
     Course {
-        attached: true,
+        first: &[ATTACHES],
         steps: &[Came::Bytes(
             Side::Client,
             b"Content-Length: 46\r\n\r\n{\"seq\":2,\"type\":\"request\",\"command\":\"threads\"}Content-Length: 46\r\n\r\n{\"seq\":3,\"type\":\"request\",\"command\":\"threads\"}Content-Length: 46\r\n\r\n{\"seq\":4,\"type\":\"request\",\"command\":\"threads\"}",
@@ -740,7 +740,7 @@ const LIMITS: &[Course<'static>] = &[
 const LINKS: &[Course<'static>] = &[
     // a send to the client that fails
     Course {
-        attached: false,
+        first: &[],
         steps: &[
             Came::Bytes(Side::Client, INITIALIZE),
             Came::Bytes(Side::Client, DISCONNECT),
@@ -753,7 +753,7 @@ const LINKS: &[Course<'static>] = &[
     },
     // a send to the target that fails
     Course {
-        attached: false,
+        first: &[],
         steps: &[Came::Bytes(Side::Client, ATTACH)],
         limits: USUAL,
         failing: &[(Side::Target, 0, 5)],
@@ -763,7 +763,7 @@ const LINKS: &[Course<'static>] = &[
     },
     // and then one of the last words
     Course {
-        attached: false,
+        first: &[],
         steps: &[Came::Bytes(Side::Client, ATTACH)],
         limits: USUAL,
         failing: &[(Side::Target, 0, 5), (Side::Client, 1, 3)],
@@ -773,7 +773,7 @@ const LINKS: &[Course<'static>] = &[
     },
     // it fails inside `initialized`, before the target counts as attached
     Course {
-        attached: false,
+        first: &[],
         steps: &ATTACHING,
         limits: USUAL,
         failing: &[(Side::Client, 1, 45)],
@@ -786,7 +786,7 @@ const LINKS: &[Course<'static>] = &[
     },
     // and inside what is told next: the target is left to run on
     Course {
-        attached: true,
+        first: &[ATTACHES],
         steps: &[Came::Bytes(
             Side::Client,
             b"Content-Length: 84\r\n\r\n{\"seq\":2,\"type\":\"request\",\"command\":\"attach\",\"arguments\":{\"sourceRoots\":[\"/p/src\"]}}",
@@ -799,7 +799,7 @@ const LINKS: &[Course<'static>] = &[
     },
     // the target's link fails
     Course {
-        attached: true,
+        first: &[ATTACHES],
         steps: &[Came::Failed(Side::Target)],
         limits: USUAL,
         failing: &[],
@@ -809,7 +809,7 @@ const LINKS: &[Course<'static>] = &[
     },
     // the client's link fails
     Course {
-        attached: true,
+        first: &[ATTACHES],
         steps: &[Came::Failed(Side::Client)],
         limits: USUAL,
         failing: &[],
@@ -822,7 +822,7 @@ const LINKS: &[Course<'static>] = &[
 const CLIENT_FAULTS: &[Course<'static>] = &[
     // a byte that no frame has there
     Course {
-        attached: false,
+        first: &[],
         steps: &[
             Came::Bytes(Side::Client, INITIALIZE),
             Came::Bytes(Side::Client, b"Length 1"),
@@ -837,7 +837,7 @@ const CLIENT_FAULTS: &[Course<'static>] = &[
         },
     },
     Course {
-        attached: false,
+        first: &[],
         steps: &[Came::Bytes(Side::Client, b"Content-Length: 16777217\r\n\r\n")],
         limits: USUAL,
         failing: &[],
@@ -849,7 +849,7 @@ const CLIENT_FAULTS: &[Course<'static>] = &[
         },
     },
     Course {
-        attached: false,
+        first: &[],
         steps: &[Came::Bytes(Side::Client, b"Content-Length: 00000000002\r\n\r\n")],
         limits: USUAL,
         failing: &[],
@@ -861,7 +861,7 @@ const CLIENT_FAULTS: &[Course<'static>] = &[
         },
     },
     Course {
-        attached: false,
+        first: &[],
         steps: &[Came::Bytes(Side::Client, b"X: y\r\n\r")],
         limits: USUAL,
         failing: &[],
@@ -873,7 +873,7 @@ const CLIENT_FAULTS: &[Course<'static>] = &[
         },
     },
     Course {
-        attached: false,
+        first: &[],
         steps: &[Came::Bytes(
             Side::Client,
             b"Content-Length: 2\r\nContent-Length: 2\r\n\r\n{}",
@@ -889,7 +889,7 @@ const CLIENT_FAULTS: &[Course<'static>] = &[
     },
     // a body that is no message
     Course {
-        attached: false,
+        first: &[],
         steps: &[Came::Bytes(Side::Client, b"Content-Length: 1\r\n\r\n}")],
         limits: USUAL,
         failing: &[],
@@ -901,7 +901,7 @@ const CLIENT_FAULTS: &[Course<'static>] = &[
         },
     },
     Course {
-        attached: false,
+        first: &[],
         steps: &[Came::Bytes(Side::Client, b"Content-Length: 2\r\n\r\n{}")],
         limits: USUAL,
         failing: &[],
