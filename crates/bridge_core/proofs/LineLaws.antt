@@ -73,7 +73,7 @@ pub news_few : (below : ℕ) (ids : List ℕ) (wishes : Wishes)
 news_few below ids wishes =
     let news = filter_few (is_news below ids) (verified wishes) in
     let each = fold_few (on (λ (entry : LineEntry). entry.id) nat_cmp) []
-        (filter (is_verified wishes) (all_lines wishes.wanted)) in
+    (filter (is_verified wishes) (all_lines wishes.wanted)) in
     let some = filter_few (is_verified wishes) (all_lines wishes.wanted) in omega (arith, news, each, some)
 
 -- What is listed ------------------------------------------------------------------------------------------------------
@@ -95,7 +95,7 @@ put_few key entries (list ∷ lists) = by_test (bytes_eq key list.0) (put_few ke
         omega (arith, now, was)
     by_test false few =
         let now = length-append list.1
-            (flat_map (λ (list : List ℕ × List LineEntry). list.1) (put bytes_eq key entries lists)) in
+        (flat_map (λ (list : List ℕ × List LineEntry). list.1) (put bytes_eq key entries lists)) in
         let was = length-append list.1 (flat_map (λ (list : List ℕ × List LineEntry). list.1) lists) in
         omega (arith, few, now, was)
 

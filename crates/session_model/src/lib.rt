@@ -4,6 +4,7 @@
 
 mod ending;
 mod laws;
+
 pub use ending::{ClientFault, Ending, Limits, TargetFault};
 pub use laws::{
     answers_read_alike_with_sizes_that_serve, done_is_a_disconnect_that_succeeded,
