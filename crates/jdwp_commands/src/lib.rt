@@ -20,7 +20,9 @@ pub use command::{read_command, write};
 pub use effect::Effect;
 pub use fault::BodyFault;
 pub use kind::{CommandKind, EffectKind, QuestionKind};
-pub use laws::{an_answer_has_a_spelling, numbers_name_one_command};
+pub use laws::{
+    an_answer_has_a_spelling, answers_are_read_as_they_are_spelled, numbers_name_one_command,
+};
 pub use listed::{ClassStatus, Frame, LoadedClass, Slot};
 pub use question::Question;
 pub use region::Region;
