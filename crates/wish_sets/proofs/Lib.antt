@@ -27,3 +27,6 @@ pub mod NewLaws
 pub mod SortedLaws
 pub mod BoundLaws
 pub mod OwnerLaws
+pub mod FileLaws
+pub mod RisingLaws
+pub mod AlikeLaws

@@ -4,11 +4,12 @@ use Rattle.std.proofs.Common.{sym, ◌∙◌, subst, length, get_or, Option, Som
 use Rattle.std.specs.Prelude.{◌||◌, find, is_some, map}
 use Rattle.std.specs.List.{list_any, AllByRecursion}
 use Rattle.std.specs.List.Sorted.{IsStrictlySortedBy}
-use Rattle.std.specs.Ordering.{is_eq, is_lt, ordering_reverse}
+use Rattle.std.specs.Ordering.{is_eq, is_lt, match_ordering, ordering_reverse}
 use Rattle.std.specs.declared.cmp.Ordering.{Ordering}
 use Rattle.std.specs.declared.cmp.Ordering.TheVariants.{Less, Equal, Greater}
 use Rattle.wish_sets.specs.declared.slot.Slot.{Slot}
 use Rattle.wish_sets.specs.declared.wish.Wish.{Wish}
+use Rattle.wish_sets.specs.Forming.{new_place}
 use Rattle.wish_sets.specs.Order.{has_wish, is_wish, wish_cmp, wish_total}
 use Rattle.wish_sets.specs.Slots.{requests_in, refusals_in}
 use Rattle.wish_sets.specs.Standing.{AreSorted}
@@ -104,6 +105,40 @@ module _ (wish : Wish) where
       rw (differs_back slot.wish wish less)
       (found_at slots n sorted.1 (λ k d before within. below (suc k) d (omega (arith, before)) (omega (arith, within)))
       (λ k d after within. above (suc k) d (omega (arith, after)) (omega (arith, within))))
+
+  -- the place at which it gets a slot, by what stands at the place to which those before it lead
+  abbrev pub place_for : ℕ → Option Slot → Option ℕ
+  place_for place None = Some place
+  place_for place (Some slot) = cond (is_its slot) None (Some place)
+
+  pub placed_at : (from : ℕ) (slots : List Slot) (n : ℕ) → AreSorted slots → n ≤ length slots
+      → ((k : ℕ) (d : Slot) → k < n → k < length slots → is_before (get_or slots k d) ≡ true)
+      → ((k : ℕ) (d : Slot) → n ≤ k → k < length slots → is_before (get_or slots k d) ≡ false)
+      → new_place from wish slots ≡ place_for (from + n) (slice_get slots n)
+  unfolding IsStrictlySortedBy
+  placed_at from [] n sorted within below above =
+      let here : from ≡ from + n = omega (arith, within) in ap Some here
+  placed_at from (slot ∷ slots) zero sorted within below above =
+      by (wish_cmp wish slot.wish) (λ e. more slot.wish wish (above 0 slot (omega arith) (omega arith)) e)
+    where
+      here : from ≡ from + 0
+      here = omega arith
+
+      by : (o : Ordering) → (is_eq o ≡ false → o ≡ Less)
+          → match_ordering o (Some from) None (new_place (from + 1) wish slots)
+          ≡ cond (is_eq o) None (Some (from + 0))
+      by Less e = ap Some here
+      by Equal e = refl
+      by Greater e = absurd (let h = e refl in cc)
+  placed_at from (slot ∷ slots) (suc n) sorted within below above =
+      let less = is_less (wish_cmp slot.wish wish) (below 0 slot (omega arith) (omega arith)) in
+      let behind : wish_cmp wish slot.wish ≡ Greater = wish_total.antisymm wish slot.wish ∙ ap ordering_reverse less in
+      let here : from + 1 + n ≡ from + suc n = omega arith in
+      rw behind
+      (placed_at (from + 1) slots n sorted.1 (omega (arith, within))
+      (λ k d before inside. below (suc k) d (omega (arith, before)) (omega (arith, inside)))
+      (λ k d after inside. above (suc k) d (omega (arith, after)) (omega (arith, inside)))
+      ∙ ap (λ place. place_for place (slice_get slots n)) here)
 
   -- What stands in its slot -------------------------------------------------------------------------------------------
 

@@ -17,3 +17,4 @@ pub mod Owners
 pub mod Standing
 pub mod Tidy
 pub mod Verified
+pub mod Shown

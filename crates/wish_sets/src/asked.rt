@@ -1,5 +1,5 @@
 //! What a session asks of what is wanted: which packages are watched, which sources are listed, and what is named.
-ghost use Rattle.std.specs.Prelude.{◌≡◌, ◌&&◌, bytes_eq, option_copied};
+ghost use Rattle.std.specs.Prelude.{◌≡◌, ◌&&◌, ◌-◌, bytes_eq, drop, length, option_copied};
 ghost use Rattle.std.specs.List.{list_any};
 ghost use Rattle.wish_sets.specs.declared.wish.Wish.TheVariants as wishes;
 ghost use Rattle.wish_sets.specs.Names.{key_parts, same_key, package_name};
@@ -36,13 +36,26 @@ pub(crate) fn watches(slots: &[Slot], path: &[u8]) -> bool
     false
 }
 
+// Whether a key ends with a file.
+fn ends_with(key: &[u8], file: &[u8]) -> bool
+    ensures { result ≡ bytes_eq (drop (length key.now - length file.now) key.now) file.now }
+{
+    let start = key.len().saturating_sub(file.len());
+    &key[start..] == file
+}
+
 // Whether a list with an entry at least is that of a source, by its package and its file.
 fn is_list_of(list: &(Text, List<LineEntry>), path: &[u8], file: &[u8]) -> bool
     ensures { result ≡ has_entries list.now
         && same_key (key_parts list.now.0) (record { package_path = path.now; file = file.now }) }
 {
     let (key, entries) = list;
-    !entries.is_empty() && key_package(key) == path && key_file(key) == file
+    // Most lists are those of other files, and the end of the key tells most of these at once.
+    if ends_with(key.as_bytes(), file) {
+        !entries.is_empty() && key_package(key) == path && key_file(key) == file
+    } else {
+        false
+    }
 }
 
 /// Whether a source is listed, by its package and its file.

@@ -3,6 +3,7 @@ ghost use Rattle.std.specs.Prelude.{◌≡◌, ◌+◌, ◌<◌, ◌^◌, ◌++�
 ghost use Rattle.std.specs.Prelude.{IfSome};
 ghost use Rattle.std.specs.BTreeSet.{insert_key};
 ghost use Rattle.std.specs.List.{AllByRecursion};
+ghost use Rattle.std.specs.List.Sorted.{IsSorted};
 ghost use Rattle.wish_sets.specs.Forming.{list_watches, function_watches, new_place, AreInOrder, IsWider, AreFormed};
 ghost use Rattle.wish_sets.specs.Forming.{has_its_slot};
 ghost use Rattle.wish_sets.specs.Bounds.{IsBound};
@@ -11,9 +12,10 @@ ghost use Rattle.wish_sets.specs.Kept.{wanted_by, listed_wishes};
 ghost use Rattle.wish_sets.specs.declared.wish.Wish.TheVariants as wishes;
 ghost use Rattle.wish_sets.specs.Names.{package_named};
 ghost use Rattle.wish_sets.specs.Owners.{AreOwned};
-ghost use Rattle.wish_sets.specs.Order.{has_wish, wish_rank};
+ghost use Rattle.wish_sets.specs.Order.{has_wish, wish_cmp, wish_rank};
 ghost use Rattle.wish_sets.specs.Places.{places};
 ghost use Rattle.wish_sets.specs.Slots.{new_slot, wanted_slots};
+ghost use Rattle.wish_sets.specs.Standing.{AreSorted};
 
 use crate::bound::{Bound, bind};
 use crate::cursor::{Cursor, onward};
@@ -26,7 +28,6 @@ use crate::wants::Wants;
 use crate::wish::Wish;
 use jdwp_values::lossy;
 use std::alloc::Global;
-use std::cmp::Ordering;
 use wire_core::{List, NoMemory, Text};
 
 // So many slots there may be at most, so that all places are below 2^31, those of fixed slots too.
@@ -34,11 +35,11 @@ const MOST: usize = 2147483642;
 
 // Adds the packages of sources whose list has an entry.
 fn add_list_watches(
-    found: &mut List<Wish>,
+    found: &mut Vec<Wish>,
     alloc: Global,
     lists: &[(Text, List<LineEntry>)],
 ) -> Result<(), NoMemory>
-    ensures { OnOk result (found.new ≡ found.old ++ list_watches lists.now) }
+    ensures { OnOk result (found.new.items ≡ found.old.items ++ list_watches lists.now) }
 {
     for list in lists {
         if !list.1.is_empty() {
@@ -58,11 +59,11 @@ fn package_text(alloc: Global, function: &Text) -> Result<Text, NoMemory>
 
 // Adds the packages of functions that name a class.
 fn add_function_watches(
-    found: &mut List<Wish>,
+    found: &mut Vec<Wish>,
     alloc: Global,
     functions: &[FunctionEntry],
 ) -> Result<(), NoMemory>
-    ensures { OnOk result (found.new ≡ found.old ++ function_watches functions.now) }
+    ensures { OnOk result (found.new.items ≡ found.old.items ++ function_watches functions.now) }
 {
     for entry in functions {
         if has_class(&entry.name) {
@@ -73,8 +74,8 @@ fn add_function_watches(
 }
 
 // Adds the breakpoints at some places.
-fn add_stops(found: &mut List<Wish>, places: &[Place]) -> Result<(), NoMemory>
-    ensures { OnOk result (found.new ≡ found.old ++ map (λ place. wishes.Stop place.at) places.now) }
+fn add_stops(found: &mut Vec<Wish>, places: &[Place]) -> Result<(), NoMemory>
+    ensures { OnOk result (found.new.items ≡ found.old.items ++ map (λ place. wishes.Stop place.at) places.now) }
 {
     for place in places {
         found.push(Wish::Stop(place.at))?;
@@ -83,11 +84,11 @@ fn add_stops(found: &mut List<Wish>, places: &[Place]) -> Result<(), NoMemory>
 }
 
 // All that is wished but exceptions and the step, in any order and as often as it is wished.
-fn listed(alloc: Global, wants: &Wants, all: &[Place]) -> Result<List<Wish>, NoMemory>
+fn listed(alloc: Global, wants: &Wants, all: &[Place]) -> Result<Vec<Wish>, NoMemory>
     requires { all.now ≡ places (wanted_by wants.now) }
-    ensures { IfOk result (λ found. found ≡ listed_wishes (wanted_by wants.now)) }
+    ensures { IfOk result (λ found. found.items ≡ listed_wishes (wanted_by wants.now)) }
 {
-    let mut found = List::new(alloc);
+    let mut found = Vec::new(alloc);
     found.push(Wish::ThreadStart)?;
     found.push(Wish::ThreadDeath)?;
     add_list_watches(&mut found, alloc, &wants.lists)?;
@@ -118,17 +119,16 @@ fn copy_of(alloc: Global, wish: &Wish) -> Result<Wish, NoMemory>
 
 // The place at which a wish gets its slot, where it has none.
 fn new_place(slots: &[Slot], wish: &Wish) -> Option<usize>
+    requires { AreSorted slots.now }
     ensures place { result ≡ new_place 0 wish.now slots.now }
     ensures within { IfSome result (λ place. place < length slots.now + 1) }
 {
-    for (at, slot) in slots.iter().enumerate() {
-        match wish.cmp(&slot.wish) {
-            Ordering::Less => return Some(at),
-            Ordering::Equal => return None,
-            Ordering::Greater => {}
-        }
+    let at = slots.partition_point(|slot| slot.wish.cmp(wish).is_lt());
+    if at >= slots.len() {
+        return Some(at);
     }
-    Some(slots.len())
+    let slot = &slots[at];
+    if *wish == slot.wish { None } else { Some(at) }
 }
 
 // A wish gets a slot, where it has none.
@@ -162,15 +162,17 @@ fn add_slots(slots: &mut Vec<Slot>, alloc: Global, those: &[Wish]) -> Result<(),
     Ok(())
 }
 
-// Whether a wish is among these.
+// Whether a wish is among these, which stand in wish order.
 fn has_wish(those: &[Wish], wish: &Wish) -> bool
+    requires { IsSorted wish_cmp those.now }
     ensures { result ≡ has_wish those.now wish.now }
 {
-    those.iter().any(|other| wish == other)
+    those.binary_search(wish).is_ok()
 }
 
-// These are wished from now on, and no others.
+// These, which stand in wish order, are wished from now on, and no others.
 fn want_listed(slots: &mut [Slot], those: &[Wish])
+    requires { IsSorted wish_cmp those.now }
     ensures { slots.new ≡ wanted_slots (has_wish those.now) slots.old }
 {
     for at in 0..slots.len() {
@@ -179,11 +181,20 @@ fn want_listed(slots: &mut [Slot], those: &[Wish])
     }
 }
 
-// These are wished from now on, and no others.
-fn want_all(slots: &mut Vec<Slot>, those: &[Wish])
+// These, which stand in wish order, are wished from now on, and no others.
+fn want_rising(slots: &mut Vec<Slot>, those: &[Wish])
+    requires { IsSorted wish_cmp those.now }
     ensures { slots.new.items ≡ wanted_slots (has_wish those.now) slots.old.items }
 {
     want_listed(slots, those);
+}
+
+// These are wished from now on, and no others.
+fn want_all(slots: &mut Vec<Slot>, mut those: Vec<Wish>)
+    ensures { slots.new.items ≡ wanted_slots (has_wish those.items) slots.old.items }
+{
+    those.sort_unstable();
+    want_rising(slots, &those);
 }
 
 // Slots say what is wished but exceptions and the step, formed afresh, and the places of all entries are kept. Where
@@ -203,7 +214,7 @@ fn form_slots(
     let found = bind(alloc, wants)?;
     let those = listed(alloc, wants, found.all.as_slice())?;
     add_slots(slots, alloc, those.as_slice())?;
-    want_all(slots, those.as_slice());
+    want_all(slots, those);
     *bound = found;
     Ok(())
 }

@@ -8,7 +8,7 @@ ghost use Rattle.wish_sets.specs.Wanted.{class_found, put_known};
 
 use crate::facts::KnownClass;
 use crate::learnt::class_found;
-use crate::same::same_facts;
+use crate::same::is_found;
 use class_tables::Classes;
 use indexmap::IndexMap;
 use jdwp_values::ClassId;
@@ -23,12 +23,13 @@ pub(crate) struct Replaced {
     pub(crate) facts: Option<KnownClass>,
 }
 
-// Whether a class is known, and is known so.
-fn is_known(known: &IndexMap<ClassId, KnownClass>, class: ClassId, facts: &KnownClass) -> bool
-    ensures { IsTrue result → put same_class class facts.now known.now.entries ≡ known.now.entries }
+// Whether a class is known as it is found now.
+fn is_known(known: &IndexMap<ClassId, KnownClass>, classes: &Classes, class: ClassId) -> bool
+    ensures { IsTrue result
+        → put_known class (class_found (found_in classes.now) class) known.now.entries ≡ known.now.entries }
 {
     match known.get(&class) {
-        Some(known) => same_facts(known, facts),
+        Some(facts) => is_found(classes, class, facts),
         None => false,
     }
 }
@@ -80,12 +81,12 @@ fn know(
         ≡ put_known class (class_found (found_in classes.now) class) known.old.entries) }
     ensures back { undone replaced.new.items known.new.entries ≡ undone replaced.old.items known.old.entries }
 {
+    if is_known(known, classes, class) {
+        return Ok(());
+    }
     let Some(facts) = class_found(alloc, classes, class)? else {
         return Ok(());
     };
-    if is_known(known, class, &facts) {
-        return Ok(());
-    }
     replace(known, replaced, class, facts)
 }
 

@@ -5,4 +5,4 @@ use Rattle.wish_sets.proofs.forming.add_list_watches.Given as goal
 -- the packages of all lists are those found so far, and those of the lists that are left
 abbrev pub invariant-loop-list : goal.invariant-loop-list
 invariant-loop-list l =
-    l.found ++ list_watches (drop l.list-index l.lists) ≡ l.fn.found ++ list_watches l.lists
+    l.found.items ++ list_watches (drop l.list-index l.lists) ≡ l.fn.found.items ++ list_watches l.lists

@@ -11,4 +11,4 @@ stop place = wishes.Stop place.at
 
 -- the breakpoints at all places are those found so far, and those at the places that are left
 abbrev pub invariant-loop-place : goal.invariant-loop-place
-invariant-loop-place l = l.found ++ map stop (drop l.place-index l.places) ≡ l.fn.found ++ map stop l.places
+invariant-loop-place l = l.found.items ++ map stop (drop l.place-index l.places) ≡ l.fn.found.items ++ map stop l.places

@@ -10,13 +10,13 @@ use Rattle.wish_sets.proofs.forming.form_slots.Goals as goal
 
 pub add_slots-requires-clause-early : goal.add_slots-requires-clause-early
 add_slots-requires-clause-early c =
-    subst (AllByRecursion (λ wish. wish_rank wish < 4)) (sym (c.as_slice-2.ensures ∙ c.in_ok-those.ensures))
+    subst (AllByRecursion (λ wish. wish_rank wish < 4)) (sym (c.as_slice-2.ensures.value ∙ c.in_ok-those.ensures))
     (listed_early (wanted_by c.args.wants.now))
 
 pub returns-clause-ok : goal.returns-clause-ok
 returns-clause-ok c =
-    rw (c.want_all.ensures, c.as_slice-3.ensures, c.in_ok-those.ensures)
+    rw (c.want_all.ensures, c.in_ok-those.ensures)
     (formed (listed_wishes (wanted_by c.args.wants.now)) c.args.slots.now.items c.add_slots.new.slots.items
     c.add_slots.ensures.wider
     (subst (AllByRecursion (λ wish. has_its_slot c.add_slots.new.slots.items wish ≡ true))
-    (c.as_slice-2.ensures ∙ c.in_ok-those.ensures) c.in_ok-add_slots.ensures.ok))
+    (c.as_slice-2.ensures.value ∙ c.in_ok-those.ensures) c.in_ok-add_slots.ensures.ok))

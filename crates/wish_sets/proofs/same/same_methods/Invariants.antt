@@ -1,6 +1,0 @@
--- the methods so far are known alike
-use Rattle.std.proofs.Common.{◌≡◌, length, take}
-use Rattle.wish_sets.proofs.same.same_methods.Given as goal
-
-abbrev pub invariant-loop-at : goal.invariant-loop-at
-invariant-loop-at l = (length l.a ≡ length l.b) × (take l.at l.a ≡ take l.at l.b)
