@@ -29,7 +29,7 @@ use Rattle.bridge_core.specs.Moving.{RefusesKept}
 use Rattle.bridge_core.proofs.PickLaws.{kept_at}
 use Rattle.bridge_core.specs.Calls.{AreRead}
 use Rattle.jdwp_events.specs.declared.event.Event.{Event as TargetEvent}
-use Rattle.machine_model.specs.Composites.{are_prepares, is_prepare}
+use Rattle.machine_model.specs.Composites.{are_served_events, is_served_event}
 use Rattle.session_model.specs.Faults.{IsBodyFault, IsCompositeFault, RefusesComposite, header, numbers_in}
 use Rattle.session_model.specs.declared.ending.Ending.{Ending}
 use Rattle.session_model.specs.declared.ending.Ending.TheVariants.{BadClient, BadTarget, ClientLink, Done, Flood, Idle}
@@ -133,13 +133,12 @@ known_serve sizes found used is same =
 
 -- Composites that are served ------------------------------------------------------------------------------------------
 
--- each event tells of a class that was prepared
-pub all_prepares : (events : List TargetEvent) → list_all is_prepare events ≡ are_prepares events
-all_prepares [] = refl
-all_prepares (event ∷ events) = by_test (is_prepare event) (all_prepares events)
+pub all_served : (events : List TargetEvent) → list_all is_served_event events ≡ are_served_events events
+all_served [] = refl
+all_served (event ∷ events) = by_test (is_served_event event) (all_served events)
   where
-    by_test : (first : Bool) → list_all is_prepare events ≡ are_prepares events
-        → (first && list_all is_prepare events) ≡ cond first (are_prepares events) false
+    by_test : (first : Bool) → list_all is_served_event events ≡ are_served_events events
+        → (first && list_all is_served_event events) ≡ cond first (are_served_events events) false
     by_test true rest = rest
     by_test false rest = refl
 

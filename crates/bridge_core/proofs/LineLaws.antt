@@ -1,5 +1,5 @@
--- How many breakpoints of sources are listed, or still to be: no act of the machine makes them more, and no more are told
--- to be verified at once.
+-- How many breakpoints of sources are listed, or still to be, and of how many threads is to be told: no act of the
+-- machine makes them more, and no more news is told at once.
 use Rattle.std.proofs.Common.{◌≡◌, ℕ, ◌+◌, ◌<◌, ◌≤◌, Bool, true, false, cond, List, [], ◌∷◌, ◌++◌, length, Option, Some}
 use Rattle.std.proofs.Common.{None, refl, sym, ap, ◌∙◌, arith, map, length-append, option_map, subst}
 use Rattle.std.proofs.lemmas.List.{length-map}
@@ -15,20 +15,23 @@ use Rattle.dap_messages.specs.declared.requests.SourceBreakpoint.{SourceBreakpoi
 use Rattle.jdwp_values.specs.declared.id.ClassId.{ClassId}
 use Rattle.jdwp_events.specs.declared.kind.Policy.{Policy}
 use Rattle.machine_model.specs.Breakpoints.{entry_of, is_news, newly_verified, numbered_from}
-use Rattle.machine_model.specs.Composites.{composite_parts}
+use Rattle.machine_model.specs.Composites.{changes_in, composite_parts}
 use Rattle.machine_model.specs.Due.{Picked, asked_hand, passed_by, pick}
 use Rattle.class_tables.specs.Lookups.{found_in}
 use Rattle.machine_model.specs.Lookups.{finished}
 use Rattle.machine_model.specs.Outcomes.{result_of}
 use Rattle.machine_model.specs.Plans.{Result}
 use Rattle.machine_model.specs.Requests.{Wishes}
-use Rattle.machine_model.specs.Rows.{chosen, end_parts, failure_of, news, noted, parts_by, parts_of, row_of, wanting}
+use Rattle.machine_model.specs.declared.parts.News.{News}
+use Rattle.machine_model.specs.declared.parts.News.TheVariants.{Verified as entry_verified}
+use Rattle.machine_model.specs.Rows.{chosen, end_parts, failure_of, news_of, noted, parts_by, parts_of, row_of, told_in}
+use Rattle.machine_model.specs.Rows.{wanting}
 use Rattle.machine_model.specs.Runs.{Message}
 use Rattle.machine_model.specs.State.{Hand, Machine, State, is_gone, is_raw, knowing, left}
 use Rattle.machine_model.specs.Telling.{after_event, numbered_by}
 use Rattle.machine_model.proofs.Stepping.{IsAt, Moves}
 use Rattle.bridge_core.specs.Names.{Attached, Choice, Classes, Command, Event, Failure, Finding, Fresh, Gone, Item}
-use Rattle.bridge_core.specs.Names.{Leaves, Lines, Lookup, Note, Options, Outcome, Part, Phase, Roots, SetBreakpoints, TellsBound, a_composite, a_raw}
+use Rattle.bridge_core.specs.Names.{Leaves, Lines, Lookup, Note, Options, Outcome, Part, Phase, Roots, SetBreakpoints, TellsNews, a_composite, a_raw}
 use Rattle.bridge_core.specs.Names.{a_request, target_end}
 use Rattle.bridge_core.specs.Working.{lines_in, lines_in_hand, lines_in_item, lines_in_part, lines_listed, lines_noted}
 use Rattle.bridge_core.specs.Working.{lines_of, lines_waiting}
@@ -75,6 +78,15 @@ news_few below ids wishes =
     let each = fold_few (on (λ (entry : LineEntry). entry.id) nat_cmp) []
     (filter (is_verified wishes) (all_lines wishes.wanted)) in
     let some = filter_few (is_verified wishes) (all_lines wishes.wanted) in omega (arith, news, each, some)
+
+-- what is told at once
+pub all_news_few : (below : ℕ) (state : State) (item : Item)
+    → length (news_of below state item) ≤ length (all_lines state.wishes.wanted) + length (changes_in item)
+all_news_few below state item =
+    let verified = newly_verified below state.bound state.wishes in
+    let both = length-append (map entry_verified verified) (changes_in item) in
+    let same = length-map verified entry_verified in
+    let few = news_few below state.bound state.wishes in omega (arith, both, same, few)
 
 -- What is listed ------------------------------------------------------------------------------------------------------
 
@@ -133,13 +145,13 @@ pub finished_lines : (lookup : Lookup) (result : Result Finding) (state : State)
 finished_lines lookup result state = grind arith
 
 pub chosen_lines : (choice : Choice) (state : State) (hand : Hand) → lines_in (chosen choice state hand) ≡ 0
-chosen_lines (TellsBound below) state hand = by_phase state.phase (newly_verified below state.bound state.wishes)
+chosen_lines (TellsNews below) state hand = by_phase state.phase (news_of below state hand.item)
   where
-    by_phase : (phase : Phase) (entries : List LineEntry) → lines_in (news phase entries) ≡ 0
-    by_phase Fresh entries = refl
-    by_phase Gone entries = refl
+    by_phase : (phase : Phase) (news : List News) → lines_in (told_in phase news) ≡ 0
+    by_phase Fresh news = refl
+    by_phase Gone news = refl
     by_phase Attached [] = refl
-    by_phase Attached (entry ∷ entries) = let more = by_phase Attached entries in omega (arith, more)
+    by_phase Attached (one ∷ news) = let more = by_phase Attached news in omega (arith, more)
 chosen_lines (Leaves exits) state hand = grind arith
 
 row_lines : (command : Command) (state : State) → lines_in (row_of command state) ≡ lines_listed command
@@ -162,7 +174,8 @@ end_lines true = refl
 end_lines false = refl
 
 -- an item that is begun lists no more than it did while it waited
-pub begun_lines : (state : State) (item : Item) → lines_in (parts_of state item) ≤ lines_in_item item
+pub begun_lines : (state : State) (item : Item)
+    → lines_in (parts_of state item) + length (changes_in item) ≤ lines_in_item item
 begun_lines state (a_request request) =
     let row = row_lines request.command state in
     let few = parts_lines (failure_of (wanting request.command) state) (row_of request.command state) in
@@ -216,7 +229,8 @@ part_lines : (m : Machine) (hand : Hand) (part : Part) (rest parts : List Part) 
     ≤ length (all_lines m.state.wishes.wanted) + (lines_in_part part + lines_in rest)
     → lines_of (left (knowing m state) hand parts) ≤ lines_of m
 part_lines m hand part rest parts state at few =
-    let was : lines_in_hand m.hand ≡ lines_in hand.parts = ap lines_in_hand at.in_hand in
+    let was : lines_in_hand m.hand ≡ lines_in hand.parts + length (changes_in hand.item) =
+    ap lines_in_hand at.in_hand in
     let all : lines_in hand.parts ≡ lines_in_part part + lines_in rest = ap lines_in at.parts in
     omega (arith, few, was, all)
 
@@ -255,10 +269,13 @@ lines_on m next said own (Moves.unfolds {hand} {choice} {rest} free at) =
     let both = lines_joined parts rest in
     part_lines m hand (Part.Unfolds choice) rest (parts ++ rest) m.state at (omega (arith, none, both))
 lines_on m next said own (Moves.queues {hand} free is) =
-    let was : lines_in_hand m.hand ≡ lines_in hand.parts = ap lines_in_hand is in omega (arith, was)
+    let was : lines_in_hand m.hand ≡ lines_in hand.parts + length (changes_in hand.item) =
+    ap lines_in_hand is in omega (arith, was)
 lines_on m next said own (Moves.asks {hand} {want} {wants} free room is are) =
-    let was : lines_in_hand m.hand ≡ lines_in hand.parts = ap lines_in_hand is in
-    let now : lines_in_hand (option_map (asked_hand want) m.hand) ≡ lines_in hand.parts =
+    let was : lines_in_hand m.hand ≡ lines_in hand.parts + length (changes_in hand.item) =
+    ap lines_in_hand is in
+    let now : lines_in_hand (option_map (asked_hand want) m.hand)
+    ≡ lines_in hand.parts + length (changes_in hand.item) =
     ap (λ (held : Option Hand). lines_in_hand (option_map (asked_hand want) held)) is in omega (arith, was, now)
 lines_on m next said own (Moves.loses {message} late near why) =
     let no : true ≡ false = sym own ∙ not_lost m message late why in cc

@@ -12,14 +12,17 @@ use Rattle.machine_model.specs.Due.{lets, load_of, looked, newly_lacked, next_it
 use Rattle.machine_model.specs.Due.{queued_next, responded, updated, waiting, wanted, wanted_in, way}
 use Rattle.machine_model.specs.Due.Way.{passes, greets as greets_way, holds as holds_way, asks as asks_way}
 use Rattle.machine_model.specs.Lookups.{finished, found_for}
-use Rattle.bridge_core.specs.Names.{Act, Attached, Choice, Fresh, Gone, Leaves, Phase, TellsBound, Command, Does, Effect, Event, Failure, Finding, Item, Leaves, Lookup}
-use Rattle.bridge_core.specs.Names.{Note, Outcome, Part, Phase, Question, TargetCommand, TellsBound, Want}
+use Rattle.bridge_core.specs.Names.{Act, Attached, Choice, Fresh, Gone, Leaves, Phase, TellsNews, Command, Does, Effect, Event, Failure, Finding, Item, Leaves, Lookup}
+use Rattle.bridge_core.specs.Names.{Note, Outcome, Part, Phase, Question, TargetCommand, TellsNews, Want}
 use Rattle.bridge_core.specs.Names.{a_composite, a_question, a_raw, a_request, an_effect, target_end}
 use Rattle.machine_model.specs.Outcomes.{result_of}
 use Rattle.machine_model.specs.Plans.{Need, Result, fails, has, lacks, question_of}
 use Rattle.machine_model.specs.Replying.{pending_in, pending_of, unanswered, unanswered_effect}
 use Rattle.machine_model.specs.Requests.{effect_due}
-use Rattle.machine_model.specs.Rows.{chosen, end_parts, failure_of, leaves, news, noted, parts_by, parts_of, row_of, wanting}
+use Rattle.machine_model.specs.Composites.{changes_in}
+use Rattle.machine_model.specs.declared.parts.News.{News}
+use Rattle.machine_model.specs.Rows.{chosen, end_parts, failure_of, leaves, news_of, noted, parts_by, parts_of, row_of}
+use Rattle.machine_model.specs.Rows.{told_in, wanting}
 use Rattle.machine_model.specs.Runs.{Allows, Message, Run, said}
 use Rattle.machine_model.specs.State.{Hand, Machine, State, has_waiting, is_empty, is_flying, is_gone, is_raw, knowing}
 use Rattle.machine_model.specs.State.{left}
@@ -30,14 +33,14 @@ use Rattle.machine_model.proofs.QuietLaws.{lacking_hand, load_in}
 use Rattle.machine_model.proofs.RestLaws.{is_free, near_queue}
 use Rattle.machine_model.proofs.Stepping.{IsAt, Loses, Moves, moved, walks_due}
 use Rattle.machine_model.proofs.TurnLaws.{Turns, turned, unsent}
-use Rattle.bridge_core.specs.Working.{choice_weight, hand_work, is_wait, is_work, lines_of, one_if, one_unless}
+use Rattle.bridge_core.specs.Working.{choice_weight, hand_work, is_wait, is_work, lines_in, lines_in_hand, lines_of}
+use Rattle.bridge_core.specs.Working.{one_if, one_unless}
 use Rattle.bridge_core.specs.Working.{waiting_work, weight, weights, work, work_of}
 use Rattle.jdwp_events.specs.declared.kind.Policy.{Policy}
 use Rattle.wish_sets.specs.Entries.{all_lines}
 use Rattle.wish_sets.specs.declared.entry.LineEntry.{LineEntry}
-use Rattle.machine_model.specs.Breakpoints.{newly_verified}
 use Rattle.machine_model.specs.Composites.{composite_parts}
-use Rattle.bridge_core.proofs.LineLaws.{lines_on, news_few}
+use Rattle.bridge_core.proofs.LineLaws.{all_news_few, lines_on}
 use Rattle.bridge_core.proofs.OwnMoves.{is_own, is_own_message, not_lost}
 
 -- Whether the next id is pending --------------------------------------------------------------------------------------
@@ -158,19 +161,18 @@ finished_light lines lookup result state = grind arith
 leaves_light : (lines : ℕ) (exits : Bool) (state : State) → weights lines (leaves state.phase exits) < 10
 leaves_light lines exits state = grind arith
 
-news_light : (lines : ℕ) (phase : Phase) (entries : List LineEntry) → weights lines (news phase entries) ≤ length entries
-news_light lines Fresh entries = omega arith
-news_light lines Gone entries = omega arith
+news_light : (lines : ℕ) (phase : Phase) (news : List News) → weights lines (told_in phase news) ≤ length news
+news_light lines Fresh news = omega arith
+news_light lines Gone news = omega arith
 news_light lines Attached [] = omega arith
-news_light lines Attached (entry ∷ entries) =
-    let more = news_light lines Attached entries in omega (arith, more)
+news_light lines Attached (one ∷ news) = let more = news_light lines Attached news in omega (arith, more)
 
 chosen_light : (lines : ℕ) (choice : Choice) (state : State) (hand : Hand)
-    → length (all_lines state.wishes.wanted) ≤ lines
+    → length (all_lines state.wishes.wanted) + length (changes_in hand.item) ≤ lines
     → weights lines (chosen choice state hand) < choice_weight lines choice
-chosen_light lines (TellsBound below) state hand few =
-    let told = news_light lines state.phase (newly_verified below state.bound state.wishes) in
-    let listed = news_few below state.bound state.wishes in omega (arith, few, told, listed)
+chosen_light lines (TellsNews below) state hand few =
+    let told = news_light lines state.phase (news_of below state hand.item) in
+    let listed = all_news_few below state hand.item in omega (arith, few, told, listed)
 chosen_light lines (Leaves exits) state hand few = leaves_light lines exits state
 
 row_light : (lines : ℕ) (command : Command) (state : State) → weights lines (row_of command state) < 60 + lines
@@ -269,7 +271,7 @@ picked_work lines gone (item ∷ items) picked is =
 -- Fewer breakpoints ---------------------------------------------------------------------------------------------------
 
 weight_fewer : (few many : ℕ) (part : Part) → few ≤ many → weight few part ≤ weight many part
-weight_fewer few many (Part.Unfolds (TellsBound below)) less = omega (arith, less)
+weight_fewer few many (Part.Unfolds (TellsNews below)) less = omega (arith, less)
 weight_fewer few many (Part.Unfolds (Leaves exits)) less = omega arith
 weight_fewer few many (Part.Looks lookup) less = omega arith
 weight_fewer few many (Part.Responds outcome) less = omega arith
@@ -377,8 +379,8 @@ asked_less lines m hand want wants room is are =
 some_weight : (lines : ℕ) (part : Part) (rest : ℕ) → rest < weight lines part + rest
 some_weight lines part rest = grind arith
 
--- each move of the machine's own lessens what it can still do, where so many breakpoints may be listed
-less_by : (lines : ℕ) (m next : Machine) (said : Option Message) → length (all_lines m.state.wishes.wanted) ≤ lines
+-- each move of the machine's own lessens what it can still do, where so much may be told
+less_by : (lines : ℕ) (m next : Machine) (said : Option Message) → lines_of m ≤ lines
     → is_own said ≡ true → Moves m said next → work_of lines next < work_of lines m
 less_by lines m next said few own (Moves.begins picked free none is) = begun_less lines m picked none is
 less_by lines m next said few own (Moves.drops {hand} free is none) =
@@ -414,7 +416,9 @@ less_by lines m next said few own (Moves.notes {hand} {note} {rest} free at) =
     (omega arith)
 less_by lines m next said few own (Moves.unfolds {hand} {choice} {rest} free at) =
     let parts = chosen choice m.state hand in
-    let light = chosen_light lines choice m.state hand few in
+    let was : lines_in_hand m.hand ≡ lines_in hand.parts + length (changes_in hand.item) =
+    ap lines_in_hand at.in_hand in
+    let light = chosen_light lines choice m.state hand (omega (arith, few, was)) in
     let both = weights_joined lines parts rest in
     part_less lines m hand (Part.Unfolds choice) rest (parts ++ rest) m.state at refl (omega (arith, light, both))
 less_by lines m next said few own (Moves.queues {hand} free is) = queued_less lines m hand free is

@@ -22,7 +22,7 @@ pub use Rattle.machine_model.specs.declared.items.Item.TheVariants.{Request as a
 pub use Rattle.machine_model.specs.declared.items.Phase.{Phase}
 pub use Rattle.machine_model.specs.declared.items.Phase.TheVariants.{Attached, Fresh, Gone}
 pub use Rattle.machine_model.specs.declared.parts.Choice.{Choice}
-pub use Rattle.machine_model.specs.declared.parts.Choice.TheVariants.{Leaves, TellsBound}
+pub use Rattle.machine_model.specs.declared.parts.Choice.TheVariants.{Leaves, TellsNews}
 pub use Rattle.machine_model.specs.declared.parts.Event.{Event}
 pub use Rattle.machine_model.specs.declared.parts.Finding.{Finding}
 pub use Rattle.machine_model.specs.declared.parts.Lookup.{Lookup}

@@ -2,7 +2,8 @@
 use Rattle.std.specs.Prelude.{ℕ, ◌+◌, ◌-◌, ◌*◌, Bool, true, false, List, [], ◌∷◌, length, Option, Some, None}
 use Rattle.std.specs.List.{flat_map}
 use Rattle.bridge_core.specs.Names.{Act, Choice, Command, Item, Leaves, Lines, Note, Part, Sent, SetBreakpoints}
-use Rattle.bridge_core.specs.Names.{TellsBound, a_composite, a_raw, a_request, target_end}
+use Rattle.bridge_core.specs.Names.{TellsNews, a_composite, a_raw, a_request, target_end}
+use Rattle.machine_model.specs.Composites.{changes_in}
 use Rattle.machine_model.specs.Replying.{unanswered}
 use Rattle.machine_model.specs.State.{Hand, Machine, is_empty, is_flying}
 use Rattle.wish_sets.specs.Entries.{all_lines}
@@ -27,7 +28,7 @@ is_work (Act.Sends effect) = true
 is_work (Act.Asks question) = true
 is_work (Act.Over finish) = false
 
--- Breakpoints of sources ----------------------------------------------------------------------------------------------
+-- What may be told -----------------------------------------------------------------------------------------------------
 
 -- how many breakpoints of sources a note lists
 abbrev pub lines_noted : Note → ℕ
@@ -42,9 +43,10 @@ abbrev pub lines_in : List Part → ℕ
 lines_in [] = 0
 lines_in (part ∷ parts) = lines_in_part part + lines_in parts
 
+-- those that an item in hand lists, and the threads of which it tells
 abbrev pub lines_in_hand : Option Hand → ℕ
 lines_in_hand None = 0
-lines_in_hand (Some hand) = lines_in hand.parts
+lines_in_hand (Some hand) = lines_in hand.parts + length (changes_in hand.item)
 
 -- how many a request lists (DAP specification, SetBreakpoints request)
 abbrev pub lines_listed : Command → ℕ
@@ -53,7 +55,7 @@ lines_listed _ = 0
 
 abbrev pub lines_in_item : Item → ℕ
 lines_in_item (a_request request) = lines_listed request.command
-lines_in_item (a_composite at composite) = 0
+lines_in_item (a_composite at composite) = length (changes_in (a_composite at composite))
 lines_in_item (a_raw at body) = 0
 lines_in_item target_end = 0
 
@@ -61,8 +63,8 @@ abbrev pub lines_waiting : List Item → ℕ
 lines_waiting [] = 0
 lines_waiting (item ∷ items) = lines_in_item item + lines_waiting items
 
--- How many breakpoints of sources are listed, or are still to be written down: no act of the machine makes them more,
--- and no more of them are told to be verified at once.
+-- How many breakpoints of sources are listed, or are still to be written down, and of how many threads the client is
+-- still to be told: no act of the machine makes them more, and no more news is told at once.
 abbrev pub lines_of : Machine → ℕ
 lines_of m =
     length (all_lines m.state.wishes.wanted) + (lines_in_hand m.hand + lines_waiting m.waiting)
@@ -71,10 +73,10 @@ lines_of m =
 
 -- a choice weighs more than what it becomes
 abbrev pub choice_weight : ℕ → Choice → ℕ
-choice_weight lines (TellsBound below) = 10 + lines
+choice_weight lines (TellsNews below) = 10 + lines
 choice_weight lines (Leaves exits) = 10
 
--- a part weighs more than those that it may become, where there are at most so many breakpoints of sources
+-- a part weighs more than those that it may become, where there is at most so much news
 abbrev pub weight : ℕ → Part → ℕ
 weight lines (Part.Looks lookup) = 10
 weight lines (Part.Unfolds choice) = choice_weight lines choice
@@ -117,7 +119,7 @@ abbrev pub waiting_work : ℕ → List Item → ℕ
 waiting_work lines [] = 0
 waiting_work lines (item ∷ items) = 100 + (lines + waiting_work lines items)
 
--- what a machine can still do, where there are at most so many breakpoints of sources
+-- what a machine can still do, where there is at most so much news
 abbrev pub work_of : ℕ → Machine → ℕ
 work_of lines m =
     waiting_work lines m.waiting + (hand_work lines m.hand + one_unless m.state.greeting_sent)

@@ -10,7 +10,7 @@ ghost use Rattle.jdwp_events.specs.Composites.{composite_at, IsRead};
 ghost use Rattle.jdwp_values.specs.Sizes.{is_no_size};
 ghost use Rattle.jdwp_values.specs.declared.sizes.IdSizes.{IdSizes as Sizes};
 ghost use Rattle.machine_model.specs.Replying.{has_good_sizes, is_dead};
-ghost use Rattle.machine_model.specs.Composites.{is_prepare};
+ghost use Rattle.machine_model.specs.Composites.{is_served_event};
 ghost use Rattle.machine_model.specs.Runs.{is_served};
 ghost use Rattle.machine_model.specs.State.{has_raw, is_raw};
 ghost use Rattle.bridge_core.specs.Hearing.{AreServed, IsBadBody, IsJudged, IsReadFirst, IsRefused, IsUnserved};
@@ -108,25 +108,27 @@ pub(crate) fn composite(
     }
 }
 
-fn is_prepare(event: &Event) -> bool
-    ensures { result ≡ is_prepare event.now }
+fn is_served_event(event: &Event) -> bool
+    ensures { result ≡ is_served_event event.now }
 {
-    matches!(event, Event::ClassPrepare { .. })
+    matches!(
+        event,
+        Event::ClassPrepare { .. } | Event::ThreadStart { .. } | Event::ThreadDeath { .. }
+    )
 }
 
-// Whether each event tells of a class that was prepared.
-fn are_prepares(events: &[Event]) -> bool
-    ensures { result ≡ list_all is_prepare events.now }
+fn are_served_events(events: &[Event]) -> bool
+    ensures { result ≡ list_all is_served_event events.now }
 {
-    events.iter().all(is_prepare)
+    events.iter().all(is_served_event)
 }
 
-// Whether a composite is served: it tells of classes that were prepared alone.
-#[tactic(auto, using(crate::proofs::HearLaws::all_prepares))]
+// Whether a composite is served: it tells of classes that were prepared, and of threads that started or ended.
+#[tactic(auto, using(crate::proofs::HearLaws::all_served))]
 fn is_served(composite: &Composite) -> bool
     ensures { result ≡ is_served composite.now }
 {
-    are_prepares(composite.events.as_slice())
+    are_served_events(composite.events.as_slice())
 }
 
 /// Reads a composite that is served, whose packet stands at this offset; another one ends the session.

@@ -13,6 +13,7 @@ use Rattle.dap_messages.specs.declared.told.Outcome.TheVariants.{Success, Failur
 use Rattle.dap_messages.specs.declared.told.Shape.TheVariants.{Nothing, Capabilities, Breakpoints, Threads}
 use Rattle.dap_messages.specs.declared.told.Event.{Event}
 use Rattle.dap_messages.specs.declared.told.Event.TheVariants.{Initialized, Breakpoint as Changed, Terminated}
+use Rattle.dap_messages.specs.declared.told.Event.TheVariants.{Thread as ThreadChanged}
 use Rattle.dap_messages.specs.declared.told.Breakpoint.{Breakpoint}
 use Rattle.dap_messages.specs.declared.told.Thread.{Thread}
 
@@ -58,6 +59,7 @@ has_float-event_data : (seq : ℕ) (event : Event) → has_float (event_data seq
 has_float-event_data seq Initialized = refl
 has_float-event_data seq (Changed breakpoint) =
     rw (has_float-standing_data breakpoint.id breakpoint.line (reason_of breakpoint.status)) refl
+has_float-event_data seq (ThreadChanged change) = refl
 has_float-event_data seq Terminated = refl
 
 pub has_float-told_data : (seq : ℕ) (message : Told) → has_float (told_data seq message) ≡ false

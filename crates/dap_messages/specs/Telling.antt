@@ -1,5 +1,5 @@
 -- The JSON of a told message. (DAP specification, Base Protocol, Response, ErrorResponse and Event)
-use Rattle.std.specs.Prelude.{ℕ, ◌==◌, List, [], ◌∷◌, ◌++◌, map, true, false, if◌then◌else◌, codes, decimal, Option}
+use Rattle.std.specs.Prelude.{ℕ, ◌==◌, List, [], ◌∷◌, ◌++◌, map, true, false, if◌then◌else◌, codes, decimal, Option, Bool}
 use Rattle.std.specs.Prelude.{Some, None}
 use Rattle.serde_json.specs.Data.{Data, number, unsigned, string, boolean, array, object, Members, no_members, member}
 use Rattle.serde_json.specs.View.{items_of}
@@ -22,6 +22,8 @@ use Rattle.dap_messages.specs.declared.told.Detail.{Detail}
 use Rattle.dap_messages.specs.declared.told.Detail.TheVariants.{Plain, Number, Name}
 use Rattle.dap_messages.specs.declared.told.Event.{Event}
 use Rattle.dap_messages.specs.declared.told.Event.TheVariants.{Initialized, Breakpoint as Changed, Terminated}
+use Rattle.dap_messages.specs.declared.told.Event.TheVariants.{Thread as ThreadChanged}
+use Rattle.dap_messages.specs.declared.told.ThreadChange.{ThreadChange}
 
 -- the failures of requests: their codes are the adapter's own (DAP specification, Types, Message, `id`)
 abbrev pub unsupported : Failure
@@ -210,10 +212,28 @@ changed_data seq breakpoint = object_of ((
     (codes "seq", count seq) ∷
     (codes "type", string (codes "event")) ∷ [])
 
--- an event (DAP specification, Events, Initialized, Breakpoint and Terminated)
+-- why the event of a thread is told (DAP specification, Events, Thread, `reason`)
+abbrev pub change_reason : Bool → List ℕ
+change_reason true = codes "started"
+change_reason false = codes "exited"
+
+-- the event of a thread (DAP specification, Events, Thread)
+abbrev pub thread_changed_data : ℕ → ThreadChange → Data
+thread_changed_data seq change = object_of ((
+  codes "body",
+  object_of (
+      (codes "reason", string (change_reason change.started)) ∷
+      (codes "threadId", count change.id) ∷ []),
+) ∷
+    (codes "event", string (codes "thread")) ∷
+    (codes "seq", count seq) ∷
+    (codes "type", string (codes "event")) ∷ [])
+
+-- an event (DAP specification, Events, Initialized, Breakpoint, Thread and Terminated)
 abbrev pub event_data : ℕ → Event → Data
 event_data seq Initialized = plain_data seq (codes "initialized")
 event_data seq (Changed breakpoint) = changed_data seq breakpoint
+event_data seq (ThreadChanged change) = thread_changed_data seq change
 event_data seq Terminated = plain_data seq (codes "terminated")
 
 -- a message (DAP specification, Base Protocol, ProtocolMessage)

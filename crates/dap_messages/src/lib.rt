@@ -17,6 +17,7 @@ pub use requests::{
     Request, SetBreakpointsArguments, SourceBreakpoint,
 };
 pub use told::{
-    Breakpoint, BreakpointStatus, Detail, Event, Failure, Outcome, Response, Shape, Thread, Told,
+    Breakpoint, BreakpointStatus, Detail, Event, Failure, Outcome, Response, Shape, Thread,
+    ThreadChange, Told,
 };
 pub use write::text_of;

@@ -1,6 +1,6 @@
 use crate::{
     Breakpoint, BreakpointStatus, Command, Event, Failure, Incoming, Outcome, ReadFault, Request,
-    Response, Shape, SourceBreakpoint, Thread, Told, read_request, text_of,
+    Response, Shape, SourceBreakpoint, Thread, ThreadChange, Told, read_request, text_of,
 };
 use std::alloc::{AllocError, Global};
 use std::test::Fail;
@@ -487,6 +487,26 @@ fn a_change_of_a_breakpoint_is_told(rt: HostRuntime) -> Result<(), Fail> {
         "{\"body\":{\"breakpoint\":{\"id\":1,\"line\":10,\"verified\":true},\"reason\":\"changed\"},\
         \"event\":\"breakpoint\",\"seq\":5,\"type\":\"event\"}";
     assert!(rt; text.as_slice() == wanted.as_bytes(), "{wanted}");
+    Ok(())
+}
+
+#[test]
+fn a_change_of_a_thread_is_told(rt: HostRuntime) -> Result<(), Fail> {
+    let table = [
+        (
+            true,
+            "{\"body\":{\"reason\":\"started\",\"threadId\":3},\"event\":\"thread\",\"seq\":5,\"type\":\"event\"}",
+        ),
+        (
+            false,
+            "{\"body\":{\"reason\":\"exited\",\"threadId\":3},\"event\":\"thread\",\"seq\":5,\"type\":\"event\"}",
+        ),
+    ];
+    for (started, wanted) in table {
+        let change = ThreadChange { started, id: 3 };
+        let text = text_of(rt.alloc(), 5, &Told::Event(Event::Thread(change)))?;
+        assert!(rt; text.as_slice() == wanted.as_bytes(), "{wanted}");
+    }
     Ok(())
 }
 

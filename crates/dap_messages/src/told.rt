@@ -85,6 +85,14 @@ pub enum Detail {
     Name(Text),
 }
 
+/// The start or the end of a thread: whether it started, and the number that the client knows it by. (DAP specification,
+/// Events, Thread, `reason` and `threadId`)
+#[derive(Clone, Copy, Debug, Drop, PartialEq, Eq)]
+pub struct ThreadChange {
+    pub started: bool,
+    pub id: u64,
+}
+
 /// An event that the adapter tells without being asked. (DAP specification, Base Protocol, Event)
 #[derive(Clone, Copy, Debug, Drop, PartialEq, Eq)]
 pub enum Event {
@@ -92,6 +100,8 @@ pub enum Event {
     Initialized,
     /// A breakpoint stands otherwise than the client was told. (DAP specification, Events, Breakpoint)
     Breakpoint(Breakpoint),
+    /// A thread of the target has started or ended. (DAP specification, Events, Thread)
+    Thread(ThreadChange),
     /// Nothing more comes of the debuggee. (DAP specification, Events, Terminated)
     Terminated,
 }

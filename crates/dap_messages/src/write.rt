@@ -4,10 +4,11 @@ ghost use Rattle.dap_messages.specs.Telling.{capabilities_data, changed_data, de
 ghost use Rattle.dap_messages.specs.Telling.{format_of, message_of, plain_data, told_data, told_text};
 ghost use Rattle.dap_messages.specs.Telling.{answer_data, failure_data, response_data, shape_data};
 ghost use Rattle.dap_messages.specs.Telling.{breakpoint_data, breakpoints_data, reason_of, standing_data};
-ghost use Rattle.dap_messages.specs.Telling.{thread_data, threads_data};
+ghost use Rattle.dap_messages.specs.Telling.{change_reason, thread_changed_data, thread_data, threads_data};
 
 use crate::told::{
-    Breakpoint, BreakpointStatus, Detail, Event, Failure, Outcome, Response, Shape, Thread, Told,
+    Breakpoint, BreakpointStatus, Detail, Event, Failure, Outcome, Response, Shape, Thread,
+    ThreadChange, Told,
 };
 use serde_json::{Value, json};
 use std::alloc::{AllocError, Global};
@@ -242,6 +243,7 @@ fn event_value(alloc: Global, seq: u64, event: Event) -> Result<Value, AllocErro
     match event {
         Event::Initialized => plain_value(alloc, seq, "initialized"),
         Event::Breakpoint(breakpoint) => changed_value(alloc, seq, breakpoint),
+        Event::Thread(change) => thread_changed_value(alloc, seq, change),
         Event::Terminated => plain_value(alloc, seq, "terminated"),
     }
 }
@@ -259,6 +261,23 @@ fn changed_value(alloc: Global, seq: u64, breakpoint: Breakpoint) -> Result<Valu
     json!(in alloc; {
         "body": {"breakpoint": shown, "reason": "changed"},
         "event": "breakpoint",
+        "seq": seq,
+        "type": "event"
+    })
+}
+
+fn change_reason(started: bool) -> &'static str
+    ensures { result.now ≡ change_reason started }
+{
+    if started { "started" } else { "exited" }
+}
+
+fn thread_changed_value(alloc: Global, seq: u64, change: ThreadChange) -> Result<Value, AllocError>
+    ensures { IfOk result (λ value. view value ≡ thread_changed_data seq change) }
+{
+    json!(in alloc; {
+        "body": {"reason": change_reason(change.started), "threadId": change.id},
+        "event": "thread",
         "seq": seq,
         "type": "event"
     })

@@ -7,19 +7,17 @@ use Rattle.class_tables.specs.Lookups.{found_in}
 use Rattle.jdwp_commands.specs.declared.question.Question.TheVariants as questions
 use Rattle.jdwp_values.specs.declared.id.ClassId.{ClassId}
 use Rattle.machine_model.specs.Facts.{fact_known}
-use Rattle.machine_model.specs.Names.{Attached, Choice, Classes, Command, Failure, Fresh, Gone, Item, Leaves, Lines}
-use Rattle.machine_model.specs.Names.{Part, Phase, Question, Replied, Sent, TellsBound, Want, a_composite, a_raw}
+use Rattle.machine_model.specs.Names.{News, Attached, Choice, Classes, Command, Failure, Fresh, Gone, Item, Leaves, Lines}
+use Rattle.machine_model.specs.Names.{Part, Phase, Question, Replied, Sent, TellsNews, Want, a_composite, a_raw}
 use Rattle.machine_model.specs.Names.{a_request, class_facts, target_end}
 use Rattle.machine_model.specs.Plans.{asks_for, question_of}
 use Rattle.machine_model.specs.Replying.{filled, waits_for, is_waiting}
-use Rattle.machine_model.specs.Rows.{chosen, failure_of, news, parts_by, parts_of, row_of, wanting}
+use Rattle.machine_model.specs.Rows.{chosen, failure_of, news_of, parts_by, parts_of, row_of, told_in, wanting}
 use Rattle.machine_model.specs.State.{Hand, State, has_waiting, is_empty, is_none, is_some}
 use Rattle.machine_model.proofs.BindingPlans.{IsLearnt, is_fact, tells_classes}
 use Rattle.machine_model.proofs.KeyLaws.{is_one}
 use Rattle.machine_model.proofs.Tables.{is_updates, told_alike}
 use Rattle.machine_model.proofs.Testing.{IsTest}
-use Rattle.machine_model.specs.Breakpoints.{newly_verified}
-use Rattle.wish_sets.specs.declared.entry.LineEntry.{LineEntry}
 
 -- Parts ---------------------------------------------------------------------------------------------------------------
 
@@ -97,15 +95,15 @@ none_behind choice rest is = grind (arith, is)
 
 placed_chosen : (choice : Choice) (state : State) (hand : Hand) (rest : List Part) → has_note rest ≡ false
     → is_placed rest ≡ true → is_placed (chosen choice state hand ++ rest) ≡ true
-placed_chosen (TellsBound below) state hand rest none is =
-    by_entries state.phase (newly_verified below state.bound state.wishes)
+placed_chosen (TellsNews below) state hand rest none is =
+    by_news state.phase (news_of below state hand.item)
   where
-    by_entries : (phase : Phase) (entries : List LineEntry) → is_placed (news phase entries ++ rest) ≡ true
-    by_entries Fresh entries = is
-    by_entries Gone entries = is
-    by_entries Attached [] = is
-    by_entries Attached (entry ∷ entries) =
-        rw (told_alike has_note (λ entry parts. refl) Attached entries rest ∙ none) (by_entries Attached entries)
+    by_news : (phase : Phase) (news : List News) → is_placed (told_in phase news ++ rest) ≡ true
+    by_news Fresh news = is
+    by_news Gone news = is
+    by_news Attached [] = is
+    by_news Attached (one ∷ news) =
+        rw (told_alike has_note (λ news parts. refl) Attached news rest ∙ none) (by_news Attached news)
 placed_chosen (Leaves exits) state hand rest none is = grind (arith, is)
 
 pub placed_test : IsTest placed

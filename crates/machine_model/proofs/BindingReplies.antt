@@ -8,7 +8,7 @@ use Rattle.machine_model.specs.Binding.{AreAllBound, sight_alone}
 use Rattle.machine_model.specs.Classes.{known_plan}
 use Rattle.machine_model.specs.Lookups.{classes_of, finished, found_for}
 use Rattle.machine_model.specs.Names.{Choice, Classes, Clear, Does, Effect, Finding, Leaves, Lines, Lookup, Note}
-use Rattle.machine_model.specs.Names.{Options, Part, Question, Replied, Roots, Sent, Set, TellsBound, Want}
+use Rattle.machine_model.specs.Names.{Options, Part, Question, Replied, Roots, Sent, Set, TellsNews, Want}
 use Rattle.machine_model.specs.Names.{all_threads, an_effect, class_facts}
 use Rattle.machine_model.specs.Outcomes.{result_of}
 use Rattle.machine_model.specs.Plans.{Need, answer_in, need}
@@ -16,7 +16,7 @@ use Rattle.machine_model.specs.Plans.{is_done}
 use Rattle.machine_model.specs.Replying.{IsReply, done_by, filled, is_waiting}
 use Rattle.machine_model.specs.Replying.{told_by, unless_failed}
 use Rattle.machine_model.specs.Requests.{Wishes, wishes_after}
-use Rattle.machine_model.specs.Rows.{chosen, noted}
+use Rattle.machine_model.specs.Rows.{chosen, news_of, noted}
 use Rattle.machine_model.specs.State.{Hand, State, is_some}
 use Rattle.machine_model.proofs.BindingFacts.{all_bound, fact_grows, fact_learnt, only_classes, same_known}
 use Rattle.machine_model.proofs.BindingHands.{asks_classes, asks_filled, awaited_is, awaits_classes, awaits_filled}
@@ -40,7 +40,6 @@ use Rattle.machine_model.proofs.BindingParts.{still_binding, IsClear, quiet}
 use Rattle.machine_model.proofs.BindingParts.{none_ahead, note_had, placed_note}
 use Rattle.machine_model.proofs.BindingParts.{AreLike, are_same, goes_by}
 use Rattle.machine_model.proofs.BindingParts.{itself, found_complete, unlisted_waits}
-use Rattle.machine_model.specs.Breakpoints.{newly_verified}
 
 -- Replies -------------------------------------------------------------------------------------------------------------
 
@@ -206,12 +205,12 @@ replies_on {state} {parts} {queue} {asked} effect replied due reply h = by_case 
 
 pub chosen_like : (choice : Choice) (state : State) (hand : Hand) (rest : List Part)
     → AreLike (chosen choice state hand ++ rest) rest
-chosen_like (TellsBound below) state hand rest =
-    let entries = newly_verified below state.bound state.wishes in record {
-      ahead = told_alike looks_ahead (λ entry parts. refl) state.phase entries rest;
-      needs = told_alike needs_watches (λ entry parts. refl) state.phase entries rest;
-      notes = told_alike has_note (λ entry parts. refl) state.phase entries rest;
-      binds = told_alike binds_ahead (λ entry parts. refl) state.phase entries rest;
+chosen_like (TellsNews below) state hand rest =
+    let news = news_of below state hand.item in record {
+      ahead = told_alike looks_ahead (λ news parts. refl) state.phase news rest;
+      needs = told_alike needs_watches (λ news parts. refl) state.phase news rest;
+      notes = told_alike has_note (λ news parts. refl) state.phase news rest;
+      binds = told_alike binds_ahead (λ news parts. refl) state.phase news rest;
     }
 chosen_like (Leaves exits) state hand rest =
     record { ahead = grind arith; needs = grind arith; notes = grind arith; binds = grind arith }

@@ -6,12 +6,12 @@ use Rattle.machine_model.specs.Knowing.{is_fresh}
 use Rattle.machine_model.specs.Lookups.{finished}
 use Rattle.machine_model.specs.Names.{Attached, Choice, Command, Composite, Event, Failure, Fresh, Gone, Guard}
 use Rattle.machine_model.specs.Names.{Handshake, IdSizes, Initialized, Item, Leaves, Note, Outcome, Part}
-use Rattle.machine_model.specs.Names.{Phase, Question, Replied, TellsBound, Terminated}
-use Rattle.machine_model.specs.Names.{a_composite, a_question, a_raw, a_request, entry_bound, target_end}
+use Rattle.machine_model.specs.Names.{Phase, Question, Replied, TellsNews, Terminated}
+use Rattle.machine_model.specs.Names.{a_composite, a_question, a_raw, a_request, some_news, target_end}
 use Rattle.machine_model.specs.Outcomes.{result_of}
 use Rattle.machine_model.specs.Replying.{IsReply, given_up, is_end, is_waiting, replied_machine}
 use Rattle.machine_model.specs.Replying.{replied_to, shows_end}
-use Rattle.machine_model.specs.Rows.{chosen, failure_of, noted, parts_by, parts_of, row_of, wanting}
+use Rattle.machine_model.specs.Rows.{chosen, failure_of, news_of, noted, parts_by, parts_of, row_of, wanting}
 use Rattle.machine_model.specs.Runs.{Message, Run}
 use Rattle.machine_model.specs.State.{Hand, Machine, SizesRead, State, has_raw, has_waiting, is_gone, is_none, is_raw}
 use Rattle.machine_model.specs.State.{is_some, knowing, left}
@@ -25,7 +25,6 @@ use Rattle.machine_model.proofs.Standing.{asked_in}
 use Rattle.machine_model.proofs.Stepping.{IsAt, Moves, Skips, by_runs}
 use Rattle.machine_model.proofs.Tables.{chosen_is, finished_is, has_attach, plain_attach, told_alike}
 use Rattle.machine_model.proofs.Testing.{IsTest, Passed, same_noted, same_numbered, same_replied, tested, whole}
-use Rattle.machine_model.specs.Breakpoints.{newly_verified}
 
 -- The test ------------------------------------------------------------------------------------------------------------
 
@@ -56,8 +55,8 @@ rest_greets part rest is = grind (arith, is)
 
 chosen_greets : (choice : Choice) (state : State) (hand : Hand) (rest : List Part) → greets_first rest ≡ true
     → greets_first (chosen choice state hand ++ rest) ≡ true
-chosen_greets (TellsBound below) state hand rest is =
-    told_alike greets_first (λ entry parts. refl) state.phase (newly_verified below state.bound state.wishes) rest ∙ is
+chosen_greets (TellsNews below) state hand rest is =
+    told_alike greets_first (λ news parts. refl) state.phase (news_of below state hand.item) rest ∙ is
 chosen_greets (Leaves exits) state hand rest is = grind (arith, is)
 
 greets_test : IsTest greets_to_attach
@@ -136,8 +135,8 @@ event_early m hand Initialized rest h at = record {
     by_phase Fresh = refl
     by_phase Attached = refl
     by_phase Gone = refl
-event_early m hand (entry_bound entry) rest h at =
-    parts_early m hand (Part.Tells (entry_bound entry)) rest rest (after_event (entry_bound entry) m.state) h at
+event_early m hand (some_news news) rest h at =
+    parts_early m hand (Part.Tells (some_news news)) rest rest (after_event (some_news news) m.state) h at
     refl refl refl refl refl
 event_early m hand Terminated rest h at =
     record { attaches = refl; unsent = asked_now h at.in_hand; sized = refl }

@@ -6,9 +6,10 @@ use Rattle.std.proofs.lemmas.List.Concat.{flat_map-append}
 use Rattle.machine_model.specs.Due.{asked_hand}
 use Rattle.machine_model.specs.Events.{AreTold, EventsAre, ends_target, is_attach, is_clients, is_success}
 use Rattle.machine_model.specs.Lookups.{finished, lookup_responds}
+use Rattle.machine_model.specs.Names.{News, entry_verified, thread_changed}
 use Rattle.machine_model.specs.Names.{Command, Event, Failed, Failure, Initialized, Item, Note, Outcome, Part}
 use Rattle.machine_model.specs.Names.{Replied, Request, Success, TargetCommand, Terminated, Want, a_composite}
-use Rattle.machine_model.specs.Names.{a_question, a_raw, a_request, an_effect, an_event, entry_bound, target_end}
+use Rattle.machine_model.specs.Names.{a_question, a_raw, a_request, an_effect, an_event, some_news, target_end}
 use Rattle.machine_model.specs.Outcomes.{result_of}
 use Rattle.machine_model.specs.Replying.{given_up, hand_replied, is_end, replied_to}
 use Rattle.machine_model.specs.Rest.{request_by, request_in, response_by, without_response}
@@ -16,7 +17,7 @@ use Rattle.machine_model.specs.Rows.{choice_responds, chosen, end_parts, failure
 use Rattle.machine_model.specs.Rows.{is_response, noted, parts_by, parts_of, row_of, wanting}
 use Rattle.machine_model.specs.Runs.{Message, Run}
 use Rattle.machine_model.specs.State.{Hand, Machine, State, is_empty, is_gone, is_raw, knowing, left}
-use Rattle.machine_model.specs.Telling.{after_event, event_told, numbered_by, outcome_told}
+use Rattle.machine_model.specs.Telling.{news_told, number_among, after_event, event_told, numbered_by, outcome_told}
 use Rattle.machine_model.proofs.RestLaws.{IsDone, at_rest, late_gone, no_late, none_waiting}
 use Rattle.machine_model.proofs.ServedLaws.{IsLeft, aside_left, left_on, loss_silent, picked_all, responded_left}
 use Rattle.machine_model.proofs.ServedLaws.{silent_left}
@@ -37,7 +38,7 @@ attach_tail [] = true
 attach_tail (Part.Responds (Success body) ∷ rest) = tells_attached rest
 attach_tail (Part.Responds (Failed failure) ∷ rest) = is_empty rest
 attach_tail (Part.Tells Initialized ∷ rest) = is_empty rest
-attach_tail (Part.Tells (entry_bound entry) ∷ rest) = false
+attach_tail (Part.Tells (some_news news) ∷ rest) = false
 attach_tail (Part.Tells Terminated ∷ rest) = false
 attach_tail (Part.Sends deed ∷ rest) = false
 attach_tail (Part.Looks lookup ∷ rest) = false
@@ -250,7 +251,7 @@ answered_owes request outcome state item rest is none h = rw none (by_attach (is
             → is_success (outcome_told outcome state) ≡ has_attach rest
         by_outcome (Success body) (Part.Tells Initialized ∷ rest) is = refl
         by_outcome (Success body) [] is = cc
-        by_outcome (Success body) (Part.Tells (entry_bound entry) ∷ rest) is = cc
+        by_outcome (Success body) (Part.Tells (some_news news) ∷ rest) is = cc
         by_outcome (Success body) (Part.Tells Terminated ∷ rest) is = cc
         by_outcome (Success body) (Part.Responds outcome ∷ rest) is = cc
         by_outcome (Success body) (Part.Sends deed ∷ rest) is = cc
@@ -349,6 +350,14 @@ none_owed false true has is = refl
 none_owed false false true is = cc
 none_owed false false false is = refl
 
+-- what is news is told where no event is owed
+news_on : {messages : List Message} {requests : List Request} (state : State) (news : News)
+    → AreTold messages requests false
+    → AreTold (messages ++ Message.tells (an_event (news_told news state)) ∷ []) requests false
+news_on state (entry_verified entry) h = AreTold.breakpoint (verified_told state.options.lines_from_one entry) h
+news_on state (thread_changed started thread) h =
+    AreTold.thread (record { started = started; id = number_among state.threads thread }) h
+
 -- the event is told
 event_on : {messages : List Message} {m : Machine} {hand : Hand} {rest : List Part} (event : Event) → Tells messages m
     → IsAt m hand (Part.Tells event) rest
@@ -360,11 +369,10 @@ event_on {messages} {m} {hand} {rest} Initialized h at same =
     same_told refl (sym (ap owes_event none))
     (AreTold.initialized (same_told same (ap hand_owes at.in_hand ∙ ap owes_event at.parts
     ∙ ap (λ (rest : List Part). owes_event (Part.Tells Initialized ∷ rest)) none) h.told))
-event_on {messages} {m} {hand} {rest} (entry_bound entry) h at same =
+event_on {messages} {m} {hand} {rest} (some_news news) h at same =
     let none = none_owed (item_attaches hand.item) (has_response rest) (has_attach rest) (front_fits h.fits at) in
     same_told refl (sym none)
-    (AreTold.breakpoint (verified_told m.state.options.lines_from_one entry)
-    (same_told same (ap hand_owes at.in_hand ∙ ap owes_event at.parts ∙ none) h.told))
+    (news_on (after_event (some_news news) m.state) news (same_told same (ap hand_owes at.in_hand ∙ ap owes_event at.parts ∙ none) h.told))
 event_on {messages} {m} {hand} {rest} Terminated h at same =
     let none = none_owed (item_attaches hand.item) (has_response rest) (has_attach rest) (front_fits h.fits at) in
     same_told refl (sym none)

@@ -10,18 +10,17 @@ use Rattle.machine_model.specs.Names.{Attached, Choice, Clear, Command}
 use Rattle.machine_model.specs.Names.{Deed, Dispose, Does, Effect, Exit, Failure, Finding, Fresh, Gone}
 use Rattle.machine_model.specs.Names.{Item, Leaves, Lookup, Part}
 use Rattle.machine_model.specs.Names.{Phase, Replied, Resume, Set, TargetCommand}
-use Rattle.machine_model.specs.Names.{TellsBound, Want, a_question}
+use Rattle.machine_model.specs.Names.{TellsNews, Want, a_question}
 use Rattle.machine_model.specs.Names.{all_threads, an_effect}
 use Rattle.machine_model.specs.Names.{class_facts}
 use Rattle.machine_model.specs.Replying.{given_up, hand_replied}
-use Rattle.machine_model.specs.Rows.{chosen, end_parts, gone_parts, has_response, leaves, parts_by}
+use Rattle.machine_model.specs.Rows.{chosen, end_parts, gone_parts, has_response, leaves, news_of, parts_by}
 use Rattle.machine_model.specs.Rows.{row_of}
 use Rattle.machine_model.specs.State.{Hand, Machine, State}
 use Rattle.machine_model.proofs.Stepping.{IsAt, Skips}
 use Rattle.machine_model.proofs.Testing.{passed}
 use Rattle.machine_model.specs.Plans.{Result}
 use Rattle.machine_model.proofs.Tables.{free_once, told_alike}
-use Rattle.machine_model.specs.Breakpoints.{newly_verified}
 use Rattle.machine_model.specs.Due.{asked_hand, sent}
 use Rattle.machine_model.specs.Lookups.{finished}
 use Rattle.machine_model.specs.Requests.{Wishes, effect_due, effect_of}
@@ -59,8 +58,8 @@ found_resumes class_facts result state rest = refl
 
 pub chosen_resumes : (choice : Choice) (state : State) (hand : Hand) (rest : List Part)
     → resumes_in (chosen choice state hand ++ rest) ≡ resumes_in rest
-chosen_resumes (TellsBound below) state hand rest =
-    told_alike resumes_in (λ entry parts. refl) state.phase (newly_verified below state.bound state.wishes) rest
+chosen_resumes (TellsNews below) state hand rest =
+    told_alike resumes_in (λ news parts. refl) state.phase (news_of below state hand.item) rest
 chosen_resumes (Leaves exits) state hand rest = by_phase state.phase exits
   where
     by_phase : (phase : Phase) (exits : Bool) → resumes_in (leaves phase exits ++ rest) ≡ resumes_in rest

@@ -55,7 +55,6 @@ module _ (P Q : Id → Type 0) (k : (id : Id) → P id → Q id) where
   weak_near : (state : State) (left : List Part) (queue : List Want) (asked : List Sent) → Near P state left queue asked
       → Near Q state left queue asked
   weak_near state left queue asked n = record {
-    threads = all_weak (OfThread P) (OfThread Q) (λ thread. k _) state.threads n.threads;
     classes = record {
       loaded = all_weak _ _ (λ entry. k _) state.classes.loaded n.classes.loaded;
       methods = all_weak _ _ (λ entry. weak_ids _) state.classes.methods n.classes.methods;
@@ -129,7 +128,6 @@ none_yet P = record {
   sizes = λ near. refl;
   none_late = λ near. refl;
   near = λ near. record {
-    threads = tt;
     classes = record { loaded = tt; methods = tt; fields = tt; supers = tt };
     wanted = nothing_wished P;
     order = refl;

@@ -3,7 +3,7 @@ use Rattle.std.proofs.Common.{◌≡◌, ℕ, Bool, true, false, cond, not, List
 use Rattle.std.proofs.Common.{Some, None, refl, sym, ap, subst, ◌∙◌, append-nil, arith}
 use Rattle.std.proofs.lemmas.Grind.{flat_map-append}
 use Rattle.jdwp_commands.specs.declared.question.Question.TheVariants as questions
-use Rattle.machine_model.specs.Knowing.{AreInOrder, AreSaid, IsKnown, View, breakpoints_in, class_said, closes}
+use Rattle.machine_model.specs.Knowing.{numbers_in_event, AreInOrder, AreSaid, IsKnown, View, breakpoints_in, class_said, closes}
 use Rattle.machine_model.specs.Knowing.{come_view, composite_in, gone_view, held_by, is_farewell, is_fresh}
 use Rattle.machine_model.specs.Knowing.{learnt_view, may_be, may_tell, numbers_by, numbers_in_outcome}
 use Rattle.machine_model.specs.Knowing.{replied_view, resumes_in, says, says_dead, sizes_said}
@@ -11,13 +11,14 @@ use Rattle.machine_model.specs.Knowing.{thread_numbers, told_view, turned_view, 
 use Rattle.machine_model.specs.Knowing.{watch_set, with_facts}
 use Rattle.jdwp_commands.specs.Answers.{kind_of_answer}
 use Rattle.jdwp_commands.specs.Commands.{kind_of}
+use Rattle.machine_model.specs.Names.{NamedThread, News, entry_verified, thread_changed}
 use Rattle.machine_model.specs.Names.{Answer, Attached, Capabilities, Classes, Clear, Command, Composite}
 use Rattle.machine_model.specs.Names.{Does, Effect, Event, Failed, Fresh, Gone}
 use Rattle.machine_model.specs.Names.{Initialized, Item, Lines, Note, Nothing, Options, Outcome, Part}
 use Rattle.machine_model.specs.Names.{Phase, Question, Replied, Roots, Set, Success, TargetCommand}
 use Rattle.machine_model.specs.Names.{Terminated, ThreadId, a_composite, a_question, a_raw}
 use Rattle.machine_model.specs.Names.{a_request, an_answer, an_effect, an_event, breakpoint_list}
-use Rattle.machine_model.specs.Names.{entry_bound, target_end, thread_list}
+use Rattle.machine_model.specs.Names.{some_news, target_end, thread_list}
 use Rattle.machine_model.specs.Replying.{IsReply, ended_with, is_end}
 use Rattle.machine_model.specs.Replying.{replied_to, sizes_in, unlisted_by, wire}
 use Rattle.machine_model.specs.Rows.{end_parts, failure_of, noted}
@@ -119,14 +120,17 @@ response_view (Failed failure) m = refl
 note_view : (note : Note) (m : Machine) → view_of (record m { state = noted note m.state }) ≡ view_of m
 note_view note m = grind arith
 
+not_gone : (gone other : Bool) → cond (cond gone false true) other false ≡ true → not gone ≡ true
+not_gone gone other is = grind (arith, is)
+
 -- where an event is told, it may be
 event_may : (m : Machine) (hand : Hand) (event : Event) (rest : List Part) → Passed free_once m → IsMarked m
     → IsAt m hand (Part.Tells event) rest
     → may_tell (an_event (event_told event (after_event event m.state))) (view_of m) ≡ true
-event_may m hand (entry_bound entry) rest f h at = near_by (is_gone m.state.phase) _ (whole free_once f at)
-  where
-    near_by : (gone other : Bool) → cond (cond gone false true) other false ≡ true → not gone ≡ true
-    near_by gone other is = grind (arith, is)
+event_may m hand (some_news (entry_verified entry)) rest f h at =
+    not_gone (is_gone m.state.phase) _ (whole free_once f at)
+event_may m hand (some_news (thread_changed started thread)) rest f h at =
+    not_gone (is_gone m.state.phase) _ (whole free_once f at)
 event_may m hand Initialized rest f h at = fresh_by (is_fresh m.state.phase) _ (marked_at m hand
     (Part.Tells Initialized) rest h at)
   where
@@ -158,7 +162,8 @@ event_view_is m hand Initialized rest f h at =
       phase = Attached;
       composites = waiting_composites (is_gone phase) m.waiting;
     }) (fresh_now m.state.phase fresh))
-event_view_is m hand (entry_bound entry) rest f h at = refl
+event_view_is m hand (some_news (entry_verified entry)) rest f h at = refl
+event_view_is m hand (some_news (thread_changed started thread)) rest f h at = refl
 event_view_is m hand Terminated rest f h at = refl
 
 gone_is : (phase : Phase) → is_gone phase ≡ true → phase ≡ Gone
@@ -411,9 +416,15 @@ outcome_numbers numbers (Success (thread_list named)) state = record {
 }
 
 event_numbers : (numbers : List ℕ) (event : Event) (state : State)
-    → Numbers numbers state.threads (after_event event state).threads []
+    → Numbers numbers state.threads (after_event event state).threads
+    (numbers_in_event (event_told event (after_event event state)))
 event_numbers numbers Initialized state = no_numbers numbers state.threads
-event_numbers numbers (entry_bound entry) state = no_numbers numbers state.threads
+event_numbers numbers (some_news (entry_verified entry)) state = no_numbers numbers state.threads
+event_numbers numbers (some_news (thread_changed started thread)) state =
+    let named : List NamedThread = record { thread = thread; name = [] } ∷ [] in record {
+      distinct = distinct_with state.threads named;
+      in_order = in_order_with numbers state.threads named;
+    }
 event_numbers numbers Terminated state = no_numbers numbers state.threads
 
 note_numbers : (numbers : List ℕ) (note : Note) (state : State)

@@ -3,16 +3,14 @@ use Rattle.std.proofs.Common.{◌≡◌, Bool, true, false, cond, not, ◌||◌,
 use Rattle.std.proofs.Common.{arith}
 use Rattle.machine_model.specs.Knowing.{is_farewell}
 use Rattle.machine_model.specs.Lookups.{finished}
-use Rattle.machine_model.specs.Names.{Attach, Attached, Choice, Command, Deed, Disconnect, Dispose, Doing, Exit}
-use Rattle.machine_model.specs.Names.{Finding, Fresh, Gone, Handshake, Item, Leaves, Lookup, Part, Phase, TellsBound}
+use Rattle.machine_model.specs.Names.{News, Attach, Attached, Choice, Command, Deed, Disconnect, Dispose, Doing, Exit}
+use Rattle.machine_model.specs.Names.{Finding, Fresh, Gone, Handshake, Item, Leaves, Lookup, Part, Phase, TellsNews}
 use Rattle.machine_model.specs.Names.{a_composite, a_raw, a_request, an_effect, target_end}
 use Rattle.machine_model.specs.Plans.{Result}
-use Rattle.machine_model.specs.Rows.{chosen, gone_parts, gone_row, gone_tail, has_response, news, parts_of}
+use Rattle.machine_model.specs.Rows.{chosen, gone_parts, gone_row, gone_tail, has_response, news_of, parts_of, told_in}
 use Rattle.machine_model.specs.Rows.{request_parts}
 use Rattle.machine_model.specs.State.{Hand, State, is_attached, is_none}
 use Rattle.machine_model.proofs.Tables.{same}
-use Rattle.machine_model.specs.Breakpoints.{newly_verified}
-use Rattle.wish_sets.specs.declared.entry.LineEntry.{LineEntry}
 
 -- What an item is for -------------------------------------------------------------------------------------------------
 
@@ -150,38 +148,38 @@ begun_stands state (a_raw at body) replied = grind arith
 pub chosen_fits : (choice : Choice) (state : State) (hand : Hand) (aim : Aim) (responds ends leaves : Bool)
     → may_stand aim (Part.Unfolds choice) responds ends leaves ≡ true
     → fits_before aim responds ends leaves (chosen choice state hand) ≡ true
-chosen_fits (TellsBound below) state hand aim responds ends leaves is =
-    by_entries state.phase (newly_verified below state.bound state.wishes)
+chosen_fits (TellsNews below) state hand aim responds ends leaves is =
+    by_news state.phase (news_of below state hand.item)
   where
-    by_entries : (phase : Phase) (entries : List LineEntry)
-        → fits_before aim responds ends leaves (news phase entries) ≡ true
-    by_entries Fresh entries = refl
-    by_entries Gone entries = refl
-    by_entries Attached [] = refl
-    by_entries Attached (entry ∷ entries) = rw is (by_entries Attached entries)
+    by_news : (phase : Phase) (news : List News)
+        → fits_before aim responds ends leaves (told_in phase news) ≡ true
+    by_news Fresh news = refl
+    by_news Gone news = refl
+    by_news Attached [] = refl
+    by_news Attached (one ∷ news) = rw is (by_news Attached news)
 chosen_fits (Leaves exits) state hand aim responds ends leaves is = grind (arith, is)
 
 -- and leaves the target only in an attached session
 pub chosen_attached : (choice : Choice) (state : State) (hand : Hand)
     → sends_attached (is_attached state.phase) (chosen choice state hand) ≡ true
-chosen_attached (TellsBound below) state hand =
-    by_entries (is_attached state.phase) state.phase (newly_verified below state.bound state.wishes)
+chosen_attached (TellsNews below) state hand =
+    by_news (is_attached state.phase) state.phase (news_of below state hand.item)
   where
-    none_sent : (phase : Phase) (entries : List LineEntry) → has_part is_sends (news phase entries) ≡ false
-    none_sent Fresh entries = refl
-    none_sent Gone entries = refl
+    none_sent : (phase : Phase) (news : List News) → has_part is_sends (told_in phase news) ≡ false
+    none_sent Fresh news = refl
+    none_sent Gone news = refl
     none_sent Attached [] = refl
-    none_sent Attached (entry ∷ entries) = none_sent Attached entries
+    none_sent Attached (one ∷ news) = none_sent Attached news
 
-    by_entries : (attached : Bool) (phase : Phase) (entries : List LineEntry)
-        → sends_attached attached (news phase entries) ≡ true
-    by_entries attached phase entries = rw (none_sent phase entries) refl
+    by_news : (attached : Bool) (phase : Phase) (news : List News)
+        → sends_attached attached (told_in phase news) ≡ true
+    by_news attached phase news = rw (none_sent phase news) refl
 chosen_attached (Leaves exits) state hand = grind arith
 
 -- where it does, if the choice was to
 pub chosen_leaves : (choice : Choice) (state : State) (hand : Hand) → is_leave (Part.Unfolds choice) ≡ true
     → is_attached state.phase ≡ true → has_part is_leave (chosen choice state hand) ≡ true
-chosen_leaves (TellsBound below) state hand is near = cc
+chosen_leaves (TellsNews below) state hand is near = cc
 chosen_leaves (Leaves exits) state hand is near = grind (arith, is, near)
 
 -- what a look-up becomes leaves no target

@@ -24,6 +24,7 @@ pub mod LeavingLaws
 pub mod LeavingParts
 pub mod LeavingWalk
 pub mod MarkLaws
+pub mod NewsLaws
 pub mod NotingLaws
 pub mod NumberLaws
 pub mod OutcomeLaws
@@ -48,7 +49,10 @@ pub mod Stepping
 pub mod SuspendLaws
 pub mod Tables
 pub mod Testing
+pub mod ToldLaws
+pub mod ToldParts
 pub mod TurnLaws
+pub mod VerifiedLaws
 pub mod WaitingLaws
 pub mod WishIds
 pub mod WishLemmas

@@ -5,7 +5,7 @@ use Rattle.machine_model.specs.Knowing.{is_fresh}
 use Rattle.machine_model.specs.Lookups.{finished}
 use Rattle.machine_model.specs.Names.{Command, Event, Failure, Initialized, Item, Note, Outcome, Part, Phase, Replied}
 use Rattle.machine_model.specs.Names.{TargetCommand, Terminated, a_composite, a_question, a_raw, a_request, an_effect}
-use Rattle.machine_model.specs.Names.{entry_bound, target_end}
+use Rattle.machine_model.specs.Names.{some_news, target_end}
 use Rattle.machine_model.specs.Outcomes.{result_of}
 use Rattle.machine_model.specs.Replying.{given_up, hand_replied, replied_to}
 use Rattle.machine_model.specs.Rows.{chosen, end_parts, failure_of, gone_parts, has_response, noted, parts_by, parts_of}
@@ -162,7 +162,7 @@ replied_marked phase terminated (an_effect effect) replied (Some hand) = refl
 told_marked : (event : Event) (state : State) (rest : List Part) → stand_once (Part.Tells event ∷ rest) ≡ true
     → marked state.phase state.terminated rest ≡ true
     → marked (after_event event state).phase (after_event event state).terminated rest ≡ true
-told_marked (entry_bound entry) state rest is left = left
+told_marked (some_news news) state rest is left = left
 told_marked Initialized state rest is left =
     marked_none (after_event Initialized state).phase state.terminated rest (unmarked (has_mark rest) is)
   where

@@ -4,16 +4,17 @@ use Rattle.std.proofs.Common.{sym, ap, subst, ◌∙◌, append-nil, option_map,
 use Rattle.machine_model.specs.Lookups.{finished}
 use Rattle.machine_model.specs.Names.{Attached, Choice, Classes, ClientOptions, Command, Event, Failure, Finding}
 use Rattle.machine_model.specs.Names.{Fresh, Gone, Initialized, Item, Leaves, Lines, Lookup, Note, Options, Outcome}
-use Rattle.machine_model.specs.Names.{Part, Phase, Replied, Request, Roots, TargetCommand, TellsBound, Terminated}
+use Rattle.machine_model.specs.Names.{Part, Phase, Replied, Request, Roots, TargetCommand, TellsNews, Terminated}
 use Rattle.machine_model.specs.Names.{Want, a_composite, a_question, a_raw, a_request, a_response, an_effect}
-use Rattle.machine_model.specs.Names.{entry_bound, target_end}
+use Rattle.machine_model.specs.Names.{News, some_news, target_end}
 use Rattle.machine_model.specs.Due.{asked_hand}
 use Rattle.machine_model.specs.Noting.{AreOptions, asked_options, options_in, options_noted, part_options}
 use Rattle.machine_model.specs.Outcomes.{result_of}
 use Rattle.machine_model.specs.Plans.{Result}
 use Rattle.machine_model.specs.Replying.{hand_replied, replied_machine, replied_to}
 use Rattle.machine_model.specs.Rest.{request_in, without_response}
-use Rattle.machine_model.specs.Rows.{chosen, failure_of, gone_parts, has_response, is_response, news, noted, parts_by}
+use Rattle.machine_model.specs.Rows.{chosen, failure_of, gone_parts, has_response, is_response, told_in, noted, parts_by}
+use Rattle.machine_model.specs.Rows.{news_of}
 use Rattle.machine_model.specs.Rows.{parts_of, request_parts, row_of, wanting}
 use Rattle.machine_model.specs.Runs.{Message, Run}
 use Rattle.machine_model.specs.State.{Hand, Machine, State, is_gone, knowing, left}
@@ -23,8 +24,6 @@ use Rattle.machine_model.proofs.ServedLaws.{IsLeft, left_on}
 use Rattle.machine_model.proofs.Stepping.{IsAt, Loses, Moves, Skips, by_runs, with_said}
 use Rattle.machine_model.proofs.Tables.{chosen_is, finished_is, has_joined, once, once_in, responds_once, row_is}
 use Rattle.machine_model.proofs.Testing.{IsTest, Passed, same_noted, same_numbered, same_replied, tested, whole}
-use Rattle.machine_model.specs.Breakpoints.{newly_verified}
-use Rattle.wish_sets.specs.declared.entry.LineEntry.{LineEntry}
 
 -- Lists of parts ------------------------------------------------------------------------------------------------------
 
@@ -87,13 +86,13 @@ begun_last state (a_composite at composite) = grind arith
 begun_last state (a_raw at body) = refl
 
 chosen_none : (choice : Choice) (state : State) (hand : Hand) → no_options (chosen choice state hand) ≡ true
-chosen_none (TellsBound below) state hand = by_entries state.phase (newly_verified below state.bound state.wishes)
+chosen_none (TellsNews below) state hand = by_news state.phase (news_of below state hand.item)
   where
-    by_entries : (phase : Phase) (entries : List LineEntry) → no_options (news phase entries) ≡ true
-    by_entries Fresh entries = refl
-    by_entries Gone entries = refl
-    by_entries Attached [] = refl
-    by_entries Attached (entry ∷ entries) = by_entries Attached entries
+    by_news : (phase : Phase) (news : List News) → no_options (told_in phase news) ≡ true
+    by_news Fresh news = refl
+    by_news Gone news = refl
+    by_news Attached [] = refl
+    by_news Attached (one ∷ news) = by_news Attached news
 chosen_none (Leaves exits) state hand = grind arith
 
 found_none : (lookup : Lookup) (result : Result Finding) (state : State)
@@ -337,12 +336,12 @@ skipped_on m hand part rest last at (Skips.no_request {outcome} is) =
 event_near : (event : Event) (state : State) → is_gone (after_event event state).phase ≡ false
     → is_gone state.phase ≡ false
 event_near Initialized state near = sym (attached_gone state.phase) ∙ near
-event_near (entry_bound entry) state near = near
+event_near (some_news news) state near = near
 event_near Terminated state near = cc
 
 event_options : (event : Event) (state : State) → (after_event event state).options ≡ state.options
 event_options Initialized state = refl
-event_options (entry_bound entry) state = refl
+event_options (some_news news) state = refl
 event_options Terminated state = refl
 
 -- a note behind the response

@@ -4,14 +4,14 @@ use Rattle.std.proofs.Common.{sym, ap, subst, ◌∙◌, inl, inr, arith}
 use Rattle.machine_model.specs.EventRequests.{IsSettled}
 use Rattle.machine_model.specs.Lookups.{finished}
 use Rattle.machine_model.specs.Names.{Attached, Choice, Clear, Command, Does, Effect, Finding, Fresh, Initialized}
-use Rattle.machine_model.specs.Names.{Item, Leaves, Lookup, Note, Part, Phase, Replied, Set, TellsBound, Terminated}
+use Rattle.machine_model.specs.Names.{Item, Leaves, Lookup, Note, Part, Phase, Replied, Set, TellsNews, Terminated}
 use Rattle.machine_model.specs.Names.{a_composite, a_question, a_raw, a_request, an_answer, an_effect, an_error}
-use Rattle.machine_model.specs.Names.{entry_bound, target_end}
+use Rattle.machine_model.specs.Names.{some_news, target_end}
 use Rattle.machine_model.specs.Outcomes.{result_of}
 use Rattle.machine_model.specs.Replying.{replied_to}
 use Rattle.machine_model.specs.Requests.{Wishes, effect_due, request_in, set_to, wishes_after}
 use Rattle.machine_model.specs.Rest.{IsAtRest}
-use Rattle.machine_model.specs.Rows.{chosen, parts_of, request_parts, noted}
+use Rattle.machine_model.specs.Rows.{chosen, news_of, noted, parts_of, request_parts}
 use Rattle.machine_model.specs.Runs.{Message, Run}
 use Rattle.machine_model.specs.State.{Hand, Machine, State, is_attached, is_gone}
 use Rattle.machine_model.proofs.RestLaws.{no_late}
@@ -27,7 +27,6 @@ use Rattle.wish_sets.specs.Tidy.{IsNewSet, IsTidy}
 use Rattle.machine_model.proofs.RequestSteps.{Step, asked_left, flying_in, flying_of, is_deed, learnt_wishes}
 use Rattle.machine_model.proofs.RequestSteps.{near_before, noted_wishes, numbered_wishes, parts_left, replied_left}
 use Rattle.machine_model.proofs.RequestSteps.{steps, needs_set}
-use Rattle.machine_model.specs.Breakpoints.{newly_verified}
 use Rattle.machine_model.specs.Plans.{Result}
 
 -- What is in flight is still due --------------------------------------------------------------------------------------
@@ -105,9 +104,9 @@ found_needs attached lookup result state rest is = grind (arith, is)
 chosen_needs : (attached : Bool) (choice : Choice) (state : State) (hand : Hand) (rest : List Part)
     → needs_set attached (chosen choice state hand ++ rest) ≡ true
     → needs_set attached (Part.Unfolds choice ∷ rest) ≡ true
-chosen_needs attached (TellsBound below) state hand rest is =
-    sym (told_alike (needs_set attached) (λ entry parts. refl) state.phase
-    (newly_verified below state.bound state.wishes) rest) ∙ is
+chosen_needs attached (TellsNews below) state hand rest is =
+    sym (told_alike (needs_set attached) (λ news parts. refl) state.phase
+    (news_of below state hand.item) rest) ∙ is
 chosen_needs attached (Leaves exits) state hand rest is = grind (arith, is)
 
 -- a part in front that isn't `updates` is done
@@ -161,8 +160,8 @@ set_on m next said a f h (Moves.passes_over {hand} {rest = rest} free at (Skips.
     front_set m hand (Part.Responds outcome) rest h at needs
 set_on m next said a f h (Moves.tells {hand} {rest} {event = Initialized} free at) here = λ needs.
     front_set m hand (Part.Tells Initialized) rest h at refl
-set_on m next said a f h (Moves.tells {hand} {rest} {event = entry_bound entry} free at) here = λ needs.
-    front_set m hand (Part.Tells (entry_bound entry)) rest h at needs
+set_on m next said a f h (Moves.tells {hand} {rest} {event = some_news news} free at) here = λ needs.
+    front_set m hand (Part.Tells (some_news news)) rest h at needs
 set_on m next said a f h (Moves.tells {event = Terminated} free at) here = cc
 set_on m next said a f h (Moves.sends {hand} {rest} {deed} free at is) here = λ needs.
     front_set m hand (Part.Sends deed) rest h at needs

@@ -82,7 +82,6 @@ by_command (an_effect effect) = 0
 -- while the target isn't gone, all that stands in the machine passes
 pub record Near (P : Id → Type 0) (state : State) (left : List Part) (queue : List Want)
     (asked : List Sent) : Type 0 where
-  pub threads : All (OfThread P) state.threads
   pub classes : AreKnown P state.classes
   pub wanted : AreWished P state.wishes.wanted
   pub order : in_order (is_some state.sizes) (is_attached state.phase) left ≡ true
@@ -90,7 +89,7 @@ pub record Near (P : Id → Type 0) (state : State) (left : List Part) (queue : 
   pub wants : All (IsWanted P (is_some state.sizes)) queue
   pub replies : All (IsAsked P (is_some state.sizes)) asked
 
--- what the next state keeps of one, if only what is left, the threads and what is wished change
+-- what the next state keeps of one, if only what is left and what is wished change
 pub record Same (next state : State) : Type 0 where
   pub sizes : next.sizes ≡ state.sizes
   pub classes : next.classes ≡ state.classes
@@ -150,7 +149,6 @@ same_sizes messages said quiet = sizes_more messages said ∙ ap (λ more. all_s
 
 -- what isn't as it was
 pub record Passes (P : Id → Type 0) (sized : Bool) (next : State) (left : List Part) : Type 0 where
-  pub threads : All (OfThread P) next.threads
   pub wanted : AreWished P next.wishes.wanted
   pub order : in_order sized (is_attached next.phase) left ≡ true
   pub parts : All (PartStands P) left
@@ -165,7 +163,6 @@ stays {P} {messages} next left said k same quiet passes = record {
   sizes = λ near. same.sizes ∙ k.sizes (same.back near) ∙ ap first_sizes (sym (same_sizes messages said quiet));
   none_late = λ near. k.none_late (same.back near);
   near = λ near. let n = k.near (same.back near) in let p = passes near n in record {
-    threads = p.threads;
     classes = subst (λ known. AreKnown P known) (sym same.classes) n.classes;
     wanted = p.wanted;
     order = rw same.sizes p.order;
@@ -182,11 +179,10 @@ same_state state = record { sizes = refl; classes = refl; back = λ near. near }
 pub quiet_kept : {P : Id → Type 0} {messages : List Message} {state : State} {left : List Part} {queue : List Want}
     {asked : List Sent} {late : List TargetCommand} (next : State) (said : Option Message)
     → Kept P messages state left queue asked late → Same next state → sizes_said said ≡ [] → next.phase ≡ state.phase
-    → next.threads ≡ state.threads → next.wishes.wanted ≡ state.wishes.wanted
+    → next.wishes.wanted ≡ state.wishes.wanted
     → Kept P (with_said messages said) next left queue asked late
-quiet_kept {P} {left = left} next said k same quiet phase threads wanted = stays next left said k same quiet
+quiet_kept {P} {left = left} next said k same quiet phase wanted = stays next left said k same quiet
     (λ near n. record {
-      threads = rw threads n.threads;
       wanted = rw wanted n.wanted;
       order = rw phase n.order;
       parts = n.parts;

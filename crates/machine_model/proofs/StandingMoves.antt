@@ -10,13 +10,14 @@ use Rattle.machine_model.specs.Names.{Attach, Attached, BadArguments, Capabiliti
 use Rattle.machine_model.specs.Names.{ConfigurationDone, Disconnect, Effect, Event, Failed, Failure, Finding, Fresh}
 use Rattle.machine_model.specs.Names.{Gone, Initialize, Initialized, Item, Leaves, Lines, Lookup, NamedThread, Note}
 use Rattle.machine_model.specs.Names.{Nothing, Options, Outcome, Part, Phase, Replied, Roots, Sent, SetBreakpoints}
-use Rattle.machine_model.specs.Names.{Success, TargetCommand, TellsBound, Terminated, ThreadId, Threads, Unsupported}
+use Rattle.machine_model.specs.Names.{Success, TargetCommand, TellsNews, Terminated, ThreadId, Threads, Unsupported}
 use Rattle.machine_model.specs.Names.{Want, a_composite, a_raw, a_request, all_threads, breakpoint_list, class_facts}
-use Rattle.machine_model.specs.Names.{classes_found, entry_bound, target_end, thread_list, threads_found}
+use Rattle.machine_model.specs.Names.{classes_found, News, some_news, target_end, thread_list, threads_found}
 use Rattle.machine_model.specs.Plans.{Need, fails, has, lacks}
 use Rattle.machine_model.specs.Replying.{done_by}
 use Rattle.machine_model.proofs.Testing.{same_numbered}
-use Rattle.machine_model.specs.Rows.{chosen, failure_of, leaves, news, noted, parts_by, parts_of, request_parts}
+use Rattle.machine_model.specs.Rows.{chosen, failure_of, leaves, told_in, noted, parts_by, parts_of, request_parts}
+use Rattle.machine_model.specs.Rows.{news_of}
 use Rattle.machine_model.specs.Rows.{row_of, wanting}
 use Rattle.machine_model.specs.Runs.{Message}
 use Rattle.machine_model.specs.State.{Hand, Machine, State, is_attached, is_gone, is_some, left}
@@ -28,11 +29,10 @@ use Rattle.machine_model.specs.Outcomes.{result_of}
 use Rattle.machine_model.proofs.Standing.{IsKept, Kept, Near, PartStands, Same, at_front, same_state, in_order}
 use Rattle.machine_model.proofs.Standing.{awaits_sizes, needs_sizes, stays}
 use Rattle.machine_model.proofs.Tables.{told_alike}
-use Rattle.machine_model.specs.Breakpoints.{behind_roots, key_of, longest_key, newly_verified, short_key, slashed}
+use Rattle.machine_model.specs.Breakpoints.{behind_roots, key_of, longest_key, short_key, slashed}
 use Rattle.std.specs.Prelude.{ℕ, nat_le, length}
 use Rattle.machine_model.proofs.WishIds.{AreWished, IsShortKey, classes_stand, lines_stand}
 use Rattle.machine_model.specs.Composites.{composite_parts}
-use Rattle.wish_sets.specs.declared.entry.LineEntry.{LineEntry}
 
 -- Tables --------------------------------------------------------------------------------------------------------------
 
@@ -73,35 +73,6 @@ note_wished P (Lines None entries) state k facts h = h
 note_wished P (Lines (Some key) entries) state k facts h = lines_stand P key entries state.wishes.wanted k h
 note_wished P (Classes classes) state k facts h =
     classes_stand P state.classes classes state.wishes.wanted k facts h
-
-pub note_threads : (note : Note) (state : State) → (noted note state).threads ≡ state.threads
-note_threads note state = grind arith
-
-pub event_threads : (event : Event) (state : State) → (after_event event state).threads ≡ state.threads
-event_threads event state = grind arith
-
--- threads that are told
-thread_told : (P : Id → Type 0) (threads : List ThreadId) (thread : ThreadId) → All (OfThread P) threads
-    → OfThread P thread → All (OfThread P) (with_thread threads thread)
-thread_told P threads thread h k = by_test (is_among threads thread)
-  where
-    by_test : (told : Bool) → All (OfThread P) (cond told threads (threads ++ thread ∷ []))
-    by_test true = h
-    by_test false = all_joined (OfThread P) threads (thread ∷ []) h (k, tt)
-
-threads_told : (P : Id → Type 0) (threads : List ThreadId) (named : List NamedThread) → All (OfThread P) threads
-    → All (OfNamed P) named → All (OfThread P) (with_threads threads named)
-threads_told P threads [] h k = h
-threads_told P threads (one ∷ named) h k =
-    threads_told P (with_thread threads one.thread) named (thread_told P threads one.thread h k.0) k.1
-
-pub told_threads : (P : Id → Type 0) (outcome : Outcome) (state : State) → All (OfThread P) state.threads
-    → PartStands P (Part.Responds outcome) → All (OfThread P) (numbered_by outcome state).threads
-told_threads P (Success (thread_list named)) state h k = threads_told P state.threads named h k
-told_threads P (Success Nothing) state h k = h
-told_threads P (Success Capabilities) state h k = h
-told_threads P (Success (breakpoint_list rooted listed)) state h k = h
-told_threads P (Failed failure) state h k = h
 
 -- rows, results and choices
 row_order : (state : State) (sized : Bool) (command : Command) → in_order sized (is_attached state.phase) [] ≡ true
@@ -165,21 +136,21 @@ begun_parts P state (a_raw at body) = tt
 
 pub chosen_order : (choice : Choice) (state : State) (hand : Hand) (sized attached : Bool) (rest : List Part)
     → in_order sized attached rest ≡ true → in_order sized attached (chosen choice state hand ++ rest) ≡ true
-chosen_order (TellsBound below) state hand sized attached rest h =
-    told_alike (in_order sized attached) (λ entry parts. refl) state.phase
-    (newly_verified below state.bound state.wishes) rest ∙ h
+chosen_order (TellsNews below) state hand sized attached rest h =
+    told_alike (in_order sized attached) (λ news parts. refl) state.phase
+    (news_of below state hand.item) rest ∙ h
 chosen_order (Leaves exits) state hand sized attached rest h = grind (arith, h)
 
 pub chosen_parts : (P : Id → Type 0) (choice : Choice) (state : State) (hand : Hand) (rest : List Part)
     → All (PartStands P) rest → All (PartStands P) (chosen choice state hand ++ rest)
-chosen_parts P (TellsBound below) state hand rest h =
-    by_entries state.phase (newly_verified below state.bound state.wishes)
+chosen_parts P (TellsNews below) state hand rest h =
+    by_news state.phase (news_of below state hand.item)
   where
-    by_entries : (phase : Phase) (entries : List LineEntry) → All (PartStands P) (news phase entries ++ rest)
-    by_entries Fresh entries = h
-    by_entries Gone entries = h
-    by_entries Attached [] = h
-    by_entries Attached (entry ∷ entries) = (tt, by_entries Attached entries)
+    by_news : (phase : Phase) (news : List News) → All (PartStands P) (told_in phase news ++ rest)
+    by_news Fresh news = h
+    by_news Gone news = h
+    by_news Attached [] = h
+    by_news Attached (one ∷ news) = (tt, by_news Attached news)
 chosen_parts P (Leaves exits) state hand rest h = by_phase state.phase
   where
     by_phase : (phase : Phase) → All (PartStands P) (leaves phase exits ++ rest)
@@ -223,7 +194,7 @@ pub event_order : (state : State) (event : Event) (rest : List Part) → is_gone
     → in_order (is_some state.sizes) (is_attached (after_event event state).phase) rest ≡ true
 event_order state Initialized rest near h = in_any_order _ _ rest
     (sized_by (is_some state.sizes) (is_attached state.phase) (Part.Tells Initialized) rest h refl refl)
-event_order state (entry_bound entry) rest near h = h
+event_order state (some_news news) rest near h = h
 event_order state Terminated rest near h = cc
 
 -- a look-up that stands in front, where the sizes are known
@@ -244,7 +215,6 @@ found_kept {P} {m = m} {hand} {rest} {lookup} found null k at is =
     stays m.state (finished lookup (result_of found) m.state ++ rest) None (at_front k at) (same_state m.state) refl
     (λ near n. let sized = sized_by (is_some m.state.sizes) (is_attached m.state.phase) (Part.Looks lookup) rest n.order
     refl refl in record {
-      threads = n.threads;
       wanted = n.wanted;
       order = in_any_order _ _ (finished lookup (result_of found) m.state ++ rest) sized;
       parts = all_joined (PartStands P) (finished lookup (result_of found) m.state) rest
@@ -260,7 +230,6 @@ dropped_kept k = record {
   sizes = k.sizes;
   none_late = k.none_late;
   near = λ near. let n = k.near near in record {
-    threads = n.threads;
     classes = n.classes;
     wanted = n.wanted;
     order = grind (arith, n.order);

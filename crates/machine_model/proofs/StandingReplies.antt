@@ -181,7 +181,6 @@ queued_kept {P} {messages} m {hand} null kept load is =
       sizes = k.sizes;
       none_late = k.none_late;
       near = λ near. record {
-        threads = n.threads;
         classes = n.classes;
         wanted = n.wanted;
         order = n.order;
@@ -214,7 +213,6 @@ asked_on {P} {messages} {state} {left} {want} {wants} {asked} k =
       sizes = λ near. k.sizes near ∙ ap first_sizes (sym (same_sizes messages said refl));
       none_late = k.none_late;
       near = λ near. let n = k.near near in record {
-        threads = n.threads;
         classes = n.classes;
         wanted = n.wanted;
         order = n.order;
@@ -455,7 +453,6 @@ module _ {P : Id → Type 0} {messages : List Message} {state : State} {left : L
                 ∙ ap first_sizes (sym (sizes_more messages (Some (Message.answers
                 (a_question questions.IdSizes) replied))));
             near = record {
-              threads = n.threads;
               classes = n.classes;
               wanted = n.wanted;
               order = in_any_order _ _ left given;
@@ -476,7 +473,6 @@ module _ {P : Id → Type 0} {messages : List Message} {state : State} {left : L
         sizes = k.sizes near
             ∙ ap first_sizes (sym (same_sizes messages (Some (Message.answers (a_question question) replied)) quiet));
         near = record {
-          threads = n.threads;
           classes = learnt_known P null question (answer_in replied) state.classes
               (reply_heard P replied brought) n.classes;
           wanted = n.wanted;

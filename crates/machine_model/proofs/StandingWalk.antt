@@ -11,8 +11,8 @@ use Rattle.machine_model.proofs.Testing.{same_noted, same_numbered, same_replied
 use Rattle.machine_model.proofs.Standing.{IsKept, at_front, ids_said, put_back, quiet_kept, same_state, stays}
 use Rattle.machine_model.proofs.Standing.{taken_out}
 use Rattle.machine_model.proofs.StandingMoves.{begun_order, begun_parts, chosen_order, chosen_parts, dropped_kept}
-use Rattle.machine_model.proofs.StandingMoves.{effect_same, event_order, event_same, event_threads, found_kept}
-use Rattle.machine_model.proofs.StandingMoves.{note_same, note_threads, skipped_order, told_same, told_threads}
+use Rattle.machine_model.proofs.StandingMoves.{effect_same, event_order, event_same, found_kept}
+use Rattle.machine_model.proofs.StandingMoves.{note_same, skipped_order, told_same}
 use Rattle.machine_model.proofs.StandingMoves.{effect_wanted, event_wanted, told_wanted, note_wished}
 use Rattle.machine_model.proofs.StandingReplies.{answered_kept, asked_kept, late_kept, lost_kept, queued_kept}
 use Rattle.machine_model.specs.Rows.{chosen, noted}
@@ -28,7 +28,6 @@ kept_on {P} messages m next said null w k (Moves.begins picked free none is) bro
       sizes = b.sizes;
       none_late = b.none_late;
       near = λ near. let n = b.near near in record {
-        threads = n.threads;
         classes = taken_stand P m.state.phase picked.item m.state.classes
             (picked_stand P (is_gone m.state.phase) m.waiting picked is (w near)).0 n.classes;
         wanted = n.wanted;
@@ -41,7 +40,6 @@ kept_on {P} messages m next said null w k (Moves.begins picked free none is) bro
 kept_on messages m next said null w k (Moves.drops free is none) brought = dropped_kept k
 kept_on {P} messages m next said null w k (Moves.responds {rest = rest} {outcome = outcome} free at is) brought =
     stays (numbered_by outcome m.state) rest said (at_front k at) (told_same outcome m.state) refl (λ near n. record {
-      threads = told_threads P outcome m.state n.threads n.parts.0;
       wanted = rw (told_wanted outcome m.state) n.wanted;
       order = rw (same_numbered outcome m.state) n.order;
       parts = n.parts.1;
@@ -50,25 +48,23 @@ kept_on messages m next said null w k (Moves.finds found free at needs done) bro
     found_kept found null k at needs
 kept_on messages m next said null w k (Moves.passes_over {rest = rest} free at why) brought =
     stays m.state rest said (at_front k at) (same_state m.state) refl
-    (λ near n. record { threads = n.threads; wanted = n.wanted; order = skipped_order rest why n.order; parts = n.parts.1 })
+    (λ near n. record { wanted = n.wanted; order = skipped_order rest why n.order; parts = n.parts.1 })
 kept_on messages m next said null w k (Moves.tells {rest = rest} {event} free at) brought =
     stays (after_event event m.state) rest said (at_front k at) (event_same event m.state) refl (λ near n. record {
-      threads = rw (event_threads event m.state) n.threads;
       wanted = rw (event_wanted event m.state) n.wanted;
       order = event_order m.state event rest near n.order;
       parts = n.parts.1;
     })
 kept_on messages m next said null w k (Moves.sends {rest = rest} free at near) brought =
     stays m.state rest said (at_front k at) (same_state m.state) refl
-    (λ near n. record { threads = n.threads; wanted = n.wanted; order = n.order; parts = n.parts.1 })
+    (λ near n. record { wanted = n.wanted; order = n.order; parts = n.parts.1 })
 kept_on messages m next said null w k (Moves.updates {rest = rest} free at is near) brought =
-    quiet_kept m.state said (at_front k at) (same_state m.state) refl refl refl refl
+    quiet_kept m.state said (at_front k at) (same_state m.state) refl refl refl
 kept_on messages m next said null w k (Moves.greets free at is near) brought =
     quiet_kept next.state said k
-    (record { sizes = refl; classes = refl; back = λ near. near }) refl refl refl refl
+    (record { sizes = refl; classes = refl; back = λ near. near }) refl refl refl
 kept_on {P} messages m next said null w k (Moves.notes {note = note} {rest} free at) brought =
     stays (noted note m.state) rest said (at_front k at) (note_same note m.state) refl (λ near n. record {
-      threads = rw (note_threads note m.state) n.threads;
       wanted = note_wished P note m.state n.parts.0 n.classes n.wanted;
       order = rw (same_noted note m.state) n.order;
       parts = n.parts.1;
@@ -76,7 +72,6 @@ kept_on {P} messages m next said null w k (Moves.notes {note = note} {rest} free
 kept_on {P} messages m next said null w k (Moves.unfolds {hand} {choice} {rest} free at) brought =
     stays m.state (chosen choice m.state hand ++ rest) said (at_front k at) (same_state m.state) refl
     (λ near n. record {
-      threads = n.threads;
       wanted = n.wanted;
       order = chosen_order choice m.state hand (is_some m.state.sizes) (is_attached m.state.phase) rest n.order;
       parts = chosen_parts P choice m.state hand rest n.parts.1;
@@ -84,25 +79,25 @@ kept_on {P} messages m next said null w k (Moves.unfolds {hand} {choice} {rest} 
 kept_on messages m next said null w k (Moves.queues free is) brought = queued_kept m null k free is
 kept_on messages m next said null w k (Moves.asks free room is are) brought = asked_kept m k is are
 kept_on messages m next said null w k (Moves.hears read is) brought =
-    quiet_kept m.state said k (same_state m.state) refl refl refl refl
+    quiet_kept m.state said k (same_state m.state) refl refl refl
 kept_on messages m next said null w k (Moves.greeted read is) brought =
     quiet_kept next.state said k
-    (record { sizes = refl; classes = refl; back = λ near. near }) refl refl refl refl
+    (record { sizes = refl; classes = refl; back = λ near. near }) refl refl refl
 kept_on messages m next said null w k (Moves.answers {question} {replied} is waits reply last) brought =
     answered_kept m question replied null k is waits reply last
     (λ near. brought (ap is_gone (same_replied (a_question question) replied m.state) ∙ near))
 kept_on messages m next said null w k (Moves.replies {effect} {replied} is flying reply last) brought =
     put_back (hand_replied (an_effect effect) replied) is
     (quiet_kept (done_by effect replied m.state) said (taken_out m k is)
-    (effect_same effect replied m.state) refl refl refl (effect_wanted effect replied m.state))
+    (effect_same effect replied m.state) refl refl (effect_wanted effect replied m.state))
 kept_on messages m next said null w k (Moves.late {command} {replied} before after is reply) brought =
     late_kept m command replied before after k is
 kept_on messages m next said null w k (Moves.ends gone) brought =
-    quiet_kept m.state said k (same_state m.state) refl refl refl refl
+    quiet_kept m.state said k (same_state m.state) refl refl refl
 kept_on messages m next said null w k (Moves.loses {message} late near why) brought = lost_kept message late k why
 kept_on messages m next said null w k (Moves.comes read sized taken) brought =
-    quiet_kept m.state said k (same_state m.state) refl refl refl refl
+    quiet_kept m.state said k (same_state m.state) refl refl refl
 kept_on messages m next said null w k (Moves.keeps is) brought =
-    quiet_kept m.state said k (same_state m.state) refl refl refl refl
+    quiet_kept m.state said k (same_state m.state) refl refl refl
 kept_on messages m next said null w k (Moves.reads before after read is none taken) brought =
-    quiet_kept m.state said k (same_state m.state) refl refl refl refl
+    quiet_kept m.state said k (same_state m.state) refl refl refl

@@ -1,19 +1,18 @@
 -- What is done before a suspension is undone, and that at rest none is held.
 use Rattle.std.proofs.Common.{◌≡◌, Bool, true, false, cond, List, [], ◌∷◌, ◌++◌, Option, Some, None, refl, ap, subst}
 use Rattle.std.proofs.Common.{◌∙◌, option_map, arith}
-use Rattle.machine_model.specs.Breakpoints.{newly_verified}
 use Rattle.machine_model.specs.Due.{asked_hand, due}
 use Rattle.machine_model.specs.Knowing.{is_resume, view_of}
 use Rattle.machine_model.specs.Lookups.{finished}
 use Rattle.machine_model.specs.Names.{Act, Attached, Choice, Command, Deed, Does, Event, Failure, Finding}
 use Rattle.machine_model.specs.Names.{Item, Leaves, Lookup, Part, Phase, Replied, Resume}
-use Rattle.machine_model.specs.Names.{TargetCommand, TellsBound, Want, a_composite, a_question, a_raw}
+use Rattle.machine_model.specs.Names.{TargetCommand, TellsNews, Want, a_composite, a_question, a_raw}
 use Rattle.machine_model.specs.Names.{a_request, all_threads, an_effect, class_facts, target_end}
 use Rattle.machine_model.specs.Outcomes.{result_of}
 use Rattle.machine_model.specs.Plans.{Result}
 use Rattle.machine_model.specs.Replying.{hand_replied}
 use Rattle.machine_model.specs.Rest.{IsAtRest}
-use Rattle.machine_model.specs.Rows.{chosen, failure_of, parts_by, parts_of, row_of, wanting}
+use Rattle.machine_model.specs.Rows.{chosen, failure_of, news_of, parts_by, parts_of, row_of, wanting}
 use Rattle.machine_model.specs.Runs.{Allows, Message, Run, said}
 use Rattle.machine_model.specs.State.{Hand, Machine, State, is_attached, is_empty, is_gone}
 use Rattle.machine_model.specs.Suspending.{AllRunsOn, IsBoundFirst}
@@ -52,8 +51,8 @@ rest_last part rest is = grind (arith, is)
 
 chosen_last : (choice : Choice) (state : State) (hand : Hand) (rest : List Part) → resume_last rest ≡ true
     → resume_last (chosen choice state hand ++ rest) ≡ true
-chosen_last (TellsBound below) state hand rest is =
-    told_alike resume_last (λ entry parts. refl) state.phase (newly_verified below state.bound state.wishes) rest ∙ is
+chosen_last (TellsNews below) state hand rest is =
+    told_alike resume_last (λ news parts. refl) state.phase (news_of below state hand.item) rest ∙ is
 chosen_last (Leaves exits) state hand rest is = grind (arith, is)
 
 last_test : IsTest ends_resumed
@@ -113,8 +112,8 @@ found_same class_facts result state rest = refl
 
 chosen_same : (choice : Choice) (state : State) (hand : Hand) (rest : List Part)
     → has_resume (chosen choice state hand ++ rest) ≡ has_resume rest
-chosen_same (TellsBound below) state hand rest =
-    told_alike has_resume (λ entry parts. refl) state.phase (newly_verified below state.bound state.wishes) rest
+chosen_same (TellsNews below) state hand rest =
+    told_alike has_resume (λ news parts. refl) state.phase (news_of below state hand.item) rest
 chosen_same (Leaves exits) state hand rest = grind arith
 
 event_resumed : (event : Event) (state : State) (rest : List Part) → resumes_attached state.phase rest ≡ true

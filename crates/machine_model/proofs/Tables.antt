@@ -2,15 +2,13 @@
 use Rattle.std.proofs.Common.{◌≡◌, Bool, true, false, cond, not, ◌||◌, List, [], ◌∷◌, ◌++◌, Option, refl, arith, ◌∙◌}
 use Rattle.machine_model.specs.Lookups.{finished, lookup_responds}
 use Rattle.machine_model.specs.Names.{Attached, Choice, Classes, Command, Failure, Finding, Fresh, Gone, Initialized}
-use Rattle.machine_model.specs.Names.{Item, Leaves, Lines, Lookup, Part, Phase, TellsBound, Terminated, a_composite}
-use Rattle.machine_model.specs.Names.{a_raw, a_request, class_facts, entry_bound, target_end}
+use Rattle.machine_model.specs.Names.{Item, Leaves, Lines, Lookup, Part, Phase, TellsNews, Terminated, a_composite}
+use Rattle.machine_model.specs.Names.{a_raw, a_request, class_facts, News, some_news, target_end}
 use Rattle.machine_model.specs.Plans.{Result}
-use Rattle.machine_model.specs.Rows.{breakpoints_told, choice_responds, chosen, failure_of, gone_parts, has_response}
-use Rattle.machine_model.specs.Rows.{is_response, news, parts_by, parts_of, request_parts, row_of, wanting}
+use Rattle.machine_model.specs.Rows.{choice_responds, chosen, each_told, failure_of, gone_parts, has_response, news_of}
+use Rattle.machine_model.specs.Rows.{is_response, told_in, parts_by, parts_of, request_parts, row_of, wanting}
 use Rattle.machine_model.specs.State.{Hand, State, is_gone}
-use Rattle.wish_sets.specs.declared.entry.LineEntry.{LineEntry}
 use Rattle.machine_model.proofs.Testing.{IsTest, gone_behind}
-use Rattle.machine_model.specs.Breakpoints.{newly_verified}
 
 -- Tests of parts ------------------------------------------------------------------------------------------------------
 
@@ -102,27 +100,27 @@ is_block responds parts =
 pub row_sound : (failure : Option Failure) (command : Command) (state : State) → is_row (parts_by failure (row_of command state)) ≡ true
 row_sound failure command state = grind arith
 
-told_plain : (entries : List LineEntry) → are_plain (breakpoints_told entries) ≡ true
+told_plain : (news : List News) → are_plain (each_told news) ≡ true
 told_plain [] = refl
-told_plain (entry ∷ entries) = told_plain entries
+told_plain (one ∷ news) = told_plain news
 
-told_silent : (entries : List LineEntry) → has_response (breakpoints_told entries) ≡ false
+told_silent : (news : List News) → has_response (each_told news) ≡ false
 told_silent [] = refl
-told_silent (entry ∷ entries) = told_silent entries
+told_silent (one ∷ news) = told_silent news
 
-told_once : (entries : List LineEntry) → once_in (breakpoints_told entries) ≡ true
+told_once : (news : List News) → once_in (each_told news) ≡ true
 told_once [] = refl
-told_once (entry ∷ entries) = told_once entries
+told_once (one ∷ news) = told_once news
 
 pub chosen_block : (choice : Choice) (state : State) (hand : Hand)
     → is_block (choice_responds choice) (chosen choice state hand) ≡ true
-chosen_block (TellsBound below) state hand =
-    by_phase state.phase (newly_verified below state.bound state.wishes)
+chosen_block (TellsNews below) state hand =
+    by_phase state.phase (news_of below state hand.item)
   where
-    by_phase : (phase : Phase) (entries : List LineEntry) → is_block false (news phase entries) ≡ true
-    by_phase Fresh entries = refl
-    by_phase Attached entries = rw (told_once entries, told_silent entries) (told_plain entries)
-    by_phase Gone entries = refl
+    by_phase : (phase : Phase) (news : List News) → is_block false (told_in phase news) ≡ true
+    by_phase Fresh news = refl
+    by_phase Attached news = rw (told_once news, told_silent news) (told_plain news)
+    by_phase Gone news = refl
 chosen_block (Leaves exits) state hand = grind arith
 
 pub finished_block : (lookup : Lookup) (result : Result Finding) (state : State)
@@ -182,13 +180,13 @@ row_is failure command state = row_facts (parts_by failure (row_of command state
 
 -- breakpoints that are told change nothing to what their parts change nothing to
 pub told_alike : {A : Type 0} (f : List Part → A)
-    → ((entry : LineEntry) (parts : List Part) → f (Part.Tells (entry_bound entry) ∷ parts) ≡ f parts)
-    → (phase : Phase) (entries : List LineEntry) (rest : List Part) → f (news phase entries ++ rest) ≡ f rest
-told_alike f each Fresh entries rest = refl
-told_alike f each Gone entries rest = refl
+    → ((news : News) (parts : List Part) → f (Part.Tells (some_news news) ∷ parts) ≡ f parts)
+    → (phase : Phase) (news : List News) (rest : List Part) → f (told_in phase news ++ rest) ≡ f rest
+told_alike f each Fresh news rest = refl
+told_alike f each Gone news rest = refl
 told_alike f each Attached [] rest = refl
-told_alike f each Attached (entry ∷ entries) rest =
-    each entry (breakpoints_told entries ++ rest) ∙ told_alike f each Attached entries rest
+told_alike f each Attached (one ∷ news) rest =
+    each one (each_told news ++ rest) ∙ told_alike f each Attached news rest
 
 pub has_joined : (parts rest : List Part) → has_response (parts ++ rest) ≡ (has_response parts || has_response rest)
 has_joined [] rest = refl
@@ -348,8 +346,8 @@ followed_begun state (a_raw at body) = refl
 
 followed_chosen : (choice : Choice) (state : State) (hand : Hand) (rest : List Part) → are_followed rest ≡ true
     → are_followed (chosen choice state hand ++ rest) ≡ true
-followed_chosen (TellsBound below) state hand rest is =
-    told_alike are_followed (λ entry parts. refl) state.phase (newly_verified below state.bound state.wishes) rest ∙ is
+followed_chosen (TellsNews below) state hand rest is =
+    told_alike are_followed (λ news parts. refl) state.phase (news_of below state hand.item) rest ∙ is
 followed_chosen (Leaves exits) state hand rest is = grind (arith, is)
 
 pub followed_test : IsTest followed

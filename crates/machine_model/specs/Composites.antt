@@ -7,19 +7,37 @@ use Rattle.jdwp_events.specs.declared.event.Event.TheVariants as happened
 use Rattle.jdwp_events.specs.declared.kind.Policy.{Policy}
 use Rattle.jdwp_events.specs.declared.kind.Policy.TheVariants.{NoThread, EventThread, All}
 use Rattle.machine_model.specs.Classes.{with_listed}
-use Rattle.machine_model.specs.Names.{Attached, Composite, Fresh, Gone, Item, LoadedClass, OneThread, Part, Phase}
-use Rattle.machine_model.specs.Names.{Resume, TellsBound, a_composite, a_raw, a_request, class_facts, target_end}
+use Rattle.machine_model.specs.Names.{Attached, Composite, Fresh, Gone, Item, LoadedClass, News, OneThread, Part, Phase}
+use Rattle.machine_model.specs.Names.{Resume, TellsNews, a_composite, a_raw, a_request, class_facts, target_end, thread_changed}
+
+-- Events that are served ----------------------------------------------------------------------------------------------
+
+-- a class was prepared, or a thread has started or ended
+abbrev pub is_served_event : ATargetEvent → Bool
+is_served_event (happened.ClassPrepare request thread tag class signature status) = true
+is_served_event (happened.ThreadStart request thread) = true
+is_served_event (happened.ThreadDeath request thread) = true
+is_served_event _ = false
+
+abbrev pub are_served_events : List ATargetEvent → Bool
+are_served_events [] = true
+are_served_events (event ∷ events) = cond (is_served_event event) (are_served_events events) false
+
+-- Threads -------------------------------------------------------------------------------------------------------------
+
+-- a thread that has started or ended is told (DAP specification, Events, Thread)
+abbrev pub change_told : ATargetEvent → List News
+change_told (happened.ThreadStart request thread) = thread_changed true thread ∷ []
+change_told (happened.ThreadDeath request thread) = thread_changed false thread ∷ []
+change_told _ = []
+
+abbrev pub changes_in : Item → List News
+changes_in (a_request request) = []
+changes_in (a_composite at composite) = flat_map change_told composite.events
+changes_in (a_raw at body) = []
+changes_in target_end = []
 
 -- Classes that were prepared ------------------------------------------------------------------------------------------
-
-abbrev pub is_prepare : ATargetEvent → Bool
-is_prepare (happened.ClassPrepare request thread tag class signature status) = true
-is_prepare _ = false
-
--- they all tell of classes that were prepared
-abbrev pub are_prepares : List ATargetEvent → Bool
-are_prepares [] = true
-are_prepares (event ∷ events) = cond (is_prepare event) (are_prepares events) false
 
 -- the class, as a list of all classes has it
 abbrev pub prepared_by : ATargetEvent → List LoadedClass
@@ -51,11 +69,11 @@ learnt_by phase target_end known = known
 
 -- The row -------------------------------------------------------------------------------------------------------------
 
--- Classes are asked for what has to be known of them, what is wished in them is set, and the client is told of the
--- breakpoints that are verified by it, of those with an id below this one.
+-- Classes are asked for what has to be known of them, and what is wished in them is set. The client is told of the
+-- breakpoints that are verified by it, of those with an id below this one, and then of threads.
 abbrev pub binding_parts : ℕ → List Part → List Part
 binding_parts below behind =
-    Part.Looks class_facts ∷ Part.Updates ∷ Part.Unfolds (TellsBound below) ∷ behind
+    Part.Looks class_facts ∷ Part.Updates ∷ Part.Unfolds (TellsNews below) ∷ behind
 
 -- By its suspend policy: the suspension of the whole target is undone once all that is wished in the classes stands; one
 -- of a single thread was never asked for, and ends the session (JDWP, Constants, SuspendPolicy; JDWP, VirtualMachine

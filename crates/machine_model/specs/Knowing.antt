@@ -144,6 +144,7 @@ replied_view false false command replied view = learnt_view command replied view
 abbrev pub event_view : EventTold → View → View
 event_view events.Initialized view = record view { phase = Attached }
 event_view (events.Breakpoint breakpoint) view = record view { bound = with_told view.bound (breakpoint ∷ []) }
+event_view (events.Thread change) view = view
 event_view events.Terminated view = record view { phase = Gone; composites = []; terminated = true }
 
 -- the breakpoints that a body shows (DAP specification, SetBreakpoints request)
@@ -203,12 +204,13 @@ is_fresh Fresh = true
 is_fresh Attached = false
 is_fresh Gone = false
 
--- the session is attached once, and before its target is gone; a breakpoint is told until then; that the target is gone
+-- the session is attached once, and before its target is gone; breakpoints and threads are told until then; that it is gone
 -- is told once, and only then
 abbrev pub may_tell : Told → View → Bool
 may_tell (a_response response) view = true
 may_tell (an_event events.Initialized) view = is_fresh view.phase
 may_tell (an_event (events.Breakpoint breakpoint)) view = not (is_gone view.phase)
+may_tell (an_event (events.Thread change)) view = not (is_gone view.phase)
 may_tell (an_event events.Terminated) view = cond (is_gone view.phase) (not view.terminated) false
 
 -- a suspension is undone only where one is held
@@ -313,9 +315,16 @@ abbrev pub numbers_in_outcome : OutcomeTold → List ℕ
 numbers_in_outcome (outcomes.Success shape) = numbers_in_shape shape
 numbers_in_outcome (outcomes.Failure failure) = []
 
+-- the number of the thread in an event (DAP specification, Events, Thread)
+abbrev pub numbers_in_event : EventTold → List ℕ
+numbers_in_event events.Initialized = []
+numbers_in_event (events.Breakpoint breakpoint) = []
+numbers_in_event (events.Thread change) = change.id ∷ []
+numbers_in_event events.Terminated = []
+
 abbrev pub numbers_in : Told → List ℕ
 numbers_in (a_response response) = numbers_in_outcome response.outcome
-numbers_in (an_event event) = []
+numbers_in (an_event event) = numbers_in_event event
 
 abbrev pub numbers_by : Message → List ℕ
 numbers_by (Message.tells told) = numbers_in told

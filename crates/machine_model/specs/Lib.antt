@@ -1,5 +1,6 @@
 pub mod Asking
 pub mod Binding
+pub mod BreakpointEvents
 pub mod Breakpoints
 pub mod Classes
 pub mod Composites

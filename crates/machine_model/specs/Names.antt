@@ -34,11 +34,11 @@ pub use Rattle.machine_model.specs.declared.parts.Body.TheVariants.{Nothing, Cap
 pub use Rattle.machine_model.specs.declared.parts.Body.TheVariants.{Breakpoints as breakpoint_list}
 pub use Rattle.machine_model.specs.declared.parts.Body.TheVariants.{Threads as thread_list}
 pub use Rattle.machine_model.specs.declared.parts.Choice.{Choice}
-pub use Rattle.machine_model.specs.declared.parts.Choice.TheVariants.{TellsBound, Leaves}
+pub use Rattle.machine_model.specs.declared.parts.Choice.TheVariants.{TellsNews, Leaves}
 pub use Rattle.machine_model.specs.declared.parts.Deed.{Deed}
 pub use Rattle.machine_model.specs.declared.parts.Deed.TheVariants.{Resume, Dispose, Exit}
 pub use Rattle.machine_model.specs.declared.parts.Event.{Event}
-pub use Rattle.machine_model.specs.declared.parts.Event.TheVariants.{Initialized, Breakpoint as entry_bound, Terminated}
+pub use Rattle.machine_model.specs.declared.parts.Event.TheVariants.{Initialized, News as some_news, Terminated}
 pub use Rattle.machine_model.specs.declared.parts.Finding.{Finding}
 pub use Rattle.machine_model.specs.declared.parts.Finding.TheVariants.{Threads as threads_found}
 pub use Rattle.machine_model.specs.declared.parts.Finding.TheVariants.{Classes as classes_found}
@@ -51,6 +51,9 @@ pub use Rattle.machine_model.specs.declared.parts.Lookup.{Lookup}
 pub use Rattle.machine_model.specs.declared.parts.Lookup.TheVariants.{Threads as all_threads}
 pub use Rattle.machine_model.specs.declared.parts.Lookup.TheVariants.{Classes as class_facts}
 pub use Rattle.machine_model.specs.declared.parts.NamedThread.{NamedThread}
+pub use Rattle.machine_model.specs.declared.parts.News.{News}
+pub use Rattle.machine_model.specs.declared.parts.News.TheVariants.{Verified as entry_verified}
+pub use Rattle.machine_model.specs.declared.parts.News.TheVariants.{Thread as thread_changed}
 pub use Rattle.machine_model.specs.declared.parts.Note.{Note}
 pub use Rattle.machine_model.specs.declared.parts.Note.TheVariants.{Options, Roots, Lines, Classes}
 pub use Rattle.machine_model.specs.declared.parts.Outcome.{Outcome}

@@ -1,22 +1,21 @@
 -- What each item does, part by part (DAP specification, Requests; JDWP, Event command set, Composite).
-use Rattle.std.specs.Prelude.{ℕ, ◌+◌, ◌∷◌, ◌||◌, Bool, true, false, List, [], length, map, Option, None, Some}
+use Rattle.std.specs.Prelude.{ℕ, ◌+◌, ◌∷◌, ◌++◌, ◌||◌, Bool, true, false, List, [], length, map, Option, None, Some}
 use Rattle.class_tables.specs.Lookups.{found_in}
 use Rattle.dap_messages.specs.Telling.{already_attached, bad_arguments, not_attached, target_gone, unsupported}
 use Rattle.dap_messages.specs.declared.requests.InitializeArguments.{InitializeArguments}
 use Rattle.machine_model.specs.Breakpoints.{entry_of, key_of, lines_wished, newly_verified, numbered_from}
-use Rattle.machine_model.specs.Composites.{composite_parts, learnt_by}
+use Rattle.machine_model.specs.Composites.{changes_in, composite_parts, learnt_by}
 use Rattle.machine_model.specs.Lookups.{lookup_responds}
 use Rattle.machine_model.specs.Names.{Attach, Attached, BadArguments, Capabilities, Choice, Classes, ClientOptions}
 use Rattle.machine_model.specs.Names.{Command, ConfigurationDone, Deed, Disconnect, Dispose, Done, Exit, Failed}
 use Rattle.machine_model.specs.Names.{Failure, Fresh, Gone, Handshake, IdSizes, Initialize, Initialized, Item, Leaves}
 use Rattle.machine_model.specs.Names.{Lines, ListedBreakpoint, Note, Nothing, Options, Part, Phase, Roots}
-use Rattle.machine_model.specs.Names.{SetBreakpoints, Success, TellsBound, Terminated, Threads, Unsupported}
+use Rattle.machine_model.specs.Names.{SetBreakpoints, Success, TellsNews, Terminated, Threads, Unsupported}
 use Rattle.machine_model.specs.Names.{a_composite, a_raw, a_request, all_threads, breakpoint_list, class_facts}
-use Rattle.machine_model.specs.Names.{entry_bound, target_end}
+use Rattle.machine_model.specs.Names.{News, entry_verified, some_news, target_end}
 use Rattle.machine_model.specs.State.{Hand, State, is_some}
 use Rattle.wish_sets.specs.Wanted.{with_known}
 use Rattle.wish_sets.specs.Wishes.{rewished}
-use Rattle.wish_sets.specs.declared.entry.LineEntry.{LineEntry}
 
 -- Requests ------------------------------------------------------------------------------------------------------------
 
@@ -33,7 +32,7 @@ options_of arguments = record {
 abbrev pub breakpoint_parts : Bool → Option (List ℕ) → List ListedBreakpoint → ℕ → List Part
 breakpoint_parts from_one key listed below =
     Part.Notes (Lines key (map (entry_of from_one) listed)) ∷ Part.Updates ∷ Part.Looks class_facts ∷ Part.Updates
-    ∷ Part.Unfolds (TellsBound below) ∷ Part.Responds (Success (breakpoint_list (is_some key) listed)) ∷ []
+    ∷ Part.Unfolds (TellsNews below) ∷ Part.Responds (Success (breakpoint_list (is_some key) listed)) ∷ []
 
 -- the table of requests
 abbrev pub row_of : Command → State → List Part
@@ -106,25 +105,30 @@ leaves Fresh exits = []
 leaves Attached exits = Part.Sends (leaving exits) ∷ []
 leaves Gone exits = []
 
--- each of these breakpoints is told
-abbrev pub breakpoints_told : List LineEntry → List Part
-breakpoints_told [] = []
-breakpoints_told (entry ∷ entries) = Part.Tells (entry_bound entry) ∷ breakpoints_told entries
+-- each of these is told
+abbrev pub each_told : List News → List Part
+each_told [] = []
+each_told (one ∷ others) = Part.Tells (some_news one) ∷ each_told others
 
 -- as long as the session is attached
-abbrev pub news : Phase → List LineEntry → List Part
-news Fresh entries = []
-news Attached entries = breakpoints_told entries
-news Gone entries = []
+abbrev pub told_in : Phase → List News → List Part
+told_in Fresh news = []
+told_in Attached news = each_told news
+told_in Gone news = []
+
+-- what is news: the breakpoints that are verified, and then the threads whose start or end the item tells
+abbrev pub news_of : ℕ → State → Item → List News
+news_of below state item =
+    map entry_verified (newly_verified below state.bound state.wishes) ++ changes_in item
 
 -- the table of choices: what a part becomes when its turn comes
 abbrev pub chosen : Choice → State → Hand → List Part
-chosen (TellsBound below) state hand = news state.phase (newly_verified below state.bound state.wishes)
+chosen (TellsNews below) state hand = told_in state.phase (news_of below state hand.item)
 chosen (Leaves exits) state hand = leaves state.phase exits
 
 -- whether it brings the response
 abbrev pub choice_responds : Choice → Bool
-choice_responds (TellsBound below) = false
+choice_responds (TellsNews below) = false
 choice_responds (Leaves exits) = false
 
 -- Notes ---------------------------------------------------------------------------------------------------------------

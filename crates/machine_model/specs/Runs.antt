@@ -2,7 +2,7 @@
 use Rattle.std.specs.Prelude.{ℕ, ◌≡◌, ◌∷◌, ◌++◌, ◌||◌, Bool, true, false, List, [], Option, None, Some}
 use Rattle.jdwp_events.specs.Composites.{FitsComposite}
 use Rattle.jdwp_values.specs.declared.sizes.IdSizes.{IdSizes}
-use Rattle.machine_model.specs.Composites.{are_prepares}
+use Rattle.machine_model.specs.Composites.{are_served_events}
 use Rattle.machine_model.specs.Due.{can_read, due}
 use Rattle.machine_model.specs.Names.{Act, Command, Composite, Disconnect, Effect, Item, Phase, Question, Replied}
 use Rattle.machine_model.specs.Names.{Request, TargetCommand, Told, a_composite, a_question, a_raw, a_request}
@@ -57,9 +57,9 @@ heard m request =
 abbrev pub greeting_heard : Machine → Machine
 greeting_heard m = knowing m (record m.state { greeting_heard = true })
 
--- composites of this kind are served: those of classes that were prepared alone
+-- composites of this kind are served: those of classes that were prepared, and of threads that started or ended
 abbrev pub is_served : Composite → Bool
-is_served composite = are_prepares composite.events
+is_served composite = are_served_events composite.events
 
 -- a composite is taken where it is served, or the target is gone, where it does nothing
 abbrev pub takes : Phase → Composite → Bool

@@ -10,8 +10,8 @@ use Rattle.dap_messages.specs.declared.told.Thread.{Thread}
 use Rattle.jdwp_values.specs.Lossy.{lossy}
 use Rattle.machine_model.specs.Breakpoints.{breakpoint_told, verified_told, with_id, with_told}
 use Rattle.machine_model.specs.Names.{Attached, Body, Capabilities, Event, Failed, Fresh, Gone, Initialized}
-use Rattle.machine_model.specs.Names.{NamedThread, Nothing, Outcome, Phase, Request, Success, Terminated, ThreadId}
-use Rattle.machine_model.specs.Names.{Told, a_response, breakpoint_list, entry_bound, thread_list}
+use Rattle.machine_model.specs.Names.{NamedThread, News, Nothing, Outcome, Phase, Request, Success, Terminated, ThreadId}
+use Rattle.machine_model.specs.Names.{Told, a_response, breakpoint_list, entry_verified, some_news, thread_changed, thread_list}
 use Rattle.machine_model.specs.State.{State}
 
 -- Numbers of threads --------------------------------------------------------------------------------------------------
@@ -77,16 +77,31 @@ attached_from Fresh = Attached
 attached_from Attached = Attached
 attached_from Gone = Gone
 
+-- the breakpoints that the client knows to be verified, once it was told this
+abbrev pub bound_after : News → List ℕ → List ℕ
+bound_after (entry_verified entry) bound = with_id bound entry.id
+bound_after (thread_changed started thread) bound = bound
+
+-- and the threads that it knows
+abbrev pub threads_after : News → List ThreadId → List ThreadId
+threads_after (entry_verified entry) threads = threads
+threads_after (thread_changed started thread) threads = with_thread threads thread
+
 -- what the telling of an event changes: the session is attached, or its target gone, from there on; or the client knows
--- that a breakpoint is verified
+-- of a breakpoint or a thread
 abbrev pub after_event : Event → State → State
 after_event Initialized state = record state { phase = attached_from state.phase }
-after_event (entry_bound entry) state = record state { bound = with_id state.bound entry.id }
+after_event (some_news news) state =
+    record state { bound = bound_after news state.bound; threads = threads_after news state.threads }
 after_event Terminated state = record state { phase = Gone; terminated = true }
 
--- and how it is told then
+-- and how it is told then: a thread by its number
+abbrev pub news_told : News → State → EventTold
+news_told (entry_verified entry) state = events.Breakpoint (verified_told state.options.lines_from_one entry)
+news_told (thread_changed started thread) state =
+    events.Thread (record { started = started; id = number_among state.threads thread })
+
 abbrev pub event_told : Event → State → EventTold
 event_told Initialized state = events.Initialized
-event_told (entry_bound entry) state =
-    events.Breakpoint (verified_told state.options.lines_from_one entry)
+event_told (some_news news) state = news_told news state
 event_told Terminated state = events.Terminated

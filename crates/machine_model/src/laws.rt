@@ -2,6 +2,7 @@
 //! nothing.
 
 ghost use Rattle.machine_model.specs.Binding.{Binds};
+ghost use Rattle.machine_model.specs.BreakpointEvents.{TellsAll, TellsVerified};
 ghost use Rattle.machine_model.specs.EventRequests.{AsReplied, Once, Settles, Stands};
 ghost use Rattle.machine_model.specs.Events.{Events};
 ghost use Rattle.machine_model.specs.Ids.{Ids};
@@ -81,6 +82,14 @@ pub fn breakpoints_are_bound_by_all_that_is_known()
 /// Event command set, Composite, ClassPrepare; JDWP, VirtualMachine command set, Resume).
 pub fn breakpoints_are_bound_before_the_target_runs_on()
     ensures { BindsFirst }
+{}
+
+/// The event `breakpoint` tells of a breakpoint that is verified then, and that the client was not told to be verified
+/// before. At rest, once the session is attached, the client was told of each that is verified, by this event or in a
+/// response (DAP specification, Events, Breakpoint; DAP specification, SetBreakpoints request).
+pub fn breakpoints_are_told_once_they_are_verified()
+    ensures news { TellsVerified }
+    ensures all { TellsAll }
 {}
 
 /// At rest, once the session is attached, each composite that came was at its turn, and each suspension of the whole

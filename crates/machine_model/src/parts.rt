@@ -44,12 +44,20 @@ pub enum Outcome {
     Failure(Failure),
 }
 
+/// What has changed in the target (DAP specification, Events, Breakpoint and Thread).
+#[derive(Clone, Copy, Debug, PartialEq, Eq)]
+pub enum News {
+    /// A breakpoint is verified, which the client doesn't know yet.
+    Verified(LineEntry),
+    /// A thread has started, or has ended.
+    Thread { started: bool, thread: ThreadId },
+}
+
 /// What the client is told without asking, by the target's ids (DAP specification, Events).
 #[derive(Clone, Copy, Debug, PartialEq, Eq)]
 pub enum Event {
     Initialized,
-    /// A breakpoint is verified, which the client doesn't know yet.
-    Breakpoint(LineEntry),
+    News(News),
     Terminated,
 }
 
@@ -112,8 +120,8 @@ pub enum Note {
 #[derive(Clone, Copy, Debug, PartialEq, Eq)]
 pub enum Choice {
     /// The client is told of each breakpoint that is verified now and wasn't told to be, of those with an id below this
-    /// one (DAP specification, Events, Breakpoint).
-    TellsBound(u64),
+    /// one, and then of each thread whose start or end the item tells (DAP specification, Events, Breakpoint and Thread).
+    TellsNews(u64),
     /// A target that is attached is left; it ends where this holds (DAP specification, Disconnect request).
     Leaves(bool),
 }

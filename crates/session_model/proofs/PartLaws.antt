@@ -1,14 +1,13 @@
 -- A `disconnect` goes on to its success and is done directly behind it; nothing else is.
 use Rattle.std.proofs.Common.{◌≡◌, Bool, true, false, cond, not, List, [], ◌∷◌, ◌++◌, Option, Some, None, refl, sym}
 use Rattle.std.proofs.Common.{ap, append-nil, subst, ◌∙◌, option_map, arith, ◌||◌}
-use Rattle.machine_model.specs.Breakpoints.{newly_verified}
 use Rattle.machine_model.specs.Due.{asked_hand, clear, load_of}
 use Rattle.machine_model.specs.Lookups.{finished}
 use Rattle.machine_model.specs.Outcomes.{result_of}
 use Rattle.machine_model.specs.Plans.{Result}
 use Rattle.machine_model.specs.Replying.{given_up, hand_replied}
 use Rattle.machine_model.specs.Rest.{request_in}
-use Rattle.machine_model.specs.Rows.{chosen, gone_parts, has_response, is_response, news, parts_of}
+use Rattle.machine_model.specs.Rows.{chosen, gone_parts, has_response, is_response, news_of, parts_of, told_in}
 use Rattle.machine_model.specs.Runs.{Message, is_disconnect}
 use Rattle.machine_model.specs.State.{Hand, Machine, State, is_empty, knowing, left}
 use Rattle.machine_model.specs.Telling.{numbered_by, outcome_told, response_to}
@@ -16,7 +15,7 @@ use Rattle.machine_model.proofs.Stepping.{IsAt, Moves, Skips}
 use Rattle.machine_model.proofs.Tables.{told_alike}
 use Rattle.session_model.specs.Names.{a_composite, a_question, a_raw, a_request, an_effect, Choice}
 use Rattle.session_model.specs.Names.{Finding, finish_done, Item, Leaves, Lookup, Nothing, Outcome, Part}
-use Rattle.session_model.specs.Names.{Replied, Request, Success, target_end, TargetCommand, TellsBound, Want}
+use Rattle.session_model.specs.Names.{Replied, Request, Success, target_end, TargetCommand, TellsNews, Want}
 
 -- Lists of parts ------------------------------------------------------------------------------------------------------
 
@@ -107,10 +106,10 @@ are_silent [] = true
 are_silent (part ∷ parts) = cond (is_ends part) false (cond (strays part) false (are_silent parts))
 
 chosen_silent : (choice : Choice) (state : State) (hand : Hand) → are_silent (chosen choice state hand) ≡ true
-chosen_silent (TellsBound below) state hand =
-    let entries = newly_verified below state.bound state.wishes in
-    ap are_silent (sym (append-nil (news state.phase entries)))
-    ∙ told_alike are_silent (λ entry parts. refl) state.phase entries []
+chosen_silent (TellsNews below) state hand =
+    let news = news_of below state hand.item in
+    ap are_silent (sym (append-nil (told_in state.phase news)))
+    ∙ told_alike are_silent (λ news parts. refl) state.phase news []
 chosen_silent (Leaves exits) state hand = grind arith
 
 -- a response that is a success is a response

@@ -9,3 +9,4 @@ pub mod PlanLaws
 pub mod ReplyLaws
 pub mod TalkLaws
 pub mod ThreadLaws
+pub mod TakenLaws

@@ -6,7 +6,7 @@ ghost use Rattle.machine_model.specs.Telling.{thread_told, with_threads};
 
 use crate::bound::BoundIds;
 use crate::breakpoints::breakpoint_told;
-use crate::news::verified_told;
+use crate::news::news_told;
 use crate::state::State;
 use crate::threads::ThreadNumbers;
 use dap_messages::{
@@ -122,9 +122,7 @@ pub(crate) fn event_told(event: Event, state: &State) -> EventTold
 {
     match event {
         Event::Initialized => EventTold::Initialized,
-        Event::Breakpoint(entry) => {
-            EventTold::Breakpoint(verified_told(state.options.lines_from_one, entry))
-        }
+        Event::News(news) => news_told(news, state),
         Event::Terminated => EventTold::Terminated,
     }
 }

@@ -200,7 +200,7 @@ fn breakpoint_parts(
             Part::Updates,
             Part::Looks(Lookup::Classes),
             Part::Updates,
-            Part::Unfolds(Choice::TellsBound(below)),
+            Part::Unfolds(Choice::TellsNews(below)),
             Part::Responds(Outcome::Success(Body::Breakpoints { rooted, listed })),
         ],
     )?)

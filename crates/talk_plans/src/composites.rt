@@ -1,5 +1,5 @@
 //! What a composite does when its turn comes.
-ghost use Rattle.std.specs.Prelude.{◌≡◌, [], fold, IfOk, OnOk};
+ghost use Rattle.std.specs.Prelude.{◌≡◌, [], true, fold, IfOk, OnOk};
 ghost use Rattle.std.specs.List.{flat_map};
 ghost use Rattle.machine_model.specs.Classes.{with_listed};
 ghost use Rattle.machine_model.specs.Composites.{binding_parts, composite_parts, composite_row, learnt_in};
@@ -36,6 +36,18 @@ fn learn_events(alloc: Global, events: &[Event], classes: &mut Classes) -> Resul
         learn_event(alloc, event, classes)?;
     }
     Ok(())
+}
+
+/// Whether no event tells of a class that was prepared.
+pub(crate) fn tells_of_none(events: &[Event]) -> bool
+    ensures { result ≡ true → flat_map prepared_by events.now ≡ [] }
+{
+    for event in events {
+        if let Event::ClassPrepare { .. } = event {
+            return false;
+        }
+    }
+    true
 }
 
 // Learns the classes that a composite tells of; one that suspends a single thread tells of none.
@@ -102,7 +114,7 @@ fn binding(alloc: Global, below: u64) -> Result<VecDeque<Part>, NoMemory>
         [
             Part::Looks(Lookup::Classes),
             Part::Updates,
-            Part::Unfolds(Choice::TellsBound(below)),
+            Part::Unfolds(Choice::TellsNews(below)),
         ],
     )?)
 }

@@ -13,7 +13,7 @@ ghost use Rattle.machine_model.specs.declared.parts.Part.TheVariants.{Responds};
 use crate::breakpoints::breakpoints_row;
 use crate::composites::composite_parts;
 use crate::copies::text_copies;
-use crate::news::news;
+use crate::news::told_news;
 use crate::state::State;
 use dap_messages::{Command, Failure, InitializeArguments};
 use machine_model::{
@@ -202,11 +202,13 @@ pub(crate) fn chosen(
     alloc: Global,
     choice: Choice,
     state: &State,
+    item: &Item,
 ) -> Result<VecDeque<Part>, NoMemory>
-    ensures { IfOk result (λ parts. (hand : AHand) → parts.items ≡ chosen choice state.now hand) }
+    ensures { IfOk result (λ parts. (hand : AHand) → hand.item ≡ item.now
+        → parts.items ≡ chosen choice state.now hand) }
 {
     match choice {
-        Choice::TellsBound(below) => news(alloc, below, state),
+        Choice::TellsNews(below) => told_news(alloc, below, state, item),
         Choice::Leaves(exits) => leaves(alloc, state.phase, exits),
     }
 }
@@ -224,7 +226,7 @@ fn choice_responds(choice: Choice) -> bool
     ensures { result ≡ choice_responds choice }
 {
     match choice {
-        Choice::TellsBound(_) => false,
+        Choice::TellsNews(_) => false,
         Choice::Leaves(_) => false,
     }
 }

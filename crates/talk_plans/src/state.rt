@@ -12,7 +12,7 @@ ghost use Rattle.machine_model.specs.declared.items.Phase.TheVariants.{Gone};
 ghost use Rattle.machine_model.specs.declared.parts.Note.TheVariants.{Lines};
 
 use crate::bound::BoundIds;
-use crate::composites::learn_in;
+use crate::composites::{learn_in, tells_of_none};
 use crate::effects::{settle, unlisted_by};
 use crate::facts::learn;
 use crate::open_classes::{OpenClasses, all_open, stays_open, trimmed};
@@ -20,7 +20,7 @@ use crate::sizes::{SizesRead, sizes_in};
 use crate::threads::ThreadNumbers;
 use class_tables::Classes;
 use jdwp_commands::{Question, Replied};
-use machine_model::{ClientOptions, Effect, Event, Item, Note, Phase};
+use machine_model::{ClientOptions, Effect, Event, Item, News, Note, Phase};
 use std::alloc::Global;
 use std::marker::Model;
 use std::mem;
@@ -188,7 +188,8 @@ impl State {
                 self.phase = attached_from(self.phase);
                 Ok(())
             }
-            Event::Breakpoint(entry) => self.bound.add(entry.id),
+            Event::News(News::Verified(entry)) => self.bound.add(entry.id),
+            Event::News(News::Thread { thread, .. }) => self.threads.add(thread),
             Event::Terminated => {
                 self.phase = Phase::Gone;
                 self.terminated = true;
@@ -197,13 +198,18 @@ impl State {
         }
     }
 
-    // What an item tells of classes is learnt as it is begun.
+    // What an item tells of classes is learnt as it is begun. Where it tells of none, what is left to be found out of them
+    // stays.
+    #[tactic(auto, using(crate::proofs::TakenLaws::nothing_learnt))]
     pub(crate) fn take(&mut self, alloc: Global, item: &Item) -> Result<(), NoMemory>
         ensures { OnOk result (self.new ≡ taken item.now self.old) }
     {
         match item {
             Item::Request(_) => Ok(()),
             Item::Composite { composite, .. } => {
+                if tells_of_none(composite.events.as_slice()) {
+                    return Ok(());
+                }
                 self.left = None;
                 learn_in(alloc, self.phase, composite, &mut self.classes)
             }

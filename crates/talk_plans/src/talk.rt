@@ -188,7 +188,7 @@ impl Talk {
                 Ok(Next::Go)
             }
             Part::Unfolds(choice) => {
-                put_first(chosen(alloc, choice, state)?, &mut self.parts)?;
+                put_first(chosen(alloc, choice, state, &self.item)?, &mut self.parts)?;
                 Ok(Next::Go)
             }
             Part::Ends(finish) => {
