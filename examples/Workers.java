@@ -1,6 +1,9 @@
 import java.util.concurrent.CountDownLatch;
 
-/** Three threads with names. Prints `up` once they have begun, waits for a line, and prints what each of them made. */
+/**
+ * Three threads with names. Prints `up` once they have begun, and waits for a line. For a line with an `s` it runs one
+ * thread more, prints `ran`, and waits again. Then it prints what each of the three made.
+ */
 public class Workers extends Thread {
     private static final CountDownLatch BEGUN = new CountDownLatch(3);
     private static final CountDownLatch TOLD = new CountDownLatch(1);
@@ -32,7 +35,13 @@ public class Workers extends Thread {
         }
         BEGUN.await();
         System.out.println("up");
-        System.in.read();
+        while (System.in.read() == 's') {
+            Thread more = new Thread("one more");
+            more.start();
+            more.join();
+            System.out.println("ran");
+            System.in.read();
+        }
         TOLD.countDown();
         for (Workers worker : workers) {
             worker.join();

@@ -13,6 +13,7 @@ AGENT = "-agentlib:jdwp=transport=dt_socket,server=y,quiet=y,suspend=%s,address=
 # The threads of the program's own, and its output: up to where it waits for a line, and behind it.
 THREADS = ["main", "first worker", "second worker", '"third" w\u00f6rker']
 UP = b"up\n"
+RAN = b"ran\n"
 DOWN = b"made 500500\nmade 500500\nmade 500500\ndown\n"
 
 
@@ -60,9 +61,16 @@ class JavaProgram:
         self.process.wait()
 
     def wait_until_up(self):
-        """Reads its first line. From there on it listens for a debugger, and begins and ends no thread."""
+        """Reads its first line. From there on it listens for a debugger, and runs no thread more but where it is told."""
         if self.process.stdout.readline() != UP:
             raise EOFError("the Java program isn't up: %s" % self.errors())
+
+    def run_thread(self):
+        """Has it run one thread more, to its end."""
+        self.process.stdin.write(b"s\n")
+        self.process.stdin.flush()
+        if self.process.stdout.readline() != RAN:
+            raise EOFError("the Java program ran no thread: %s" % self.errors())
 
     def go_on(self):
         """Gives it the line that it waits for."""

@@ -9,6 +9,7 @@ others, both times alike.
 - The client leaves by `disconnect`, and the Java program runs on to its end.
 - It attaches after the Java machine dropped the program's link, on which nothing went for two seconds.
 - It leaves with `terminateDebuggee`, and the Java program ends there.
+- A thread starts and ends while it is attached, and both are told.
 
 Where there is no JDK, or none with an agent for JDWP, it says so in one line, and its status is 0.
 
@@ -24,7 +25,7 @@ import time
 from building import PATIENCE, plainly, program_of
 from java_machine import DOWN, THREADS, JavaProgram, compiled, lacking
 from many_threads import ATTACH
-from over_tcp import INITIALIZED, Program, event, request, response, unsupported
+from over_tcp import INITIALIZED, Program, event, request, response, thread_event, unsupported
 
 # Longer than a Java machine waits for the handshake, in seconds.
 LATE = 2.5
@@ -43,6 +44,21 @@ def attached_late(java, bridge):
 def terminated_by_disconnect(java, bridge):
     held = is_session(bridge, leaving={"terminateDebuggee": True})
     return all([held, is_due("the Java program", java.end(), (b"", 0))])
+
+
+def a_thread_is_told(java, bridge):
+    """Whether a thread that starts and ends during a session is told, under the next number."""
+    client = bridge.client()
+    asked(client, request(1, "initialize", {"adapterID": "jdwp"}))
+    asked(client, request(2, "attach", ATTACH), 2)
+    threads = threads_in(4, 3, *asked(client, request(3, "threads")))
+    java.run_thread()
+    told = [client.receive() for _ in range(2)]
+    number = len(threads) + 1
+    told += asked(client, request(4, "disconnect"))
+    client.close()
+    due = [thread_event(5, "started", number), thread_event(6, "exited", number), response(7, 4, "disconnect")]
+    return all([is_due("the messages", told, due), runs_on(java)])
 
 
 def runs_on(java):
@@ -120,7 +136,7 @@ def main():
     broken = 0
     with tempfile.TemporaryDirectory() as folder:
         classes = compiled(folder)
-        for case in (runs_on_behind_disconnect, attached_late, terminated_by_disconnect):
+        for case in (runs_on_behind_disconnect, attached_late, terminated_by_disconnect, a_thread_is_told):
             kept = is_kept(case, program, classes)
             print(case.__name__, "kept" if kept else "BROKEN", flush=True)
             broken += not kept

@@ -53,6 +53,12 @@ INITIALIZED = response(1, 1, "initialize", CAPABILITIES)
 DISCONNECTED = response(2, 2, "disconnect")
 
 
+def thread_event(seq, reason, number):
+    """The event of a thread that started or exited (DAP specification, Events, Thread)."""
+    body = {"reason": reason, "threadId": number}
+    return compact({"body": body, "event": "thread", "seq": seq, "type": "event"})
+
+
 def free_port():
     with socket.socket() as probe:
         probe.bind(("127.0.0.1", 0))

@@ -70,11 +70,14 @@ pub(crate) const ATTACHING: [Came<'static>; 5] = [
     DEATHS_SET,
 ];
 
-/// What the client is told then.
-pub(crate) const TOLD_ATTACHED: [&[u8]; 2] = [
-    b"Content-Length: 77\r\n\r\n{\"command\":\"attach\",\"request_seq\":1,\"seq\":1,\"success\":true,\"type\":\"response\"}",
-    b"Content-Length: 46\r\n\r\n{\"event\":\"initialized\",\"seq\":2,\"type\":\"event\"}",
-];
+/// What the client is told then: the response, and the event after which it may set breakpoints.
+pub(crate) const TOLD_ATTACH: &[u8] =
+    b"Content-Length: 77\r\n\r\n{\"command\":\"attach\",\"request_seq\":1,\"seq\":1,\"success\":true,\"type\":\"response\"}";
+
+pub(crate) const TOLD_INITIALIZED: &[u8] =
+    b"Content-Length: 46\r\n\r\n{\"event\":\"initialized\",\"seq\":2,\"type\":\"event\"}";
+
+pub(crate) const TOLD_ATTACHED: [&[u8]; 2] = [TOLD_ATTACH, TOLD_INITIALIZED];
 
 /// What the target is sent for them (JDWP, VirtualMachine command set, IDSizes; JDWP, EventRequest command set, Set).
 pub(crate) const ASK_SIZES: &[u8] = b"\x00\x00\x00\x0b\x00\x00\x00\x01\x00\x01\x07";

@@ -14,3 +14,5 @@ mod keys;
 mod listed_classes;
 #[cfg(test)]
 mod sessions;
+#[cfg(test)]
+mod threads;
