@@ -1,0 +1,5 @@
+pub mod Order
+pub mod Orderly
+pub mod Reading
+pub mod Rows
+pub mod Texts
