@@ -132,6 +132,54 @@ fn status(
     Ok(bridge_main(alloc, words.as_slice(), wires, &mut files, out))
 }
 
+fn sent(wires: &MemoryWires) -> usize {
+    wires
+        .log()
+        .as_slice()
+        .iter()
+        .filter(|entry| matches!(entry, Entry::Out(_, _)))
+        .count()
+}
+
+// What a run comes to: its status, whether it printed a line and no more, how many messages were sent, and whether
+// anything was logged.
+#[derive(Clone, Copy, Debug, PartialEq, Eq)]
+struct Finished {
+    status: u8,
+    printed: bool,
+    sent: usize,
+    logged: bool,
+}
+
+fn ran(
+    alloc: Global,
+    texts: &[&str],
+    wires: &mut MemoryWires,
+    line: &str,
+) -> Result<Finished, NoMemory>
+    requires { (outside_of wires.old).asked ≡ [] }
+{
+    let mut out = output_of(alloc, false)?;
+    let status = status(alloc, texts, wires, &mut out)?;
+    Ok(Finished {
+        status,
+        printed: out.bytes().as_slice() == line.as_bytes(),
+        sent: sent(wires),
+        logged: !wires.log().as_slice().is_empty(),
+    })
+}
+
+// The program on these words, where a client sends these pieces.
+fn ran_on(
+    alloc: Global,
+    texts: &[&str],
+    pieces: &[&[u8]],
+    line: &str,
+) -> Result<Finished, NoMemory> {
+    let mut wires = wires_of(alloc, pieces)?;
+    ran(alloc, texts, &mut wires, line)
+}
+
 // Words that are none of the program's.
 const REFUSED_WORDS: [&[&str]; 9] = [
     &[],
@@ -147,12 +195,14 @@ const REFUSED_WORDS: [&[&str]; 9] = [
 
 #[test]
 fn words_are_refused(rt: HostRuntime) -> Result<(), Fail> {
+    let wanted = Finished {
+        status: 2,
+        printed: true,
+        sent: 0,
+        logged: false,
+    };
     for words in REFUSED_WORDS {
-        let mut wires = wires_of(rt.alloc(), &[INITIALIZE])?;
-        let mut out = output_of(rt.alloc(), false)?;
-        assert_eq!(rt; status(rt.alloc(), words, &mut wires, &mut out)?, 2);
-        assert_eq!(rt; out.bytes().as_slice(), USAGE.as_bytes());
-        assert!(rt; wires.log().as_slice().is_empty());
+        assert_eq!(rt; ran_on(rt.alloc(), words, &[INITIALIZE], USAGE)?, wanted);
     }
     Ok(())
 }
@@ -165,13 +215,17 @@ const TAKEN_WORDS: [&[&str]; 4] = [
     &["serve", "--listen", "", "--target", "B"],
 ];
 
+// The program on these words, over links that can't be opened: its status, and whether it says so.
+fn ran_on_closed(alloc: Global, texts: &[&str]) -> Result<(u8, bool), NoMemory> {
+    let mut wires = MemoryWires::closed(alloc);
+    let ran = ran(alloc, texts, &mut wires, NOT_OPENED)?;
+    Ok((ran.status, ran.printed))
+}
+
 #[test]
 fn words_are_taken(rt: HostRuntime) -> Result<(), Fail> {
     for words in TAKEN_WORDS {
-        let mut wires = MemoryWires::closed(rt.alloc());
-        let mut out = output_of(rt.alloc(), false)?;
-        assert_eq!(rt; status(rt.alloc(), words, &mut wires, &mut out)?, 7);
-        assert_eq!(rt; out.bytes().as_slice(), NOT_OPENED.as_bytes());
+        assert_eq!(rt; ran_on_closed(rt.alloc(), words)?, (7, true));
     }
     Ok(())
 }
@@ -234,17 +288,8 @@ const SESSIONS: [(&[&[u8]], u8, &str, usize); 11] = [
 #[test]
 fn sessions_end_with_their_line(rt: HostRuntime) -> Result<(), Fail> {
     for (pieces, wanted, line, sent) in SESSIONS {
-        let mut wires = wires_of(rt.alloc(), pieces)?;
-        let mut out = output_of(rt.alloc(), false)?;
-        assert_eq!(rt; status(rt.alloc(), SERVE, &mut wires, &mut out)?, wanted);
-        assert_eq!(rt; out.bytes().as_slice(), line.as_bytes());
-        let outs = wires
-            .log()
-            .as_slice()
-            .iter()
-            .filter(|entry| matches!(entry, Entry::Out(_, _)))
-            .count();
-        assert_eq!(rt; outs, sent);
+        let ran = ran_on(rt.alloc(), SERVE, pieces, line)?;
+        assert_eq!(rt; (ran.status, ran.printed, ran.sent), (wanted, true, sent));
     }
     Ok(())
 }
@@ -335,14 +380,28 @@ const TARGET_SESSIONS: [(&[(Side, &[u8])], bool, u8, &str, &[u8]); 10] = [
     ),
 ];
 
+// A session behind a request to attach: its status, whether it printed a line, and whether it sent the target this last.
+fn ran_with_target(
+    alloc: Global,
+    pieces: &[(Side, &[u8])],
+    fails: bool,
+    line: &str,
+    last: &[u8],
+) -> Result<(u8, bool, bool), NoMemory> {
+    let mut wires = wires_of_target(alloc, pieces, fails)?;
+    let ran = ran(alloc, SERVE, &mut wires, line)?;
+    Ok((
+        ran.status,
+        ran.printed,
+        last_to_target(&wires) == Some(last),
+    ))
+}
+
 #[test]
 fn sessions_with_a_target_end_with_their_line(rt: HostRuntime) -> Result<(), Fail> {
     for (pieces, fails, wanted, line, last) in TARGET_SESSIONS {
-        let mut wires = wires_of_target(rt.alloc(), pieces, fails)?;
-        let mut out = output_of(rt.alloc(), false)?;
-        assert_eq!(rt; status(rt.alloc(), SERVE, &mut wires, &mut out)?, wanted);
-        assert_eq!(rt; out.bytes().as_slice(), line.as_bytes());
-        assert_eq!(rt; last_to_target(&wires).ok_or("nothing is sent")?, last);
+        let ran = ran_with_target(rt.alloc(), pieces, fails, line, last)?;
+        assert_eq!(rt; ran, (wanted, true, true));
     }
     Ok(())
 }
@@ -379,12 +438,17 @@ const OUTCOMES: [(Outcome, u8, &str); 8] = [
     ),
 ];
 
+// How an outcome is told, over an output whose first write may fail: the status, and whether it printed just this.
+fn told(alloc: Global, outcome: Outcome, fails: bool, line: &str) -> Result<(u8, bool), NoMemory> {
+    let mut out = output_of(alloc, fails)?;
+    let status = tell(alloc, outcome, &mut out);
+    Ok((status, out.bytes().as_slice() == line.as_bytes()))
+}
+
 #[test]
 fn outcomes_have_their_line(rt: HostRuntime) -> Result<(), Fail> {
     for (outcome, wanted, line) in OUTCOMES {
-        let mut out = output_of(rt.alloc(), false)?;
-        assert_eq!(rt; tell(rt.alloc(), outcome, &mut out), wanted);
-        assert_eq!(rt; out.bytes().as_slice(), line.as_bytes());
+        assert_eq!(rt; told(rt.alloc(), outcome, false, line)?, (wanted, true));
     }
     Ok(())
 }
@@ -414,26 +478,24 @@ const FRAME_FAULTS: [(FrameFault, u64, &str); 5] = [
 fn faults_of_a_frame_have_their_line(rt: HostRuntime) -> Result<(), Fail> {
     for (fault, at, line) in FRAME_FAULTS {
         let fault = ClientFault::Frame(fault);
-        let mut out = output_of(rt.alloc(), false)?;
         let outcome = Outcome::Ended(Ending::BadClient { fault, at });
-        assert_eq!(rt; tell(rt.alloc(), outcome, &mut out), 3);
-        assert_eq!(rt; out.bytes().as_slice(), line.as_bytes());
+        assert_eq!(rt; told(rt.alloc(), outcome, false, line)?, (3, true));
     }
     Ok(())
 }
 
+// The status of a session whose line can't be printed.
+fn unprinted(alloc: Global) -> Result<u8, NoMemory> {
+    let mut wires = wires_of(alloc, &[INITIALIZE, DISCONNECT])?;
+    let mut out = output_of(alloc, true)?;
+    status(alloc, SERVE, &mut wires, &mut out)
+}
+
 #[test]
 fn a_line_that_fails_has_a_status(rt: HostRuntime) -> Result<(), Fail> {
-    let mut wires = wires_of(rt.alloc(), &[INITIALIZE, DISCONNECT])?;
-    let mut out = output_of(rt.alloc(), true)?;
-    assert_eq!(rt; status(rt.alloc(), SERVE, &mut wires, &mut out)?, 9);
-    let mut out = output_of(rt.alloc(), true)?;
-    assert_eq!(rt; tell(rt.alloc(), Outcome::Misused, &mut out), 9);
-    let mut out = output_of(rt.alloc(), true)?;
-    assert_eq!(rt;
-        tell(rt.alloc(), Outcome::Ended(Ending::NoMemory), &mut out),
-        70
-    );
-    assert!(rt; out.bytes().is_empty());
+    assert_eq!(rt; unprinted(rt.alloc())?, 9);
+    assert_eq!(rt; told(rt.alloc(), Outcome::Misused, true, "")?, (9, true));
+    let ended = Outcome::Ended(Ending::NoMemory);
+    assert_eq!(rt; told(rt.alloc(), ended, true, "")?, (70, true));
     Ok(())
 }
