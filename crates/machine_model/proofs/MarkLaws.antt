@@ -1,22 +1,23 @@
 -- `initialized` is told once, before the target is gone; `terminated` is told once, of a target that is gone.
 use Rattle.std.proofs.Common.{◌≡◌, Bool, true, false, cond, not, ◌||◌, List, [], ◌∷◌, ◌++◌, Option, Some, None, refl}
 use Rattle.std.proofs.Common.{subst, ◌∙◌, option_map, arith}
-use Rattle.machine_model.specs.Knowing.{is_fresh}
+use Rattle.machine_model.specs.Knowing.{has_last, is_fresh, is_last}
 use Rattle.machine_model.specs.Lookups.{finished}
-use Rattle.machine_model.specs.Names.{Command, Event, Failure, Initialized, Item, Note, Outcome, Part, Phase, Replied}
-use Rattle.machine_model.specs.Names.{TargetCommand, Terminated, a_composite, a_question, a_raw, a_request, an_effect}
-use Rattle.machine_model.specs.Names.{some_news, target_end}
+use Rattle.machine_model.specs.Names.{Command, Event, Failure, Gone, Initialized, Item, Note, Outcome, Part, Phase}
+use Rattle.machine_model.specs.Names.{Replied, TargetCommand, Terminated, a_composite, a_question, a_raw, a_request}
+use Rattle.machine_model.specs.Names.{a_stop, an_effect, some_news, target_end}
 use Rattle.machine_model.specs.Outcomes.{result_of}
 use Rattle.machine_model.specs.Replying.{given_up, hand_replied, replied_to}
 use Rattle.machine_model.specs.Rows.{chosen, end_parts, failure_of, gone_parts, has_response, noted, parts_by, parts_of}
 use Rattle.machine_model.specs.Rows.{request_parts, row_of, wanting}
 use Rattle.machine_model.specs.Runs.{Message}
 use Rattle.machine_model.specs.State.{Hand, Machine, State, is_gone}
-use Rattle.machine_model.specs.Telling.{after_event, numbered_by}
-use Rattle.machine_model.proofs.QuietLaws.{IsKept, is_end_item, kept_end, picked_end}
+use Rattle.machine_model.specs.Telling.{after_event, attached_from, numbered_by}
 use Rattle.machine_model.proofs.Stepping.{IsAt, Moves}
-use Rattle.machine_model.proofs.Tables.{are_plain, attaches, chosen_is, finished_is, has_attach, is_last, plain_attach}
+use Rattle.machine_model.proofs.Tables.{are_plain, attaches, chosen_is, finished_is, has_attach, plain_attach}
 use Rattle.machine_model.proofs.Testing.{IsTest, Passed, same_noted, same_numbered, same_replied, whole}
+use Rattle.machine_model.specs.Composites.{composite_parts, has_death}
+use Rattle.jdwp_events.specs.declared.kind.Policy.{Policy}
 
 -- Lists of parts ------------------------------------------------------------------------------------------------------
 
@@ -70,10 +71,6 @@ marks = record {
   gives_up = λ responds item. none_once (gone_parts responds item) (gone_none responds item);
 }
 
-abbrev has_last : List Part → Bool
-has_last [] = false
-has_last (part ∷ parts) = is_last part || has_last parts
-
 plain_last : (parts rest : List Part) → are_plain parts ≡ true → has_last (parts ++ rest) ≡ has_last rest
 plain_last [] rest is = refl
 plain_last (part ∷ parts) rest is = grind (arith, is, plain_last parts rest)
@@ -88,14 +85,18 @@ mark_last (part ∷ parts) is = grind (arith, is, mark_last parts)
 
 -- The invariant -------------------------------------------------------------------------------------------------------
 
--- these parts attach a session that isn't yet, and tell of a target that is gone and was not told of
+-- the target's end was told only where it is gone
+abbrev over_gone : Phase → Bool → Bool
+over_gone phase terminated = cond terminated (is_gone phase) true
+
+-- these parts attach a session that isn't yet, and tell of a target's end that was not told of
 abbrev marked : Phase → Bool → List Part → Bool
 marked phase terminated parts =
-    cond (cond (has_attach parts) (is_fresh phase) true)
-    (cond (has_last parts) (cond (is_gone phase) (not terminated) false) true) false
+    cond (over_gone phase terminated) (cond (cond (has_attach parts) (is_fresh phase) true)
+    (cond (has_last parts) (not terminated) true) false) false
 
 abbrev hand_marked : Phase → Bool → Option Hand → Bool
-hand_marked phase terminated None = true
+hand_marked phase terminated None = over_gone phase terminated
 hand_marked phase terminated (Some hand) = marked phase terminated hand.parts
 
 abbrev pub IsMarked : Machine → Type 0
@@ -110,38 +111,57 @@ marked_at m hand part rest h at =
 marked_tail : (phase : Phase) (terminated : Bool) (part : Part) (rest : List Part)
     → marked phase terminated (part ∷ rest) ≡ true → marked phase terminated rest ≡ true
 marked_tail phase terminated part rest is =
-    by_bools (attaches part) (has_attach rest) (is_last part) (has_last rest) (is_fresh phase)
-    (cond (is_gone phase) (not terminated) false) is
+    by_bools (over_gone phase terminated) (attaches part) (has_attach rest) (is_last part) (has_last rest)
+    (is_fresh phase) (not terminated) is
   where
-    by_bools : (first attach one last fresh over : Bool)
-        → cond (cond (first || attach) fresh true) (cond (one || last) over true) false ≡ true
-        → cond (cond attach fresh true) (cond last over true) false ≡ true
-    by_bools first attach one last fresh over is = grind (arith, is)
+    by_bools : (over first attach one last fresh ends : Bool)
+        → cond over (cond (cond (first || attach) fresh true) (cond (one || last) ends true) false) false ≡ true
+        → cond over (cond (cond attach fresh true) (cond last ends true) false) false ≡ true
+    by_bools over first attach one last fresh ends is = grind (arith, is)
 
 marked_plain : (phase : Phase) (terminated : Bool) (parts rest : List Part) → are_plain parts ≡ true
     → marked phase terminated rest ≡ true → marked phase terminated (parts ++ rest) ≡ true
 marked_plain phase terminated parts rest plain is =
     rw (plain_attach parts rest plain, plain_last parts rest plain) is
 
-marked_none : (phase : Phase) (terminated : Bool) (parts : List Part) → has_mark parts ≡ false
-    → marked phase terminated parts ≡ true
-marked_none phase terminated parts is = rw (mark_attach parts is, mark_last parts is) refl
+marked_none : (phase : Phase) (terminated : Bool) (parts : List Part) → over_gone phase terminated ≡ true
+    → has_mark parts ≡ false → marked phase terminated parts ≡ true
+marked_none phase terminated parts over is = rw (over, mark_attach parts is, mark_last parts is) refl
 
-request_marked : (state : State) (command : Command)
-    → marked state.phase state.terminated (request_parts command state) ≡ true
-request_marked state command = grind arith
+-- what it says of a target's end holds whatever is in hand
+over_in : (phase : Phase) (terminated : Bool) (hand : Option Hand) → hand_marked phase terminated hand ≡ true
+    → over_gone phase terminated ≡ true
+over_in phase terminated None h = h
+over_in phase terminated (Some hand) h = by_bools (over_gone phase terminated) _ h
+  where
+    by_bools : (over others : Bool) → cond over others false ≡ true → over ≡ true
+    by_bools over others is = grind (arith, is)
 
-begun_marked : (state : State) (item : Item) → (is_end_item item ≡ true → is_gone state.phase ≡ true)
+pub none_over : (phase : Phase) (terminated : Bool) → over_gone phase terminated ≡ true → is_gone phase ≡ false
+    → terminated ≡ false
+none_over phase terminated over near = grind (arith, over, near)
+
+request_marks : (state : State) (command : Command)
+    → cond (cond (has_attach (request_parts command state)) (is_fresh state.phase) true)
+    (cond (has_last (request_parts command state)) (not state.terminated) true) false ≡ true
+request_marks state command = grind arith
+
+begun_marked : (state : State) (item : Item) → over_gone state.phase state.terminated ≡ true
     → marked state.phase state.terminated (parts_of state item) ≡ true
-begun_marked state (a_request request) gone = request_marked state request.command
-begun_marked state target_end gone = rw (gone refl) (by_told state.terminated)
+begun_marked state (a_request request) over = rw over (request_marks state request.command)
+begun_marked state target_end over = rw over (by_told state.terminated)
   where
     by_told : (told : Bool) → cond (cond (has_attach (end_parts told)) (is_fresh state.phase) true)
-        (cond (has_last (end_parts told)) (cond true (not told) false) true) false ≡ true
+        (cond (has_last (end_parts told)) (not told) true) false ≡ true
     by_told true = refl
     by_told false = refl
-begun_marked state (a_composite at composite) gone = grind arith
-begun_marked state (a_raw at body) gone = refl
+begun_marked state (a_composite at composite) over =
+    by_phase state.phase (has_death composite.events) composite.policy state.terminated over
+  where
+    by_phase : (phase : Phase) (dies : Bool) (policy : Policy) (told : Bool) → over_gone phase told ≡ true
+        → marked phase told (composite_parts phase dies policy at state.next_entry) ≡ true
+    by_phase phase dies policy told over = grind (arith, over)
+begun_marked state (a_raw at body) over = rw over refl
 
 same_told : (outcome : Outcome) (state : State) → (numbered_by outcome state).terminated ≡ state.terminated
 same_told outcome state = grind arith
@@ -163,13 +183,23 @@ told_marked : (event : Event) (state : State) (rest : List Part) → stand_once 
     → marked state.phase state.terminated rest ≡ true
     → marked (after_event event state).phase (after_event event state).terminated rest ≡ true
 told_marked (some_news news) state rest is left = left
+told_marked (a_stop stopping) state rest is left = left
 told_marked Initialized state rest is left =
-    marked_none (after_event Initialized state).phase state.terminated rest (unmarked (has_mark rest) is)
+    marked_none (after_event Initialized state).phase state.terminated rest
+    (still_over state.phase (over_of (over_gone state.phase state.terminated) _ left))
+    (unmarked (has_mark rest) is)
   where
     unmarked : (has : Bool) → not has ≡ true → has ≡ false
     unmarked has is = grind (arith, is)
+    over_of : (over others : Bool) → cond over others false ≡ true → over ≡ true
+    over_of over others is = grind (arith, is)
+    still_over : (phase : Phase) → over_gone phase state.terminated ≡ true
+        → over_gone (attached_from phase) state.terminated ≡ true
+    still_over Fresh is = is
+    still_over Attached is = is
+    still_over Gone is = is
 told_marked Terminated state rest is left =
-    marked_none (after_event Terminated state).phase true rest (unmarked (has_mark rest) is)
+    marked_none (after_event Terminated state).phase true rest refl (unmarked (has_mark rest) is)
   where
     unmarked : (has : Bool) → not has ≡ true → has ≡ false
     unmarked has is = grind (arith, is)
@@ -177,56 +207,61 @@ told_marked Terminated state rest is left =
 -- what is left of a hand
 left_marked : (m : Machine) (hand : Hand) (part : Part) (rest : List Part) → IsMarked m → IsAt m hand part rest
     → marked m.state.phase m.state.terminated rest ≡ true
-left_marked m hand part rest h at = marked_tail m.state.phase m.state.terminated part rest
+left_marked m hand part rest h at =
+    marked_tail m.state.phase m.state.terminated part rest
     (marked_at m hand part rest h at)
 
-pub marked_on : (m next : Machine) (said : Option Message) → Passed marks_once m → IsKept m → IsMarked m
+pub marked_on : (m next : Machine) (said : Option Message) → Passed marks_once m → IsMarked m
     → Moves m said next → IsMarked next
-marked_on m next said once k h (Moves.begins picked free none is) =
-    begun_marked m.state picked.item (λ end. kept_end m k (picked_end (is_gone m.state.phase) m.waiting picked is
-    ∙ rw end refl))
-marked_on m next said once k h (Moves.drops free is none) = refl
-marked_on m next said once k h (Moves.responds {hand} {rest} {outcome = outcome} free at is) =
+marked_on m next said once h (Moves.begins picked free none is) =
+    begun_marked m.state picked.item (over_in m.state.phase m.state.terminated m.hand h)
+marked_on m next said once h (Moves.drops free is none) = over_in m.state.phase m.state.terminated m.hand h
+marked_on m next said once h (Moves.responds {hand} {rest} {outcome = outcome} free at is) =
     rw (same_numbered outcome m.state, same_told outcome m.state)
     (left_marked m hand (Part.Responds outcome) rest h at)
-marked_on m next said once k h (Moves.finds {hand} {rest} {lookup} found free at needs done) =
-    marked_plain m.state.phase m.state.terminated (finished lookup (result_of found) m.state) rest
-    (finished_is lookup (result_of found) m.state).plain (left_marked m hand (Part.Looks lookup) rest h at)
-marked_on m next said once k h (Moves.passes_over {hand} {part} {rest} free at why) = left_marked m hand part rest h at
-marked_on m next said once k h (Moves.tells {hand} {rest} {event} free at) =
-    told_marked event m.state rest (whole marks_once once at) (left_marked m hand (Part.Tells event) rest h at)
-marked_on m next said once k h (Moves.sends {hand} {rest} {deed} free at near) =
+marked_on m next said once h (Moves.finds {hand} {rest} {lookup} found free at needs done) =
+    marked_plain m.state.phase m.state.terminated
+    (finished lookup (result_of found) m.state) rest (finished_is lookup (result_of found) m.state).plain
+    (left_marked m hand (Part.Looks lookup) rest h at)
+marked_on m next said once h (Moves.passes_over {hand} {part} {rest} free at why) = left_marked m hand part rest h at
+marked_on m next said once h (Moves.tells {hand} {rest} {event} free at) =
+    told_marked event m.state rest (whole marks_once once at)
+    (left_marked m hand (Part.Tells event) rest h at)
+marked_on m next said once h (Moves.sends {hand} {rest} {deed} free at near) =
     left_marked m hand (Part.Sends deed) rest h at
-marked_on m next said once k h (Moves.updates {hand} {rest = rest} free at is near) = marked_at m hand Part.Updates
+marked_on m next said once h (Moves.updates {hand} {rest = rest} free at is near) = marked_at m hand Part.Updates
     rest h at
-marked_on m next said once k h (Moves.greets free at is near) = h
-marked_on m next said once k h (Moves.notes {hand} {note} {rest} free at) =
+marked_on m next said once h (Moves.greets free at is near) = h
+marked_on m next said once h (Moves.notes {hand} {note} {rest} free at) =
     rw (same_noted note m.state, same_note note m.state) (left_marked m hand (Part.Notes note) rest h at)
-marked_on m next said once k h (Moves.unfolds {hand} {choice} {rest} free at) =
+marked_on m next said once h (Moves.unfolds {hand} {choice} {rest} free at) =
     marked_plain m.state.phase m.state.terminated (chosen choice m.state hand) rest
     (chosen_is choice m.state hand).plain (left_marked m hand (Part.Unfolds choice) rest h at)
-marked_on m next said once k h (Moves.queues free is) =
+marked_on m next said once h (Moves.queues {hand} free is) =
     subst (λ (hand : Option Hand). hand_marked m.state.phase m.state.terminated hand ≡ true) is h
-marked_on m next said once k h (Moves.asks {hand} free room is are) =
+marked_on m next said once h (Moves.asks {hand} free room is are) =
     rw is (subst (λ (hand : Option Hand). hand_marked m.state.phase m.state.terminated hand ≡ true) is h)
-marked_on m next said once k h (Moves.hears read is) = h
-marked_on m next said once k h (Moves.greeted read is) = h
-marked_on m next said once k h (Moves.answers {question} {replied} is waits reply stays) =
+marked_on m next said once h (Moves.hears read is) = h
+marked_on m next said once h (Moves.greeted read is) = h
+marked_on m next said once h (Moves.answers {question} {replied} is waits reply stays) =
     rw (same_replied (a_question question) replied m.state, same_reply (a_question question) replied m.state)
     (replied_marked m.state.phase m.state.terminated (a_question question) replied m.hand ∙ h)
-marked_on m next said once k h (Moves.replies {effect} {replied} is flies reply stays) =
+marked_on m next said once h (Moves.replies {effect} {replied} is flies reply stays) =
     rw (same_replied (an_effect effect) replied m.state, same_reply (an_effect effect) replied m.state)
     (replied_marked m.state.phase m.state.terminated (an_effect effect) replied m.hand ∙ h)
-marked_on m next said once k h (Moves.late before after is reply) = h
-marked_on m next said once k h (Moves.ends gone) = h
-marked_on m next said once k h (Moves.loses late near why) = given_marked m.hand
+marked_on m next said once h (Moves.late before after is reply) = h
+marked_on m next said once h (Moves.ends gone) = h
+marked_on m next said once h (Moves.loses late near why) = given_marked m.hand
   where
-    given_marked : (hand : Option Hand) → hand_marked next.state.phase m.state.terminated (option_map given_up hand)
-        ≡ true
-    given_marked None = refl
+    gone_over : (told : Bool) → cond told true true ≡ true
+    gone_over true = refl
+    gone_over false = refl
+    given_marked : (hand : Option Hand) → hand_marked Gone m.state.terminated (option_map given_up hand) ≡ true
+    given_marked None = gone_over m.state.terminated
     given_marked (Some hand) =
-        marked_none next.state.phase m.state.terminated (gone_parts (has_response hand.parts) hand.item)
+        marked_none Gone m.state.terminated
+        (gone_parts (has_response hand.parts) hand.item) (gone_over m.state.terminated)
         (gone_none (has_response hand.parts) hand.item)
-marked_on m next said once k h (Moves.comes read sized taken) = h
-marked_on m next said once k h (Moves.keeps is) = h
-marked_on m next said once k h (Moves.reads before after read is none taken) = h
+marked_on m next said once h (Moves.comes read sized taken) = h
+marked_on m next said once h (Moves.keeps is) = h
+marked_on m next said once h (Moves.reads before after read is none taken) = h

@@ -70,7 +70,7 @@ pub data Moves (m : Machine) : Option Message → Machine → Type 0 where
       (left (knowing m (after_event event m.state)) hand rest)
   sends : {hand : Hand} {rest : List Part} {deed : Deed} → load_of m ≡ clear
       → IsAt m hand (Part.Sends deed) rest → is_gone m.state.phase ≡ false
-      → Moves m (Some (Message.sends (an_effect (Does deed)))) (sent m hand rest (Does deed))
+      → Moves m (Some (Message.sends (an_effect (Does deed)))) (sent (knowing m (after_deed deed m.state)) hand rest (Does deed))
   updates : {hand : Hand} {effect : Effect} {rest : List Part} → load_of m ≡ clear → IsAt m hand Part.Updates rest
       → effect_due m.state.wishes ≡ Some effect → is_gone m.state.phase ≡ false
       → Moves m (Some (Message.sends (an_effect effect))) (sent m hand (Part.Updates ∷ rest) effect)

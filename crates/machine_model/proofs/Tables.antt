@@ -1,14 +1,18 @@
 -- What the tables' lists of parts pass: the one place that a new request, note, choice or look-up is added to.
 use Rattle.std.proofs.Common.{◌≡◌, Bool, true, false, cond, not, ◌||◌, List, [], ◌∷◌, ◌++◌, Option, refl, arith, ◌∙◌}
+use Rattle.std.proofs.Common.{Some, None}
 use Rattle.machine_model.specs.Lookups.{finished, lookup_responds}
-use Rattle.machine_model.specs.Names.{Attached, Choice, Classes, Command, Failure, Finding, Fresh, Gone, Initialized}
-use Rattle.machine_model.specs.Names.{Item, Leaves, Lines, Lookup, Part, Phase, TellsNews, Terminated, a_composite}
-use Rattle.machine_model.specs.Names.{a_raw, a_request, class_facts, News, some_news, target_end}
+use Rattle.machine_model.specs.Names.{Attached, Choice, Classes, Command, Decides, EntryHeld, Failure, Finding, Fresh}
+use Rattle.machine_model.specs.Names.{Gone, Initialized, Item, Leaves, Lines, Lookup, News, Part, Phase, Resume}
+use Rattle.machine_model.specs.Names.{Stopping, TellsNews, Terminated, a_composite, a_raw, a_request, a_stop}
+use Rattle.machine_model.specs.Names.{class_facts, of_composite, some_news, target_end}
 use Rattle.machine_model.specs.Plans.{Result}
 use Rattle.machine_model.specs.Rows.{choice_responds, chosen, each_told, failure_of, gone_parts, has_response, news_of}
 use Rattle.machine_model.specs.Rows.{is_response, told_in, parts_by, parts_of, request_parts, row_of, wanting}
 use Rattle.machine_model.specs.State.{Hand, State, is_gone}
 use Rattle.machine_model.proofs.Testing.{IsTest, gone_behind}
+use Rattle.machine_model.specs.Stops.{decided, decided_by, events_in, hits_in, holds_entry, stop_among}
+use Rattle.machine_model.specs.Knowing.{is_last}
 
 -- Tests of parts ------------------------------------------------------------------------------------------------------
 
@@ -35,11 +39,6 @@ is_updates _ = false
 abbrev pub attaches : Part → Bool
 attaches (Part.Tells Initialized) = true
 attaches _ = false
-
--- it tells the client that nothing more comes of the target
-abbrev pub is_last : Part → Bool
-is_last (Part.Tells Terminated) = true
-is_last _ = false
 
 -- it changes what is wanted, or becomes what does
 abbrev pub rewants : Part → Bool
@@ -121,6 +120,9 @@ chosen_block (TellsNews below) state hand =
     by_phase Fresh news = refl
     by_phase Attached news = rw (told_once news, told_silent news) (told_plain news)
     by_phase Gone news = refl
+chosen_block Decides state hand =
+    of_decided (λ (parts : List Part). is_block false parts ≡ true) refl refl refl (λ stopping. refl)
+    (λ stopping. refl) state hand.item
 chosen_block (Leaves exits) state hand = grind arith
 
 pub finished_block : (lookup : Lookup) (result : Result Finding) (state : State)
@@ -187,6 +189,33 @@ told_alike f each Gone news rest = refl
 told_alike f each Attached [] rest = refl
 told_alike f each Attached (one ∷ news) rest =
     each one (each_told news ++ rest) ∙ told_alike f each Attached news rest
+
+-- what holds of each decision on a suspension
+pub of_decided : (P : List Part → Type 0) → P [] → P (Part.Notes EntryHeld ∷ [])
+    → P (Part.Sends (Resume of_composite) ∷ []) → ((stopping : Stopping) → P (Part.Tells (a_stop stopping) ∷ []))
+    → ((stopping : Stopping) → P (Part.Tells (a_stop stopping) ∷ Part.Sends (Resume of_composite) ∷ []))
+    → (state : State) (item : Item) → P (decided state item)
+of_decided P none holds resumes stops goes_on state item =
+    by_gone (is_gone state.phase) state.stopped (holds_entry state (events_in item))
+    (stop_among state.wishes (hits_in state.wishes (events_in item)))
+  where
+    by_gone : (gone stopped held : Bool) (stop : Option Stopping) → P (cond gone [] (decided_by stopped held stop))
+    by_gone true stopped held stop = none
+    by_gone false stopped true None = holds
+    by_gone false stopped false None = resumes
+    by_gone false false held (Some stopping) = stops stopping
+    by_gone false true held (Some stopping) = goes_on stopping
+
+-- and it changes nothing to what its parts change nothing to
+pub decided_alike : {A : Type 0} (f : List Part → A)
+    → ((stopping : Stopping) (parts : List Part) → f (Part.Tells (a_stop stopping) ∷ parts) ≡ f parts)
+    → ((parts : List Part) → f (Part.Sends (Resume of_composite) ∷ parts) ≡ f parts)
+    → ((parts : List Part) → f (Part.Notes EntryHeld ∷ parts) ≡ f parts)
+    → (state : State) (item : Item) (rest : List Part) → f (decided state item ++ rest) ≡ f rest
+decided_alike f stops resumes holds state item rest =
+    of_decided (λ (parts : List Part). f (parts ++ rest) ≡ f rest) refl (holds rest) (resumes rest)
+    (λ stopping. stops stopping rest)
+    (λ stopping. stops stopping (Part.Sends (Resume of_composite) ∷ rest) ∙ resumes rest) state item
 
 pub has_joined : (parts rest : List Part) → has_response (parts ++ rest) ≡ (has_response parts || has_response rest)
 has_joined [] rest = refl

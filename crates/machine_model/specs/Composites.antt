@@ -1,5 +1,5 @@
 -- What a composite does when its turn comes (JDWP, Event command set, Composite).
-use Rattle.std.specs.Prelude.{ℕ, ◌∷◌, Bool, true, false, cond, fold, List, []}
+use Rattle.std.specs.Prelude.{ℕ, ◌∷◌, ◌||◌, Bool, true, false, cond, fold, List, []}
 use Rattle.std.specs.List.{flat_map}
 use Rattle.class_tables.specs.Facts.{Known}
 use Rattle.jdwp_events.specs.declared.event.Event.{Event as ATargetEvent}
@@ -7,21 +7,9 @@ use Rattle.jdwp_events.specs.declared.event.Event.TheVariants as happened
 use Rattle.jdwp_events.specs.declared.kind.Policy.{Policy}
 use Rattle.jdwp_events.specs.declared.kind.Policy.TheVariants.{NoThread, EventThread, All}
 use Rattle.machine_model.specs.Classes.{with_listed}
-use Rattle.machine_model.specs.Names.{Attached, Composite, Fresh, Gone, Item, LoadedClass, News, OneThread, Part, Phase}
-use Rattle.machine_model.specs.Names.{Resume, TellsNews, a_composite, a_raw, a_request, class_facts, target_end, thread_changed}
-
--- Events that are served ----------------------------------------------------------------------------------------------
-
--- a class was prepared, or a thread has started or ended
-abbrev pub is_served_event : ATargetEvent → Bool
-is_served_event (happened.ClassPrepare request thread tag class signature status) = true
-is_served_event (happened.ThreadStart request thread) = true
-is_served_event (happened.ThreadDeath request thread) = true
-is_served_event _ = false
-
-abbrev pub are_served_events : List ATargetEvent → Bool
-are_served_events [] = true
-are_served_events (event ∷ events) = cond (is_served_event event) (are_served_events events) false
+use Rattle.machine_model.specs.Names.{Attached, Composite, Decides, Fresh, Gone, Item, LoadedClass, News, OneThread}
+use Rattle.machine_model.specs.Names.{Part, Phase, TellsNews, Terminated, a_composite, a_raw, a_request, class_facts}
+use Rattle.machine_model.specs.Names.{target_end, thread_changed}
 
 -- Threads -------------------------------------------------------------------------------------------------------------
 
@@ -51,8 +39,19 @@ prepared_under NoThread classes = classes
 prepared_under EventThread classes = []
 prepared_under All classes = classes
 
+-- the target's end (JDWP, Event command set, Composite, VMDeath)
+abbrev pub is_death : ATargetEvent → Bool
+is_death (happened.VMDeath request) = true
+is_death _ = false
+
+abbrev pub has_death : List ATargetEvent → Bool
+has_death [] = false
+has_death (event ∷ events) = is_death event || has_death events
+
+-- beside the target's end nothing is learnt
 abbrev pub prepared_in : Composite → List LoadedClass
-prepared_in composite = prepared_under composite.policy (flat_map prepared_by composite.events)
+prepared_in composite =
+    cond (has_death composite.events) [] (prepared_under composite.policy (flat_map prepared_by composite.events))
 
 -- they are learnt, where the session is attached
 abbrev pub learnt_in : Phase → Composite → Known → Known
@@ -75,16 +74,25 @@ abbrev pub binding_parts : ℕ → List Part → List Part
 binding_parts below behind =
     Part.Looks class_facts ∷ Part.Updates ∷ Part.Unfolds (TellsNews below) ∷ behind
 
--- By its suspend policy: the suspension of the whole target is undone once all that is wished in the classes stands; one
--- of a single thread was never asked for, and ends the session (JDWP, Constants, SuspendPolicy; JDWP, VirtualMachine
--- command set, Resume).
+-- By its suspend policy: once all that is wished in the classes stands, it is decided what becomes of the suspension of
+-- the whole target; one of a single thread was never asked for, and ends the session (JDWP, Constants, SuspendPolicy).
 abbrev pub composite_row : Policy → ℕ → ℕ → List Part
 composite_row NoThread at below = binding_parts below []
 composite_row EventThread at below = Part.Ends (OneThread at) ∷ []
-composite_row All at below = binding_parts below (Part.Sends Resume ∷ [])
+composite_row All at below = binding_parts below (Part.Unfolds Decides ∷ [])
+
+-- the target's end is told, and nothing else of its composite (DAP specification, Events, Terminated)
+abbrev pub dying_row : Policy → ℕ → List Part
+dying_row NoThread at = Part.Tells Terminated ∷ []
+dying_row EventThread at = Part.Ends (OneThread at) ∷ []
+dying_row All at = Part.Tells Terminated ∷ []
+
+abbrev pub events_row : Bool → Policy → ℕ → ℕ → List Part
+events_row true policy at below = dying_row policy at
+events_row false policy at below = composite_row policy at below
 
 -- where the target is gone it does nothing
-abbrev pub composite_parts : Phase → Policy → ℕ → ℕ → List Part
-composite_parts Fresh policy at below = []
-composite_parts Attached policy at below = composite_row policy at below
-composite_parts Gone policy at below = []
+abbrev pub composite_parts : Phase → Bool → Policy → ℕ → ℕ → List Part
+composite_parts Fresh dies policy at below = []
+composite_parts Attached dies policy at below = events_row dies policy at below
+composite_parts Gone dies policy at below = []

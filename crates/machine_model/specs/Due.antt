@@ -4,8 +4,10 @@ use Rattle.std.specs.Prelude.{Option, None, Some, option_map}
 use Rattle.jdwp_commands.specs.declared.question.Question.TheVariants as questions
 use Rattle.machine_model.specs.Keys.{same_question}
 use Rattle.machine_model.specs.Lookups.{finished, found_for}
-use Rattle.machine_model.specs.Names.{Act, Does, Effect, Finding, Guard, Handshake, IdSizes, Item, Lookup, Outcome}
-use Rattle.machine_model.specs.Names.{Part, Question, Sent, Want, a_composite, a_raw, a_request, an_event, target_end}
+use Rattle.machine_model.specs.Names.{Act, Deed, Dispose, Does, Effect, Exit, Finding, Guard, Handshake, IdSizes, Item}
+use Rattle.machine_model.specs.Names.{Lookup, Outcome, Part, Question, Resume, Sent, Suspend, Suspension, Want}
+use Rattle.machine_model.specs.Names.{a_composite, a_raw, a_request, an_event, of_composite, of_entry, of_stop}
+use Rattle.machine_model.specs.Names.{target_end}
 use Rattle.machine_model.specs.Plans.{Need, fails, gave, has, lacking, lacks, question_of, refused}
 use Rattle.machine_model.specs.Replying.{is_waiting, pending_of}
 use Rattle.machine_model.specs.Requests.{effect_due}
@@ -86,6 +88,34 @@ sent m hand parts effect = record m {
   hand = Some (record hand { parts = parts; effect = Some (record { effect = effect; reply = None }) });
 }
 
+-- What the sending of a deed changes: with the Suspend of a pause a stop begins, and with its Resume it is over; with that
+-- of the entry the entry is held no longer (JDWP, VirtualMachine command set, Suspend and Resume).
+abbrev pub still_stopped : Suspension → Bool → Bool
+still_stopped of_composite stopped = stopped
+still_stopped of_entry stopped = stopped
+still_stopped of_stop stopped = false
+
+abbrev pub stopped_by : Deed → Bool → Bool
+stopped_by Suspend stopped = true
+stopped_by (Resume suspension) stopped = still_stopped suspension stopped
+stopped_by Dispose stopped = stopped
+stopped_by Exit stopped = stopped
+
+abbrev pub still_held : Suspension → Bool → Bool
+still_held of_composite entry = entry
+still_held of_entry entry = false
+still_held of_stop entry = entry
+
+abbrev pub entry_by : Deed → Bool → Bool
+entry_by Suspend entry = entry
+entry_by (Resume suspension) entry = still_held suspension entry
+entry_by Dispose entry = entry
+entry_by Exit entry = entry
+
+abbrev pub after_deed : Deed → State → State
+after_deed deed state =
+    record state { stopped = stopped_by deed state.stopped; entry = entry_by deed state.entry }
+
 -- the response to the item in hand, where it is a request; else the part is passed over
 abbrev pub responded : Item → Outcome → Machine → Hand → List Part → Due
 responded (a_request request) outcome m hand rest =
@@ -120,7 +150,8 @@ part_due m hand (Part.Responds outcome) rest = responded hand.item outcome m han
 part_due m hand (Part.Tells event) rest =
     due_as (Act.Tells (an_event (event_told event (after_event event m.state))))
     (left (knowing m (after_event event m.state)) hand rest)
-part_due m hand (Part.Sends deed) rest = due_as (Act.Sends (Does deed)) (sent m hand rest (Does deed))
+part_due m hand (Part.Sends deed) rest =
+    due_as (Act.Sends (Does deed)) (sent (knowing m (after_deed deed m.state)) hand rest (Does deed))
 part_due m hand (Part.Looks lookup) rest = looked lookup (found_for lookup m.state hand) m hand rest
 part_due m hand (Part.Awaits guard) rest = guarded (way guard m.state) m hand rest
 part_due m hand Part.Updates rest = updated (effect_due m.state.wishes) m hand rest

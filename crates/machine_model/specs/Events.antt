@@ -5,6 +5,7 @@ use Rattle.dap_messages.specs.declared.told.Breakpoint.{Breakpoint}
 use Rattle.dap_messages.specs.declared.told.Event.TheVariants as events
 use Rattle.dap_messages.specs.declared.told.Outcome.{Outcome as OutcomeTold}
 use Rattle.dap_messages.specs.declared.told.Outcome.TheVariants as outcomes
+use Rattle.dap_messages.specs.declared.told.Stopped.{Stopped}
 use Rattle.dap_messages.specs.declared.told.ThreadChange.{ThreadChange}
 use Rattle.machine_model.specs.Names.{Attach, Command, Request, an_event}
 use Rattle.machine_model.specs.Replying.{is_end}
@@ -58,6 +59,8 @@ pub data AreTold : List Message → List Request → Bool → Type 0 where
   thread : {messages : List Message} {requests : List Request} (change : ThreadChange)
       → AreTold messages requests false
       → AreTold (messages ++ Message.tells (an_event (events.Thread change)) ∷ []) requests false
+  stopped : {messages : List Message} {requests : List Request} (stop : Stopped) → AreTold messages requests false
+      → AreTold (messages ++ Message.tells (an_event (events.Stopped stop)) ∷ []) requests false
   terminated : {messages : List Message} {requests : List Request} → AreTold messages requests false
       → AreTold (messages ++ Message.tells (an_event events.Terminated) ∷ []) requests false
 

@@ -15,23 +15,28 @@ use Rattle.dap_messages.specs.declared.told.Thread.{Thread}
 use Rattle.jdwp_commands.specs.declared.answer.Answer.TheVariants as answers
 use Rattle.jdwp_commands.specs.declared.question.Question.TheVariants as questions
 use Rattle.jdwp_commands.specs.declared.listed.LoadedClass.{LoadedClass}
+use Rattle.jdwp_events.specs.declared.kind.Policy.{Policy}
+use Rattle.jdwp_events.specs.declared.kind.Policy.TheVariants.{NoThread, EventThread, All}
 use Rattle.machine_model.specs.Breakpoints.{with_told}
 use Rattle.machine_model.specs.Classes.{classes_in, has_prepared}
-use Rattle.machine_model.specs.Composites.{prepared_in}
+use Rattle.machine_model.specs.Composites.{has_death, prepared_in}
 use Rattle.machine_model.specs.Facts.{above_in, fields_in, lines_in, methods_in, source_in, variables_in}
-use Rattle.machine_model.specs.Names.{Answer, Attached, Clear, Command, Composite, Disconnect, Dispose, Does, Effect}
-use Rattle.machine_model.specs.Names.{Exit, Fresh, Gone, Item, Part, Phase, Question, Replied, Resume, Set}
-use Rattle.machine_model.specs.Names.{TargetCommand, ThreadId, Told, a_composite, a_question, a_response, an_answer}
-use Rattle.machine_model.specs.Names.{an_effect, an_error, an_event}
+use Rattle.machine_model.specs.Names.{Answer, Attached, Choice, Clear, Command, Composite, Decides, Deed, Disconnect}
+use Rattle.machine_model.specs.Names.{Dispose, Does, Effect, EntryHeld, Event, Exit, Fresh, Gone, Hit, Initialized}
+use Rattle.machine_model.specs.Names.{Item, Leaves, Note, Part, Phase, Question, Replied, Resume, Set, StopCause}
+use Rattle.machine_model.specs.Names.{Suspend, Suspension, TargetCommand, TellsNews, Terminated, ThreadId, Told}
+use Rattle.machine_model.specs.Names.{a_composite, a_question, a_response, a_stop, an_answer, an_effect, an_error}
+use Rattle.machine_model.specs.Names.{an_event, by_client, of_composite, of_entry, of_stop, some_news}
+use Rattle.machine_model.specs.Pending.{bit}
 use Rattle.machine_model.specs.Plans.{answer_in}
 use Rattle.machine_model.specs.Runs.{Message, Run}
-use Rattle.machine_model.specs.State.{Hand, Machine, SizesRead, is_gone}
-use Rattle.suspend_ledger.specs.Suspensions.{composite as composite_came, resumed, with_happening}
+use Rattle.machine_model.specs.State.{Hand, Machine, SizesRead, State, is_gone}
+use Rattle.suspend_ledger.specs.Suspensions.{composite as composite_came, resumed, suspended, with_happening}
 use Rattle.wish_sets.specs.declared.wish.Wish.{Wish}
 use Rattle.wish_sets.specs.declared.wish.Wish.TheVariants as wishes
 
--- what anybody knows who reads the messages; of composites those that came and weren't at their turn; and how many
--- suspensions of the whole target are held, of those that were
+-- What anybody knows who reads the messages; of composites those that came and weren't at their turn, and whether the one
+-- at its turn tells of the target's end; how many suspensions of the whole target are held, and whether a stop is in hand.
 pub record View : Type 0 where
   pub phase : Phase
   pub greeting_sent : Bool
@@ -40,7 +45,9 @@ pub record View : Type 0 where
   pub classes : Known
   pub unlisted : Bool
   pub composites : List Composite
+  pub dying : Bool
   pub held : ℕ
+  pub stopped : Bool
   pub bound : List ℕ
   pub terminated : Bool
   pub closing : Bool
@@ -54,15 +61,18 @@ nothing_said = record {
   classes = nothing;
   unlisted = false;
   composites = [];
+  dying = false;
   held = 0;
+  stopped = false;
   bound = [];
   terminated = false;
   closing = false;
 }
 
--- the target is gone: nothing that happened in it is learnt any more, and no suspension is held
+-- the target is gone: nothing that happened in it is learnt any more, no suspension is held, and no stop is in hand
 abbrev pub gone_view : View → View
-gone_view view = record view { phase = Gone; composites = []; held = 0 }
+gone_view view =
+    record view { phase = Gone; composites = []; dying = false; held = 0; stopped = false }
 
 -- Replies -------------------------------------------------------------------------------------------------------------
 
@@ -140,12 +150,13 @@ replied_view false false command replied view = learnt_view command replied view
 
 -- Messages ------------------------------------------------------------------------------------------------------------
 
--- `initialized` attaches the session, `terminated` ends it (DAP specification, Events)
+-- `initialized` attaches the session, `terminated` ends it; with `stopped` a stop is in hand (DAP specification, Events)
 abbrev pub event_view : EventTold → View → View
 event_view events.Initialized view = record view { phase = Attached }
 event_view (events.Breakpoint breakpoint) view = record view { bound = with_told view.bound (breakpoint ∷ []) }
 event_view (events.Thread change) view = view
-event_view events.Terminated view = record view { phase = Gone; composites = []; terminated = true }
+event_view (events.Stopped stop) view = record view { stopped = true }
+event_view events.Terminated view = record (gone_view view) { terminated = true }
 
 -- the breakpoints that a body shows (DAP specification, SetBreakpoints request)
 abbrev pub breakpoints_in_shape : Shape → List Breakpoint
@@ -171,10 +182,31 @@ abbrev pub come_view : Bool → Composite → View → View
 come_view true composite view = view
 come_view false composite view = record view { composites = view.composites ++ composite ∷ [] }
 
--- a suspension of the whole target is undone (JDWP, VirtualMachine command set, Resume)
+-- the stop in hand is over, where it is its suspension that is undone
+abbrev pub stopped_after : Suspension → Bool → Bool
+stopped_after of_composite stopped = stopped
+stopped_after of_entry stopped = stopped
+stopped_after of_stop stopped = false
+
+-- one suspension of the whole target is held more, for a stop; or one is undone (JDWP, VirtualMachine command set,
+-- Suspend and Resume)
+abbrev pub deed_view : Deed → View → View
+deed_view Suspend view = record view { held = with_happening suspended view.held; stopped = true }
+deed_view (Resume suspension) view = record view {
+  held = with_happening resumed view.held;
+  stopped = stopped_after suspension view.stopped;
+}
+deed_view Dispose view = view
+deed_view Exit view = view
+
+abbrev pub effect_view : Effect → View → View
+effect_view (Does deed) view = deed_view deed view
+effect_view (Set wish) view = view
+effect_view (Clear wish request) view = view
+
 abbrev pub sent_view : TargetCommand → View → View
-sent_view (an_effect (Does Resume)) view = record view { held = with_happening resumed view.held }
-sent_view command view = view
+sent_view (a_question question) view = view
+sent_view (an_effect effect) view = effect_view effect view
 
 -- what a message says
 abbrev pub says : Message → View → View
@@ -191,11 +223,22 @@ says (Message.reads at body composite) view = come_view (is_gone view.phase) com
 says _ view = view
 
 -- A composite is at its turn: the classes that it tells of are learnt, and under its suspend policy one suspension more
--- is held (JDWP, Event command set, Composite; JDWP, Constants, SuspendPolicy).
+-- is held; of one that tells of the target's end nothing else is (JDWP, Event command set, Composite; JDWP, Constants,
+-- SuspendPolicy).
+abbrev pub held_after : Composite → ℕ → ℕ
+held_after composite held =
+    cond (has_death composite.events) held (with_happening (composite_came composite.policy) held)
+
+abbrev pub dying_by : Policy → Bool → Bool
+dying_by NoThread dies = dies
+dying_by EventThread dies = false
+dying_by All dies = dies
+
 abbrev pub turned_view : Composite → List Composite → View → View
 turned_view composite others view = record view {
   composites = others;
-  held = with_happening (composite_came composite.policy) view.held;
+  dying = dying_by composite.policy (has_death composite.events);
+  held = held_after composite view.held;
   classes = with_facts (map class_said (prepared_in composite)) view.classes;
 }
 
@@ -204,18 +247,31 @@ is_fresh Fresh = true
 is_fresh Attached = false
 is_fresh Gone = false
 
--- the session is attached once, and before its target is gone; breakpoints and threads are told until then; that it is gone
--- is told once, and only then
+-- the session is attached once, and before its target is gone; breakpoints, threads and stops are told until then; that it
+-- is gone is told once, and only where it is, or where a composite tells so
 abbrev pub may_tell : Told → View → Bool
 may_tell (a_response response) view = true
 may_tell (an_event events.Initialized) view = is_fresh view.phase
 may_tell (an_event (events.Breakpoint breakpoint)) view = not (is_gone view.phase)
 may_tell (an_event (events.Thread change)) view = not (is_gone view.phase)
-may_tell (an_event events.Terminated) view = cond (is_gone view.phase) (not view.terminated) false
+may_tell (an_event (events.Stopped stop)) view = cond (is_gone view.phase) false (nat_lt 0 view.held)
+may_tell (an_event events.Terminated) view =
+    cond (is_gone view.phase) (not view.terminated) (cond view.dying (not view.terminated) false)
 
--- a suspension is undone only where one is held
+-- a suspension is undone only where one is held, and that of a stop only in a stop; a stop begins where none is in hand
+abbrev pub may_resume : Suspension → View → Bool
+may_resume of_composite view = true
+may_resume of_entry view = true
+may_resume of_stop view = view.stopped
+
+abbrev pub may_do : Deed → View → Bool
+may_do Suspend view = not view.stopped
+may_do (Resume suspension) view = cond (may_resume suspension view) (nat_lt 0 view.held) false
+may_do Dispose view = true
+may_do Exit view = true
+
 abbrev pub may_send : TargetCommand → View → Bool
-may_send (an_effect (Does Resume)) view = nat_lt 0 view.held
+may_send (an_effect (Does deed)) view = may_do deed view
 may_send command view = true
 
 -- When a message may be: nothing is heard behind `disconnect`; each side of the handshake is there once; and nothing
@@ -247,18 +303,90 @@ abbrev pub waiting_composites : Bool → List Item → List Composite
 waiting_composites true items = []
 waiting_composites false items = flat_map composite_in items
 
-abbrev pub is_resume : Part → Bool
-is_resume (Part.Sends Resume) = true
-is_resume _ = false
+-- What a part does with the suspension of the composite in hand: it is still to be decided on, to be undone, or to be held
+-- as the entry or for the stop that begins.
+abbrev pub begins : Bool → StopCause → Bool
+begins true cause = false
+begins false (Hit at) = true
+begins false by_client = false
 
--- the suspensions that an item in hand holds are those that it is still to undo
-abbrev pub resumes_in : List Part → ℕ
-resumes_in [] = 0
-resumes_in (part ∷ parts) = cond (is_resume part) (resumes_in parts + 1) (resumes_in parts)
+abbrev pub undoes : Suspension → Bool
+undoes of_composite = true
+undoes of_entry = false
+undoes of_stop = false
 
-abbrev pub held_by : Option Hand → ℕ
-held_by None = 0
-held_by (Some hand) = resumes_in hand.parts
+abbrev pub event_owes : Bool → Event → Bool
+event_owes stopped Initialized = false
+event_owes stopped (some_news news) = false
+event_owes stopped (a_stop stopping) = begins stopped stopping.cause
+event_owes stopped Terminated = false
+
+abbrev pub deed_owes : Deed → Bool
+deed_owes Suspend = false
+deed_owes (Resume suspension) = undoes suspension
+deed_owes Dispose = false
+deed_owes Exit = false
+
+abbrev pub note_owes : Note → Bool
+note_owes EntryHeld = true
+note_owes _ = false
+
+abbrev pub choice_owes : Choice → Bool
+choice_owes (TellsNews below) = false
+choice_owes Decides = true
+choice_owes (Leaves exits) = false
+
+abbrev pub part_owes : Bool → Part → Bool
+part_owes stopped (Part.Tells event) = event_owes stopped event
+part_owes stopped (Part.Sends deed) = deed_owes deed
+part_owes stopped (Part.Notes note) = note_owes note
+part_owes stopped (Part.Unfolds choice) = choice_owes choice
+part_owes stopped _ = false
+
+-- whether a stop is in hand behind a part
+abbrev pub stopped_told : Event → Bool → Bool
+stopped_told Initialized stopped = stopped
+stopped_told (some_news news) stopped = stopped
+stopped_told (a_stop stopping) stopped = true
+stopped_told Terminated stopped = false
+
+abbrev pub stopped_done : Deed → Bool → Bool
+stopped_done Suspend stopped = true
+stopped_done (Resume suspension) stopped = stopped_after suspension stopped
+stopped_done Dispose stopped = stopped
+stopped_done Exit stopped = stopped
+
+abbrev pub stopped_behind : Part → Bool → Bool
+stopped_behind (Part.Tells event) stopped = stopped_told event stopped
+stopped_behind (Part.Sends deed) stopped = stopped_done deed stopped
+stopped_behind _ stopped = stopped
+
+-- the suspension of the composite in hand, as long as it is held for that
+abbrev pub owed_in : Bool → List Part → ℕ
+owed_in stopped [] = 0
+owed_in stopped (part ∷ parts) = bit (part_owes stopped part) + owed_in (stopped_behind part stopped) parts
+
+abbrev pub owed_by : Bool → Option Hand → ℕ
+owed_by stopped None = 0
+owed_by stopped (Some hand) = owed_in stopped hand.parts
+
+-- the suspensions that are held: for the stop in hand, as the entry, and for the composite in hand
+abbrev pub held_in : State → Option Hand → ℕ
+held_in state hand = bit state.stopped + bit state.entry + owed_by state.stopped hand
+
+-- a part that tells of the target's end (DAP specification, Events, Terminated)
+abbrev pub is_last : Part → Bool
+is_last (Part.Tells Terminated) = true
+is_last _ = false
+
+abbrev pub has_last : List Part → Bool
+has_last [] = false
+has_last (part ∷ parts) = is_last part || has_last parts
+
+-- the item in hand is to tell of it
+abbrev pub dies : Option Hand → Bool
+dies None = false
+dies (Some hand) = has_last hand.parts
 
 -- what the machine knows of it
 abbrev pub view_of : Machine → View
@@ -270,7 +398,9 @@ view_of m = record {
   classes = m.state.classes;
   unlisted = m.state.unlisted;
   composites = waiting_composites (is_gone m.state.phase) m.waiting;
-  held = held_by m.hand;
+  dying = cond (is_gone m.state.phase) false (dies m.hand);
+  held = held_in m.state m.hand;
+  stopped = m.state.stopped;
   bound = m.state.bound;
   terminated = m.state.terminated;
   closing = m.closing;
@@ -310,16 +440,18 @@ numbers_in_shape shapes.Nothing = []
 numbers_in_shape shapes.Capabilities = []
 numbers_in_shape (shapes.Breakpoints breakpoints) = []
 numbers_in_shape (shapes.Threads threads) = map thread_number threads
+numbers_in_shape shapes.Continued = []
 
 abbrev pub numbers_in_outcome : OutcomeTold → List ℕ
 numbers_in_outcome (outcomes.Success shape) = numbers_in_shape shape
 numbers_in_outcome (outcomes.Failure failure) = []
 
--- the number of the thread in an event (DAP specification, Events, Thread)
+-- the number of the thread in an event (DAP specification, Events, Thread and Stopped)
 abbrev pub numbers_in_event : EventTold → List ℕ
 numbers_in_event events.Initialized = []
 numbers_in_event (events.Breakpoint breakpoint) = []
 numbers_in_event (events.Thread change) = change.id ∷ []
+numbers_in_event (events.Stopped stop) = stop.thread ∷ []
 numbers_in_event events.Terminated = []
 
 abbrev pub numbers_in : Told → List ℕ

@@ -1,8 +1,8 @@
 -- The words of the machine and of what it speaks to, under the names that the definitions use.
 pub use Rattle.dap_messages.specs.declared.requests.Command.{Command}
 pub use Rattle.dap_messages.specs.declared.requests.Command.TheVariants.{Initialize, Attach, ConfigurationDone}
-pub use Rattle.dap_messages.specs.declared.requests.Command.TheVariants.{SetBreakpoints, Threads, Disconnect}
-pub use Rattle.dap_messages.specs.declared.requests.Command.TheVariants.{Unsupported, BadArguments}
+pub use Rattle.dap_messages.specs.declared.requests.Command.TheVariants.{SetBreakpoints, Threads, Continue, Pause}
+pub use Rattle.dap_messages.specs.declared.requests.Command.TheVariants.{Disconnect, Unsupported, BadArguments}
 pub use Rattle.dap_messages.specs.declared.requests.Request.{Request}
 pub use Rattle.dap_messages.specs.declared.told.Failure.{Failure}
 pub use Rattle.dap_messages.specs.declared.told.Told.{Told}
@@ -15,6 +15,7 @@ pub use Rattle.jdwp_events.specs.declared.composite.Composite.{Composite}
 pub use Rattle.jdwp_commands.specs.declared.listed.LoadedClass.{LoadedClass}
 pub use Rattle.jdwp_values.specs.declared.id.ClassId.{ClassId}
 pub use Rattle.jdwp_values.specs.declared.id.ThreadId.{ThreadId}
+pub use Rattle.jdwp_values.specs.declared.location.Location.{Location}
 pub use Rattle.machine_model.specs.declared.acts.Act.{Act}
 pub use Rattle.machine_model.specs.declared.acts.Doing.{Doing}
 pub use Rattle.machine_model.specs.declared.acts.Effect.{Effect}
@@ -32,13 +33,14 @@ pub use Rattle.machine_model.specs.declared.options.ClientOptions.{ClientOptions
 pub use Rattle.machine_model.specs.declared.parts.Body.{Body}
 pub use Rattle.machine_model.specs.declared.parts.Body.TheVariants.{Nothing, Capabilities}
 pub use Rattle.machine_model.specs.declared.parts.Body.TheVariants.{Breakpoints as breakpoint_list}
-pub use Rattle.machine_model.specs.declared.parts.Body.TheVariants.{Threads as thread_list}
+pub use Rattle.machine_model.specs.declared.parts.Body.TheVariants.{Threads as thread_list, Continued}
 pub use Rattle.machine_model.specs.declared.parts.Choice.{Choice}
-pub use Rattle.machine_model.specs.declared.parts.Choice.TheVariants.{TellsNews, Leaves}
+pub use Rattle.machine_model.specs.declared.parts.Choice.TheVariants.{TellsNews, Decides, Leaves}
 pub use Rattle.machine_model.specs.declared.parts.Deed.{Deed}
-pub use Rattle.machine_model.specs.declared.parts.Deed.TheVariants.{Resume, Dispose, Exit}
+pub use Rattle.machine_model.specs.declared.parts.Deed.TheVariants.{Suspend, Resume, Dispose, Exit}
 pub use Rattle.machine_model.specs.declared.parts.Event.{Event}
 pub use Rattle.machine_model.specs.declared.parts.Event.TheVariants.{Initialized, News as some_news, Terminated}
+pub use Rattle.machine_model.specs.declared.parts.Event.TheVariants.{Stopped as a_stop}
 pub use Rattle.machine_model.specs.declared.parts.Finding.{Finding}
 pub use Rattle.machine_model.specs.declared.parts.Finding.TheVariants.{Threads as threads_found}
 pub use Rattle.machine_model.specs.declared.parts.Finding.TheVariants.{Classes as classes_found}
@@ -56,6 +58,13 @@ pub use Rattle.machine_model.specs.declared.parts.News.TheVariants.{Verified as 
 pub use Rattle.machine_model.specs.declared.parts.News.TheVariants.{Thread as thread_changed}
 pub use Rattle.machine_model.specs.declared.parts.Note.{Note}
 pub use Rattle.machine_model.specs.declared.parts.Note.TheVariants.{Options, Roots, Lines, Classes}
+pub use Rattle.machine_model.specs.declared.parts.Note.TheVariants.{EntryHeld, Configured}
 pub use Rattle.machine_model.specs.declared.parts.Outcome.{Outcome}
 pub use Rattle.machine_model.specs.declared.parts.Outcome.TheVariants.{Success, Failure as Failed}
 pub use Rattle.machine_model.specs.declared.parts.Part.{Part}
+pub use Rattle.machine_model.specs.declared.parts.StopCause.{StopCause}
+pub use Rattle.machine_model.specs.declared.parts.StopCause.TheVariants.{Hit, Pause as by_client}
+pub use Rattle.machine_model.specs.declared.parts.Stopping.{Stopping}
+pub use Rattle.machine_model.specs.declared.parts.Suspension.{Suspension}
+pub use Rattle.machine_model.specs.declared.parts.Suspension.TheVariants.{Composite as of_composite, Entry as of_entry}
+pub use Rattle.machine_model.specs.declared.parts.Suspension.TheVariants.{Stop as of_stop}

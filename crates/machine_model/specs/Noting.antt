@@ -1,7 +1,7 @@
 -- How the client is served is what its last `initialize` asked for.
 use Rattle.std.specs.Prelude.{◌≡◌, ◌∷◌, ◌++◌, false, cond, List, [], Option, None, Some}
-use Rattle.machine_model.specs.Names.{Classes, ClientOptions, Command, Initialize, Lines, Note, Options, Part}
-use Rattle.machine_model.specs.Names.{Request, Roots, a_response}
+use Rattle.machine_model.specs.Names.{Classes, ClientOptions, Command, Configured, EntryHeld, Initialize, Lines, Note}
+use Rattle.machine_model.specs.Names.{Options, Part, Request, Roots, a_response}
 use Rattle.machine_model.specs.Rest.{IsAnswer, request_by, response_by, without_response}
 use Rattle.dap_messages.specs.declared.told.Response.{Response}
 use Rattle.machine_model.specs.Rows.{has_response}
@@ -36,6 +36,8 @@ note_options (Options noted) options = noted
 note_options (Roots roots) options = options
 note_options (Lines key entries) options = options
 note_options (Classes classes) options = options
+note_options EntryHeld options = options
+note_options Configured options = options
 
 abbrev pub part_options : Part → ClientOptions → ClientOptions
 part_options (Part.Notes note) options = note_options note options

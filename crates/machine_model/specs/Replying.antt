@@ -16,19 +16,20 @@ use Rattle.jdwp_values.specs.declared.sizes.IdSizes.{IdSizes}
 use Rattle.machine_model.specs.Classes.{classes_in, with_listed}
 use Rattle.machine_model.specs.Facts.{above_in, fields_in, lines_in, methods_in, source_in, variables_in}
 use Rattle.machine_model.specs.Names.{Answer, Clear, Deed, Dispose, Does, Doing, Effect, Exit, Gone, Phase, Question}
-use Rattle.machine_model.specs.Names.{Replied, Resume, Sent, Set, TargetCommand, Want, a_question, an_answer}
+use Rattle.machine_model.specs.Names.{Replied, Resume, Sent, Set, Suspend, TargetCommand, Want, a_question, an_answer}
 use Rattle.machine_model.specs.Names.{an_effect, an_error, target_end}
 use Rattle.machine_model.specs.Plans.{answer_in, asks_for, question_of}
 use Rattle.machine_model.specs.Requests.{clear_of, request_in, set_of, wishes_after}
 use Rattle.machine_model.specs.Rows.{gone_parts, has_response}
-use Rattle.machine_model.specs.State.{Hand, Machine, SizesRead, State, is_gone, is_none}
+use Rattle.machine_model.specs.State.{Hand, Machine, SizesRead, State, is_gone, is_none, lost}
 use Rattle.wish_sets.specs.declared.wish.Wish.{Wish}
 use Rattle.wish_sets.specs.declared.wish.Wish.TheVariants as wish
 
 -- Commands as they are sent (JDWP, Detailed Command Information) ------------------------------------------------------
 
 abbrev pub wire_deed : Deed → WireEffect
-wire_deed Resume = effects.Resume
+wire_deed Suspend = effects.Suspend
+wire_deed (Resume suspension) = effects.Resume
 wire_deed Dispose = effects.Dispose
 wire_deed Exit = effects.Exit (pos 0)
 
@@ -51,7 +52,8 @@ is_essential_question _ = false
 
 -- the effects whose refusal does
 abbrev pub is_essential_deed : Deed → Bool
-is_essential_deed Resume = true
+is_essential_deed Suspend = true
+is_essential_deed (Resume suspension) = true
 is_essential_deed Dispose = false
 is_essential_deed Exit = false
 
@@ -241,7 +243,7 @@ given_up hand = record {
 -- the target ends: the item in hand is given up, what is pending stays pending, and the end waits for its turn
 abbrev pub ended_with : List TargetCommand → Machine → Machine
 ended_with late m = record m {
-  state = record m.state { phase = Gone };
+  state = lost m.state;
   hand = option_map given_up m.hand;
   waiting = m.waiting ++ target_end ∷ [];
   late = m.late ++ late;

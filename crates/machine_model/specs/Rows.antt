@@ -1,19 +1,23 @@
 -- What each item does, part by part (DAP specification, Requests; JDWP, Event command set, Composite).
-use Rattle.std.specs.Prelude.{ℕ, ◌+◌, ◌∷◌, ◌++◌, ◌||◌, Bool, true, false, List, [], length, map, Option, None, Some}
+use Rattle.std.specs.Prelude.{ℕ, ◌+◌, ◌-◌, ◌==◌, ◌∷◌, ◌++◌, ◌||◌, Bool, true, false, cond, List, [], length, map}
+use Rattle.std.specs.Prelude.{Option, None, Some, slice_get}
 use Rattle.class_tables.specs.Lookups.{found_in}
-use Rattle.dap_messages.specs.Telling.{already_attached, bad_arguments, not_attached, target_gone, unsupported}
+use Rattle.dap_messages.specs.Telling.{already_attached, bad_arguments, not_attached, not_stopped, target_gone}
+use Rattle.dap_messages.specs.Telling.{unknown_thread, unsupported}
 use Rattle.dap_messages.specs.declared.requests.InitializeArguments.{InitializeArguments}
 use Rattle.machine_model.specs.Breakpoints.{entry_of, key_of, lines_wished, newly_verified, numbered_from}
-use Rattle.machine_model.specs.Composites.{changes_in, composite_parts, learnt_by}
+use Rattle.machine_model.specs.Composites.{changes_in, composite_parts, has_death, learnt_by}
 use Rattle.machine_model.specs.Lookups.{lookup_responds}
 use Rattle.machine_model.specs.Names.{Attach, Attached, BadArguments, Capabilities, Choice, Classes, ClientOptions}
-use Rattle.machine_model.specs.Names.{Command, ConfigurationDone, Deed, Disconnect, Dispose, Done, Exit, Failed}
-use Rattle.machine_model.specs.Names.{Failure, Fresh, Gone, Handshake, IdSizes, Initialize, Initialized, Item, Leaves}
-use Rattle.machine_model.specs.Names.{Lines, ListedBreakpoint, Note, Nothing, Options, Part, Phase, Roots}
-use Rattle.machine_model.specs.Names.{SetBreakpoints, Success, TellsNews, Terminated, Threads, Unsupported}
-use Rattle.machine_model.specs.Names.{a_composite, a_raw, a_request, all_threads, breakpoint_list, class_facts}
-use Rattle.machine_model.specs.Names.{News, entry_verified, some_news, target_end}
+use Rattle.machine_model.specs.Names.{Command, ConfigurationDone, Configured, Continue, Continued, Decides, Deed}
+use Rattle.machine_model.specs.Names.{Disconnect, Dispose, Done, EntryHeld, Exit, Failed, Failure, Fresh, Gone}
+use Rattle.machine_model.specs.Names.{Handshake, IdSizes, Initialize, Initialized, Item, Leaves, Lines}
+use Rattle.machine_model.specs.Names.{ListedBreakpoint, News, Note, Nothing, Options, Part, Pause, Phase, Resume, Roots}
+use Rattle.machine_model.specs.Names.{SetBreakpoints, Success, Suspend, TellsNews, Terminated, ThreadId, Threads}
+use Rattle.machine_model.specs.Names.{Unsupported, a_composite, a_raw, a_request, a_stop, all_threads, breakpoint_list}
+use Rattle.machine_model.specs.Names.{by_client, class_facts, entry_verified, of_entry, of_stop, some_news, target_end}
 use Rattle.machine_model.specs.State.{Hand, State, is_some}
+use Rattle.machine_model.specs.Stops.{decided}
 use Rattle.wish_sets.specs.Wanted.{with_known}
 use Rattle.wish_sets.specs.Wishes.{rewished}
 
@@ -34,6 +38,34 @@ breakpoint_parts from_one key listed below =
     Part.Notes (Lines key (map (entry_of from_one) listed)) ∷ Part.Updates ∷ Part.Looks class_facts ∷ Part.Updates
     ∷ Part.Unfolds (TellsNews below) ∷ Part.Responds (Success (breakpoint_list (is_some key) listed)) ∷ []
 
+-- The client has configured all: the target's entry is held no longer (DAP specification, ConfigurationDone request;
+-- JDWP, VirtualMachine command set, Resume).
+abbrev pub configured_parts : Bool → List Part
+configured_parts true =
+    Part.Sends (Resume of_entry) ∷ Part.Notes Configured ∷ Part.Responds (Success Nothing) ∷ []
+configured_parts false = Part.Notes Configured ∷ Part.Responds (Success Nothing) ∷ []
+
+-- the thread of a number, where it was told
+abbrev pub thread_with : List ThreadId → ℕ → Option ThreadId
+thread_with threads number = cond (number == 0) None (slice_get threads (number - 1))
+
+-- the stop is over, and the whole target runs on (DAP specification, Continue request; JDWP, VirtualMachine command set,
+-- Resume)
+abbrev pub continue_parts : Option ThreadId → List Part
+continue_parts None = Part.Responds (Failed unknown_thread) ∷ []
+continue_parts (Some thread) = Part.Sends (Resume of_stop) ∷ Part.Responds (Success Continued) ∷ []
+
+-- The whole target is suspended, for a stop; in a stop nothing has to be done (DAP specification, Pause request; JDWP,
+-- VirtualMachine command set, Suspend).
+abbrev pub paused_parts : Bool → ThreadId → List Part
+paused_parts true thread = Part.Responds (Success Nothing) ∷ []
+paused_parts false thread = Part.Sends Suspend ∷ Part.Responds (Success Nothing)
+    ∷ Part.Tells (a_stop (record { cause = by_client; thread = thread })) ∷ []
+
+abbrev pub pause_parts : Bool → Option ThreadId → List Part
+pause_parts stopped None = Part.Responds (Failed unknown_thread) ∷ []
+pause_parts stopped (Some thread) = paused_parts stopped thread
+
 -- the table of requests
 abbrev pub row_of : Command → State → List Part
 row_of (Initialize arguments) state =
@@ -41,11 +73,13 @@ row_of (Initialize arguments) state =
 row_of (Attach arguments) state =
     Part.Notes (Roots arguments.source_roots) ∷ Part.Awaits Handshake ∷ Part.Awaits IdSizes ∷ Part.Updates
     ∷ Part.Responds (Success Nothing) ∷ Part.Tells Initialized ∷ []
-row_of ConfigurationDone state = Part.Responds (Success Nothing) ∷ []
+row_of ConfigurationDone state = configured_parts state.entry
 row_of (SetBreakpoints arguments) state =
     breakpoint_parts state.options.lines_from_one (key_of state.roots arguments.path)
     (numbered_from state.next_entry arguments.breakpoints) state.next_entry
 row_of Threads state = Part.Looks all_threads ∷ []
+row_of (Continue arguments) state = continue_parts (thread_with state.threads arguments.thread_id)
+row_of (Pause arguments) state = pause_parts state.stopped (thread_with state.threads arguments.thread_id)
 row_of (Disconnect arguments) state =
     Part.Unfolds (Leaves arguments.terminate_debuggee) ∷ Part.Responds (Success Nothing) ∷ Part.Ends Done ∷ []
 row_of Unsupported state = Part.Responds (Failed unsupported) ∷ []
@@ -56,6 +90,7 @@ pub data Wanting : Type 0 where
   wants_nothing : Wanting
   wants_no_target : Wanting
   wants_target : Wanting
+  wants_stop : Wanting
 
 -- the table of what they want
 abbrev pub wanting : Command → Wanting
@@ -64,6 +99,8 @@ wanting (Attach arguments) = wants_no_target
 wanting ConfigurationDone = wants_target
 wanting (SetBreakpoints arguments) = wants_target
 wanting Threads = wants_target
+wanting (Continue arguments) = wants_stop
+wanting (Pause arguments) = wants_target
 wanting (Disconnect arguments) = wants_nothing
 wanting Unsupported = wants_nothing
 wanting (BadArguments name) = wants_nothing
@@ -78,11 +115,21 @@ if_attached Fresh = Some not_attached
 if_attached Attached = None
 if_attached Gone = Some target_gone
 
+abbrev pub unless_stopped : Bool → Option Failure
+unless_stopped true = None
+unless_stopped false = Some not_stopped
+
+abbrev pub if_stopped : Bool → Phase → Option Failure
+if_stopped stopped Fresh = Some not_attached
+if_stopped stopped Attached = unless_stopped stopped
+if_stopped stopped Gone = Some target_gone
+
 -- the failure that is known before anything is done (DAP specification, Base Protocol, ErrorResponse)
 abbrev pub failure_of : Wanting → State → Option Failure
 failure_of wants_nothing state = None
 failure_of wants_no_target state = unless_attached state.phase
 failure_of wants_target state = if_attached state.phase
+failure_of wants_stop state = if_stopped state.stopped state.phase
 
 -- a request that fails does nothing but tell its failure
 abbrev pub parts_by : Option Failure → List Part → List Part
@@ -124,11 +171,13 @@ news_of below state item =
 -- the table of choices: what a part becomes when its turn comes
 abbrev pub chosen : Choice → State → Hand → List Part
 chosen (TellsNews below) state hand = told_in state.phase (news_of below state hand.item)
+chosen Decides state hand = decided state hand.item
 chosen (Leaves exits) state hand = leaves state.phase exits
 
 -- whether it brings the response
 abbrev pub choice_responds : Choice → Bool
 choice_responds (TellsNews below) = false
+choice_responds Decides = false
 choice_responds (Leaves exits) = false
 
 -- Notes ---------------------------------------------------------------------------------------------------------------
@@ -145,6 +194,9 @@ noted (Classes classes) state = record state {
   wishes = rewished (with_known (found_in state.classes) classes state.wishes.wanted) state.wishes;
 }
 
+noted EntryHeld state = record state { entry = true }
+noted Configured state = record state { configured = true }
+
 -- Items ---------------------------------------------------------------------------------------------------------------
 
 -- the client is told that nothing more comes of the target, once (DAP specification, Events, Terminated)
@@ -155,7 +207,8 @@ end_parts false = Part.Tells Terminated ∷ []
 -- what an item does when its turn comes
 abbrev pub parts_of : State → Item → List Part
 parts_of state (a_request request) = request_parts request.command state
-parts_of state (a_composite at composite) = composite_parts state.phase composite.policy at state.next_entry
+parts_of state (a_composite at composite) =
+    composite_parts state.phase (has_death composite.events) composite.policy at state.next_entry
 parts_of state (a_raw at body) = []
 parts_of state target_end = end_parts state.terminated
 

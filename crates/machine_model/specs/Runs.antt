@@ -1,10 +1,9 @@
 -- The machine's runs: what it says, and what may come.
-use Rattle.std.specs.Prelude.{ℕ, ◌≡◌, ◌∷◌, ◌++◌, ◌||◌, Bool, true, false, List, [], Option, None, Some}
+use Rattle.std.specs.Prelude.{ℕ, ◌≡◌, ◌∷◌, ◌++◌, Bool, true, false, List, [], Option, None, Some}
 use Rattle.jdwp_events.specs.Composites.{FitsComposite}
 use Rattle.jdwp_values.specs.declared.sizes.IdSizes.{IdSizes}
-use Rattle.machine_model.specs.Composites.{are_served_events}
 use Rattle.machine_model.specs.Due.{can_read, due}
-use Rattle.machine_model.specs.Names.{Act, Command, Composite, Disconnect, Effect, Item, Phase, Question, Replied}
+use Rattle.machine_model.specs.Names.{Act, Command, Composite, Disconnect, Effect, Item, Question, Replied}
 use Rattle.machine_model.specs.Names.{Request, TargetCommand, Told, a_composite, a_question, a_raw, a_request}
 use Rattle.machine_model.specs.Names.{an_effect}
 use Rattle.machine_model.specs.Replying.{IsReply, SizesFor, answered, ended, is_waiting}
@@ -57,20 +56,11 @@ heard m request =
 abbrev pub greeting_heard : Machine → Machine
 greeting_heard m = knowing m (record m.state { greeting_heard = true })
 
--- composites of this kind are served: those of classes that were prepared, and of threads that started or ended
-abbrev pub is_served : Composite → Bool
-is_served composite = are_served_events composite.events
-
--- a composite is taken where it is served, or the target is gone, where it does nothing
-abbrev pub takes : Phase → Composite → Bool
-takes phase composite = is_gone phase || is_served composite
-
--- A composite that is taken has a spelling with the sizes of ids that are known (JDWP, Event command set, Composite).
+-- A composite that comes has a spelling with the sizes of ids that are known (JDWP, Event command set, Composite).
 pub record Takes (state : State) (composite : Composite) : Type 0 where
   pub used : IdSizes
   pub serves : SizesFor state.sizes used
   pub fits : FitsComposite used composite
-  pub is_taken : takes state.phase composite ≡ true
 
 -- What may come next. A composite that can be read is read before anything else; nothing else is asked of what comes,
 -- so it may come where something is due.

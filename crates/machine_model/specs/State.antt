@@ -17,7 +17,8 @@ pub record SizesRead : Type 0 where
 -- handshake went out and came; the sizes of ids; the folders that sources stand in; the id that the next breakpoint
 -- gets; which event requests are wished and which stand; whether a watch was set since all classes were listed; the
 -- facts of classes; the threads that were told, in the order of their numbers; the ids of the breakpoints that were told
--- to be verified; and whether the client was told that nothing more comes of the target.
+-- to be verified; whether a stop is in hand, whether the target's entry is held, and whether the client has configured
+-- all; and whether it was told that nothing more comes of the target.
 pub record State : Type 0 where
   pub options : ClientOptions
   pub phase : Phase
@@ -31,6 +32,9 @@ pub record State : Type 0 where
   pub classes : Known
   pub threads : List ThreadId
   pub bound : List ℕ
+  pub stopped : Bool
+  pub entry : Bool
+  pub configured : Bool
   pub terminated : Bool
 
 -- The item in hand, what is left of it to do, what is to be asked for it, what was asked for it in order of sending,
@@ -71,6 +75,9 @@ nothing_known = record {
   classes = nothing;
   threads = [];
   bound = [];
+  stopped = false;
+  entry = false;
+  configured = false;
   terminated = false;
 }
 
@@ -80,6 +87,10 @@ fresh = record { state = nothing_known; waiting = []; hand = None; late = []; cl
 -- an item as it is begun, with these parts
 abbrev pub in_hand : Item → List Part → Hand
 in_hand item parts = record { item = item; parts = parts; queue = []; asked = []; effect = None }
+
+-- the target is gone, and with it the stop in hand and the entry that was held
+abbrev pub lost : State → State
+lost state = record state { phase = Gone; stopped = false; entry = false }
 
 -- this is known now
 abbrev pub knowing : Machine → State → Machine

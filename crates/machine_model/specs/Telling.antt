@@ -1,18 +1,24 @@
 -- What the client is told, with numbers in place of the target's ids, and what the telling changes.
 use Rattle.std.specs.Prelude.{ℕ, ◌+◌, ◌==◌, ◌∷◌, ◌++◌, Bool, true, false, cond, List, [], map}
+use Rattle.std.specs.List.{list_any}
 use Rattle.dap_messages.specs.declared.told.Event.{Event as EventTold}
 use Rattle.dap_messages.specs.declared.told.Event.TheVariants as events
 use Rattle.dap_messages.specs.declared.told.Outcome.{Outcome as OutcomeTold}
 use Rattle.dap_messages.specs.declared.told.Outcome.TheVariants as outcomes
 use Rattle.dap_messages.specs.declared.told.Shape.{Shape}
 use Rattle.dap_messages.specs.declared.told.Shape.TheVariants as shapes
+use Rattle.dap_messages.specs.declared.told.StopReason.{StopReason}
+use Rattle.dap_messages.specs.declared.told.StopReason.TheVariants as reasons
 use Rattle.dap_messages.specs.declared.told.Thread.{Thread}
 use Rattle.jdwp_values.specs.Lossy.{lossy}
 use Rattle.machine_model.specs.Breakpoints.{breakpoint_told, verified_told, with_id, with_told}
-use Rattle.machine_model.specs.Names.{Attached, Body, Capabilities, Event, Failed, Fresh, Gone, Initialized}
-use Rattle.machine_model.specs.Names.{NamedThread, News, Nothing, Outcome, Phase, Request, Success, Terminated, ThreadId}
-use Rattle.machine_model.specs.Names.{Told, a_response, breakpoint_list, entry_verified, some_news, thread_changed, thread_list}
-use Rattle.machine_model.specs.State.{State}
+use Rattle.machine_model.specs.Names.{Attached, Body, Capabilities, Continued, Event, Failed, Fresh, Gone, Hit}
+use Rattle.machine_model.specs.Names.{Initialized, NamedThread, News, Nothing, Outcome, Phase, Request, StopCause, Success}
+use Rattle.machine_model.specs.Names.{Terminated, ThreadId, Told, a_response, a_stop, breakpoint_list, by_client}
+use Rattle.machine_model.specs.Names.{entry_verified, some_news, thread_changed, thread_list}
+use Rattle.machine_model.specs.State.{State, lost}
+use Rattle.wish_sets.specs.Entries.{entries_at}
+use Rattle.wish_sets.specs.declared.entry.EntryAt.{EntryAt}
 
 -- Numbers of threads --------------------------------------------------------------------------------------------------
 
@@ -42,6 +48,7 @@ numbered Nothing state = state
 numbered Capabilities state = state
 numbered (breakpoint_list rooted listed) state =
     record state { bound = with_told state.bound (map (breakpoint_told rooted state.wishes) listed) }
+numbered Continued state = state
 numbered (thread_list named) state = record state { threads = with_threads state.threads named }
 
 -- a thread as it is told, its name as text (DAP specification, Types, Thread)
@@ -54,6 +61,7 @@ body_told Nothing state = shapes.Nothing
 body_told Capabilities state = shapes.Capabilities
 body_told (breakpoint_list rooted listed) state =
     shapes.Breakpoints (map (breakpoint_told rooted state.wishes) listed)
+body_told Continued state = shapes.Continued
 body_told (thread_list named) state = shapes.Threads (map (thread_told state.threads) named)
 
 abbrev pub numbered_by : Outcome → State → State
@@ -87,13 +95,15 @@ abbrev pub threads_after : News → List ThreadId → List ThreadId
 threads_after (entry_verified entry) threads = threads
 threads_after (thread_changed started thread) threads = with_thread threads thread
 
--- what the telling of an event changes: the session is attached, or its target gone, from there on; or the client knows
--- of a breakpoint or a thread
+-- what the telling of an event changes: the session is attached, or its target gone, from there on; a stop is in hand; or
+-- the client knows of a breakpoint or a thread
 abbrev pub after_event : Event → State → State
 after_event Initialized state = record state { phase = attached_from state.phase }
 after_event (some_news news) state =
     record state { bound = bound_after news state.bound; threads = threads_after news state.threads }
-after_event Terminated state = record state { phase = Gone; terminated = true }
+after_event (a_stop stopping) state =
+    record state { threads = with_thread state.threads stopping.thread; stopped = true }
+after_event Terminated state = record (lost state) { terminated = true }
 
 -- and how it is told then: a thread by its number
 abbrev pub news_told : News → State → EventTold
@@ -101,7 +111,21 @@ news_told (entry_verified entry) state = events.Breakpoint (verified_told state.
 news_told (thread_changed started thread) state =
     events.Thread (record { started = started; id = number_among state.threads thread })
 
+-- a hit is told with the breakpoints that stand there: of a source, or of functions (DAP specification, Events, Stopped,
+-- hitBreakpointIds)
+abbrev pub hit_told : List EntryAt → StopReason
+hit_told entries = cond (list_any (λ entry. entry.line) entries) (reasons.Breakpoint (map (λ entry. entry.id) entries))
+    (reasons.FunctionBreakpoint (map (λ entry. entry.id) entries))
+
+abbrev pub reason_told : StopCause → State → StopReason
+reason_told (Hit at) state = hit_told (entries_at state.wishes.wanted at)
+reason_told by_client state = reasons.Pause
+
 abbrev pub event_told : Event → State → EventTold
 event_told Initialized state = events.Initialized
 event_told (some_news news) state = news_told news state
+event_told (a_stop stopping) state = events.Stopped (record {
+  reason = reason_told stopping.cause state;
+  thread = number_among state.threads stopping.thread;
+})
 event_told Terminated state = events.Terminated

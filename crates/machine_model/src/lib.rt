@@ -27,5 +27,5 @@ pub use laws::{
 pub use options::ClientOptions;
 pub use parts::{
     Body, Choice, Deed, Event, Finding, Finish, Guard, ListedBreakpoint, Lookup, NamedThread, News,
-    Note, Outcome, Part,
+    Note, Outcome, Part, StopCause, Stopping, Suspension,
 };

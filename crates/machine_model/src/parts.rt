@@ -2,7 +2,7 @@
 
 use crate::options::ClientOptions;
 use dap_messages::Failure;
-use jdwp_values::{ClassId, ThreadId};
+use jdwp_values::{ClassId, Location, ThreadId};
 use wire_core::{Blob, List, Text};
 use wish_sets::LineEntry;
 
@@ -35,6 +35,8 @@ pub enum Body {
         listed: List<ListedBreakpoint>,
     },
     Threads(List<NamedThread>),
+    /// The whole target runs on.
+    Continued,
 }
 
 /// What comes of a request (DAP specification, Base Protocol, Response and ErrorResponse).
@@ -53,19 +55,46 @@ pub enum News {
     Thread { started: bool, thread: ThreadId },
 }
 
+/// Why the target stands still: a breakpoint was hit at this place, or the client asked for it (DAP specification, Events,
+/// Stopped, reason).
+#[derive(Clone, Copy, Debug, PartialEq, Eq)]
+pub enum StopCause {
+    Hit(Location),
+    Pause,
+}
+
+/// The target stands still: why, and the thread that it is told of (DAP specification, Events, Stopped).
+#[derive(Clone, Copy, Debug, PartialEq, Eq)]
+pub struct Stopping {
+    pub cause: StopCause,
+    pub thread: ThreadId,
+}
+
 /// What the client is told without asking, by the target's ids (DAP specification, Events).
 #[derive(Clone, Copy, Debug, PartialEq, Eq)]
 pub enum Event {
     Initialized,
     News(News),
+    Stopped(Stopping),
     Terminated,
+}
+
+/// A suspension of the whole target, by what it is held for: for the composite in hand, which brought it; for the entry
+/// of a target that was started suspended; or for the stop in hand (JDWP, Constants, SuspendPolicy).
+#[derive(Clone, Copy, Debug, PartialEq, Eq)]
+pub enum Suspension {
+    Composite,
+    Entry,
+    Stop,
 }
 
 /// What an item does to the target, but for event requests (JDWP, VirtualMachine command set).
 #[derive(Clone, Copy, Debug, PartialEq, Eq)]
 pub enum Deed {
-    /// One suspension of the whole target is undone.
-    Resume,
+    /// The whole target is suspended once more, for a stop.
+    Suspend,
+    /// This suspension of the whole target is undone.
+    Resume(Suspension),
     Dispose,
     Exit,
 }
@@ -114,6 +143,11 @@ pub enum Note {
     },
     /// Breakpoints are bound by what is known of these classes now.
     Classes(List<ClassId>),
+    /// The suspension of the composite in hand is held as the entry, until the client has configured all (JDWP, Event
+    /// command set, Composite, VMStart).
+    EntryHeld,
+    /// The client has configured all (DAP specification, ConfigurationDone request).
+    Configured,
 }
 
 /// What is decided when its turn comes.
@@ -122,6 +156,9 @@ pub enum Choice {
     /// The client is told of each breakpoint that is verified now and wasn't told to be, of those with an id below this
     /// one, and then of each thread whose start or end the item tells (DAP specification, Events, Breakpoint and Thread).
     TellsNews(u64),
+    /// The composite in hand has suspended the whole target: the client is told of a stop, the suspension is held as the
+    /// entry, or it is undone (JDWP, Event command set, Composite).
+    Decides,
     /// A target that is attached is left; it ends where this holds (DAP specification, Disconnect request).
     Leaves(bool),
 }
