@@ -7,16 +7,16 @@ use Rattle.class_tables.specs.Lookups.{found_in}
 use Rattle.jdwp_commands.specs.declared.question.Question.TheVariants as questions
 use Rattle.jdwp_values.specs.declared.id.ClassId.{ClassId}
 use Rattle.machine_model.specs.Facts.{fact_known}
-use Rattle.machine_model.specs.Names.{News, Attached, Choice, Classes, Command, Failure, Fresh, Gone, Item, Leaves, Lines}
-use Rattle.machine_model.specs.Names.{Part, Phase, Question, Replied, Sent, TellsNews, Want, a_composite, a_raw}
-use Rattle.machine_model.specs.Names.{a_request, class_facts, target_end}
+use Rattle.machine_model.specs.Names.{Attached, Choice, Classes, Command, Decides, Failure, Fresh, Gone, Item, Leaves}
+use Rattle.machine_model.specs.Names.{Lines, News, Part, Phase, Question, Replied, Sent, TellsNews, Want, a_composite}
+use Rattle.machine_model.specs.Names.{a_raw, a_request, class_facts, target_end}
 use Rattle.machine_model.specs.Plans.{asks_for, question_of}
 use Rattle.machine_model.specs.Replying.{filled, waits_for, is_waiting}
 use Rattle.machine_model.specs.Rows.{chosen, failure_of, news_of, parts_by, parts_of, row_of, told_in, wanting}
 use Rattle.machine_model.specs.State.{Hand, State, has_waiting, is_empty, is_none, is_some}
 use Rattle.machine_model.proofs.BindingPlans.{IsLearnt, is_fact, tells_classes}
 use Rattle.machine_model.proofs.KeyLaws.{is_one}
-use Rattle.machine_model.proofs.Tables.{is_updates, told_alike}
+use Rattle.machine_model.proofs.Tables.{is_updates, of_decided, told_alike}
 use Rattle.machine_model.proofs.Testing.{IsTest}
 
 -- Parts ---------------------------------------------------------------------------------------------------------------
@@ -104,6 +104,9 @@ placed_chosen (TellsNews below) state hand rest none is =
     by_news Attached [] = is
     by_news Attached (one ∷ news) =
         rw (told_alike has_note (λ news parts. refl) Attached news rest ∙ none) (by_news Attached news)
+placed_chosen Decides state hand rest none is =
+    of_decided (λ (parts : List Part). is_placed (parts ++ rest) ≡ true) is (rw none is) (rw none is)
+    (λ stopping. rw none is) (λ stopping. rw none is) state hand.item
 placed_chosen (Leaves exits) state hand rest none is = grind (arith, is)
 
 pub placed_test : IsTest placed

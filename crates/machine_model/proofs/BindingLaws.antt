@@ -1,11 +1,10 @@
 -- At rest breakpoints are bound by all that is known of the classes in which they may stand: what each move keeps.
 use Rattle.jdwp_events.specs.declared.kind.Policy.TheVariants.{All, EventThread, NoThread}
 use Rattle.jdwp_events.specs.declared.kind.Policy.{Policy}
-use Rattle.std.proofs.Common.{◌≡◌, true, false, List, [], ◌∷◌, ◌++◌, Option, Some, None}
-use Rattle.std.proofs.Common.{refl, sym, ap, subst, ◌∙◌, option_map}
+use Rattle.std.proofs.Common.{◌≡◌, true, false, List, [], ◌∷◌, ◌++◌, Option, Some, None, refl, sym, ap, subst, ◌∙◌}
+use Rattle.std.proofs.Common.{option_map, Bool}
 use Rattle.machine_model.specs.Binding.{AreAllBound}
-use Rattle.machine_model.specs.Due.{asked_hand}
-use Rattle.machine_model.specs.Due.{clear, load_of, behind_first}
+use Rattle.machine_model.specs.Due.{after_deed, asked_hand, behind_first, clear, load_of}
 use Rattle.machine_model.specs.Names.{Attached, Fresh, Gone, Item, Part, Phase, Sent, Want, a_composite, a_question}
 use Rattle.machine_model.specs.Names.{a_raw, a_request, an_effect, target_end}
 use Rattle.machine_model.specs.Plans.{made_with, need, after}
@@ -31,7 +30,7 @@ use Rattle.machine_model.proofs.BindingParts.{queues_on, still_binding, still_bo
 use Rattle.machine_model.proofs.BindingReplies.{answers_on}
 use Rattle.machine_model.proofs.BindingReplies.{replies_on, chosen_like}
 use Rattle.machine_model.proofs.BindingReplies.{notes_on, finds_on}
-use Rattle.machine_model.specs.Composites.{composite_parts, learnt_in}
+use Rattle.machine_model.specs.Composites.{composite_parts, has_death, learnt_in}
 
 -- Moves ---------------------------------------------------------------------------------------------------------------
 
@@ -92,16 +91,21 @@ begins_on {state} item h = record {
     same_classes : (item : Item) → binds_ahead (parts_of state item) ≡ false → Same (taken item state) state
     same_classes (a_request request) none = itself state
     same_classes (a_composite at composite) none =
-        record { unlisted = refl; wanted = refl; classes = by_phase state.phase composite.policy none }
+        record {
+          unlisted = refl;
+          wanted = refl;
+          classes = by_phase state.phase (has_death composite.events) composite.policy refl refl none;
+        }
       where
-        by_phase : (phase : Phase) (policy : Policy)
-            → binds_ahead (composite_parts phase policy at state.next_entry) ≡ false
-            → learnt_in phase (record composite { policy = policy }) state.classes ≡ state.classes
-        by_phase Fresh policy none = refl
-        by_phase Attached NoThread none = cc
-        by_phase Attached EventThread none = refl
-        by_phase Attached All none = cc
-        by_phase Gone policy none = refl
+        by_phase : (phase : Phase) (dies : Bool) (policy : Policy) → has_death composite.events ≡ dies
+            → composite.policy ≡ policy → binds_ahead (composite_parts phase dies policy at state.next_entry) ≡ false
+            → learnt_in phase composite state.classes ≡ state.classes
+        by_phase Fresh dies policy is under none = refl
+        by_phase Attached true policy is under none = rw is refl
+        by_phase Attached false NoThread is under none = cc
+        by_phase Attached false EventThread is under none = rw (is, under) refl
+        by_phase Attached false All is under none = cc
+        by_phase Gone dies policy is under none = refl
     same_classes (a_raw at body) none = itself state
     same_classes target_end none = itself state
 
@@ -127,8 +131,9 @@ binding_on m next said near p s h (Moves.passes_over free at why) here = skips_o
 binding_on m next said near p s h (Moves.tells {rest = rest} {event = event} free at) here =
     passes_on (after_event event m.state) rest free near p at (event_same event m.state)
     (event_wishes event m.state) refl refl (are_same rest) h
-binding_on m next said near p s h (Moves.sends {rest = rest} free at is) here =
-    passes_on m.state rest free near p at (itself m.state) refl refl refl (are_same rest) h
+binding_on m next said near p s h (Moves.sends {rest = rest} {deed} free at is) here =
+    passes_on (after_deed deed m.state) rest free near p at (record { unlisted = refl; wanted = refl; classes = refl })
+    refl refl refl (are_same rest) h
 binding_on m next said near p s h (Moves.updates free at is away) here = in_front h at
 binding_on m next said near p s h (Moves.greets free at is away) here =
     still_binding next.state (record { unlisted = refl; wanted = refl; classes = refl }) (λ needs w. w) h

@@ -7,9 +7,9 @@ use Rattle.jdwp_values.specs.declared.id.ClassId.{ClassId}
 use Rattle.machine_model.specs.Binding.{AreAllBound, sight_alone}
 use Rattle.machine_model.specs.Classes.{known_plan}
 use Rattle.machine_model.specs.Lookups.{classes_of, finished, found_for}
-use Rattle.machine_model.specs.Names.{Choice, Classes, Clear, Does, Effect, Finding, Leaves, Lines, Lookup, Note}
-use Rattle.machine_model.specs.Names.{Options, Part, Question, Replied, Roots, Sent, Set, TellsNews, Want}
-use Rattle.machine_model.specs.Names.{all_threads, an_effect, class_facts}
+use Rattle.machine_model.specs.Names.{Choice, Classes, Clear, Configured, Decides, Does, Effect, EntryHeld, Finding}
+use Rattle.machine_model.specs.Names.{Leaves, Lines, Lookup, Note, Options, Part, Question, Replied, Roots, Sent, Set}
+use Rattle.machine_model.specs.Names.{TellsNews, Want, all_threads, an_effect, class_facts}
 use Rattle.machine_model.specs.Outcomes.{result_of}
 use Rattle.machine_model.specs.Plans.{Need, answer_in, need}
 use Rattle.machine_model.specs.Plans.{is_done}
@@ -28,7 +28,7 @@ use Rattle.machine_model.proofs.BindingPlans.{is_fact}
 use Rattle.machine_model.proofs.BindingPlans.{tells_classes}
 use Rattle.machine_model.proofs.RequestLaws.{IsDue}
 use Rattle.machine_model.proofs.RequestSteps.{is_deed}
-use Rattle.machine_model.proofs.Tables.{starts_updates, told_alike}
+use Rattle.machine_model.proofs.Tables.{decided_alike, starts_updates, told_alike}
 use Rattle.wish_sets.specs.Wanted.{Wanted, with_known}
 use Rattle.wish_sets.specs.declared.wish.Wish.TheVariants as wishes
 use Rattle.machine_model.specs.Facts.{fact_known}
@@ -212,6 +212,12 @@ chosen_like (TellsNews below) state hand rest =
       notes = told_alike has_note (λ news parts. refl) state.phase news rest;
       binds = told_alike binds_ahead (λ news parts. refl) state.phase news rest;
     }
+chosen_like Decides state hand rest = record {
+  ahead = decided_alike looks_ahead (λ stopping parts. refl) (λ parts. refl) (λ parts. refl) state hand.item rest;
+  needs = decided_alike needs_watches (λ stopping parts. refl) (λ parts. refl) (λ parts. refl) state hand.item rest;
+  notes = decided_alike has_note (λ stopping parts. refl) (λ parts. refl) (λ parts. refl) state hand.item rest;
+  binds = decided_alike binds_ahead (λ stopping parts. refl) (λ parts. refl) (λ parts. refl) state hand.item rest;
+}
 chosen_like (Leaves exits) state hand rest =
     record { ahead = grind arith; needs = grind arith; notes = grind arith; binds = grind arith }
 
@@ -275,6 +281,14 @@ notes_on {state} (Options options) rest c is h =
     (λ needs w. w needs) h
 notes_on {state} (Roots roots) rest c is h =
     goes_by (noted (Roots roots) state) (Part.Notes (Roots roots)) rest rest
+    (record { unlisted = refl; wanted = refl; classes = refl }) c refl is (are_same rest)
+    (λ needs w. w needs) h
+notes_on {state} EntryHeld rest c is h =
+    goes_by (noted EntryHeld state) (Part.Notes EntryHeld) rest rest
+    (record { unlisted = refl; wanted = refl; classes = refl }) c refl is (are_same rest)
+    (λ needs w. w needs) h
+notes_on {state} Configured rest c is h =
+    goes_by (noted Configured state) (Part.Notes Configured) rest rest
     (record { unlisted = refl; wanted = refl; classes = refl }) c refl is (are_same rest)
     (λ needs w. w needs) h
 notes_on (Lines key entries) rest c is h = lines_on key entries rest c is h

@@ -1,13 +1,13 @@
 -- A composite that can be read comes to its turn only once the session is attached: until then the `attach` is in hand.
 use Rattle.std.proofs.Common.{◌≡◌, Bool, true, false, cond, not, ◌||◌, List, [], ◌∷◌, ◌++◌, Option, Some, None, refl}
 use Rattle.std.proofs.Common.{sym, ap, subst, ◌∙◌, option_map, arith, ℕ}
-use Rattle.machine_model.specs.Due.{Picked, greets as greets_way, passed_by, pick, sized_by, way}
+use Rattle.machine_model.specs.Due.{Picked, after_deed, greets as greets_way, passed_by, pick, sized_by, way}
 use Rattle.machine_model.specs.Knowing.{is_fresh}
 use Rattle.machine_model.specs.Lookups.{finished}
-use Rattle.machine_model.specs.Names.{Attached, Choice, Command, Composite, Event, Failure, Fresh, Gone, Guard}
-use Rattle.machine_model.specs.Names.{Handshake, IdSizes, Initialized, Item, Leaves, Note, Outcome, Part}
-use Rattle.machine_model.specs.Names.{Phase, Question, Replied, TellsNews, Terminated}
-use Rattle.machine_model.specs.Names.{a_composite, a_question, a_raw, a_request, some_news, target_end}
+use Rattle.machine_model.specs.Names.{Attached, Choice, Command, Composite, Decides, Event, Failure, Fresh, Gone}
+use Rattle.machine_model.specs.Names.{Guard, Handshake, IdSizes, Initialized, Item, Leaves, Note, Outcome, Part, Phase}
+use Rattle.machine_model.specs.Names.{Question, Replied, TellsNews, Terminated, a_composite, a_question, a_raw}
+use Rattle.machine_model.specs.Names.{a_request, a_stop, some_news, target_end}
 use Rattle.machine_model.specs.Outcomes.{result_of}
 use Rattle.machine_model.specs.Replying.{IsReply, given_up, is_end, is_waiting, replied_machine}
 use Rattle.machine_model.specs.Replying.{replied_to, shows_end}
@@ -23,7 +23,7 @@ use Rattle.machine_model.proofs.QuietLaws.{attached_gone, waits_some}
 use Rattle.machine_model.proofs.SizeLaws.{near_end, parts_in, question_sizes}
 use Rattle.machine_model.proofs.Standing.{asked_in}
 use Rattle.machine_model.proofs.Stepping.{IsAt, Moves, Skips, by_runs}
-use Rattle.machine_model.proofs.Tables.{chosen_is, finished_is, has_attach, plain_attach, told_alike}
+use Rattle.machine_model.proofs.Tables.{chosen_is, decided_alike, finished_is, has_attach, plain_attach, told_alike}
 use Rattle.machine_model.proofs.Testing.{IsTest, Passed, same_noted, same_numbered, same_replied, tested, whole}
 
 -- The test ------------------------------------------------------------------------------------------------------------
@@ -57,6 +57,8 @@ chosen_greets : (choice : Choice) (state : State) (hand : Hand) (rest : List Par
     → greets_first (chosen choice state hand ++ rest) ≡ true
 chosen_greets (TellsNews below) state hand rest is =
     told_alike greets_first (λ news parts. refl) state.phase (news_of below state hand.item) rest ∙ is
+chosen_greets Decides state hand rest is =
+    decided_alike greets_first (λ stopping parts. refl) (λ parts. refl) (λ parts. refl) state hand.item rest ∙ is
 chosen_greets (Leaves exits) state hand rest is = grind (arith, is)
 
 greets_test : IsTest greets_to_attach
@@ -137,6 +139,9 @@ event_early m hand Initialized rest h at = record {
     by_phase Gone = refl
 event_early m hand (some_news news) rest h at =
     parts_early m hand (Part.Tells (some_news news)) rest rest (after_event (some_news news) m.state) h at
+    refl refl refl refl refl
+event_early m hand (a_stop stopping) rest h at =
+    parts_early m hand (Part.Tells (a_stop stopping)) rest rest (after_event (a_stop stopping) m.state) h at
     refl refl refl refl refl
 event_early m hand Terminated rest h at =
     record { attaches = refl; unsent = asked_now h at.in_hand; sized = refl }
@@ -252,7 +257,7 @@ early_on m next said t b h (Moves.passes_over {hand} {part} {rest} free at why) 
     parts_early m hand part rest rest m.state h at refl refl refl refl (skipped_same rest why)
 early_on m next said t b h (Moves.tells {hand} {rest} {event} free at) = event_early m hand event rest h at
 early_on m next said t b h (Moves.sends {hand} {rest} {deed} free at near) =
-    let e = parts_early m hand (Part.Sends deed) rest rest m.state h at refl refl refl refl refl in
+    let e = parts_early m hand (Part.Sends deed) rest rest (after_deed deed m.state) h at refl refl refl refl refl in
     record { attaches = e.attaches; unsent = e.unsent; sized = e.sized }
 early_on m next said t b h (Moves.updates {hand} {rest = rest} free at is near) =
     let e = parts_early m hand Part.Updates rest (Part.Updates ∷ rest) m.state h at refl refl refl refl refl in

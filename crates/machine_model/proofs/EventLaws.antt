@@ -6,10 +6,10 @@ use Rattle.std.proofs.lemmas.List.Concat.{flat_map-append}
 use Rattle.machine_model.specs.Due.{asked_hand}
 use Rattle.machine_model.specs.Events.{AreTold, EventsAre, ends_target, is_attach, is_clients, is_success}
 use Rattle.machine_model.specs.Lookups.{finished, lookup_responds}
-use Rattle.machine_model.specs.Names.{News, entry_verified, thread_changed}
-use Rattle.machine_model.specs.Names.{Command, Event, Failed, Failure, Initialized, Item, Note, Outcome, Part}
+use Rattle.machine_model.specs.Names.{Command, Event, Failed, Failure, Initialized, Item, News, Note, Outcome, Part}
 use Rattle.machine_model.specs.Names.{Replied, Request, Success, TargetCommand, Terminated, Want, a_composite}
-use Rattle.machine_model.specs.Names.{a_question, a_raw, a_request, an_effect, an_event, some_news, target_end}
+use Rattle.machine_model.specs.Names.{a_question, a_raw, a_request, a_stop, an_effect, an_event, entry_verified}
+use Rattle.machine_model.specs.Names.{some_news, target_end, thread_changed}
 use Rattle.machine_model.specs.Outcomes.{result_of}
 use Rattle.machine_model.specs.Replying.{given_up, hand_replied, is_end, replied_to}
 use Rattle.machine_model.specs.Rest.{request_by, request_in, response_by, without_response}
@@ -26,6 +26,7 @@ use Rattle.machine_model.proofs.Tables.{attaches, chosen_is, finished_is, free a
 use Rattle.machine_model.proofs.Tables.{has_joined, none_attaches, once, plain_attach, row_is, responds_once}
 use Rattle.machine_model.proofs.Testing.{passed, same_noted, same_numbered, same_replied, tested, whole}
 use Rattle.machine_model.specs.Breakpoints.{verified_told}
+use Rattle.machine_model.specs.Knowing.{has_last}
 
 -- What is left of an item: an `attach` tells `initialized` behind its success, and no other item does -----------------
 
@@ -39,6 +40,7 @@ attach_tail (Part.Responds (Success body) ∷ rest) = tells_attached rest
 attach_tail (Part.Responds (Failed failure) ∷ rest) = is_empty rest
 attach_tail (Part.Tells Initialized ∷ rest) = is_empty rest
 attach_tail (Part.Tells (some_news news) ∷ rest) = false
+attach_tail (Part.Tells (a_stop stopping) ∷ rest) = false
 attach_tail (Part.Tells Terminated ∷ rest) = false
 attach_tail (Part.Sends deed ∷ rest) = false
 attach_tail (Part.Looks lookup ∷ rest) = false
@@ -108,11 +110,6 @@ end_in target_end = target_end ∷ []
 end_in (a_request request) = []
 end_in (a_composite at composite) = []
 end_in (a_raw at body) = []
-
-abbrev has_last : List Part → Bool
-has_last [] = false
-has_last (Part.Tells Terminated ∷ parts) = true
-has_last (_ ∷ parts) = has_last parts
 
 abbrev hand_lasts : Option Hand → Bool
 hand_lasts None = false
@@ -252,6 +249,7 @@ answered_owes request outcome state item rest is none h = rw none (by_attach (is
         by_outcome (Success body) (Part.Tells Initialized ∷ rest) is = refl
         by_outcome (Success body) [] is = cc
         by_outcome (Success body) (Part.Tells (some_news news) ∷ rest) is = cc
+        by_outcome (Success body) (Part.Tells (a_stop stopping) ∷ rest) is = cc
         by_outcome (Success body) (Part.Tells Terminated ∷ rest) is = cc
         by_outcome (Success body) (Part.Responds outcome ∷ rest) is = cc
         by_outcome (Success body) (Part.Sends deed ∷ rest) is = cc
@@ -373,6 +371,10 @@ event_on {messages} {m} {hand} {rest} (some_news news) h at same =
     let none = none_owed (item_attaches hand.item) (has_response rest) (has_attach rest) (front_fits h.fits at) in
     same_told refl (sym none)
     (news_on (after_event (some_news news) m.state) news (same_told same (ap hand_owes at.in_hand ∙ ap owes_event at.parts ∙ none) h.told))
+event_on {messages} {m} {hand} {rest} (a_stop stopping) h at same =
+    let none = none_owed (item_attaches hand.item) (has_response rest) (has_attach rest) (front_fits h.fits at) in
+    same_told refl (sym none) (AreTold.stopped _
+    (same_told same (ap hand_owes at.in_hand ∙ ap owes_event at.parts ∙ none) h.told))
 event_on {messages} {m} {hand} {rest} Terminated h at same =
     let none = none_owed (item_attaches hand.item) (has_response rest) (has_attach rest) (front_fits h.fits at) in
     same_told refl (sym none)

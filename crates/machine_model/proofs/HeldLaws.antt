@@ -1,88 +1,181 @@
--- The suspensions that an item in hand holds are those that it is still to undo.
-use Rattle.std.proofs.Common.{◌≡◌, ℕ, Bool, true, false, List, [], ◌∷◌, ◌++◌, Option}
-use Rattle.std.proofs.Common.{Some, None, refl, sym, ap, subst, ◌∙◌, arith}
-use Rattle.machine_model.specs.Knowing.{View}
-use Rattle.machine_model.specs.Knowing.{held_by}
-use Rattle.machine_model.specs.Knowing.{may_send}
-use Rattle.machine_model.specs.Knowing.{resumes_in, sent_view}
-use Rattle.machine_model.specs.Knowing.{view_of}
-use Rattle.machine_model.specs.Names.{Attached, Choice, Clear, Command}
-use Rattle.machine_model.specs.Names.{Deed, Dispose, Does, Effect, Exit, Failure, Finding, Fresh, Gone}
-use Rattle.machine_model.specs.Names.{Item, Leaves, Lookup, Part}
-use Rattle.machine_model.specs.Names.{Phase, Replied, Resume, Set, TargetCommand}
-use Rattle.machine_model.specs.Names.{TellsNews, Want, a_question}
-use Rattle.machine_model.specs.Names.{all_threads, an_effect}
-use Rattle.machine_model.specs.Names.{class_facts}
-use Rattle.machine_model.specs.Replying.{given_up, hand_replied}
-use Rattle.machine_model.specs.Rows.{chosen, end_parts, gone_parts, has_response, leaves, news_of, parts_by}
-use Rattle.machine_model.specs.Rows.{row_of}
-use Rattle.machine_model.specs.State.{Hand, Machine, State}
-use Rattle.machine_model.proofs.Stepping.{IsAt, Skips}
-use Rattle.machine_model.proofs.Testing.{passed}
-use Rattle.machine_model.specs.Plans.{Result}
-use Rattle.machine_model.proofs.Tables.{free_once, told_alike}
-use Rattle.machine_model.specs.Due.{asked_hand, sent}
+-- The suspensions that are held: for the stop in hand, as the entry, and for the composite in hand.
+use Rattle.std.proofs.Common.{◌≡◌, ℕ, Bool, true, false, cond, not, List, [], ◌∷◌, ◌++◌, Option, Some, None, refl, sym}
+use Rattle.std.proofs.Common.{ap, subst, ◌∙◌, option_map, arith}
+use Rattle.std.specs.Prelude.{nat_lt, ◌-◌, ◌+◌}
+use Rattle.jdwp_events.specs.declared.kind.Policy.{Policy}
+use Rattle.jdwp_events.specs.declared.kind.Policy.TheVariants.{NoThread, EventThread, All}
+use Rattle.machine_model.specs.Composites.{composite_parts, has_death}
+use Rattle.machine_model.specs.Due.{after_deed, asked_hand, entry_by, sent, stopped_by}
+use Rattle.machine_model.specs.Knowing.{View, begins, dies, dying_by, held_in, held_with, has_last, may_do, may_send}
+use Rattle.machine_model.specs.Knowing.{owed_by, owed_in, part_owes, sent_view, stopped_behind, view_of}
 use Rattle.machine_model.specs.Lookups.{finished}
+use Rattle.machine_model.specs.Names.{Attached, Choice, Clear, Command, Decides, Deed, Dispose, Does, Effect, EntryHeld}
+use Rattle.machine_model.specs.Names.{Exit, Finding, Fresh, Gone, Hit, Item, Leaves, Lookup, Note, Part, Phase, Replied}
+use Rattle.machine_model.specs.Names.{Resume, Set, StopCause, Stopping, Suspend, Suspension, TargetCommand, TellsNews}
+use Rattle.machine_model.specs.Names.{Want, a_composite, a_question, a_raw, a_request, a_stop, all_threads, an_effect}
+use Rattle.machine_model.specs.Names.{by_client, class_facts, of_composite, of_entry, of_stop, target_end}
+use Rattle.machine_model.specs.Pending.{bit}
+use Rattle.machine_model.specs.Plans.{Result}
+use Rattle.machine_model.specs.Replying.{given_up, hand_replied}
 use Rattle.machine_model.specs.Requests.{Wishes, effect_due, effect_of}
-use Rattle.std.specs.Prelude.{nat_lt, ◌-◌, ◌+◌, option_map}
+use Rattle.machine_model.specs.Rows.{chosen, end_parts, gone_parts, has_response, leaves, news_of, request_parts}
+use Rattle.machine_model.specs.State.{Hand, Machine, State, is_attached, is_empty, is_gone, knowing}
+use Rattle.machine_model.specs.Stops.{decided, decided_by, events_in, has_start, hits_in, stop_among}
+use Rattle.suspend_ledger.specs.Suspensions.{suspensions_by}
 use Rattle.wish_sets.specs.Wishes.{WishChange, clears, next_change, sets}
+use Rattle.machine_model.proofs.HoldingParts.{IsHolding, hit_in, is_hit, may_all, may_do_so, may_front, may_stop}
+use Rattle.machine_model.proofs.HoldingParts.{stop_hit}
+use Rattle.machine_model.proofs.Stepping.{IsAt, Skips}
+use Rattle.machine_model.proofs.Tables.{free_once, told_alike}
+use Rattle.machine_model.proofs.Testing.{passed}
 
 pub held_front : {m : Machine} {hand : Hand} {part : Part} {rest : List Part} → IsAt m hand part rest
-    → held_by m.hand ≡ resumes_in (part ∷ rest)
-held_front at = ap held_by at.in_hand ∙ ap resumes_in at.parts
+    → held_in m.state m.hand ≡ held_with m.state.stopped m.state.entry (owed_in m.state.stopped (part ∷ rest))
+held_front {m} at = ap (λ (owed : ℕ). held_with m.state.stopped m.state.entry owed)
+    (ap (owed_by m.state.stopped) at.in_hand ∙ ap (owed_in m.state.stopped) at.parts)
 
--- what is known is the same but for what the item in hand holds
-pub held_as : (m next : Machine) {view : View} → held_by next.hand ≡ held_by m.hand
-    → record (view_of next) { held = held_by m.hand } ≡ view → view_of next ≡ view
-held_as m next same is = ap (λ (held : ℕ). record (view_of next) { held = held }) same ∙ is
+pub dies_front : {m : Machine} {hand : Hand} {part : Part} {rest : List Part} → IsAt m hand part rest
+    → dies m.hand ≡ has_last (part ∷ rest)
+dies_front at = ap dies at.in_hand ∙ ap has_last at.parts
 
-pub row_resumes : (failure : Option Failure) (command : Command) (state : State)
-    → resumes_in (parts_by failure (row_of command state)) ≡ 0
-row_resumes failure command state = grind arith
+-- what is known is the same but for what the item in hand holds, and is to tell
+pub held_as : (m next : Machine) {view : View} → held_in next.state next.hand ≡ held_in m.state m.hand
+    → dies next.hand ≡ dies m.hand
+    → record (view_of next) {
+      held = held_in m.state m.hand;
+      dying = cond (is_gone next.state.phase) false (dies m.hand);
+    } ≡ view
+    → view_of next ≡ view
+held_as m next held last is =
+    ap (λ (held : ℕ). record (view_of next) { held = held }) held
+    ∙ ap (λ (dying : Bool). record (view_of next) {
+      held = held_in m.state m.hand;
+      dying = cond (is_gone next.state.phase) false dying;
+    }) last
+    ∙ is
 
-pub end_resumes : (told : Bool) → resumes_in (end_parts told) ≡ 0
-end_resumes true = refl
-end_resumes false = refl
+-- The tables ----------------------------------------------------------------------------------------------------------
 
-pub gone_resumes : (responds : Bool) (item : Item) → resumes_in (gone_parts responds item) ≡ 0
-gone_resumes responds item = grind arith
+pub row_owes : (state : State) (command : Command)
+    → owed_in state.stopped (request_parts command state) ≡ 0
+row_owes state command = grind arith
 
-pub given_resumes : (hand : Option Hand) → held_by (option_map given_up hand) ≡ 0
-given_resumes None = refl
-given_resumes (Some hand) = gone_resumes (has_response hand.parts) hand.item
+pub row_last : (state : State) (command : Command) → has_last (request_parts command state) ≡ false
+row_last state command = grind arith
 
-pub found_resumes : (lookup : Lookup) (result : Result Finding) (state : State) (rest : List Part)
-    → resumes_in (finished lookup result state ++ rest) ≡ resumes_in rest
-found_resumes all_threads result state rest = refl
-found_resumes class_facts result state rest = refl
+pub end_owes : (stopped told : Bool) → owed_in stopped (end_parts told) ≡ 0
+end_owes stopped true = refl
+end_owes stopped false = refl
 
-pub chosen_resumes : (choice : Choice) (state : State) (hand : Hand) (rest : List Part)
-    → resumes_in (chosen choice state hand ++ rest) ≡ resumes_in rest
-chosen_resumes (TellsNews below) state hand rest =
-    told_alike resumes_in (λ news parts. refl) state.phase (news_of below state hand.item) rest
-chosen_resumes (Leaves exits) state hand rest = by_phase state.phase exits
+-- an item that tells of the target's end holds nothing; else a composite holds what it suspended
+pub composite_owes : (stopped dead : Bool) (policy : Policy) (at below : ℕ)
+    → owed_in stopped (composite_parts Attached dead policy at below)
+    ≡ cond dead 0 (0 + suspensions_by policy)
+composite_owes stopped true NoThread at below = refl
+composite_owes stopped true EventThread at below = refl
+composite_owes stopped true All at below = refl
+composite_owes stopped false NoThread at below = refl
+composite_owes stopped false EventThread at below = refl
+composite_owes stopped false All at below = refl
+
+pub composite_last : (dead : Bool) (policy : Policy) (at below : ℕ)
+    → has_last (composite_parts Attached dead policy at below) ≡ dying_by policy dead
+composite_last true NoThread at below = refl
+composite_last true EventThread at below = refl
+composite_last true All at below = refl
+composite_last false NoThread at below = refl
+composite_last false EventThread at below = refl
+composite_last false All at below = refl
+
+gone_owes : (stopped responds : Bool) (item : Item) → owed_in stopped (gone_parts responds item) ≡ 0
+gone_owes stopped responds item = grind arith
+
+pub given_owes : (hand : Option Hand) → owed_by false (option_map given_up hand) ≡ 0
+given_owes None = refl
+given_owes (Some hand) = gone_owes false (has_response hand.parts) hand.item
+
+pub found_owes : (stopped : Bool) (lookup : Lookup) (result : Result Finding) (state : State) (rest : List Part)
+    → owed_in stopped (finished lookup result state ++ rest) ≡ owed_in stopped rest
+found_owes stopped all_threads result state rest = refl
+found_owes stopped class_facts result state rest = refl
+
+-- what is decided on a composite's suspension is one of three: a stop holds it, the entry does, or it is undone
+decided_owes : (state : State) (item : Item) → is_attached state.phase ≡ true
+    → owed_in state.stopped (decided state item ++ []) ≡ 1
+decided_owes state item attached = rw attached
+    (by_stop state.stopped state.configured state.entry (has_start (events_in item))
+    (stop_among state.wishes (hits_in state.wishes (events_in item))) (stop_hit state.wishes (events_in item)))
   where
-    by_phase : (phase : Phase) (exits : Bool) → resumes_in (leaves phase exits ++ rest) ≡ resumes_in rest
+    by_cause : (cause : StopCause) → is_hit cause ≡ true → begins false cause ≡ true
+    by_cause (Hit at) is = refl
+    by_cause by_client is = cc
+
+    by_stop : (stopped configured entry starts : Bool) (stop : Option Stopping) → hit_in stop ≡ true
+        → owed_in stopped (decided_by stopped (cond configured false (cond entry false starts)) stop ++ []) ≡ 1
+    by_stop stopped true entry starts None is = refl
+    by_stop stopped false true starts None is = refl
+    by_stop stopped false false true None is = refl
+    by_stop stopped false false false None is = refl
+    by_stop true configured entry starts (Some stopping) is = refl
+    by_stop false configured entry starts (Some stopping) is = rw (by_cause stopping.cause is) refl
+
+pub chosen_owes : {m : Machine} {hand : Hand} {choice : Choice} {rest : List Part} → IsHolding m
+    → IsAt m hand (Part.Unfolds choice) rest
+    → owed_in m.state.stopped (chosen choice m.state hand ++ rest)
+    ≡ owed_in m.state.stopped (Part.Unfolds choice ∷ rest)
+chosen_owes {m} {hand} {TellsNews below} {rest} h at =
+    told_alike (owed_in m.state.stopped) (λ news parts. refl) m.state.phase (news_of below m.state hand.item) rest
+chosen_owes {m} {hand} {Leaves exits} {rest} h at = by_phase m.state.phase exits
+  where
+    by_phase : (phase : Phase) (exits : Bool)
+        → owed_in m.state.stopped (leaves phase exits ++ rest) ≡ owed_in m.state.stopped rest
     by_phase Fresh exits = refl
     by_phase Attached true = refl
     by_phase Attached false = refl
     by_phase Gone exits = refl
+chosen_owes {m} {hand} {Decides} {rest} h at = by_rest rest (is_attached m.state.phase) refl (may_front h at)
+  where
+    by_rest : (rest : List Part) (attached : Bool) → is_attached m.state.phase ≡ attached
+        → cond (cond attached (is_empty rest) false) (may_all m.state.phase m.state.stopped m.state.entry rest) false
+        ≡ true
+        → owed_in m.state.stopped (decided m.state hand.item ++ rest) ≡ owed_in m.state.stopped rest + 1
+    by_rest [] true is may = decided_owes m.state hand.item is
+    by_rest [] false is may = cc
+    by_rest (part ∷ rest) true is may = cc
+    by_rest (part ∷ rest) false is may = cc
 
-pub skipped_resumes : {m : Machine} {hand : Hand} {part : Part} (rest : List Part) → Skips m hand part
-    → resumes_in rest ≡ resumes_in (part ∷ rest)
-skipped_resumes rest (Skips.by_guard is) = refl
-skipped_resumes rest (Skips.by_wishes is) = refl
-skipped_resumes rest (Skips.no_request is) = refl
+pub skipped_owes : {m : Machine} {hand : Hand} {part : Part} (stopped : Bool) (rest : List Part) → Skips m hand part
+    → owed_in stopped rest ≡ owed_in stopped (part ∷ rest)
+skipped_owes stopped rest (Skips.by_guard is) = refl
+skipped_owes stopped rest (Skips.by_wishes is) = refl
+skipped_owes stopped rest (Skips.no_request is) = refl
 
-pub replied_resumes : (command : TargetCommand) (replied : Replied) (hand : Option Hand)
-    → held_by (option_map (hand_replied command replied) hand) ≡ held_by hand
-replied_resumes command replied None = refl
-replied_resumes (a_question question) replied (Some hand) = refl
-replied_resumes (an_effect effect) replied (Some hand) = refl
+pub skipped_last : {m : Machine} {hand : Hand} {part : Part} (rest : List Part) → Skips m hand part
+    → has_last rest ≡ has_last (part ∷ rest)
+skipped_last rest (Skips.by_guard is) = refl
+skipped_last rest (Skips.by_wishes is) = refl
+skipped_last rest (Skips.no_request is) = refl
 
-pub asked_resumes : (want : Want) (hand : Option Hand) → held_by (option_map (asked_hand want) hand) ≡ held_by hand
-asked_resumes want None = refl
-asked_resumes want (Some hand) = refl
+pub replied_owes : (stopped : Bool) (command : TargetCommand) (replied : Replied) (hand : Option Hand)
+    → owed_by stopped (option_map (hand_replied command replied) hand) ≡ owed_by stopped hand
+replied_owes stopped command replied None = refl
+replied_owes stopped (a_question question) replied (Some hand) = refl
+replied_owes stopped (an_effect effect) replied (Some hand) = refl
+
+pub replied_last : (command : TargetCommand) (replied : Replied) (hand : Option Hand)
+    → dies (option_map (hand_replied command replied) hand) ≡ dies hand
+replied_last command replied None = refl
+replied_last (a_question question) replied (Some hand) = refl
+replied_last (an_effect effect) replied (Some hand) = refl
+
+pub asked_owes : (stopped : Bool) (want : Want) (hand : Option Hand)
+    → owed_by stopped (option_map (asked_hand want) hand) ≡ owed_by stopped hand
+asked_owes stopped want None = refl
+asked_owes stopped want (Some hand) = refl
+
+pub asked_last : (want : Want) (hand : Option Hand) → dies (option_map (asked_hand want) hand) ≡ dies hand
+asked_last want None = refl
+asked_last want (Some hand) = refl
 
 -- an effect of event requests undoes no suspension
 pub due_sends : (w : Wishes) (effect : Effect) (view : View) → effect_due w ≡ Some effect
@@ -99,32 +192,127 @@ due_sends w effect view due = by_change (next_change w) due
         subst (λ (effect : Effect). (may_send (an_effect effect) view ≡ true)
         × (sent_view (an_effect effect) view ≡ view)) same (refl, refl)
 
-pub one_less : (n held : ℕ) → held ≡ n + 1 → n ≡ held - 1
-one_less n held is = omega (arith, is)
+-- Deeds ---------------------------------------------------------------------------------------------------------------
 
-pub some_held : (n held : ℕ) → held ≡ n + 1 → nat_lt 0 held ≡ true
-some_held n held is = grind (arith, is)
+first_may : {m : Machine} {hand : Hand} {deed : Deed} {rest : List Part} → IsHolding m
+    → IsAt m hand (Part.Sends deed) rest → may_do_so deed m.state.stopped m.state.entry ≡ true
+first_may {m} {deed = deed} h at = first (may_do_so deed m.state.stopped m.state.entry) _ (may_front h at)
+  where
+    first : (one others : Bool) → cond one others false ≡ true → one ≡ true
+    first true others is = refl
+    first false others is = cc
+
+suspends : (stopped entry : Bool) (owed held : ℕ) → not stopped ≡ true → held ≡ held_with stopped entry owed
+    → held_with true entry owed ≡ held + 1
+suspends true entry owed held may is = cc
+suspends false entry owed held may is = omega (arith, is)
+
+undoes_own : (stopped entry : Bool) (owed held : ℕ) → held ≡ held_with stopped entry (owed + 1)
+    → (held_with stopped entry owed ≡ held - 1) × (nat_lt 0 held ≡ true)
+undoes_own stopped entry owed held is = (omega (arith, is), grind (arith, is))
+
+undoes_entry : (stopped entry : Bool) (owed held : ℕ) → entry ≡ true → held ≡ held_with stopped entry owed
+    → (held_with stopped false owed ≡ held - 1) × (nat_lt 0 held ≡ true)
+undoes_entry stopped true owed held may is = (omega (arith, is), grind (arith, is))
+undoes_entry stopped false owed held may is = cc
+
+undoes_stop : (stopped entry : Bool) (owed held : ℕ) → stopped ≡ true → held ≡ held_with stopped entry owed
+    → (held_with false entry owed ≡ held - 1) × (nat_lt 0 held ≡ true)
+undoes_stop true entry owed held may is = (omega (arith, is), grind (arith, is))
+undoes_stop false entry owed held may is = cc
+
+-- what a deed makes of the suspensions that are held
+now_held : (m : Machine) (hand : Hand) (deed : Deed) (rest : List Part) (held : ℕ) → IsAt m hand (Part.Sends deed) rest
+    → held_with (stopped_by deed m.state.stopped) (entry_by deed m.state.entry)
+    (owed_in (stopped_by deed m.state.stopped) rest) ≡ held
+    → view_of (sent (knowing m (after_deed deed m.state)) hand rest (Does deed))
+    ≡ record (view_of m) { held = held; stopped = stopped_by deed m.state.stopped }
+now_held m hand deed rest held at is =
+    ap (λ (held : ℕ). record (view_of m) {
+      held = held;
+      stopped = stopped_by deed m.state.stopped;
+      dying = cond (is_gone m.state.phase) false (has_last rest);
+    }) is
+    ∙ ap (λ (dying : Bool). record (view_of m) {
+      held = held;
+      stopped = stopped_by deed m.state.stopped;
+      dying = cond (is_gone m.state.phase) false dying;
+    }) (sym (dies_front at))
 
 -- a deed is sent
-pub deed_view : (m : Machine) (hand : Hand) (deed : Deed) (rest : List Part) → IsAt m hand (Part.Sends deed) rest
-    → view_of (sent m hand rest (Does deed)) ≡ sent_view (an_effect (Does deed)) (view_of m)
-deed_view m hand Resume rest at = ap (λ (held : ℕ). record (view_of m) { held = held })
-    (one_less (resumes_in rest) (held_by m.hand) (held_front at))
-deed_view m hand Dispose rest at = ap (λ (held : ℕ). record (view_of m) { held = held }) (sym (held_front at))
-deed_view m hand Exit rest at = ap (λ (held : ℕ). record (view_of m) { held = held }) (sym (held_front at))
+pub deed_view_is : (m : Machine) (hand : Hand) (deed : Deed) (rest : List Part) → IsHolding m
+    → IsAt m hand (Part.Sends deed) rest
+    → view_of (sent (knowing m (after_deed deed m.state)) hand rest (Does deed))
+    ≡ sent_view (an_effect (Does deed)) (view_of m)
+deed_view_is m hand Suspend rest h at = now_held m hand Suspend rest _ at
+    (suspends m.state.stopped m.state.entry (owed_in true rest) _ (first_may h at) (held_front at))
+deed_view_is m hand (Resume of_composite) rest h at = now_held m hand (Resume of_composite) rest _ at
+    (undoes_own m.state.stopped m.state.entry (owed_in m.state.stopped rest) _ (held_front at)).0
+deed_view_is m hand (Resume of_entry) rest h at = now_held m hand (Resume of_entry) rest _ at
+    (undoes_entry m.state.stopped m.state.entry (owed_in m.state.stopped rest) _ (first_may h at) (held_front at)).0
+deed_view_is m hand (Resume of_stop) rest h at = now_held m hand (Resume of_stop) rest _ at
+    (undoes_stop m.state.stopped m.state.entry (owed_in false rest) _ (first_may h at) (held_front at)).0
+deed_view_is m hand Dispose rest h at = now_held m hand Dispose rest _ at (sym (held_front at))
+deed_view_is m hand Exit rest h at = now_held m hand Exit rest _ at (sym (held_front at))
 
-pub deed_may : (m : Machine) (hand : Hand) (deed : Deed) (rest : List Part) → IsAt m hand (Part.Sends deed) rest
-    → may_send (an_effect (Does deed)) (view_of m) ≡ true
-deed_may m hand Resume rest at = some_held (resumes_in rest) (held_by m.hand) (held_front at)
-deed_may m hand Dispose rest at = refl
-deed_may m hand Exit rest at = refl
+pub deed_may : (m : Machine) (hand : Hand) (deed : Deed) (rest : List Part) → IsHolding m
+    → IsAt m hand (Part.Sends deed) rest → may_send (an_effect (Does deed)) (view_of m) ≡ true
+deed_may m hand Suspend rest h at = first_may h at
+deed_may m hand (Resume of_composite) rest h at =
+    (undoes_own m.state.stopped m.state.entry (owed_in m.state.stopped rest) _ (held_front at)).1
+deed_may m hand (Resume of_entry) rest h at =
+    (undoes_entry m.state.stopped m.state.entry (owed_in m.state.stopped rest) _ (first_may h at) (held_front at)).1
+deed_may m hand (Resume of_stop) rest h at = rw (first_may h at)
+    (undoes_stop m.state.stopped m.state.entry (owed_in false rest) _ (first_may h at) (held_front at)).1
+deed_may m hand Dispose rest h at = refl
+deed_may m hand Exit rest h at = refl
+
+-- Events and notes ----------------------------------------------------------------------------------------------------
+
+-- a stop is told while a suspension is held, which it holds from there on
+pub stop_held : {m : Machine} {hand : Hand} {stopping : Stopping} {rest : List Part} → IsHolding m
+    → IsAt m hand (Part.Tells (a_stop stopping)) rest
+    → (held_with true m.state.entry (owed_in true rest) ≡ held_in m.state m.hand)
+    × (nat_lt 0 (held_in m.state m.hand) ≡ true)
+stop_held {m} {stopping = stopping} {rest} h at =
+    by_cause stopping.cause m.state.stopped m.state.entry (owed_in true rest) (held_in m.state m.hand)
+    (first (may_stop stopping.cause m.state.stopped) _ (may_front h at)) (held_front at)
+  where
+    first : (one others : Bool) → cond one others false ≡ true → one ≡ true
+    first true others is = refl
+    first false others is = cc
+
+    by_cause : (cause : StopCause) (stopped entry : Bool) (owed held : ℕ) → may_stop cause stopped ≡ true
+        → held ≡ held_with stopped entry (cond (begins stopped cause) (owed + 1) owed)
+        → (held_with true entry owed ≡ held) × (nat_lt 0 held ≡ true)
+    by_cause (Hit at) true entry owed held may is = (sym is, grind (arith, is))
+    by_cause (Hit at) false entry owed held may is = (omega (arith, is), grind (arith, is))
+    by_cause by_client true entry owed held may is = (sym is, grind (arith, is))
+    by_cause by_client false entry owed held may is = cc
+
+-- the entry is held
+pub entry_held : {m : Machine} {hand : Hand} {rest : List Part} → IsHolding m → IsAt m hand (Part.Notes EntryHeld) rest
+    → held_with m.state.stopped true (owed_in m.state.stopped rest) ≡ held_in m.state m.hand
+entry_held {m} {rest = rest} h at =
+    by_entry m.state.entry (owed_in m.state.stopped rest) (held_in m.state m.hand)
+    (first (not m.state.entry) _ (may_front h at)) (held_front at)
+  where
+    first : (one others : Bool) → cond one others false ≡ true → one ≡ true
+    first true others is = refl
+    first false others is = cc
+
+    by_entry : (entry : Bool) (owed held : ℕ) → not entry ≡ true
+        → held ≡ held_with m.state.stopped entry (owed + 1) → held_with m.state.stopped true owed ≡ held
+    by_entry true owed held may is = cc
+    by_entry false owed held may is = omega (arith, is)
 
 -- where the target is gone nothing is held
-pub free_resumes : (parts : List Part) → free_once true parts ≡ true → resumes_in parts ≡ 0
-free_resumes [] is = refl
-free_resumes (part ∷ parts) is = grind (arith, is, free_resumes parts)
+free_owes : (stopped : Bool) (parts : List Part) → free_once true parts ≡ true → owed_in stopped parts ≡ 0
+free_owes stopped [] is = refl
+free_owes stopped (part ∷ parts) is = grind (arith, is, free_owes (stopped_behind part stopped) parts)
 
-pub gone_held : (gone : Bool) (hand : Option Hand) → gone ≡ true → passed free_once gone hand ≡ true → held_by hand ≡ 0
-gone_held true None is f = refl
-gone_held true (Some hand) is f = free_resumes hand.parts f
-gone_held false hand is f = cc
+pub gone_owed : (gone stopped : Bool) (hand : Option Hand) → gone ≡ true → passed free_once gone hand ≡ true
+    → owed_by stopped hand ≡ 0
+gone_owed true stopped None is f = refl
+gone_owed true stopped (Some hand) is f = free_owes stopped hand.parts f
+gone_owed false stopped hand is f = cc

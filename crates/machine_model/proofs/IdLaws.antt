@@ -11,8 +11,8 @@ use Rattle.jdwp_commands.specs.declared.asked.Asked.TheVariants as commands
 use Rattle.machine_model.specs.Ids.{HasReadIds, Id, IsNull, WasRead, class, ids_asked, ids_given, ids_of_composite}
 use Rattle.machine_model.specs.Ids.{ids_read}
 use Rattle.machine_model.specs.Names.{Classes, Clear, Deed, Dispose, Does, Effect, Exit, Item, Lines, Part, Question}
-use Rattle.machine_model.specs.Names.{Resume, Sent, Set, Success, TargetCommand, Want, a_composite, a_question, a_raw}
-use Rattle.machine_model.specs.Names.{a_request, an_effect, target_end, thread_list}
+use Rattle.machine_model.specs.Names.{Resume, Sent, Set, Success, Suspend, TargetCommand, Want, a_composite}
+use Rattle.machine_model.specs.Names.{a_question, a_raw, a_request, an_effect, target_end, thread_list}
 use Rattle.machine_model.specs.Plans.{question_of}
 use Rattle.machine_model.specs.Requests.{Wishes, effect_due, effect_of}
 use Rattle.machine_model.specs.Runs.{Message, Run}
@@ -148,7 +148,8 @@ always_kept {P} t r =
 -- What is sent --------------------------------------------------------------------------------------------------------
 
 deed_may : (P : Id → Type 0) (sized : Bool) (deed : Deed) → MaySend P sized (an_effect (Does deed))
-deed_may P sized Resume = record { ids = tt; sized_first = refl; fits = λ used h. tt }
+deed_may P sized Suspend = record { ids = tt; sized_first = refl; fits = λ used h. tt }
+deed_may P sized (Resume suspension) = record { ids = tt; sized_first = refl; fits = λ used h. tt }
 deed_may P sized Dispose = record { ids = tt; sized_first = refl; fits = λ used h. tt }
 deed_may P sized Exit = record { ids = tt; sized_first = refl; fits = λ used h. (tt, tt) }
 

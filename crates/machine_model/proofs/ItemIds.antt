@@ -7,7 +7,7 @@ use Rattle.jdwp_events.specs.declared.event.Event.{Event as ATargetEvent}
 use Rattle.jdwp_events.specs.declared.event.Event.TheVariants as happened
 use Rattle.jdwp_events.specs.declared.kind.Policy.{Policy}
 use Rattle.jdwp_events.specs.declared.kind.Policy.TheVariants.{NoThread, EventThread, All as AllThreads}
-use Rattle.machine_model.specs.Composites.{learnt_by, learnt_in, prepared_by, prepared_in, prepared_under}
+use Rattle.machine_model.specs.Composites.{has_death, learnt_by, learnt_in, prepared_by, prepared_in, prepared_under}
 use Rattle.machine_model.specs.Due.{Picked, passed_by, pick}
 use Rattle.machine_model.specs.Ids.{Id, class, ids_of_composite, ids_of_event}
 use Rattle.machine_model.specs.Names.{Attached, Fresh, Gone, Item, Phase, a_composite, a_raw, a_request}
@@ -56,10 +56,18 @@ pub taken_stand : (P : Id → Type 0) (phase : Phase) (item : Item) (known : Kno
 taken_stand P phase (a_request request) known h k = k
 taken_stand P phase (a_composite at composite) known h k = by_phase phase
   where
+    by_death : (prepared : List LoadedClass) (dies : Bool)
+        → All (λ (c : LoadedClass). P (class c.class.0)) prepared
+        → All (λ (c : LoadedClass). P (class c.class.0)) (cond dies [] prepared)
+    by_death prepared true some = tt
+    by_death prepared false some = some
+
     by_phase : (phase : Phase) → AreKnown P (learnt_in phase composite known)
     by_phase Fresh = k
     by_phase Attached = loaded_known P (prepared_in composite) known
-        (under_stand P composite.policy (flat_map prepared_by composite.events) (prepared_stand P composite.events h)) k
+        (by_death _ (has_death composite.events)
+        (under_stand P composite.policy (flat_map prepared_by composite.events)
+        (prepared_stand P composite.events h))) k
     by_phase Gone = k
 taken_stand P phase (a_raw at body) known h k = k
 taken_stand P phase target_end known h k = k

@@ -12,8 +12,8 @@ use Rattle.machine_model.specs.Leaving.{IsFarewell, IsFirst, IsGreeting, IsInTur
 use Rattle.machine_model.specs.Leaving.{sends_farewell}
 use Rattle.machine_model.specs.Names.{Attach, Attached, Command, Deed, Disconnect, Dispose, Does, Doing, Exit, Fresh}
 use Rattle.machine_model.specs.Names.{Gone, Guard, Handshake, IdSizes, Item, Outcome, Part, Phase, Request, Resume}
-use Rattle.machine_model.specs.Names.{TargetCommand, a_composite, a_question, a_raw, a_request, a_response, an_effect}
-use Rattle.machine_model.specs.Names.{target_end}
+use Rattle.machine_model.specs.Names.{Suspend, TargetCommand, a_composite, a_question, a_raw, a_request, a_response}
+use Rattle.machine_model.specs.Names.{an_effect, target_end}
 use Rattle.machine_model.specs.Pending.{has_such}
 use Rattle.machine_model.specs.Plans.{question_of}
 use Rattle.machine_model.specs.Rest.{request_in}
@@ -136,7 +136,8 @@ to_leave target_end exits responds ends leaves h = cc
 deed_is : (aim : Aim) (deed : Deed) (responds ends leaves : Bool) → is_sends (Part.Sends deed) ≡ true
     → may_stand aim (Part.Sends deed) responds ends leaves ≡ true
     → (exits : Bool) × (deed ≡ deed_for exits) × (leaves_well aim exits responds ends leaves ≡ true)
-deed_is aim Resume responds ends leaves is h = cc
+deed_is aim Suspend responds ends leaves is h = cc
+deed_is aim (Resume suspension) responds ends leaves is h = cc
 deed_is aim Exit responds ends leaves is h = (true, refl, h)
 deed_is aim Dispose responds ends leaves is h = (false, refl, h)
 

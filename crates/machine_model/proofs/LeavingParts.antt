@@ -3,14 +3,14 @@ use Rattle.std.proofs.Common.{◌≡◌, Bool, true, false, cond, not, ◌||◌,
 use Rattle.std.proofs.Common.{arith}
 use Rattle.machine_model.specs.Knowing.{is_farewell}
 use Rattle.machine_model.specs.Lookups.{finished}
-use Rattle.machine_model.specs.Names.{News, Attach, Attached, Choice, Command, Deed, Disconnect, Dispose, Doing, Exit}
-use Rattle.machine_model.specs.Names.{Finding, Fresh, Gone, Handshake, Item, Leaves, Lookup, Part, Phase, TellsNews}
-use Rattle.machine_model.specs.Names.{a_composite, a_raw, a_request, an_effect, target_end}
+use Rattle.machine_model.specs.Names.{Attach, Attached, Choice, Command, Decides, Deed, Disconnect, Dispose, Doing}
+use Rattle.machine_model.specs.Names.{Exit, Finding, Fresh, Gone, Handshake, Item, Leaves, Lookup, News, Part, Phase}
+use Rattle.machine_model.specs.Names.{TellsNews, a_composite, a_raw, a_request, an_effect, target_end}
 use Rattle.machine_model.specs.Plans.{Result}
 use Rattle.machine_model.specs.Rows.{chosen, gone_parts, gone_row, gone_tail, has_response, news_of, parts_of, told_in}
 use Rattle.machine_model.specs.Rows.{request_parts}
 use Rattle.machine_model.specs.State.{Hand, State, is_attached, is_none}
-use Rattle.machine_model.proofs.Tables.{same}
+use Rattle.machine_model.proofs.Tables.{of_decided, same}
 
 -- What an item is for -------------------------------------------------------------------------------------------------
 
@@ -157,6 +157,9 @@ chosen_fits (TellsNews below) state hand aim responds ends leaves is =
     by_news Gone news = refl
     by_news Attached [] = refl
     by_news Attached (one ∷ news) = rw is (by_news Attached news)
+chosen_fits Decides state hand aim responds ends leaves is =
+    of_decided (λ (parts : List Part). fits_before aim responds ends leaves parts ≡ true) refl refl (rw is refl)
+    (λ stopping. rw is refl) (λ stopping. rw is refl) state hand.item
 chosen_fits (Leaves exits) state hand aim responds ends leaves is = grind (arith, is)
 
 -- and leaves the target only in an attached session
@@ -174,12 +177,16 @@ chosen_attached (TellsNews below) state hand =
     by_news : (attached : Bool) (phase : Phase) (news : List News)
         → sends_attached attached (told_in phase news) ≡ true
     by_news attached phase news = rw (none_sent phase news) refl
+chosen_attached Decides state hand =
+    of_decided (λ (parts : List Part). sends_attached (is_attached state.phase) parts ≡ true) refl refl refl
+    (λ stopping. refl) (λ stopping. refl) state hand.item
 chosen_attached (Leaves exits) state hand = grind arith
 
 -- where it does, if the choice was to
 pub chosen_leaves : (choice : Choice) (state : State) (hand : Hand) → is_leave (Part.Unfolds choice) ≡ true
     → is_attached state.phase ≡ true → has_part is_leave (chosen choice state hand) ≡ true
 chosen_leaves (TellsNews below) state hand is near = cc
+chosen_leaves Decides state hand is near = cc
 chosen_leaves (Leaves exits) state hand is near = grind (arith, is, near)
 
 -- what a look-up becomes leaves no target

@@ -13,6 +13,7 @@ pub mod EventLaws
 mod Examples
 pub mod HandshakeLaws
 pub mod HeldLaws
+pub mod HoldingParts
 pub mod IdLaws
 pub mod IdRows
 pub mod ItemIds

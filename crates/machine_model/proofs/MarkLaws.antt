@@ -3,9 +3,9 @@ use Rattle.std.proofs.Common.{◌≡◌, Bool, true, false, cond, not, ◌||◌,
 use Rattle.std.proofs.Common.{subst, ◌∙◌, option_map, arith}
 use Rattle.machine_model.specs.Knowing.{has_last, is_fresh, is_last}
 use Rattle.machine_model.specs.Lookups.{finished}
-use Rattle.machine_model.specs.Names.{Command, Event, Failure, Gone, Initialized, Item, Note, Outcome, Part, Phase}
-use Rattle.machine_model.specs.Names.{Replied, TargetCommand, Terminated, a_composite, a_question, a_raw, a_request}
-use Rattle.machine_model.specs.Names.{a_stop, an_effect, some_news, target_end}
+use Rattle.machine_model.specs.Names.{Attached, Command, Event, Failure, Fresh, Gone, Initialized, Item, Note, Outcome}
+use Rattle.machine_model.specs.Names.{Part, Phase, Replied, TargetCommand, Terminated, a_composite, a_question, a_raw}
+use Rattle.machine_model.specs.Names.{a_request, a_stop, an_effect, some_news, target_end}
 use Rattle.machine_model.specs.Outcomes.{result_of}
 use Rattle.machine_model.specs.Replying.{given_up, hand_replied, replied_to}
 use Rattle.machine_model.specs.Rows.{chosen, end_parts, failure_of, gone_parts, has_response, noted, parts_by, parts_of}
@@ -71,7 +71,7 @@ marks = record {
   gives_up = λ responds item. none_once (gone_parts responds item) (gone_none responds item);
 }
 
-plain_last : (parts rest : List Part) → are_plain parts ≡ true → has_last (parts ++ rest) ≡ has_last rest
+pub plain_last : (parts rest : List Part) → are_plain parts ≡ true → has_last (parts ++ rest) ≡ has_last rest
 plain_last [] rest is = refl
 plain_last (part ∷ parts) rest is = grind (arith, is, plain_last parts rest)
 

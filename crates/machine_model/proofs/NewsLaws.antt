@@ -20,10 +20,11 @@ use Rattle.machine_model.specs.Breakpoints.{has_id, is_news, newly_verified, wit
 use Rattle.machine_model.specs.Composites.{change_told, changes_in}
 use Rattle.machine_model.specs.Due.{due}
 use Rattle.machine_model.specs.Lookups.{finished}
-use Rattle.machine_model.specs.Names.{Act, Attached, Choice, Clear, Command, Does, Effect, Failure, Finding, Fresh, Gone}
-use Rattle.machine_model.specs.Names.{Initialized, Item, Leaves, Lookup, Part, Phase, Question, Replied, Set, TellsNews}
-use Rattle.machine_model.specs.Names.{Terminated, a_composite, a_question, a_raw, a_request, all_threads, an_effect}
-use Rattle.machine_model.specs.Names.{News, an_event, class_facts, entry_verified, some_news, target_end, thread_changed}
+use Rattle.machine_model.specs.Names.{Act, Attached, Choice, Clear, Command, Decides, Does, Effect, Failure, Finding}
+use Rattle.machine_model.specs.Names.{Fresh, Gone, Initialized, Item, Leaves, Lookup, News, Part, Phase, Question}
+use Rattle.machine_model.specs.Names.{Replied, Set, TellsNews, Terminated, a_composite, a_question, a_raw, a_request}
+use Rattle.machine_model.specs.Names.{a_stop, all_threads, an_effect, an_event, class_facts, entry_verified, some_news}
+use Rattle.machine_model.specs.Names.{target_end, thread_changed}
 use Rattle.machine_model.specs.Outcomes.{result_of}
 use Rattle.machine_model.specs.Plans.{Result}
 use Rattle.machine_model.specs.Replying.{given_up, told_by}
@@ -37,10 +38,11 @@ use Rattle.machine_model.proofs.QuietLaws.{IsQuiet, near_flies, quiet_on}
 use Rattle.machine_model.proofs.RequestLaws.{IsDue, settling, was_due}
 use Rattle.machine_model.proofs.RequestSteps.{asked_left, flying_in, flying_of, learnt_wishes, parts_left, replied_left}
 use Rattle.machine_model.proofs.Stepping.{IsAt, Loses, Moves, Skips, by_moves, by_runs, moved}
-use Rattle.machine_model.proofs.Tables.{starts_updates}
+use Rattle.machine_model.proofs.Tables.{decided_alike, starts_updates}
 use Rattle.wish_sets.proofs.OrderLaws.{sorted-fold}
 use Rattle.wish_sets.specs.Entries.{all_lines, is_verified, verified}
 use Rattle.wish_sets.specs.declared.entry.LineEntry.{LineEntry}
+use Rattle.machine_model.specs.Stops.{decided}
 
 -- News that are left --------------------------------------------------------------------------------------------------
 
@@ -204,6 +206,9 @@ unfolded_news state below item Attached rest none =
 unfolded : (choice : Choice) (state : State) (hand : Hand) (rest : List Part) → has_told rest ≡ false
     → AreNews state.bound state.wishes (chosen choice state hand ++ rest)
 unfolded (TellsNews below) state hand rest none = unfolded_news state below hand.item state.phase rest none
+unfolded Decides state hand rest none =
+    none_told state.bound state.wishes (decided state hand.item ++ rest)
+    (decided_alike has_told (λ stopping parts. refl) (λ parts. refl) (λ parts. refl) state hand.item rest ∙ none)
 unfolded (Leaves exits) state hand rest none =
     none_told state.bound state.wishes (chosen (Leaves exits) state hand ++ rest) (grind (arith, none))
 
@@ -256,6 +261,8 @@ telling_on messages m next said r h (Moves.tells {event = some_news (entry_verif
 telling_on messages m next said r h
     (Moves.tells {rest = rest} {event = some_news (thread_changed started thread)} free at) =
     none_told m.state.bound m.state.wishes rest (at_front h at)
+telling_on messages m next said r h (Moves.tells {rest = rest} {event = a_stop stopping} free at) =
+    none_told m.state.bound m.state.wishes rest (at_front h at)
 telling_on messages m next said r h (Moves.tells {rest = rest} {event = Terminated} free at) =
     none_told m.state.bound m.state.wishes rest (at_front h at)
 telling_on messages m next said r h (Moves.sends {rest = rest} free at near) =
@@ -304,6 +311,7 @@ news_at m next said told h is (Moves.tells {event = some_news (entry_verified en
     let front = at_front h at in
     record { entry = entry; is_told = cc; is_verified = front.0; is_new = front.1 }
 news_at m next said told h is (Moves.tells {event = some_news (thread_changed started thread)} free at) = cc
+news_at m next said told h is (Moves.tells {event = a_stop stopping} free at) = cc
 news_at m next said told h is (Moves.tells {event = Terminated} free at) = cc
 news_at m next said told h is (Moves.loses late near Loses.by_end) = cc
 news_at m next said told h is (Moves.loses late near (Loses.by_question held waits reply last)) = cc

@@ -2,11 +2,11 @@
 use Rattle.std.proofs.Common.{◌≡◌, Bool, true, false, cond, not, ◌||◌, List, [], ◌∷◌, ◌++◌, Option, Some, None, refl}
 use Rattle.std.proofs.Common.{sym, ap, subst, ◌∙◌, append-nil, option_map, arith}
 use Rattle.machine_model.specs.Lookups.{finished}
-use Rattle.machine_model.specs.Names.{Attached, Choice, Classes, ClientOptions, Command, Event, Failure, Finding}
-use Rattle.machine_model.specs.Names.{Fresh, Gone, Initialized, Item, Leaves, Lines, Lookup, Note, Options, Outcome}
-use Rattle.machine_model.specs.Names.{Part, Phase, Replied, Request, Roots, TargetCommand, TellsNews, Terminated}
-use Rattle.machine_model.specs.Names.{Want, a_composite, a_question, a_raw, a_request, a_response, an_effect}
-use Rattle.machine_model.specs.Names.{News, some_news, target_end}
+use Rattle.machine_model.specs.Names.{Attached, Choice, Classes, ClientOptions, Command, Configured, Decides}
+use Rattle.machine_model.specs.Names.{EntryHeld, Event, Failure, Finding, Fresh, Gone, Initialized, Item, Leaves}
+use Rattle.machine_model.specs.Names.{Lines, Lookup, News, Note, Options, Outcome, Part, Phase, Replied, Request}
+use Rattle.machine_model.specs.Names.{Roots, TargetCommand, TellsNews, Terminated, Want, a_composite, a_question}
+use Rattle.machine_model.specs.Names.{a_raw, a_request, a_response, a_stop, an_effect, some_news, target_end}
 use Rattle.machine_model.specs.Due.{asked_hand}
 use Rattle.machine_model.specs.Noting.{AreOptions, asked_options, options_in, options_noted, part_options}
 use Rattle.machine_model.specs.Outcomes.{result_of}
@@ -22,7 +22,8 @@ use Rattle.machine_model.specs.Telling.{after_event, numbered_by, outcome_told, 
 use Rattle.machine_model.proofs.QuietLaws.{attached_gone}
 use Rattle.machine_model.proofs.ServedLaws.{IsLeft, left_on}
 use Rattle.machine_model.proofs.Stepping.{IsAt, Loses, Moves, Skips, by_runs, with_said}
-use Rattle.machine_model.proofs.Tables.{chosen_is, finished_is, has_joined, once, once_in, responds_once, row_is}
+use Rattle.machine_model.proofs.Tables.{chosen_is, finished_is, has_joined, of_decided, once, once_in, responds_once}
+use Rattle.machine_model.proofs.Tables.{row_is}
 use Rattle.machine_model.proofs.Testing.{IsTest, Passed, same_noted, same_numbered, same_replied, tested, whole}
 
 -- Lists of parts ------------------------------------------------------------------------------------------------------
@@ -93,6 +94,9 @@ chosen_none (TellsNews below) state hand = by_news state.phase (news_of below st
     by_news Gone news = refl
     by_news Attached [] = refl
     by_news Attached (one ∷ news) = by_news Attached news
+chosen_none Decides state hand =
+    of_decided (λ (parts : List Part). no_options parts ≡ true) refl refl refl (λ stopping. refl) (λ stopping. refl)
+    state hand.item
 chosen_none (Leaves exits) state hand = grind arith
 
 found_none : (lookup : Lookup) (result : Result Finding) (state : State)
@@ -337,11 +341,13 @@ event_near : (event : Event) (state : State) → is_gone (after_event event stat
     → is_gone state.phase ≡ false
 event_near Initialized state near = sym (attached_gone state.phase) ∙ near
 event_near (some_news news) state near = near
+event_near (a_stop stopping) state near = near
 event_near Terminated state near = cc
 
 event_options : (event : Event) (state : State) → (after_event event state).options ≡ state.options
 event_options Initialized state = refl
 event_options (some_news news) state = refl
+event_options (a_stop stopping) state = refl
 event_options Terminated state = refl
 
 -- a note behind the response
@@ -349,6 +355,8 @@ noted_same : (note : Note) (state : State) (rest : List Part) → stand_last (Pa
     → cond (has_response rest) (noted note state).options (options_noted rest (noted note state).options)
     ≡ cond (has_response rest) state.options (options_noted (Part.Notes note ∷ rest) state.options)
 noted_same (Roots roots) state rest last = refl
+noted_same EntryHeld state rest last = refl
+noted_same Configured state rest last = refl
 noted_same (Lines key entries) state rest last = refl
 noted_same (Classes classes) state rest last = refl
 noted_same (Options options) state rest last = by_bool (has_response rest) last

@@ -9,7 +9,7 @@ use Rattle.machine_model.specs.Due.{Picked, asked_hand, asked_now, begun, pick}
 use Rattle.machine_model.specs.Lookups.{finished, found_for, lookup_responds}
 use Rattle.machine_model.specs.Names.{Choice, Does, Doing, Event, Finding, Initialized, Item, Lookup, Outcome, Part}
 use Rattle.machine_model.specs.Names.{Phase, Request, TargetCommand, Terminated, a_composite, a_question, a_raw}
-use Rattle.machine_model.specs.Names.{a_request, an_effect, an_event, some_news, target_end}
+use Rattle.machine_model.specs.Names.{a_request, a_stop, an_effect, an_event, some_news, target_end}
 use Rattle.machine_model.specs.Outcomes.{AreExplained, IsExplained, IsInHand, Leads, Reason, answer_part, responds}
 use Rattle.machine_model.specs.Outcomes.{result_of}
 use Rattle.machine_model.specs.Plans.{Need, is_done, question_of}
@@ -538,6 +538,9 @@ told_event {hand = hand} {rest} Initialized h r at =
     same_attached : (phase : Phase) → is_gone (attached_from phase) ≡ is_gone phase
     same_attached phase = grind arith
 told_event {hand = hand} {rest} (some_news news) h r at =
+    passed_on_held _ (record hand { parts = rest }) h at refl refl refl refl refl
+    (λ near. asked_aside _ h refl near)
+told_event {hand = hand} {rest} (a_stop stopping) h r at =
     passed_on_held _ (record hand { parts = rest }) h at refl refl refl refl refl
     (λ near. asked_aside _ h refl near)
 told_event {hand = hand} {rest} Terminated h r at =

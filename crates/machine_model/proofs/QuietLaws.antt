@@ -3,8 +3,8 @@ use Rattle.std.proofs.Common.{◌≡◌, Bool, true, false, cond, not, ◌||◌,
 use Rattle.std.proofs.Common.{refl, sym, ap, subst, ◌∙◌, option_map, arith}
 use Rattle.machine_model.specs.Due.{Load, Picked, busy, can_read, clear, hand_load, lacking_more, load_of, newly_lacked}
 use Rattle.machine_model.specs.Due.{passed_by, pick, queued, waiting}
-use Rattle.machine_model.specs.Names.{Effect, Event, Initialized, Item, Phase, Question, Sent, Terminated}
-use Rattle.machine_model.specs.Names.{a_composite, a_question, a_raw, a_request, an_effect, some_news, target_end}
+use Rattle.machine_model.specs.Names.{Effect, Event, Initialized, Item, Phase, Question, Sent, Terminated, a_composite}
+use Rattle.machine_model.specs.Names.{a_question, a_raw, a_request, a_stop, an_effect, some_news, target_end}
 use Rattle.machine_model.specs.Replying.{given_up, is_waiting, replied_to}
 use Rattle.machine_model.specs.Rest.{hand_silent}
 use Rattle.machine_model.specs.Runs.{Message}
@@ -193,6 +193,7 @@ kept_on m next said k (Moves.tells {event} free at) = told_kept event
         → cond (is_gone (after_event event m.state).phase) true (not (has_end m.waiting)) ≡ true
     told_kept Initialized = kept_phase m (attached_from m.state.phase) k (attached_gone m.state.phase)
     told_kept (some_news news) = k
+    told_kept (a_stop stopping) = k
     told_kept Terminated = refl
 kept_on m next said k (Moves.notes {note} free at) = kept_phase m (noted note m.state).phase k
     (ap is_gone (same_noted note m.state))

@@ -3,10 +3,10 @@ use Rattle.std.proofs.Common.{◌≡◌, ℕ, Bool, true, false, List, [], ◌�
 use Rattle.std.proofs.Common.{sym, ap, subst, ◌∙◌, inl, inr, arith}
 use Rattle.machine_model.specs.EventRequests.{IsSettled}
 use Rattle.machine_model.specs.Lookups.{finished}
-use Rattle.machine_model.specs.Names.{Attached, Choice, Clear, Command, Does, Effect, Finding, Fresh, Initialized}
-use Rattle.machine_model.specs.Names.{Item, Leaves, Lookup, Note, Part, Phase, Replied, Set, TellsNews, Terminated}
-use Rattle.machine_model.specs.Names.{a_composite, a_question, a_raw, a_request, an_answer, an_effect, an_error}
-use Rattle.machine_model.specs.Names.{some_news, target_end}
+use Rattle.machine_model.specs.Names.{Attached, Choice, Clear, Command, Decides, Does, Effect, Finding, Fresh}
+use Rattle.machine_model.specs.Names.{Initialized, Item, Leaves, Lookup, Note, Part, Phase, Replied, Set, TellsNews}
+use Rattle.machine_model.specs.Names.{Terminated, a_composite, a_question, a_raw, a_request, a_stop, an_answer}
+use Rattle.machine_model.specs.Names.{an_effect, an_error, some_news, target_end}
 use Rattle.machine_model.specs.Outcomes.{result_of}
 use Rattle.machine_model.specs.Replying.{replied_to}
 use Rattle.machine_model.specs.Requests.{Wishes, effect_due, request_in, set_to, wishes_after}
@@ -17,7 +17,8 @@ use Rattle.machine_model.specs.State.{Hand, Machine, State, is_attached, is_gone
 use Rattle.machine_model.proofs.RestLaws.{no_late}
 use Rattle.machine_model.proofs.SizeLaws.{is_idle}
 use Rattle.machine_model.proofs.Stepping.{IsAt, Moves, Skips, by_runs}
-use Rattle.machine_model.proofs.Tables.{are_followed, followed, followed_test, rewants, starts_updates, told_alike}
+use Rattle.machine_model.proofs.Tables.{are_followed, decided_alike, followed, followed_test, rewants, starts_updates}
+use Rattle.machine_model.proofs.Tables.{told_alike}
 use Rattle.machine_model.proofs.Testing.{same_noted, same_numbered, same_replied, Passed, passed_on, whole}
 use Rattle.machine_model.proofs.WishLemmas.{new_set_due, none_due_change}
 use Rattle.wish_sets.proofs.LeftLaws.{at_rest}
@@ -107,6 +108,8 @@ chosen_needs : (attached : Bool) (choice : Choice) (state : State) (hand : Hand)
 chosen_needs attached (TellsNews below) state hand rest is =
     sym (told_alike (needs_set attached) (λ news parts. refl) state.phase
     (news_of below state hand.item) rest) ∙ is
+chosen_needs attached Decides state hand rest is =
+    sym (decided_alike (needs_set attached) (λ stopping parts. refl) (λ parts. refl) (λ parts. refl) state hand.item rest) ∙ is
 chosen_needs attached (Leaves exits) state hand rest is = grind (arith, is)
 
 -- a part in front that isn't `updates` is done
@@ -162,6 +165,8 @@ set_on m next said a f h (Moves.tells {hand} {rest} {event = Initialized} free a
     front_set m hand (Part.Tells Initialized) rest h at refl
 set_on m next said a f h (Moves.tells {hand} {rest} {event = some_news news} free at) here = λ needs.
     front_set m hand (Part.Tells (some_news news)) rest h at needs
+set_on m next said a f h (Moves.tells {hand} {rest} {event = a_stop stopping} free at) here = λ needs.
+    front_set m hand (Part.Tells (a_stop stopping)) rest h at needs
 set_on m next said a f h (Moves.tells {event = Terminated} free at) here = cc
 set_on m next said a f h (Moves.sends {hand} {rest} {deed} free at is) here = λ needs.
     front_set m hand (Part.Sends deed) rest h at needs

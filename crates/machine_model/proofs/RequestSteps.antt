@@ -3,8 +3,9 @@ use Rattle.std.proofs.Common.{◌≡◌, Bool, true, false, cond, List, [], ◌�
 use Rattle.std.proofs.Common.{◌∙◌, ◌⊎◌, inl, inr, option_map, arith, ◌||◌}
 use Rattle.machine_model.specs.Due.{asked_hand, clear, load_of}
 use Rattle.machine_model.specs.Lookups.{finished}
-use Rattle.machine_model.specs.Names.{Clear, Does, Doing, Effect, Event, Note, Outcome, Part, Phase, Question, Replied}
-use Rattle.machine_model.specs.Names.{Set, TargetCommand, Want, a_question, an_effect, Options, Roots, Lines, Classes}
+use Rattle.machine_model.specs.Names.{Classes, Clear, Configured, Does, Doing, Effect, EntryHeld, Event, Lines, Note}
+use Rattle.machine_model.specs.Names.{Options, Outcome, Part, Phase, Question, Replied, Roots, Set, TargetCommand}
+use Rattle.machine_model.specs.Names.{Want, a_question, an_effect}
 use Rattle.machine_model.specs.Outcomes.{result_of}
 use Rattle.machine_model.specs.Replying.{IsReply, hand_replied, told_by}
 use Rattle.machine_model.specs.Requests.{effect_due, wishes_after}
@@ -106,6 +107,8 @@ data Noted (note : Note) (state : State) : Type 0 where
 noted_by : (note : Note) (state : State) → Noted note state
 noted_by (Options options) state = Noted.leaves_all refl
 noted_by (Roots roots) state = Noted.leaves_all refl
+noted_by EntryHeld state = Noted.leaves_all refl
+noted_by Configured state = Noted.leaves_all refl
 noted_by (Lines None entries) state = Noted.leaves_all refl
 noted_by (Lines (Some key) entries) state = Noted.rewishes (with_lines key entries state.wishes.wanted) refl refl
 noted_by (Classes classes) state =

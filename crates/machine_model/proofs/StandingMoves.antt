@@ -7,18 +7,19 @@ use Rattle.std.specs.List.{AllByRecursion as All}
 use Rattle.machine_model.specs.Ids.{Id, class}
 use Rattle.machine_model.specs.Lookups.{finished, found_for, sight_of}
 use Rattle.machine_model.specs.Names.{Attach, Attached, BadArguments, Capabilities, Choice, Classes, Command}
-use Rattle.machine_model.specs.Names.{ConfigurationDone, Disconnect, Effect, Event, Failed, Failure, Finding, Fresh}
-use Rattle.machine_model.specs.Names.{Gone, Initialize, Initialized, Item, Leaves, Lines, Lookup, NamedThread, Note}
-use Rattle.machine_model.specs.Names.{Nothing, Options, Outcome, Part, Phase, Replied, Roots, Sent, SetBreakpoints}
-use Rattle.machine_model.specs.Names.{Success, TargetCommand, TellsNews, Terminated, ThreadId, Threads, Unsupported}
-use Rattle.machine_model.specs.Names.{Want, a_composite, a_raw, a_request, all_threads, breakpoint_list, class_facts}
-use Rattle.machine_model.specs.Names.{classes_found, News, some_news, target_end, thread_list, threads_found}
+use Rattle.machine_model.specs.Names.{ConfigurationDone, Configured, Continue, Decides, Disconnect, Effect, EntryHeld}
+use Rattle.machine_model.specs.Names.{Event, Failed, Failure, Finding, Fresh, Gone, Initialize, Initialized, Item}
+use Rattle.machine_model.specs.Names.{Leaves, Lines, Lookup, NamedThread, News, Note, Nothing, Options, Outcome, Part}
+use Rattle.machine_model.specs.Names.{Pause, Phase, Replied, Roots, Sent, SetBreakpoints, Success, TargetCommand}
+use Rattle.machine_model.specs.Names.{TellsNews, Terminated, ThreadId, Threads, Unsupported, Want, a_composite, a_raw}
+use Rattle.machine_model.specs.Names.{a_request, a_stop, all_threads, breakpoint_list, class_facts, classes_found}
+use Rattle.machine_model.specs.Names.{some_news, target_end, thread_list, threads_found}
 use Rattle.machine_model.specs.Plans.{Need, fails, has, lacks}
 use Rattle.machine_model.specs.Replying.{done_by}
 use Rattle.machine_model.proofs.Testing.{same_numbered}
-use Rattle.machine_model.specs.Rows.{chosen, failure_of, leaves, told_in, noted, parts_by, parts_of, request_parts}
-use Rattle.machine_model.specs.Rows.{news_of}
-use Rattle.machine_model.specs.Rows.{row_of, wanting}
+use Rattle.machine_model.specs.Rows.{chosen, configured_parts, continue_parts, failure_of, leaves, news_of, noted}
+use Rattle.machine_model.specs.Rows.{parts_by, parts_of, pause_parts, request_parts, row_of, thread_with, told_in}
+use Rattle.machine_model.specs.Rows.{wanting}
 use Rattle.machine_model.specs.Runs.{Message}
 use Rattle.machine_model.specs.State.{Hand, Machine, State, is_attached, is_gone, is_some, left}
 use Rattle.machine_model.specs.Telling.{after_event, is_among, numbered_by, with_thread, with_threads}
@@ -28,11 +29,11 @@ use Rattle.machine_model.proofs.Stepping.{IsAt, Skips}
 use Rattle.machine_model.specs.Outcomes.{result_of}
 use Rattle.machine_model.proofs.Standing.{IsKept, Kept, Near, PartStands, Same, at_front, same_state, in_order}
 use Rattle.machine_model.proofs.Standing.{awaits_sizes, needs_sizes, stays}
-use Rattle.machine_model.proofs.Tables.{told_alike}
+use Rattle.machine_model.proofs.Tables.{decided_alike, of_decided, told_alike}
 use Rattle.machine_model.specs.Breakpoints.{behind_roots, key_of, longest_key, short_key, slashed}
 use Rattle.std.specs.Prelude.{ℕ, nat_le, length}
 use Rattle.machine_model.proofs.WishIds.{AreWished, IsShortKey, classes_stand, lines_stand}
-use Rattle.machine_model.specs.Composites.{composite_parts}
+use Rattle.machine_model.specs.Composites.{composite_parts, has_death}
 
 -- Tables --------------------------------------------------------------------------------------------------------------
 
@@ -69,6 +70,8 @@ pub note_wished : (P : Id → Type 0) (note : Note) (state : State) → PartStan
     → AreKnown P state.classes → AreWished P state.wishes.wanted → AreWished P (noted note state).wishes.wanted
 note_wished P (Options options) state k facts h = h
 note_wished P (Roots roots) state k facts h = h
+note_wished P EntryHeld state k facts h = h
+note_wished P Configured state k facts h = h
 note_wished P (Lines None entries) state k facts h = h
 note_wished P (Lines (Some key) entries) state k facts h = lines_stand P key entries state.wishes.wanted k h
 note_wished P (Classes classes) state k facts h =
@@ -102,10 +105,25 @@ key_is_short roots path = by_key (behind_roots roots (slashed path))
 row_parts : (P : Id → Type 0) (command : Command) (state : State) → All (PartStands P) (row_of command state)
 row_parts P (Initialize arguments) state = (tt, (tt, tt))
 row_parts P (Attach arguments) state = (tt, (tt, (tt, (tt, (tt, (tt, tt))))))
-row_parts P ConfigurationDone state = (tt, tt)
+row_parts P ConfigurationDone state = by_entry state.entry
+  where
+    by_entry : (entry : Bool) → All (PartStands P) (configured_parts entry)
+    by_entry true = (tt, (tt, (tt, tt)))
+    by_entry false = (tt, (tt, tt))
 row_parts P (SetBreakpoints arguments) state =
     (key_is_short state.roots arguments.path, (tt, (tt, (tt, (tt, (tt, tt))))))
 row_parts P Threads state = (tt, tt)
+row_parts P (Continue arguments) state = by_thread (thread_with state.threads arguments.thread_id)
+  where
+    by_thread : (thread : Option ThreadId) → All (PartStands P) (continue_parts thread)
+    by_thread None = (tt, tt)
+    by_thread (Some thread) = (tt, (tt, tt))
+row_parts P (Pause arguments) state = by_stop state.stopped (thread_with state.threads arguments.thread_id)
+  where
+    by_stop : (stopped : Bool) (thread : Option ThreadId) → All (PartStands P) (pause_parts stopped thread)
+    by_stop stopped None = (tt, tt)
+    by_stop true (Some thread) = (tt, tt)
+    by_stop false (Some thread) = (tt, (tt, (tt, tt)))
 row_parts P (Disconnect arguments) state = (tt, (tt, (tt, tt)))
 row_parts P Unsupported state = (tt, tt)
 row_parts P (BadArguments name) state = (tt, tt)
@@ -123,15 +141,19 @@ begun_parts P state target_end = by_end state.terminated
     by_end : (told : Bool) → All (PartStands P) (parts_of (record state { terminated = told }) target_end)
     by_end true = tt
     by_end false = (tt, tt)
-begun_parts P state (a_composite at composite) = by_phase state.phase composite.policy
+begun_parts P state (a_composite at composite) =
+    by_phase state.phase (has_death composite.events) composite.policy
   where
-    by_phase : (phase : Phase) (policy : Policy)
-        → All (PartStands P) (composite_parts phase policy at state.next_entry)
-    by_phase Fresh policy = tt
-    by_phase Attached NoThread = (tt, (tt, (tt, tt)))
-    by_phase Attached EventThread = (tt, tt)
-    by_phase Attached AllThreads = (tt, (tt, (tt, (tt, tt))))
-    by_phase Gone policy = tt
+    by_phase : (phase : Phase) (dies : Bool) (policy : Policy)
+        → All (PartStands P) (composite_parts phase dies policy at state.next_entry)
+    by_phase Fresh dies policy = tt
+    by_phase Attached true NoThread = (tt, tt)
+    by_phase Attached true EventThread = (tt, tt)
+    by_phase Attached true AllThreads = (tt, tt)
+    by_phase Attached false NoThread = (tt, (tt, (tt, tt)))
+    by_phase Attached false EventThread = (tt, tt)
+    by_phase Attached false AllThreads = (tt, (tt, (tt, (tt, tt))))
+    by_phase Gone dies policy = tt
 begun_parts P state (a_raw at body) = tt
 
 pub chosen_order : (choice : Choice) (state : State) (hand : Hand) (sized attached : Bool) (rest : List Part)
@@ -139,6 +161,8 @@ pub chosen_order : (choice : Choice) (state : State) (hand : Hand) (sized attach
 chosen_order (TellsNews below) state hand sized attached rest h =
     told_alike (in_order sized attached) (λ news parts. refl) state.phase
     (news_of below state hand.item) rest ∙ h
+chosen_order Decides state hand sized attached rest h =
+    decided_alike (in_order sized attached) (λ stopping parts. refl) (λ parts. refl) (λ parts. refl) state hand.item rest ∙ h
 chosen_order (Leaves exits) state hand sized attached rest h = grind (arith, h)
 
 pub chosen_parts : (P : Id → Type 0) (choice : Choice) (state : State) (hand : Hand) (rest : List Part)
@@ -151,6 +175,9 @@ chosen_parts P (TellsNews below) state hand rest h =
     by_news Gone news = h
     by_news Attached [] = h
     by_news Attached (one ∷ news) = (tt, by_news Attached news)
+chosen_parts P Decides state hand rest h =
+    of_decided (λ (parts : List Part). All (PartStands P) (parts ++ rest)) h (tt, h) (tt, h) (λ stopping. (tt, h))
+    (λ stopping. (tt, (tt, h))) state hand.item
 chosen_parts P (Leaves exits) state hand rest h = by_phase state.phase
   where
     by_phase : (phase : Phase) → All (PartStands P) (leaves phase exits ++ rest)
@@ -195,6 +222,7 @@ pub event_order : (state : State) (event : Event) (rest : List Part) → is_gone
 event_order state Initialized rest near h = in_any_order _ _ rest
     (sized_by (is_some state.sizes) (is_attached state.phase) (Part.Tells Initialized) rest h refl refl)
 event_order state (some_news news) rest near h = h
+event_order state (a_stop stopping) rest near h = h
 event_order state Terminated rest near h = cc
 
 -- a look-up that stands in front, where the sizes are known

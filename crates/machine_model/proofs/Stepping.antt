@@ -1,10 +1,10 @@
 -- One induction over runs: what each move keeps holds of every run.
 use Rattle.std.proofs.Common.{◌≡◌, ℕ, Bool, true, false, cond, not, List, [], ◌∷◌, ◌++◌, Option, Some, None, refl}
 use Rattle.std.proofs.Common.{ap, subst, option_map}
-use Rattle.machine_model.specs.Due.{Due, Load, Picked, Way, asked_first, asked_next, asked_now, begun, busy, can_read}
-use Rattle.machine_model.specs.Due.{clear, due, due_by, gated, guarded, hand_due, is_full, lacking_more, lets, load_of}
-use Rattle.machine_model.specs.Due.{looked, next_item, part_due, pick, queued, queued_next, queueing}
-use Rattle.machine_model.specs.Due.{responded, sent, updated, waiting, wanted, wanted_in, way}
+use Rattle.machine_model.specs.Due.{Due, Load, Picked, Way, after_deed, asked_first, asked_next, asked_now, begun}
+use Rattle.machine_model.specs.Due.{busy, can_read, clear, due, due_by, gated, guarded, hand_due, is_full}
+use Rattle.machine_model.specs.Due.{lacking_more, lets, load_of, looked, next_item, part_due, pick, queued}
+use Rattle.machine_model.specs.Due.{queued_next, queueing, responded, sent, updated, waiting, wanted, wanted_in, way}
 use Rattle.machine_model.specs.Due.Way.{passes, greets as greets_way, holds as holds_way, asks as asks_way}
 use Rattle.machine_model.specs.Lookups.{finished, found_for}
 use Rattle.machine_model.specs.Outcomes.{result_of}

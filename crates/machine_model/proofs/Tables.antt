@@ -3,13 +3,13 @@ use Rattle.std.proofs.Common.{◌≡◌, Bool, true, false, cond, not, ◌||◌,
 use Rattle.std.proofs.Common.{Some, None}
 use Rattle.machine_model.specs.Lookups.{finished, lookup_responds}
 use Rattle.machine_model.specs.Names.{Attached, Choice, Classes, Command, Decides, EntryHeld, Failure, Finding, Fresh}
-use Rattle.machine_model.specs.Names.{Gone, Initialized, Item, Leaves, Lines, Lookup, News, Part, Phase, Resume}
+use Rattle.machine_model.specs.Names.{Gone, Initialized, Item, Leaves, Lines, Lookup, News, Note, Part, Phase, Resume}
 use Rattle.machine_model.specs.Names.{Stopping, TellsNews, Terminated, a_composite, a_raw, a_request, a_stop}
 use Rattle.machine_model.specs.Names.{class_facts, of_composite, some_news, target_end}
 use Rattle.machine_model.specs.Plans.{Result}
 use Rattle.machine_model.specs.Rows.{choice_responds, chosen, each_told, failure_of, gone_parts, has_response, news_of}
 use Rattle.machine_model.specs.Rows.{is_response, told_in, parts_by, parts_of, request_parts, row_of, wanting}
-use Rattle.machine_model.specs.State.{Hand, State, is_gone}
+use Rattle.machine_model.specs.State.{Hand, State, is_attached, is_gone}
 use Rattle.machine_model.proofs.Testing.{IsTest, gone_behind}
 use Rattle.machine_model.specs.Stops.{decided, decided_by, events_in, hits_in, holds_entry, stop_among}
 use Rattle.machine_model.specs.Knowing.{is_last}
@@ -21,11 +21,16 @@ abbrev pub same : Bool → Bool → Bool
 same true other = other
 same false other = not other
 
+-- a note that can be made without the target
+abbrev pub is_free_note : Note → Bool
+is_free_note EntryHeld = false
+is_free_note _ = true
+
 -- the part doesn't need the target
 abbrev pub is_free : Part → Bool
 is_free (Part.Responds outcome) = true
 is_free (Part.Tells Terminated) = true
-is_free (Part.Notes note) = true
+is_free (Part.Notes note) = is_free_note note
 is_free (Part.Ends finish) = true
 is_free (Part.Unfolds (Leaves exits)) = true
 is_free _ = false
@@ -98,6 +103,34 @@ is_block responds parts =
 
 pub row_sound : (failure : Option Failure) (command : Command) (state : State) → is_row (parts_by failure (row_of command state)) ≡ true
 row_sound failure command state = grind arith
+
+-- what holds of each decision on a suspension
+pub of_decided : (P : List Part → Type 0) → P [] → P (Part.Notes EntryHeld ∷ [])
+    → P (Part.Sends (Resume of_composite) ∷ []) → ((stopping : Stopping) → P (Part.Tells (a_stop stopping) ∷ []))
+    → ((stopping : Stopping) → P (Part.Tells (a_stop stopping) ∷ Part.Sends (Resume of_composite) ∷ []))
+    → (state : State) (item : Item) → P (decided state item)
+of_decided P none holds resumes stops goes_on state item =
+    by_phase (is_attached state.phase) state.stopped (holds_entry state (events_in item))
+    (stop_among state.wishes (hits_in state.wishes (events_in item)))
+  where
+    by_phase : (attached stopped held : Bool) (stop : Option Stopping)
+        → P (cond attached (decided_by stopped held stop) [])
+    by_phase false stopped held stop = none
+    by_phase true stopped true None = holds
+    by_phase true stopped false None = resumes
+    by_phase true false held (Some stopping) = stops stopping
+    by_phase true true held (Some stopping) = goes_on stopping
+
+-- and it changes nothing to what its parts change nothing to
+pub decided_alike : {A : Type 0} (f : List Part → A)
+    → ((stopping : Stopping) (parts : List Part) → f (Part.Tells (a_stop stopping) ∷ parts) ≡ f parts)
+    → ((parts : List Part) → f (Part.Sends (Resume of_composite) ∷ parts) ≡ f parts)
+    → ((parts : List Part) → f (Part.Notes EntryHeld ∷ parts) ≡ f parts)
+    → (state : State) (item : Item) (rest : List Part) → f (decided state item ++ rest) ≡ f rest
+decided_alike f stops resumes holds state item rest =
+    of_decided (λ (parts : List Part). f (parts ++ rest) ≡ f rest) refl (holds rest) (resumes rest)
+    (λ stopping. stops stopping rest)
+    (λ stopping. stops stopping (Part.Sends (Resume of_composite) ∷ rest) ∙ resumes rest) state item
 
 told_plain : (news : List News) → are_plain (each_told news) ≡ true
 told_plain [] = refl
@@ -189,33 +222,6 @@ told_alike f each Gone news rest = refl
 told_alike f each Attached [] rest = refl
 told_alike f each Attached (one ∷ news) rest =
     each one (each_told news ++ rest) ∙ told_alike f each Attached news rest
-
--- what holds of each decision on a suspension
-pub of_decided : (P : List Part → Type 0) → P [] → P (Part.Notes EntryHeld ∷ [])
-    → P (Part.Sends (Resume of_composite) ∷ []) → ((stopping : Stopping) → P (Part.Tells (a_stop stopping) ∷ []))
-    → ((stopping : Stopping) → P (Part.Tells (a_stop stopping) ∷ Part.Sends (Resume of_composite) ∷ []))
-    → (state : State) (item : Item) → P (decided state item)
-of_decided P none holds resumes stops goes_on state item =
-    by_gone (is_gone state.phase) state.stopped (holds_entry state (events_in item))
-    (stop_among state.wishes (hits_in state.wishes (events_in item)))
-  where
-    by_gone : (gone stopped held : Bool) (stop : Option Stopping) → P (cond gone [] (decided_by stopped held stop))
-    by_gone true stopped held stop = none
-    by_gone false stopped true None = holds
-    by_gone false stopped false None = resumes
-    by_gone false false held (Some stopping) = stops stopping
-    by_gone false true held (Some stopping) = goes_on stopping
-
--- and it changes nothing to what its parts change nothing to
-pub decided_alike : {A : Type 0} (f : List Part → A)
-    → ((stopping : Stopping) (parts : List Part) → f (Part.Tells (a_stop stopping) ∷ parts) ≡ f parts)
-    → ((parts : List Part) → f (Part.Sends (Resume of_composite) ∷ parts) ≡ f parts)
-    → ((parts : List Part) → f (Part.Notes EntryHeld ∷ parts) ≡ f parts)
-    → (state : State) (item : Item) (rest : List Part) → f (decided state item ++ rest) ≡ f rest
-decided_alike f stops resumes holds state item rest =
-    of_decided (λ (parts : List Part). f (parts ++ rest) ≡ f rest) refl (holds rest) (resumes rest)
-    (λ stopping. stops stopping rest)
-    (λ stopping. stops stopping (Part.Sends (Resume of_composite) ∷ rest) ∙ resumes rest) state item
 
 pub has_joined : (parts rest : List Part) → has_response (parts ++ rest) ≡ (has_response parts || has_response rest)
 has_joined [] rest = refl
@@ -377,6 +383,8 @@ followed_chosen : (choice : Choice) (state : State) (hand : Hand) (rest : List P
     → are_followed (chosen choice state hand ++ rest) ≡ true
 followed_chosen (TellsNews below) state hand rest is =
     told_alike are_followed (λ news parts. refl) state.phase (news_of below state hand.item) rest ∙ is
+followed_chosen Decides state hand rest is =
+    decided_alike are_followed (λ stopping parts. refl) (λ parts. refl) (λ parts. refl) state hand.item rest ∙ is
 followed_chosen (Leaves exits) state hand rest is = grind (arith, is)
 
 pub followed_test : IsTest followed

@@ -8,13 +8,13 @@ use Rattle.std.specs.Ordering.{nat_cmp, on}
 use Rattle.machine_model.specs.Breakpoints.{breakpoint_told, has_id, newly_verified, is_verified as is_told_verified}
 use Rattle.machine_model.specs.Breakpoints.{with_id, with_told}
 use Rattle.machine_model.specs.Lookups.{finished, threads_outcome}
-use Rattle.machine_model.specs.Names.{Attached, Capabilities, Choice, Clear, Does, Effect, Failed, Finding, Fresh}
-use Rattle.machine_model.specs.Names.{Gone, Initialized, Item, Leaves, ListedBreakpoint, Lookup, Nothing, Outcome}
-use Rattle.machine_model.specs.Names.{Part, Phase, Question, Replied, Set, Success, TellsNews, Terminated}
-use Rattle.machine_model.specs.Names.{a_composite, a_question, a_raw, a_request, all_threads, an_answer, an_effect}
-use Rattle.machine_model.specs.Names.{an_error, breakpoint_list, class_facts, entry_verified, target_end}
-use Rattle.machine_model.specs.Names.{some_news, thread_changed, thread_list}
-use Rattle.machine_model.specs.Names.{TargetCommand, Want}
+use Rattle.machine_model.specs.Names.{Attached, Capabilities, Choice, Clear, Continued, Decides, Does, Effect}
+use Rattle.machine_model.specs.Names.{EntryHeld, Failed, Finding, Fresh, Gone, Initialized, Item, Leaves}
+use Rattle.machine_model.specs.Names.{ListedBreakpoint, Lookup, Nothing, Outcome, Part, Phase, Question, Replied}
+use Rattle.machine_model.specs.Names.{Resume, Set, Success, TargetCommand, TellsNews, Terminated, Want, a_composite}
+use Rattle.machine_model.specs.Names.{a_question, a_raw, a_request, a_stop, all_threads, an_answer, an_effect}
+use Rattle.machine_model.specs.Names.{an_error, breakpoint_list, class_facts, entry_verified, of_composite, some_news}
+use Rattle.machine_model.specs.Names.{target_end, thread_changed, thread_list}
 use Rattle.machine_model.specs.Due.{asked_hand}
 use Rattle.machine_model.specs.Knowing.{is_fresh}
 use Rattle.machine_model.specs.Outcomes.{result_of}
@@ -32,7 +32,7 @@ use Rattle.machine_model.proofs.RequestLaws.{IsDue, settles, settling, was_due}
 use Rattle.machine_model.proofs.RequestSteps.{asked_left, flying_in, flying_of, learnt_wishes, near_before}
 use Rattle.machine_model.proofs.RequestSteps.{parts_left, replied_left}
 use Rattle.machine_model.proofs.Stepping.{IsAt, Moves, Skips, by_runs}
-use Rattle.machine_model.proofs.Tables.{starts_updates}
+use Rattle.machine_model.proofs.Tables.{of_decided, starts_updates}
 use Rattle.machine_model.proofs.Testing.{same_replied}
 use Rattle.wish_sets.proofs.OrderLaws.{each-insert}
 use Rattle.wish_sets.specs.Entries.{all_lines, is_verified, state_of, verified}
@@ -42,8 +42,9 @@ use Rattle.wish_sets.specs.declared.entry.EntryState.TheVariants.{Verified}
 use Rattle.wish_sets.specs.declared.entry.LineEntry.{LineEntry}
 use Rattle.machine_model.proofs.VerifiedLaws.{both, has_now, has_still, is_listed, is_placed, is_shown, or_left}
 use Rattle.machine_model.proofs.VerifiedLaws.{or_right, placed_listed, stands_verified, verified_news}
-use Rattle.machine_model.proofs.ToldParts.{Covers, begun, covers, covers_rest, has_lines, is_asked, none_noted}
-use Rattle.machine_model.proofs.ToldParts.{noted_covers, passes, skips, tells_it, will_tell}
+use Rattle.machine_model.proofs.ToldParts.{AreNoted, Covers, begun, covers, covers_rest, has_lines, is_asked}
+use Rattle.machine_model.proofs.ToldParts.{none_noted, noted_covers, passes, skips, tells_it, will_tell}
+use Rattle.machine_model.specs.Stops.{decided}
 
 module _ (id : ℕ) where
   -- Replies -----------------------------------------------------------------------------------------------------------
@@ -162,12 +163,39 @@ module _ (id : ℕ) where
     told = c.told;
   }
 
+  decided_covers : {asked : Bool} (state : State) (item : Item) (rest : List Part)
+      → Covers id asked state.wishes state.phase state.next_entry state.bound rest
+      → Covers id asked state.wishes state.phase state.next_entry state.bound (decided state item ++ rest)
+  decided_covers {asked} state item rest c =
+      of_decided (λ (parts : List Part).
+      Covers id asked state.wishes state.phase state.next_entry state.bound (parts ++ rest)) c
+      (still (Part.Notes EntryHeld ∷ rest) refl refl (λ is. is)) (still (Part.Sends (Resume of_composite) ∷ rest) refl
+      refl (λ is. is)) (λ stopping. still (Part.Tells (a_stop stopping) ∷ rest) refl refl (λ is. is))
+      (λ stopping. still (Part.Tells (a_stop stopping) ∷ Part.Sends (Resume of_composite) ∷ rest) refl refl (λ is. is))
+      state item
+    where
+      still : (parts : List Part) → will_tell id asked rest ≡ will_tell id asked parts
+          → covers id asked rest ≡ covers id asked parts
+          → (AreNoted id asked state.phase state.next_entry rest → AreNoted id asked state.phase state.next_entry parts)
+          → Covers id asked state.wishes state.phase state.next_entry state.bound parts
+      still parts tells covered noted = record {
+        functions = c.functions;
+        early = c.early;
+        below = c.below;
+        noted = noted c.noted;
+        covered = λ is. sym covered ∙ c.covered is;
+        told = λ is placed. ap (λ b. has_id state.bound id || b) (sym tells) ∙ c.told is placed;
+      }
+
   chosen_covers : {asked : Bool} (choice : Choice) (state : State) (hand : Hand) (rest : List Part)
       → is_gone state.phase ≡ false
       → Covers id asked state.wishes state.phase state.next_entry state.bound (Part.Unfolds choice ∷ rest)
       → Covers id asked state.wishes state.phase state.next_entry state.bound (chosen choice state hand ++ rest)
   chosen_covers (TellsNews below) state hand rest near c =
       news_covers state below hand.item rest state.phase refl near c
+  chosen_covers Decides state hand rest near c =
+      decided_covers state hand.item rest
+      (skips id state.phase (Part.Unfolds Decides) rest c c.noted (λ fresh. fresh) refl)
   chosen_covers (Leaves exits) state hand rest near c = leaves_covers state exits rest state.phase c
 
   -- Responses ---------------------------------------------------------------------------------------------------------
@@ -237,6 +265,8 @@ module _ (id : ℕ) where
       skips id state.phase (Part.Responds (Success Nothing)) rest c c.noted (λ fresh. fresh) refl
   responded_covers (Success Capabilities) state rest c =
       skips id state.phase (Part.Responds (Success Capabilities)) rest c c.noted (λ fresh. fresh) refl
+  responded_covers (Success Continued) state rest c =
+      skips id state.phase (Part.Responds (Success Continued)) rest c c.noted (λ fresh. fresh) refl
   responded_covers (Success (thread_list named)) state rest c =
       skips id state.phase (Part.Responds (Success (thread_list named))) rest c c.noted (λ fresh. fresh) refl
   responded_covers (Failed failure) state rest c =
@@ -361,6 +391,9 @@ module _ (id : ℕ) where
       let front = at_front c at in
       skips id m.state.phase (Part.Tells (some_news (thread_changed started thread))) rest front front.noted
       (λ fresh. fresh) refl
+  covered_on messages m next said r near here c (Moves.tells {rest = rest} {event = a_stop stopping} free at) =
+      let front = at_front c at in
+      skips id m.state.phase (Part.Tells (a_stop stopping)) rest front front.noted (λ fresh. fresh) refl
   covered_on messages m next said r near here c (Moves.tells {rest = rest} {event = Terminated} free at) = cc
   covered_on messages m next said r near here c (Moves.sends {rest = rest} {deed} free at away) =
       let front = at_front c at in skips id m.state.phase (Part.Sends deed) rest front front.noted (λ fresh. fresh) refl

@@ -6,14 +6,15 @@ use Rattle.std.specs.List.{flat_map, list_any}
 use Rattle.dap_messages.specs.declared.requests.SourceBreakpoint.{SourceBreakpoint}
 use Rattle.jdwp_values.specs.declared.id.ClassId.{ClassId}
 use Rattle.machine_model.specs.Breakpoints.{entry_of, has_id, key_of, numbered_from}
-use Rattle.machine_model.specs.Names.{Attach, BadArguments, Classes, Command, ConfigurationDone, Disconnect, Failure}
-use Rattle.machine_model.specs.Names.{Initialize, Item, Lines, ListedBreakpoint, Note, Options, Part, Phase, Roots}
-use Rattle.machine_model.specs.Names.{SetBreakpoints, Success, TellsNews, Threads, Unsupported, a_composite, a_raw}
-use Rattle.machine_model.specs.Names.{a_request, breakpoint_list, class_facts, entry_verified, some_news, target_end}
+use Rattle.machine_model.specs.Names.{Attach, BadArguments, Classes, Command, ConfigurationDone, Configured, Continue}
+use Rattle.machine_model.specs.Names.{Disconnect, EntryHeld, Failure, Initialize, Item, Lines, ListedBreakpoint, Note}
+use Rattle.machine_model.specs.Names.{Options, Part, Pause, Phase, Roots, SetBreakpoints, Success, TellsNews, ThreadId}
+use Rattle.machine_model.specs.Names.{Threads, Unsupported, a_composite, a_raw, a_request, breakpoint_list}
+use Rattle.machine_model.specs.Names.{class_facts, entry_verified, some_news, target_end}
 use Rattle.machine_model.specs.Knowing.{is_fresh}
 use Rattle.machine_model.specs.Requests.{Wishes}
-use Rattle.machine_model.specs.Rows.{end_parts, failure_of, if_attached, noted, breakpoint_parts, parts_by, parts_of}
-use Rattle.machine_model.specs.Rows.{row_of, wanting}
+use Rattle.machine_model.specs.Rows.{breakpoint_parts, configured_parts, continue_parts, end_parts, failure_of}
+use Rattle.machine_model.specs.Rows.{if_attached, noted, parts_by, parts_of, pause_parts, row_of, thread_with, wanting}
 use Rattle.machine_model.specs.State.{State}
 use Rattle.class_tables.specs.Lookups.{Lookups, found_in}
 use Rattle.class_tables.specs.Tables.{put}
@@ -180,7 +181,11 @@ module _ (id : ℕ) where
   row_noted (Some failure) command state same = refl
   row_noted None (Initialize arguments) state same = refl
   row_noted None (Attach arguments) state same = refl
-  row_noted None ConfigurationDone state same = refl
+  row_noted None ConfigurationDone state same = by_entry state.entry
+    where
+      by_entry : (entry : Bool) → AreNoted true state.phase state.next_entry (configured_parts entry)
+      by_entry true = refl
+      by_entry false = refl
   row_noted None (SetBreakpoints arguments) state same =
       by_key (key_of state.roots arguments.path) (near state.phase same)
     where
@@ -209,6 +214,18 @@ module _ (id : ℕ) where
             ),
       )
   row_noted None Threads state same = refl
+  row_noted None (Continue arguments) state same = by_thread (thread_with state.threads arguments.thread_id)
+    where
+      by_thread : (thread : Option ThreadId) → AreNoted true state.phase state.next_entry (continue_parts thread)
+      by_thread None = refl
+      by_thread (Some thread) = refl
+  row_noted None (Pause arguments) state same = by_stop state.stopped (thread_with state.threads arguments.thread_id)
+    where
+      by_stop : (stopped : Bool) (thread : Option ThreadId)
+          → AreNoted true state.phase state.next_entry (pause_parts stopped thread)
+      by_stop stopped None = refl
+      by_stop true (Some thread) = refl
+      by_stop false (Some thread) = refl
   row_noted None (Disconnect arguments) state same = refl
   row_noted None Unsupported state same = refl
   row_noted None (BadArguments name) state same = refl
@@ -290,6 +307,10 @@ module _ (id : ℕ) where
       skips state.phase (Part.Notes (Options options)) rest c c.noted (λ fresh. fresh) refl
   noted_covers (Roots roots) state rest c =
       skips state.phase (Part.Notes (Roots roots)) rest c c.noted (λ fresh. fresh) refl
+  noted_covers EntryHeld state rest c =
+      skips state.phase (Part.Notes EntryHeld) rest c c.noted (λ fresh. fresh) refl
+  noted_covers Configured state rest c =
+      skips state.phase (Part.Notes Configured) rest c c.noted (λ fresh. fresh) refl
   noted_covers {asked} (Lines None entries) state rest c = record {
     functions = c.functions;
     early = c.early;

@@ -20,6 +20,7 @@ use Rattle.jdwp_events.specs.declared.kind.Policy.TheVariants.{NoThread, EventTh
 use Rattle.machine_model.specs.Breakpoints.{with_told}
 use Rattle.machine_model.specs.Classes.{classes_in, has_prepared}
 use Rattle.machine_model.specs.Composites.{has_death, prepared_in}
+use Rattle.machine_model.specs.Due.{stopped_by}
 use Rattle.machine_model.specs.Facts.{above_in, fields_in, lines_in, methods_in, source_in, variables_in}
 use Rattle.machine_model.specs.Names.{Answer, Attached, Choice, Clear, Command, Composite, Decides, Deed, Disconnect}
 use Rattle.machine_model.specs.Names.{Dispose, Does, Effect, EntryHeld, Event, Exit, Fresh, Gone, Hit, Initialized}
@@ -306,7 +307,7 @@ waiting_composites false items = flat_map composite_in items
 -- What a part does with the suspension of the composite in hand: it is still to be decided on, to be undone, or to be held
 -- as the entry or for the stop that begins.
 abbrev pub begins : Bool → StopCause → Bool
-begins true cause = false
+begins true reason = false
 begins false (Hit at) = true
 begins false by_client = false
 
@@ -350,29 +351,27 @@ stopped_told (some_news news) stopped = stopped
 stopped_told (a_stop stopping) stopped = true
 stopped_told Terminated stopped = false
 
-abbrev pub stopped_done : Deed → Bool → Bool
-stopped_done Suspend stopped = true
-stopped_done (Resume suspension) stopped = stopped_after suspension stopped
-stopped_done Dispose stopped = stopped
-stopped_done Exit stopped = stopped
-
 abbrev pub stopped_behind : Part → Bool → Bool
 stopped_behind (Part.Tells event) stopped = stopped_told event stopped
-stopped_behind (Part.Sends deed) stopped = stopped_done deed stopped
+stopped_behind (Part.Sends deed) stopped = stopped_by deed stopped
 stopped_behind _ stopped = stopped
 
 -- the suspension of the composite in hand, as long as it is held for that
 abbrev pub owed_in : Bool → List Part → ℕ
 owed_in stopped [] = 0
-owed_in stopped (part ∷ parts) = bit (part_owes stopped part) + owed_in (stopped_behind part stopped) parts
+owed_in stopped (part ∷ parts) = cond (part_owes stopped part) (owed_in (stopped_behind part stopped) parts + 1)
+    (owed_in (stopped_behind part stopped) parts)
 
 abbrev pub owed_by : Bool → Option Hand → ℕ
 owed_by stopped None = 0
 owed_by stopped (Some hand) = owed_in stopped hand.parts
 
 -- the suspensions that are held: for the stop in hand, as the entry, and for the composite in hand
+abbrev pub held_with : Bool → Bool → ℕ → ℕ
+held_with stopped entry owed = bit stopped + bit entry + owed
+
 abbrev pub held_in : State → Option Hand → ℕ
-held_in state hand = bit state.stopped + bit state.entry + owed_by state.stopped hand
+held_in state hand = held_with state.stopped state.entry (owed_by state.stopped hand)
 
 -- a part that tells of the target's end (DAP specification, Events, Terminated)
 abbrev pub is_last : Part → Bool

@@ -8,7 +8,7 @@ use Rattle.jdwp_events.specs.declared.event.Event.TheVariants as happened
 use Rattle.jdwp_events.specs.declared.kind.EventKind.TheVariants as kinds
 use Rattle.machine_model.specs.Names.{EntryHeld, Hit, Item, Part, Resume, StopCause, Stopping, a_composite, a_raw}
 use Rattle.machine_model.specs.Names.{a_request, a_stop, by_client, of_composite, target_end}
-use Rattle.machine_model.specs.State.{State, is_gone, is_some}
+use Rattle.machine_model.specs.State.{State, is_attached, is_some}
 use Rattle.wish_sets.specs.Entries.{entries_at}
 use Rattle.wish_sets.specs.Wishes.{Wishes, owner_of}
 
@@ -83,6 +83,6 @@ events_in (a_composite at composite) = composite.events
 events_in (a_raw at body) = []
 events_in target_end = []
 
--- as long as there is a target
+-- as long as the session is attached
 abbrev pub decided : State → Item → List Part
-decided state item = cond (is_gone state.phase) [] (decided_of state (events_in item))
+decided state item = cond (is_attached state.phase) (decided_of state (events_in item)) []

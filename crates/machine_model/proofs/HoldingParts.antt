@@ -1,0 +1,366 @@
+-- What an item in hand does with suspensions of the target: it undoes only what is held, it begins a stop only where none
+-- is in hand, and it decides on a composite's suspension once, at its end.
+use Rattle.std.proofs.Common.{◌≡◌, Bool, true, false, cond, not, List, [], ◌∷◌, ◌++◌, Option, Some, None, refl, sym, ap}
+use Rattle.std.proofs.Common.{subst, ◌∙◌, option_map, arith}
+use Rattle.std.specs.Option.{option_or}
+use Rattle.std.specs.Prelude.{find}
+use Rattle.jdwp_events.specs.declared.event.Event.{Event as ATargetEvent}
+use Rattle.jdwp_events.specs.declared.event.Event.TheVariants as happened
+use Rattle.jdwp_events.specs.declared.kind.Policy.{Policy}
+use Rattle.machine_model.specs.Composites.{composite_parts, has_death}
+use Rattle.machine_model.specs.Due.{after_deed, asked_hand, entry_by}
+use Rattle.machine_model.specs.Knowing.{stopped_behind, stopped_told}
+use Rattle.machine_model.specs.Lookups.{finished}
+use Rattle.machine_model.specs.Names.{Attached, Choice, Classes, Command, Configured, Decides, Deed, Dispose, EntryHeld}
+use Rattle.machine_model.specs.Names.{Event, Exit, Finding, Fresh, Gone, Hit, Initialized, Item, Leaves, Lines, Location}
+use Rattle.machine_model.specs.Names.{Lookup, News, Note, Options, Outcome, Part, Phase, Replied, Resume, Roots, StopCause}
+use Rattle.machine_model.specs.Names.{Stopping, Suspend, Suspension, TargetCommand, TellsNews, Terminated, ThreadId}
+use Rattle.machine_model.specs.Names.{Want}
+use Rattle.machine_model.specs.Names.{a_composite, a_question, a_raw, a_request, a_stop, all_threads, an_effect, by_client}
+use Rattle.machine_model.specs.Names.{class_facts, of_composite, of_entry, of_stop, some_news, target_end}
+use Rattle.machine_model.specs.Outcomes.{result_of}
+use Rattle.machine_model.specs.Plans.{Result}
+use Rattle.machine_model.specs.Replying.{given_up, hand_replied, replied_to}
+use Rattle.machine_model.specs.Rows.{chosen, gone_parts, has_response, leaves, news_of, noted, parts_of}
+use Rattle.machine_model.specs.Rows.{request_parts}
+use Rattle.machine_model.specs.Runs.{Message, Run}
+use Rattle.machine_model.specs.State.{Hand, Machine, State, is_attached, is_empty}
+use Rattle.machine_model.specs.Stops.{decided, decided_by, events_in, first_of, has_start, hit_by, hits_in, is_at_line}
+use Rattle.machine_model.specs.Stops.{is_live, stop_among}
+use Rattle.machine_model.specs.Telling.{after_event, attached_from, numbered_by}
+use Rattle.wish_sets.specs.Wishes.{Wishes}
+use Rattle.machine_model.proofs.Stepping.{IsAt, Moves, Skips, by_moves}
+use Rattle.machine_model.proofs.Tables.{told_alike}
+use Rattle.machine_model.proofs.Testing.{same_noted, same_numbered, same_replied}
+
+-- What a part needs, and what it leaves -------------------------------------------------------------------------------
+
+abbrev phase_told : Event → Phase → Phase
+phase_told Initialized phase = attached_from phase
+phase_told (some_news news) phase = phase
+phase_told (a_stop stopping) phase = phase
+phase_told Terminated phase = Gone
+
+abbrev phase_behind : Part → Phase → Phase
+phase_behind (Part.Tells event) phase = phase_told event phase
+phase_behind _ phase = phase
+
+abbrev entry_told : Event → Bool → Bool
+entry_told Initialized entry = entry
+entry_told (some_news news) entry = entry
+entry_told (a_stop stopping) entry = entry
+entry_told Terminated entry = false
+
+abbrev entry_noted : Note → Bool → Bool
+entry_noted EntryHeld entry = true
+entry_noted _ entry = entry
+
+abbrev entry_behind : Part → Bool → Bool
+entry_behind (Part.Tells event) entry = entry_told event entry
+entry_behind (Part.Sends deed) entry = entry_by deed entry
+entry_behind (Part.Notes note) entry = entry_noted note entry
+entry_behind _ entry = entry
+
+-- a pause is told in its stop
+abbrev pub may_stop : StopCause → Bool → Bool
+may_stop (Hit at) stopped = true
+may_stop by_client stopped = stopped
+
+abbrev may_tell_so : Event → Bool → Bool
+may_tell_so Initialized stopped = true
+may_tell_so (some_news news) stopped = true
+may_tell_so (a_stop stopping) stopped = may_stop stopping.cause stopped
+may_tell_so Terminated stopped = true
+
+abbrev may_undo : Suspension → Bool → Bool → Bool
+may_undo of_composite stopped entry = true
+may_undo of_entry stopped entry = entry
+may_undo of_stop stopped entry = stopped
+
+abbrev pub may_do_so : Deed → Bool → Bool → Bool
+may_do_so Suspend stopped entry = not stopped
+may_do_so (Resume suspension) stopped entry = may_undo suspension stopped entry
+may_do_so Dispose stopped entry = true
+may_do_so Exit stopped entry = true
+
+abbrev may_note : Note → Bool → Bool
+may_note EntryHeld entry = not entry
+may_note _ entry = true
+
+abbrev may_choose : Choice → Phase → List Part → Bool
+may_choose (TellsNews below) phase rest = true
+may_choose Decides phase rest = cond (is_attached phase) (is_empty rest) false
+may_choose (Leaves exits) phase rest = true
+
+abbrev may_part : Phase → Bool → Bool → Part → List Part → Bool
+may_part phase stopped entry (Part.Tells event) rest = may_tell_so event stopped
+may_part phase stopped entry (Part.Sends deed) rest = may_do_so deed stopped entry
+may_part phase stopped entry (Part.Notes note) rest = may_note note entry
+may_part phase stopped entry (Part.Unfolds choice) rest = may_choose choice phase rest
+may_part phase stopped entry _ rest = true
+
+-- each part may be done where the parts before it were
+abbrev pub may_all : Phase → Bool → Bool → List Part → Bool
+may_all phase stopped entry [] = true
+may_all phase stopped entry (part ∷ parts) = cond (may_part phase stopped entry part parts)
+    (may_all (phase_behind part phase) (stopped_behind part stopped) (entry_behind part entry) parts) false
+
+abbrev hand_may : State → Option Hand → Bool
+hand_may state None = true
+hand_may state (Some hand) = may_all state.phase state.stopped state.entry hand.parts
+
+abbrev pub IsHolding : Machine → Type 0
+IsHolding m = hand_may m.state m.hand ≡ true
+
+pub may_front : {m : Machine} {hand : Hand} {part : Part} {rest : List Part} → IsHolding m → IsAt m hand part rest
+    → may_all m.state.phase m.state.stopped m.state.entry (part ∷ rest) ≡ true
+may_front {m} h at = subst (λ (parts : List Part). may_all m.state.phase m.state.stopped m.state.entry parts ≡ true)
+    at.parts (subst (λ (held : Option Hand). hand_may m.state held ≡ true) at.in_hand h)
+
+-- The tables ----------------------------------------------------------------------------------------------------------
+
+row_may : (state : State) (command : Command)
+    → may_all state.phase state.stopped state.entry (request_parts command state) ≡ true
+row_may state command = grind arith
+
+begun_may : (state : State) (item : Item) → may_all state.phase state.stopped state.entry (parts_of state item) ≡ true
+begun_may state (a_request request) = row_may state request.command
+begun_may state target_end = grind arith
+begun_may state (a_composite at composite) =
+    by_phase state.phase (has_death composite.events) composite.policy state.stopped state.entry
+  where
+    by_phase : (phase : Phase) (dies : Bool) (policy : Policy) (stopped entry : Bool)
+        → may_all phase stopped entry (composite_parts phase dies policy at state.next_entry) ≡ true
+    by_phase phase dies policy stopped entry = grind arith
+begun_may state (a_raw at body) = refl
+
+found_may : (phase : Phase) (stopped entry : Bool) (lookup : Lookup) (result : Result Finding) (state : State)
+    (rest : List Part)
+    → may_all phase stopped entry (finished lookup result state ++ rest) ≡ may_all phase stopped entry rest
+found_may phase stopped entry all_threads result state rest = refl
+found_may phase stopped entry class_facts result state rest = refl
+
+-- a stop that a composite tells is a hit
+abbrev pub is_hit : StopCause → Bool
+is_hit (Hit at) = true
+is_hit by_client = false
+
+abbrev all_hits : List Stopping → Bool
+all_hits [] = true
+all_hits (hit ∷ hits) = cond (is_hit hit.cause) (all_hits hits) false
+
+abbrev pub hit_in : Option Stopping → Bool
+hit_in None = true
+hit_in (Some stopping) = is_hit stopping.cause
+
+hits_hit : (w : Wishes) (events : List ATargetEvent) → all_hits (hits_in w events) ≡ true
+hits_hit w [] = refl
+hits_hit w (event ∷ events) = by_event event
+  where
+    by_live : (live : Bool) (thread : ThreadId) (at : Location)
+        → all_hits (cond live (record { cause = Hit at; thread = thread } ∷ []) [] ++ hits_in w events) ≡ true
+    by_live true thread at = hits_hit w events
+    by_live false thread at = hits_hit w events
+
+    by_event : (event : ATargetEvent) → all_hits (hit_by w event ++ hits_in w events) ≡ true
+    by_event (happened.Breakpoint request thread at) = by_live (is_live w request) thread at
+    by_event _ = hits_hit w events
+
+found_hit : (test : Stopping → Bool) (hits : List Stopping) → all_hits hits ≡ true → hit_in (find test hits) ≡ true
+found_hit test [] is = refl
+found_hit test (hit ∷ hits) is = by_test (test hit)
+  where
+    both : (first others : Bool) → cond first others false ≡ true → (first ≡ true) × (others ≡ true)
+    both true others is = (refl, is)
+    both false others is = cc
+
+    by_test : (found : Bool) → hit_in (cond found (Some hit) (find test hits)) ≡ true
+    by_test true = (both (is_hit hit.cause) (all_hits hits) is).0
+    by_test false = found_hit test hits (both (is_hit hit.cause) (all_hits hits) is).1
+
+pub stop_hit : (w : Wishes) (events : List ATargetEvent) → hit_in (stop_among w (hits_in w events)) ≡ true
+stop_hit w events =
+    either (find (λ hit. is_at_line w hit.cause) (hits_in w events)) (first_of (hits_in w events))
+    (found_hit (λ hit. is_at_line w hit.cause) (hits_in w events) (hits_hit w events))
+    (first (hits_in w events) (hits_hit w events))
+  where
+    first : (hits : List Stopping) → all_hits hits ≡ true → hit_in (first_of hits) ≡ true
+    first [] is = refl
+    first (hit ∷ hits) is = by_bools (is_hit hit.cause) (all_hits hits) is
+      where
+        by_bools : (one others : Bool) → cond one others false ≡ true → one ≡ true
+        by_bools true others is = refl
+        by_bools false others is = cc
+
+    either : (one other : Option Stopping) → hit_in one ≡ true → hit_in other ≡ true
+        → hit_in (option_or one other) ≡ true
+    either None other is also = also
+    either (Some stopping) other is also = is
+
+-- What is decided fits: the entry is held once, and a stop is told by a hit.
+decided_may : (phase : Phase) (state : State) (item : Item)
+    → may_all phase state.stopped state.entry (decided state item ++ []) ≡ true
+decided_may phase state item =
+    by_stop (is_attached state.phase) state.stopped state.entry state.configured (has_start (events_in item))
+    (stop_among state.wishes (hits_in state.wishes (events_in item))) (stop_hit state.wishes (events_in item))
+  where
+    by_cause : (cause : StopCause) (stopped : Bool) → is_hit cause ≡ true → may_stop cause stopped ≡ true
+    by_cause (Hit at) stopped is = refl
+    by_cause by_client stopped is = cc
+
+    by_stop : (attached stopped entry configured starts : Bool) (stop : Option Stopping) → hit_in stop ≡ true
+        → may_all phase stopped entry
+        (cond attached (decided_by stopped (cond configured false (cond entry false starts)) stop) [] ++ []) ≡ true
+    by_stop false stopped entry configured starts stop is = refl
+    by_stop true stopped entry true starts None is = refl
+    by_stop true stopped true false starts None is = refl
+    by_stop true stopped false false true None is = refl
+    by_stop true stopped false false false None is = refl
+    by_stop true true entry configured starts (Some stopping) is = rw (by_cause stopping.cause true is) refl
+    by_stop true false entry configured starts (Some stopping) is = rw (by_cause stopping.cause false is) refl
+
+chosen_may : (choice : Choice) (state : State) (hand : Hand) (rest : List Part)
+    → may_all state.phase state.stopped state.entry (Part.Unfolds choice ∷ rest) ≡ true
+    → may_all state.phase state.stopped state.entry (chosen choice state hand ++ rest) ≡ true
+chosen_may (TellsNews below) state hand rest is =
+    told_alike (may_all state.phase state.stopped state.entry) (λ news parts. refl) state.phase
+    (news_of below state hand.item) rest ∙ is
+chosen_may (Leaves exits) state hand rest is = by_phase state.phase exits ∙ is
+  where
+    by_phase : (phase : Phase) (exits : Bool) → may_all state.phase state.stopped state.entry (leaves phase exits ++ rest)
+        ≡ may_all state.phase state.stopped state.entry rest
+    by_phase Fresh exits = refl
+    by_phase Attached true = refl
+    by_phase Attached false = refl
+    by_phase Gone exits = refl
+chosen_may Decides state hand [] is = decided_may state.phase state hand.item
+chosen_may Decides state hand (part ∷ rest) is = none (is_attached state.phase) is
+  where
+    none : (attached : Bool) → cond (cond attached false false) (may_all state.phase state.stopped state.entry
+        (part ∷ rest)) false ≡ true
+        → may_all state.phase state.stopped state.entry (decided state hand.item ++ part ∷ rest) ≡ true
+    none true is = cc
+    none false is = cc
+
+-- In runs -------------------------------------------------------------------------------------------------------------
+
+tail_may : (phase : Phase) (stopped entry : Bool) (part : Part) (rest : List Part)
+    → may_all phase stopped entry (part ∷ rest) ≡ true
+    → may_all (phase_behind part phase) (stopped_behind part stopped) (entry_behind part entry) rest ≡ true
+tail_may phase stopped entry part rest is = others (may_part phase stopped entry part rest) _ is
+  where
+    others : (first others : Bool) → cond first others false ≡ true → others ≡ true
+    others true others is = is
+    others false others is = cc
+
+skipped_may : {m : Machine} {hand : Hand} {part : Part} (rest : List Part) → Skips m hand part
+    → may_all m.state.phase m.state.stopped m.state.entry (part ∷ rest) ≡ true
+    → may_all m.state.phase m.state.stopped m.state.entry rest ≡ true
+skipped_may rest (Skips.by_guard is) h = h
+skipped_may rest (Skips.by_wishes is) h = h
+skipped_may rest (Skips.no_request is) h = h
+
+pub same_stop : (command : TargetCommand) (replied : Replied) (state : State)
+    → (replied_to command replied state).stopped ≡ state.stopped
+same_stop command replied state = grind arith
+
+pub same_entry : (command : TargetCommand) (replied : Replied) (state : State)
+    → (replied_to command replied state).entry ≡ state.entry
+same_entry command replied state = grind arith
+
+pub numbered_stop : (outcome : Outcome) (state : State) → (numbered_by outcome state).stopped ≡ state.stopped
+numbered_stop outcome state = grind arith
+
+pub numbered_entry : (outcome : Outcome) (state : State) → (numbered_by outcome state).entry ≡ state.entry
+numbered_entry outcome state = grind arith
+
+event_may_all : (event : Event) (state : State) (rest : List Part)
+    → may_all (phase_told event state.phase) (stopped_told event state.stopped) (entry_told event state.entry) rest
+    ≡ true
+    → may_all (after_event event state).phase (after_event event state).stopped (after_event event state).entry rest
+    ≡ true
+event_may_all Initialized state rest is = is
+event_may_all (some_news news) state rest is = is
+event_may_all (a_stop stopping) state rest is = is
+event_may_all Terminated state rest is = is
+
+note_may_all : (note : Note) (state : State) (rest : List Part)
+    → may_all state.phase state.stopped (entry_noted note state.entry) rest ≡ true
+    → may_all (noted note state).phase (noted note state).stopped (noted note state).entry rest ≡ true
+note_may_all EntryHeld state rest is = is
+note_may_all Configured state rest is = is
+note_may_all (Options options) state rest is = is
+note_may_all (Roots roots) state rest is = is
+note_may_all (Lines key entries) state rest is = is
+note_may_all (Classes classes) state rest is = is
+
+replied_may : (state : State) (command : TargetCommand) (replied : Replied) (hand : Option Hand)
+    → hand_may state (option_map (hand_replied command replied) hand) ≡ hand_may state hand
+replied_may state command replied None = refl
+replied_may state (a_question question) replied (Some hand) = refl
+replied_may state (an_effect effect) replied (Some hand) = refl
+
+asked_may : (state : State) (want : Want) (hand : Option Hand)
+    → hand_may state (option_map (asked_hand want) hand) ≡ hand_may state hand
+asked_may state want None = refl
+asked_may state want (Some hand) = refl
+
+-- of what is known only these are looked at
+same_may : (state now : State) (hand : Option Hand) → now.phase ≡ state.phase → now.stopped ≡ state.stopped
+    → now.entry ≡ state.entry → hand_may now hand ≡ hand_may state hand
+same_may state now None phase stopped entry = refl
+same_may state now (Some hand) phase stopped entry = rw (phase, stopped, entry) refl
+
+gone_may : (stopped entry responds : Bool) (item : Item) → may_all Gone stopped entry (gone_parts responds item) ≡ true
+gone_may stopped entry responds item = grind arith
+
+holding_on : (m next : Machine) (said : Option Message) → IsHolding m → Moves m said next → IsHolding next
+holding_on m next said h (Moves.begins picked free none is) = begun_may m.state picked.item
+holding_on m next said h (Moves.drops free is none) = refl
+holding_on m next said h (Moves.responds {hand} {rest} {outcome = outcome} free at is) =
+    same_may m.state (numbered_by outcome m.state) (Some (record hand { parts = rest })) (same_numbered outcome m.state)
+    (numbered_stop outcome m.state) (numbered_entry outcome m.state) ∙ may_front h at
+holding_on m next said h (Moves.finds {rest = rest} {lookup} found free at needs done) =
+    found_may m.state.phase m.state.stopped m.state.entry lookup (result_of found) m.state rest ∙ may_front h at
+holding_on m next said h (Moves.passes_over {rest = rest} free at why) = skipped_may rest why (may_front h at)
+holding_on m next said h (Moves.tells {rest = rest} {event} free at) =
+    event_may_all event m.state rest
+    (tail_may m.state.phase m.state.stopped m.state.entry (Part.Tells event) rest (may_front h at))
+holding_on m next said h (Moves.sends {rest = rest} {deed} free at near) =
+    tail_may m.state.phase m.state.stopped m.state.entry (Part.Sends deed) rest (may_front h at)
+holding_on m next said h (Moves.updates free at is near) = may_front h at
+holding_on m next said h (Moves.greets free at is near) = same_may m.state _ m.hand refl refl refl ∙ h
+holding_on m next said h (Moves.notes {note = note} {rest} free at) =
+    note_may_all note m.state rest
+    (tail_may m.state.phase m.state.stopped m.state.entry (Part.Notes note) rest (may_front h at))
+holding_on m next said h (Moves.unfolds {hand} {choice} {rest} free at) =
+    chosen_may choice m.state hand rest (may_front h at)
+holding_on m next said h (Moves.queues free is) =
+    subst (λ (hand : Option Hand). hand_may m.state hand ≡ true) is h
+holding_on m next said h (Moves.asks {want = want} free room is are) = asked_may m.state want m.hand ∙ h
+holding_on m next said h (Moves.hears read is) = h
+holding_on m next said h (Moves.greeted read is) = same_may m.state _ m.hand refl refl refl ∙ h
+holding_on m next said h (Moves.answers {question} {replied} is waits reply stays) =
+    same_may m.state _ (option_map (hand_replied (a_question question) replied) m.hand)
+    (same_replied (a_question question) replied m.state) (same_stop (a_question question) replied m.state)
+    (same_entry (a_question question) replied m.state)
+    ∙ replied_may m.state (a_question question) replied m.hand ∙ h
+holding_on m next said h (Moves.replies {effect} {replied} is flies reply stays) =
+    same_may m.state _ (option_map (hand_replied (an_effect effect) replied) m.hand)
+    (same_replied (an_effect effect) replied m.state) (same_stop (an_effect effect) replied m.state)
+    (same_entry (an_effect effect) replied m.state)
+    ∙ replied_may m.state (an_effect effect) replied m.hand ∙ h
+holding_on m next said h (Moves.late before after is reply) = h
+holding_on m next said h (Moves.ends gone) = h
+holding_on m next said h (Moves.loses late near why) = given_may m.hand
+  where
+    given_may : (hand : Option Hand) → hand_may next.state (option_map given_up hand) ≡ true
+    given_may None = refl
+    given_may (Some hand) = gone_may false false (has_response hand.parts) hand.item
+holding_on m next said h (Moves.comes read sized taken) = h
+holding_on m next said h (Moves.keeps is) = h
+holding_on m next said h (Moves.reads before after read is none taken) = h
+
+pub holding : {messages : List Message} {m : Machine} → Run messages m → IsHolding m
+holding r = by_moves {Holds = λ (messages : List Message) (m : Machine). IsHolding m}
+    (record { starts = refl; moves = λ messages m next said h moved. holding_on m next said h moved }) r
