@@ -123,9 +123,9 @@ pub chosen_owes : {m : Machine} {hand : Hand} {choice : Choice} {rest : List Par
     → IsAt m hand (Part.Unfolds choice) rest
     → owed_in m.state.stopped (chosen choice m.state hand ++ rest)
     ≡ owed_in m.state.stopped (Part.Unfolds choice ∷ rest)
-chosen_owes {m} {hand} {TellsNews below} {rest} h at =
+chosen_owes {m} {hand} {choice = TellsNews below} {rest} h at =
     told_alike (owed_in m.state.stopped) (λ news parts. refl) m.state.phase (news_of below m.state hand.item) rest
-chosen_owes {m} {hand} {Leaves exits} {rest} h at = by_phase m.state.phase exits
+chosen_owes {m} {hand} {choice = Leaves exits} {rest} h at = by_phase m.state.phase exits
   where
     by_phase : (phase : Phase) (exits : Bool)
         → owed_in m.state.stopped (leaves phase exits ++ rest) ≡ owed_in m.state.stopped rest
@@ -133,7 +133,7 @@ chosen_owes {m} {hand} {Leaves exits} {rest} h at = by_phase m.state.phase exits
     by_phase Attached true = refl
     by_phase Attached false = refl
     by_phase Gone exits = refl
-chosen_owes {m} {hand} {Decides} {rest} h at = by_rest rest (is_attached m.state.phase) refl (may_front h at)
+chosen_owes {m} {hand} {choice = Decides} {rest} h at = by_rest rest (is_attached m.state.phase) refl (may_front h at)
   where
     by_rest : (rest : List Part) (attached : Bool) → is_attached m.state.phase ≡ attached
         → cond (cond attached (is_empty rest) false) (may_all m.state.phase m.state.stopped m.state.entry rest) false
@@ -262,8 +262,12 @@ deed_may m hand (Resume of_composite) rest h at =
     (undoes_own m.state.stopped m.state.entry (owed_in m.state.stopped rest) _ (held_front at)).1
 deed_may m hand (Resume of_entry) rest h at =
     (undoes_entry m.state.stopped m.state.entry (owed_in m.state.stopped rest) _ (first_may h at) (held_front at)).1
-deed_may m hand (Resume of_stop) rest h at = rw (first_may h at)
+deed_may m hand (Resume of_stop) rest h at = both m.state.stopped _ (first_may h at)
     (undoes_stop m.state.stopped m.state.entry (owed_in false rest) _ (first_may h at) (held_front at)).1
+  where
+    both : (stopped some : Bool) → stopped ≡ true → some ≡ true → cond stopped some false ≡ true
+    both true some is h = h
+    both false some is h = cc
 deed_may m hand Dispose rest h at = refl
 deed_may m hand Exit rest h at = refl
 
@@ -307,7 +311,7 @@ entry_held {m} {rest = rest} h at =
     by_entry false owed held may is = omega (arith, is)
 
 -- where the target is gone nothing is held
-free_owes : (stopped : Bool) (parts : List Part) → free_once true parts ≡ true → owed_in stopped parts ≡ 0
+pub free_owes : (stopped : Bool) (parts : List Part) → free_once true parts ≡ true → owed_in stopped parts ≡ 0
 free_owes stopped [] is = refl
 free_owes stopped (part ∷ parts) is = grind (arith, is, free_owes (stopped_behind part stopped) parts)
 

@@ -24,14 +24,14 @@ use Rattle.machine_model.specs.Replying.{given_up, hand_replied, replied_to}
 use Rattle.machine_model.specs.Rows.{chosen, gone_parts, has_response, leaves, news_of, noted, parts_of}
 use Rattle.machine_model.specs.Rows.{request_parts}
 use Rattle.machine_model.specs.Runs.{Message, Run}
-use Rattle.machine_model.specs.State.{Hand, Machine, State, is_attached, is_empty}
+use Rattle.machine_model.specs.State.{Hand, Machine, State, is_attached, is_empty, is_gone}
 use Rattle.machine_model.specs.Stops.{decided, decided_by, events_in, first_of, has_start, hit_by, hits_in, is_at_line}
 use Rattle.machine_model.specs.Stops.{is_live, stop_among}
 use Rattle.machine_model.specs.Telling.{after_event, attached_from, numbered_by}
 use Rattle.wish_sets.specs.Wishes.{Wishes}
-use Rattle.machine_model.proofs.Stepping.{IsAt, Moves, Skips, by_moves}
-use Rattle.machine_model.proofs.Tables.{told_alike}
-use Rattle.machine_model.proofs.Testing.{same_noted, same_numbered, same_replied}
+use Rattle.machine_model.proofs.Stepping.{IsAt, Moves, Skips, by_moves, by_runs}
+use Rattle.machine_model.proofs.Tables.{free, free_once, told_alike}
+use Rattle.machine_model.proofs.Testing.{Passed, same_numbered, same_replied, tested, whole}
 
 -- What a part needs, and what it leaves -------------------------------------------------------------------------------
 
@@ -155,28 +155,30 @@ hit_in (Some stopping) = is_hit stopping.cause
 
 hits_hit : (w : Wishes) (events : List ATargetEvent) → all_hits (hits_in w events) ≡ true
 hits_hit w [] = refl
-hits_hit w (event ∷ events) = by_event event
+hits_hit w (event ∷ events) = by_event event (hits_hit w events)
   where
-    by_live : (live : Bool) (thread : ThreadId) (at : Location)
+    by_live : (live : Bool) (thread : ThreadId) (at : Location) → all_hits (hits_in w events) ≡ true
         → all_hits (cond live (record { cause = Hit at; thread = thread } ∷ []) [] ++ hits_in w events) ≡ true
-    by_live true thread at = hits_hit w events
-    by_live false thread at = hits_hit w events
+    by_live true thread at h = h
+    by_live false thread at h = h
 
-    by_event : (event : ATargetEvent) → all_hits (hit_by w event ++ hits_in w events) ≡ true
-    by_event (happened.Breakpoint request thread at) = by_live (is_live w request) thread at
-    by_event _ = hits_hit w events
+    by_event : (event : ATargetEvent) → all_hits (hits_in w events) ≡ true
+        → all_hits (hit_by w event ++ hits_in w events) ≡ true
+    by_event (happened.Breakpoint request thread at) h = by_live (is_live w request) thread at h
+    by_event _ h = h
 
 found_hit : (test : Stopping → Bool) (hits : List Stopping) → all_hits hits ≡ true → hit_in (find test hits) ≡ true
 found_hit test [] is = refl
-found_hit test (hit ∷ hits) is = by_test (test hit)
+found_hit test (hit ∷ hits) is = by_test (test hit) (found_hit test hits)
   where
     both : (first others : Bool) → cond first others false ≡ true → (first ≡ true) × (others ≡ true)
     both true others is = (refl, is)
     both false others is = cc
 
-    by_test : (found : Bool) → hit_in (cond found (Some hit) (find test hits)) ≡ true
-    by_test true = (both (is_hit hit.cause) (all_hits hits) is).0
-    by_test false = found_hit test hits (both (is_hit hit.cause) (all_hits hits) is).1
+    by_test : (found : Bool) → (all_hits hits ≡ true → hit_in (find test hits) ≡ true)
+        → hit_in (cond found (Some hit) (find test hits)) ≡ true
+    by_test true h = (both (is_hit hit.cause) (all_hits hits) is).0
+    by_test false h = h (both (is_hit hit.cause) (all_hits hits) is).1
 
 pub stop_hit : (w : Wishes) (events : List ATargetEvent) → hit_in (stop_among w (hits_in w events)) ≡ true
 stop_hit w events =
@@ -247,11 +249,11 @@ chosen_may Decides state hand (part ∷ rest) is = none (is_attached state.phase
 tail_may : (phase : Phase) (stopped entry : Bool) (part : Part) (rest : List Part)
     → may_all phase stopped entry (part ∷ rest) ≡ true
     → may_all (phase_behind part phase) (stopped_behind part stopped) (entry_behind part entry) rest ≡ true
-tail_may phase stopped entry part rest is = others (may_part phase stopped entry part rest) _ is
+tail_may phase stopped entry part rest is = second (may_part phase stopped entry part rest) _ is
   where
-    others : (first others : Bool) → cond first others false ≡ true → others ≡ true
-    others true others is = is
-    others false others is = cc
+    second : (first others : Bool) → cond first others false ≡ true → others ≡ true
+    second true others is = is
+    second false others is = cc
 
 skipped_may : {m : Machine} {hand : Hand} {part : Part} (rest : List Part) → Skips m hand part
     → may_all m.state.phase m.state.stopped m.state.entry (part ∷ rest) ≡ true
@@ -329,7 +331,8 @@ holding_on m next said h (Moves.tells {rest = rest} {event} free at) =
 holding_on m next said h (Moves.sends {rest = rest} {deed} free at near) =
     tail_may m.state.phase m.state.stopped m.state.entry (Part.Sends deed) rest (may_front h at)
 holding_on m next said h (Moves.updates free at is near) = may_front h at
-holding_on m next said h (Moves.greets free at is near) = same_may m.state _ m.hand refl refl refl ∙ h
+holding_on m next said h (Moves.greets free at is near) =
+    same_may m.state (record m.state { greeting_sent = true }) m.hand refl refl refl ∙ h
 holding_on m next said h (Moves.notes {note = note} {rest} free at) =
     note_may_all note m.state rest
     (tail_may m.state.phase m.state.stopped m.state.entry (Part.Notes note) rest (may_front h at))
@@ -339,14 +342,15 @@ holding_on m next said h (Moves.queues free is) =
     subst (λ (hand : Option Hand). hand_may m.state hand ≡ true) is h
 holding_on m next said h (Moves.asks {want = want} free room is are) = asked_may m.state want m.hand ∙ h
 holding_on m next said h (Moves.hears read is) = h
-holding_on m next said h (Moves.greeted read is) = same_may m.state _ m.hand refl refl refl ∙ h
+holding_on m next said h (Moves.greeted read is) =
+    same_may m.state (record m.state { greeting_heard = true }) m.hand refl refl refl ∙ h
 holding_on m next said h (Moves.answers {question} {replied} is waits reply stays) =
-    same_may m.state _ (option_map (hand_replied (a_question question) replied) m.hand)
+    same_may m.state (replied_to (a_question question) replied m.state) (option_map (hand_replied (a_question question) replied) m.hand)
     (same_replied (a_question question) replied m.state) (same_stop (a_question question) replied m.state)
     (same_entry (a_question question) replied m.state)
     ∙ replied_may m.state (a_question question) replied m.hand ∙ h
 holding_on m next said h (Moves.replies {effect} {replied} is flies reply stays) =
-    same_may m.state _ (option_map (hand_replied (an_effect effect) replied) m.hand)
+    same_may m.state (replied_to (an_effect effect) replied m.state) (option_map (hand_replied (an_effect effect) replied) m.hand)
     (same_replied (an_effect effect) replied m.state) (same_stop (an_effect effect) replied m.state)
     (same_entry (an_effect effect) replied m.state)
     ∙ replied_may m.state (an_effect effect) replied m.hand ∙ h
@@ -364,3 +368,80 @@ holding_on m next said h (Moves.reads before after read is none taken) = h
 pub holding : {messages : List Message} {m : Machine} → Run messages m → IsHolding m
 holding r = by_moves {Holds = λ (messages : List Message) (m : Machine). IsHolding m}
     (record { starts = refl; moves = λ messages m next said h moved. holding_on m next said h moved }) r
+
+-- In a target that is gone --------------------------------------------------------------------------------------------
+
+abbrev nothing_held : Bool → Bool → Bool → Bool
+nothing_held gone stopped entry = cond gone (cond stopped false (not entry)) true
+
+-- no stop is in hand, and no entry held
+abbrev pub IsLost : Machine → Type 0
+IsLost m = nothing_held (is_gone m.state.phase) m.state.stopped m.state.entry ≡ true
+
+pub lost_flags : (m : Machine) → IsLost m → is_gone m.state.phase ≡ true
+    → (m.state.stopped ≡ false) × (m.state.entry ≡ false)
+lost_flags m h gone = by_flags (is_gone m.state.phase) m.state.stopped m.state.entry h gone
+  where
+    by_flags : (gone stopped entry : Bool) → nothing_held gone stopped entry ≡ true → gone ≡ true
+        → (stopped ≡ false) × (entry ≡ false)
+    by_flags true true entry h is = cc
+    by_flags true false true h is = cc
+    by_flags true false false h is = (refl, refl)
+    by_flags false stopped entry h is = cc
+
+-- a part that isn't free is done while there is a target
+near_now : (gone others : Bool) → cond (cond gone false true) others false ≡ true → gone ≡ false
+near_now true others is = cc
+near_now false others is = refl
+
+lost_on : (m next : Machine) (said : Option Message) → Passed free_once m → IsLost m → Moves m said next → IsLost next
+lost_on m next said f h (Moves.responds {outcome = outcome} free at is) =
+    rw (same_numbered outcome m.state, numbered_stop outcome m.state, numbered_entry outcome m.state) h
+lost_on m next said f h (Moves.tells {event = Initialized} free at) = by_phase m.state.phase h
+  where
+    by_phase : (phase : Phase) → nothing_held (is_gone phase) m.state.stopped m.state.entry ≡ true
+        → nothing_held (is_gone (attached_from phase)) m.state.stopped m.state.entry ≡ true
+    by_phase Fresh h = h
+    by_phase Attached h = h
+    by_phase Gone h = h
+lost_on m next said f h (Moves.tells {event = some_news news} free at) = h
+lost_on m next said f h (Moves.tells {event = a_stop stopping} free at) =
+    rw (near_now (is_gone m.state.phase) _ (whole free_once f at)) refl
+lost_on m next said f h (Moves.tells {event = Terminated} free at) = refl
+lost_on m next said f h (Moves.sends free at near) = rw near refl
+lost_on m next said f h (Moves.notes {note = EntryHeld} free at) =
+    rw (near_now (is_gone m.state.phase) _ (whole free_once f at)) refl
+lost_on m next said f h (Moves.notes {note = Configured} free at) = h
+lost_on m next said f h (Moves.notes {note = Options options} free at) = h
+lost_on m next said f h (Moves.notes {note = Roots roots} free at) = h
+lost_on m next said f h (Moves.notes {note = Lines key entries} free at) = h
+lost_on m next said f h (Moves.notes {note = Classes classes} free at) = h
+lost_on m next said f h (Moves.answers {question} {replied} is waits reply stays) =
+    rw (same_replied (a_question question) replied m.state, same_stop (a_question question) replied m.state,
+    same_entry (a_question question) replied m.state) h
+lost_on m next said f h (Moves.replies {effect} {replied} is flies reply stays) =
+    rw (same_replied (an_effect effect) replied m.state, same_stop (an_effect effect) replied m.state,
+    same_entry (an_effect effect) replied m.state) h
+lost_on m next said f h (Moves.loses late near why) = refl
+lost_on m next said f h (Moves.begins picked free none is) = h
+lost_on m next said f h (Moves.drops free is none) = h
+lost_on m next said f h (Moves.finds found free at needs done) = h
+lost_on m next said f h (Moves.passes_over free at why) = h
+lost_on m next said f h (Moves.updates free at is near) = h
+lost_on m next said f h (Moves.greets free at is near) = h
+lost_on m next said f h (Moves.unfolds free at) = h
+lost_on m next said f h (Moves.queues free is) = h
+lost_on m next said f h (Moves.asks free room is are) = h
+lost_on m next said f h (Moves.hears read is) = h
+lost_on m next said f h (Moves.greeted read is) = h
+lost_on m next said f h (Moves.late before after is reply) = h
+lost_on m next said f h (Moves.ends gone) = h
+lost_on m next said f h (Moves.comes read sized taken) = h
+lost_on m next said f h (Moves.keeps is) = h
+lost_on m next said f h (Moves.reads before after read is none taken) = h
+
+pub lost_held : {messages : List Message} {m : Machine} → Run messages m → IsLost m
+lost_held r = by_runs {Holds = λ (messages : List Message) (m : Machine). IsLost m} (record {
+  starts = refl;
+  moves = λ messages m next said before h moved after. lost_on m next said (tested free before) h moved;
+}) r

@@ -1,35 +1,34 @@
 -- What is known is what the messages say.
-use Rattle.std.proofs.Common.{◌≡◌, ℕ, Bool, true, false, cond, not, List, [], ◌∷◌, ◌++◌, length, Option}
-use Rattle.std.proofs.Common.{Some, None, refl, sym, ap, subst, ◌∙◌, append-nil, arith}
+use Rattle.std.proofs.Common.{◌≡◌, ℕ, Bool, true, false, cond, not, List, [], ◌∷◌, ◌++◌, length, Option, Some, None}
+use Rattle.std.proofs.Common.{refl, sym, ap, subst, ◌∙◌, append-nil, arith, option_map}
 use Rattle.std.proofs.lemmas.Grind.{flat_map-append}
 use Rattle.jdwp_commands.specs.declared.question.Question.TheVariants as questions
-use Rattle.machine_model.specs.Knowing.{numbers_in_event, AreInOrder, AreSaid, IsKnown, View, breakpoints_in, class_said, closes}
-use Rattle.machine_model.specs.Knowing.{come_view, composite_in, gone_view, held_by, is_farewell, is_fresh}
-use Rattle.machine_model.specs.Knowing.{learnt_view, may_be, may_tell, numbers_by, numbers_in_outcome}
-use Rattle.machine_model.specs.Knowing.{replied_view, resumes_in, says, says_dead, sizes_said}
-use Rattle.machine_model.specs.Knowing.{thread_numbers, told_view, turned_view, view_of, waiting_composites}
-use Rattle.machine_model.specs.Knowing.{watch_set, with_facts}
+use Rattle.machine_model.specs.Knowing.{AreInOrder, AreSaid, IsKnown, View, breakpoints_in, class_said, closes}
+use Rattle.machine_model.specs.Knowing.{come_view, composite_in, dies, gone_view, has_last, held_in, held_with}
+use Rattle.machine_model.specs.Knowing.{is_farewell, is_fresh, learnt_view, may_be, may_tell, numbers_by}
+use Rattle.machine_model.specs.Knowing.{numbers_in_event, numbers_in_outcome, owed_by, owed_in, replied_view, says}
+use Rattle.machine_model.specs.Knowing.{says_dead, sizes_said, thread_numbers, told_view, turned_view, view_of}
+use Rattle.machine_model.specs.Knowing.{waiting_composites, watch_set, with_facts}
 use Rattle.jdwp_commands.specs.Answers.{kind_of_answer}
 use Rattle.jdwp_commands.specs.Commands.{kind_of}
-use Rattle.machine_model.specs.Names.{NamedThread, News, entry_verified, thread_changed}
-use Rattle.machine_model.specs.Names.{Answer, Attached, Capabilities, Classes, Clear, Command, Composite}
-use Rattle.machine_model.specs.Names.{Does, Effect, Event, Failed, Fresh, Gone}
-use Rattle.machine_model.specs.Names.{Initialized, Item, Lines, Note, Nothing, Options, Outcome, Part}
-use Rattle.machine_model.specs.Names.{Phase, Question, Replied, Roots, Set, Success, TargetCommand}
-use Rattle.machine_model.specs.Names.{Terminated, ThreadId, a_composite, a_question, a_raw}
-use Rattle.machine_model.specs.Names.{a_request, an_answer, an_effect, an_event, breakpoint_list}
-use Rattle.machine_model.specs.Names.{some_news, target_end, thread_list}
-use Rattle.machine_model.specs.Replying.{IsReply, ended_with, is_end}
-use Rattle.machine_model.specs.Replying.{replied_to, sizes_in, unlisted_by, wire}
-use Rattle.machine_model.specs.Rows.{end_parts, failure_of, noted}
-use Rattle.machine_model.specs.Rows.{request_parts, wanting}
+use Rattle.machine_model.specs.Names.{Answer, Attached, Capabilities, Classes, Clear, Command, Composite, Configured}
+use Rattle.machine_model.specs.Names.{Continued, Does, Effect, EntryHeld, Event, Failed, Fresh, Gone, Initialized}
+use Rattle.machine_model.specs.Names.{Item, Lines, NamedThread, News, Note, Nothing, Options, Outcome, Part, Phase}
+use Rattle.machine_model.specs.Names.{Question, Replied, Roots, Set, Success, TargetCommand, Terminated, ThreadId}
+use Rattle.machine_model.specs.Names.{a_composite, a_question, a_raw, a_request, a_stop, an_answer, an_effect}
+use Rattle.machine_model.specs.Names.{an_event, breakpoint_list, entry_verified, some_news, target_end, thread_changed}
+use Rattle.machine_model.specs.Names.{thread_list}
+use Rattle.machine_model.specs.Replying.{IsReply, ended_with, hand_replied, is_end, replied_to, sizes_in, unlisted_by}
+use Rattle.machine_model.specs.Replying.{wire}
+use Rattle.machine_model.specs.Rows.{chosen, end_parts, failure_of, noted, request_parts, wanting}
 use Rattle.machine_model.specs.Runs.{Message, Run, is_disconnect}
-use Rattle.machine_model.specs.State.{Hand, Machine, SizesRead, State, is_gone}
+use Rattle.machine_model.specs.State.{Hand, Machine, SizesRead, State, is_gone, knowing, left}
 use Rattle.machine_model.specs.Telling.{after_event, attached_from, event_told, numbered_by, outcome_told}
-use Rattle.machine_model.proofs.MarkLaws.{IsMarked, marked_at, marked_on, marks}
+use Rattle.machine_model.proofs.MarkLaws.{IsMarked, marked_at, marked_on, marks, over_gone, plain_last}
 use Rattle.machine_model.proofs.NumberLaws.{are_distinct, distinct_with, in_order_with, numbered_once}
 use Rattle.machine_model.proofs.TurnLaws.{NoneLate, unsent}
-use Rattle.machine_model.proofs.QuietLaws.{IsKept, IsQuiet, kept_on, near_flies, near_waits, quiet_on}
+use Rattle.machine_model.proofs.QuietLaws.{IsKept, IsQuiet, is_end_item, kept_end, kept_on, near_flies, near_waits}
+use Rattle.machine_model.proofs.QuietLaws.{picked_end, quiet_on}
 use Rattle.machine_model.proofs.RestLaws.{late_gone, near_asks, no_late}
 use Rattle.machine_model.proofs.Stepping.{IsAt, Loses, Moves, by_runs, with_said}
 use Rattle.machine_model.proofs.Testing.{Passed, tested, whole}
@@ -40,21 +39,25 @@ use Rattle.jdwp_commands.specs.declared.listed.LoadedClass.{LoadedClass}
 use Rattle.jdwp_events.specs.declared.kind.Policy.TheVariants.{All, EventThread, NoThread}
 use Rattle.jdwp_events.specs.declared.kind.Policy.{Policy}
 use Rattle.machine_model.proofs.EarlyItems.{IsEarly, always_early, not_fresh}
-use Rattle.machine_model.proofs.HeldLaws.{asked_resumes, chosen_resumes, deed_may, deed_view, due_sends, end_resumes}
-use Rattle.machine_model.proofs.HeldLaws.{found_resumes, given_resumes, gone_held}
-use Rattle.machine_model.proofs.HeldLaws.{held_as, held_front, replied_resumes, row_resumes}
-use Rattle.machine_model.proofs.HeldLaws.{skipped_resumes}
+use Rattle.machine_model.proofs.HeldLaws.{asked_last, asked_owes, chosen_owes, composite_last, composite_owes}
+use Rattle.machine_model.proofs.HeldLaws.{deed_may, deed_view_is, dies_front, due_sends, end_owes, entry_held}
+use Rattle.machine_model.proofs.HeldLaws.{found_owes, free_owes, given_owes, gone_owed, held_as, held_front}
+use Rattle.machine_model.proofs.HeldLaws.{replied_last, replied_owes, row_last, row_owes, skipped_last, skipped_owes}
+use Rattle.machine_model.proofs.HeldLaws.{stop_held}
 use Rattle.machine_model.proofs.ItemLaws.{IsInOrder, in_order, ordered_on, picked_composites, read_composites}
 use Rattle.machine_model.proofs.ItemLaws.{waits_in_order}
 use Rattle.machine_model.proofs.ServedLaws.{one_more}
-use Rattle.machine_model.proofs.Tables.{free, free_once}
+use Rattle.machine_model.proofs.Tables.{chosen_is, finished_is, free, free_once}
 use Rattle.machine_model.specs.Breakpoints.{with_told}
-use Rattle.machine_model.specs.Composites.{composite_row, prepared_in}
+use Rattle.machine_model.specs.Composites.{has_death, prepared_in}
 use Rattle.machine_model.specs.Due.{begun}
 use Rattle.machine_model.specs.Outcomes.{result_of}
 use Rattle.std.specs.List.{flat_map}
 use Rattle.std.specs.Prelude.{fold, map, ◌+◌}
 use Rattle.suspend_ledger.specs.Suspensions.{suspensions_by}
+use Rattle.machine_model.proofs.HoldingParts.{IsHolding, IsLost, holding, lost_flags, lost_held, numbered_entry}
+use Rattle.machine_model.proofs.HoldingParts.{numbered_stop, same_entry, same_stop}
+use Rattle.machine_model.specs.Lookups.{finished}
 
 -- Replies -------------------------------------------------------------------------------------------------------------
 
@@ -87,8 +90,9 @@ listed_is known (class ∷ classes) = listed_is (with_listed known class) classe
 learnt_is : (m : Machine) (question : Question) (replied : Replied)
     → IsReply m.state.sizes (a_question question) replied
     → is_end (a_question question) replied ≡ false
-    → view_of (record m { state = replied_to (a_question question) replied m.state })
-    ≡ learnt_view (a_question question) replied (view_of m)
+    → record (view_of (record m { state = replied_to (a_question question) replied m.state })) {
+      held = held_in m.state m.hand;
+    } ≡ learnt_view (a_question question) replied (view_of m)
 learnt_is m questions.AllClasses replied reply here =
     ap (λ (known : Known). record (view_of m) { classes = known; unlisted = false })
     (listed_is m.state.classes (classes_in (answer_in replied)))
@@ -109,38 +113,72 @@ says_so None view = view
 says_so (Some message) view = says message view
 
 response_view : (outcome : Outcome) (m : Machine)
-    → view_of (record m { state = numbered_by outcome m.state })
+    → record (view_of (record m { state = numbered_by outcome m.state })) { held = held_in m.state m.hand }
     ≡ record (view_of m) { bound = with_told m.state.bound (breakpoints_in (outcome_told outcome m.state)) }
 response_view (Success Nothing) m = refl
 response_view (Success Capabilities) m = refl
 response_view (Success (breakpoint_list rooted listed)) m = refl
+response_view (Success Continued) m = refl
 response_view (Success (thread_list named)) m = refl
 response_view (Failed failure) m = refl
 
-note_view : (note : Note) (m : Machine) → view_of (record m { state = noted note m.state }) ≡ view_of m
-note_view note m = grind arith
+-- a note is made: what is held as the entry was held for the composite in hand
+note_view : (m next : Machine) (hand : Hand) (note : Note) (rest : List Part) → IsHolding m
+    → IsAt m hand (Part.Notes note) rest
+    → view_of (left (knowing m (noted note m.state)) hand rest) ≡ view_of m
+note_view m next hand EntryHeld rest h at = held_as m (left (knowing m (noted EntryHeld m.state)) hand rest)
+    (entry_held h at) (sym (dies_front at)) refl
+note_view m next hand Configured rest h at = held_as m (left (knowing m (noted Configured m.state)) hand rest)
+    (sym (held_front at)) (sym (dies_front at)) refl
+note_view m next hand (Options options) rest h at =
+    held_as m (left (knowing m (noted (Options options) m.state)) hand rest)
+    (sym (held_front at)) (sym (dies_front at)) refl
+note_view m next hand (Roots roots) rest h at =
+    held_as m (left (knowing m (noted (Roots roots) m.state)) hand rest)
+    (sym (held_front at)) (sym (dies_front at)) refl
+note_view m next hand (Lines key entries) rest h at =
+    held_as m (left (knowing m (noted (Lines key entries) m.state)) hand rest)
+    (sym (held_front at)) (sym (dies_front at)) refl
+note_view m next hand (Classes classes) rest h at =
+    held_as m (left (knowing m (noted (Classes classes) m.state)) hand rest)
+    (sym (held_front at)) (sym (dies_front at)) refl
 
 not_gone : (gone other : Bool) → cond (cond gone false true) other false ≡ true → not gone ≡ true
 not_gone gone other is = grind (arith, is)
 
 -- where an event is told, it may be
 event_may : (m : Machine) (hand : Hand) (event : Event) (rest : List Part) → Passed free_once m → IsMarked m
-    → IsAt m hand (Part.Tells event) rest
+    → IsHolding m → IsAt m hand (Part.Tells event) rest
     → may_tell (an_event (event_told event (after_event event m.state))) (view_of m) ≡ true
-event_may m hand (some_news (entry_verified entry)) rest f h at =
+event_may m hand (some_news (entry_verified entry)) rest f h w at =
     not_gone (is_gone m.state.phase) _ (whole free_once f at)
-event_may m hand (some_news (thread_changed started thread)) rest f h at =
+event_may m hand (some_news (thread_changed started thread)) rest f h w at =
     not_gone (is_gone m.state.phase) _ (whole free_once f at)
-event_may m hand Initialized rest f h at = fresh_by (is_fresh m.state.phase) _ (marked_at m hand
-    (Part.Tells Initialized) rest h at)
+event_may m hand (a_stop stopping) rest f h w at =
+    by_gone (is_gone m.state.phase) _ _ (whole free_once f at) (stop_held w at).1
   where
-    fresh_by : (fresh other : Bool) → cond fresh other false ≡ true → fresh ≡ true
-    fresh_by fresh other is = grind (arith, is)
-event_may m hand Terminated rest f h at = over_by _ (cond (is_gone m.state.phase) (not m.state.terminated) false)
-    (marked_at m hand (Part.Tells Terminated) rest h at)
+    by_gone : (gone held other : Bool) → cond (cond gone false true) other false ≡ true → held ≡ true
+        → cond gone false held ≡ true
+    by_gone true held other is some = cc
+    by_gone false held other is some = some
+event_may m hand Initialized rest f h w at =
+    fresh_by (over_gone m.state.phase m.state.terminated) (is_fresh m.state.phase) _
+    (marked_at m hand (Part.Tells Initialized) rest h at)
   where
-    over_by : (first over : Bool) → cond first over false ≡ true → over ≡ true
-    over_by first over is = grind (arith, is)
+    fresh_by : (over fresh other : Bool) → cond over (cond fresh other false) false ≡ true → fresh ≡ true
+    fresh_by over fresh other is = grind (arith, is)
+event_may m hand Terminated rest f h w at =
+    by_gone (is_gone m.state.phase) (dies m.hand) m.state.terminated (dies_front at)
+    (over_by (over_gone m.state.phase m.state.terminated) _ (not m.state.terminated)
+    (marked_at m hand (Part.Tells Terminated) rest h at))
+  where
+    over_by : (over first last : Bool) → cond over (cond first last false) false ≡ true → last ≡ true
+    over_by over first last is = grind (arith, is)
+
+    by_gone : (gone dying told : Bool) → dying ≡ true → not told ≡ true
+        → cond gone (not told) (cond (cond gone false dying) (not told) false) ≡ true
+    by_gone true dying told is untold = untold
+    by_gone false dying told is untold = rw is untold
 
 fresh_now : (phase : Phase) → is_fresh phase ≡ true → phase ≡ Fresh
 fresh_now phase is = grind (arith, is)
@@ -148,23 +186,40 @@ fresh_now phase is = grind (arith, is)
 attached_now : (phase : Phase) → is_fresh phase ≡ true → attached_from phase ≡ Attached
 attached_now phase is = grind (arith, is)
 
+-- what an event makes of what is known, as it says
 event_view_is : (m : Machine) (hand : Hand) (event : Event) (rest : List Part) → Passed free_once m → IsMarked m
-    → IsAt m hand (Part.Tells event) rest
-    → view_of (record m { state = after_event event m.state })
+    → IsHolding m → IsAt m hand (Part.Tells event) rest
+    → view_of (left (knowing m (after_event event m.state)) hand rest)
     ≡ told_view (an_event (event_told event (after_event event m.state))) (view_of m)
-event_view_is m hand Initialized rest f h at =
-    let fresh = event_may m hand Initialized rest f h at in
-    ap (λ (phase : Phase). record (view_of m) {
+event_view_is m hand Initialized rest f h w at =
+    let fresh = event_may m hand Initialized rest f h w at in
+    held_as m (left (knowing m (after_event Initialized m.state)) hand rest) (sym (held_front at)) (sym (dies_front at))
+    (ap (λ (phase : Phase). record (view_of m) {
       phase = phase;
       composites = waiting_composites (is_gone phase) m.waiting;
+      dying = cond (is_gone phase) false (dies m.hand);
     }) (attached_now m.state.phase fresh)
     ∙ sym (ap (λ (phase : Phase). record (view_of m) {
       phase = Attached;
       composites = waiting_composites (is_gone phase) m.waiting;
-    }) (fresh_now m.state.phase fresh))
-event_view_is m hand (some_news (entry_verified entry)) rest f h at = refl
-event_view_is m hand (some_news (thread_changed started thread)) rest f h at = refl
-event_view_is m hand Terminated rest f h at = refl
+      dying = cond (is_gone phase) false (dies m.hand);
+    }) (fresh_now m.state.phase fresh)))
+event_view_is m hand (some_news (entry_verified entry)) rest f h w at =
+    held_as m (left (knowing m (after_event (some_news (entry_verified entry)) m.state)) hand rest)
+    (sym (held_front at)) (sym (dies_front at)) refl
+event_view_is m hand (some_news (thread_changed started thread)) rest f h w at =
+    held_as m (left (knowing m (after_event (some_news (thread_changed started thread)) m.state)) hand rest)
+    (sym (held_front at)) (sym (dies_front at)) refl
+event_view_is m hand (a_stop stopping) rest f h w at =
+    held_as m (left (knowing m (after_event (a_stop stopping) m.state)) hand rest) (stop_held w at).0
+    (sym (dies_front at)) refl
+event_view_is m hand Terminated rest f h w at =
+    ap (λ (owed : ℕ). record (gone_view (view_of m)) { held = held_with false false owed; terminated = true })
+    (free_owes false rest (tail (is_gone m.state.phase) (free_once true rest) (whole free_once f at)))
+  where
+    tail : (gone others : Bool) → cond (cond gone true true) others false ≡ true → others ≡ true
+    tail true others is = is
+    tail false others is = is
 
 gone_is : (phase : Phase) → is_gone phase ≡ true → phase ≡ Gone
 gone_is phase is = grind (arith, is)
@@ -193,18 +248,28 @@ same_closes command = grind arith
 stays_here : (gone last : Bool) → gone ≡ false → cond gone false last ≡ false → last ≡ false
 stays_here gone last near is = grind (arith, near, is)
 
--- the target's end: nothing of the item in hand is held any more
+-- the target's end: nothing is held any more
 lost_seen : (m : Machine) (late : List TargetCommand) → view_of (ended_with late m) ≡ gone_view (view_of m)
-lost_seen m late = ap (λ (held : ℕ). record (gone_view (view_of m)) { held = held }) (given_resumes m.hand)
+lost_seen m late = ap (λ (owed : ℕ). record (gone_view (view_of m)) { held = held_with false false owed })
+    (given_owes m.hand)
 
 -- a target that is gone doesn't end again
-ended_seen : (m : Machine) → is_gone m.state.phase ≡ true → Passed free_once m → view_of m ≡ gone_view (view_of m)
-ended_seen m gone f = ap (λ (phase : Phase). record (view_of m) {
-  phase = phase;
-  composites = waiting_composites (is_gone phase) m.waiting;
-}) (gone_is m.state.phase gone)
-    ∙ ap (λ (held : ℕ). record (gone_view (view_of m)) { held = held })
-    (gone_held (is_gone m.state.phase) m.hand gone f)
+ended_seen : (m : Machine) → is_gone m.state.phase ≡ true → Passed free_once m → IsLost m → view_of m ≡ gone_view (view_of m)
+ended_seen m gone f l =
+    let lost = lost_flags m l gone in
+    ap (λ (phase : Phase). record (view_of m) {
+      phase = phase;
+      composites = waiting_composites (is_gone phase) m.waiting;
+      dying = cond (is_gone phase) false (dies m.hand);
+    }) (gone_is m.state.phase gone)
+    ∙ ap (λ (stopped : Bool). record (gone_view (view_of m)) {
+      held = held_with stopped m.state.entry (owed_by stopped m.hand);
+      stopped = stopped;
+    }) lost.0
+    ∙ ap (λ (entry : Bool). record (gone_view (view_of m)) { held = held_with false entry (owed_by false m.hand) })
+    lost.1
+    ∙ ap (λ (owed : ℕ). record (gone_view (view_of m)) { held = held_with false false owed })
+    (gone_owed (is_gone m.state.phase) false m.hand gone f)
 
 -- how a move changes what is known: as its message says; or a composite is at its turn
 data Sees (m next : Machine) : Option Message → Type 0 where
@@ -217,12 +282,16 @@ data Sees (m next : Machine) : Option Message → Type 0 where
 -- an item is at its turn
 begun_seen : (m : Machine) (item : Item) (rest : List Item) → m.hand ≡ None
     → ((at : ℕ) (composite : Composite) → item ≡ a_composite at composite → is_fresh m.state.phase ≡ false)
+    → (is_end_item item ≡ true → is_gone m.state.phase ≡ true)
     → flat_map composite_in m.waiting ≡ composite_in item ++ flat_map composite_in rest
     → Sees m (begun m item rest) None
-begun_seen m item rest none late are = by_item item late are
+begun_seen m item rest none late ends are = by_item item late ends are
   where
-    none_held : held_by m.hand ≡ 0
-    none_held = ap held_by none
+    none_held : held_in m.state m.hand ≡ held_with m.state.stopped m.state.entry 0
+    none_held = ap (held_in m.state) none
+
+    none_dies : dies m.hand ≡ false
+    none_dies = ap dies none
 
     passed : (now : List Composite) → flat_map composite_in m.waiting ≡ now
         → record (view_of m) { composites = cond (is_gone m.state.phase) [] now } ≡ view_of m
@@ -237,21 +306,35 @@ begun_seen m item rest none late are = by_item item late are
     waits true = refl
     waits false = refl
 
-    others : (held : ℕ) → held ≡ 0 → flat_map composite_in m.waiting ≡ flat_map composite_in rest
-        → record (view_of m) { composites = waiting_composites (is_gone m.state.phase) rest; held = held }
-        ≡ view_of m
-    others held is are = ap (λ (held : ℕ). record (view_of m) {
+    others : (parts : List Part) → owed_in m.state.stopped parts ≡ 0
+        → cond (is_gone m.state.phase) false (has_last parts) ≡ false
+        → flat_map composite_in m.waiting ≡ flat_map composite_in rest
+        → record (view_of m) {
+          composites = waiting_composites (is_gone m.state.phase) rest;
+          held = held_with m.state.stopped m.state.entry (owed_in m.state.stopped parts);
+          dying = cond (is_gone m.state.phase) false (has_last parts);
+        } ≡ view_of m
+    others parts owes lasts are = ap (λ (held : ℕ). record (view_of m) {
       composites = waiting_composites (is_gone m.state.phase) rest;
       held = held;
-    }) (is ∙ sym none_held)
+      dying = cond (is_gone m.state.phase) false (has_last parts);
+    }) (ap (held_with m.state.stopped m.state.entry) owes ∙ sym none_held)
+        ∙ ap (λ (dying : Bool). record (view_of m) {
+          composites = waiting_composites (is_gone m.state.phase) rest;
+          dying = dying;
+        }) (lasts ∙ sym (still (is_gone m.state.phase) (dies m.hand) none_dies))
         ∙ ap (λ (all : List Composite). record (view_of m) { composites = all }) (waits (is_gone m.state.phase))
         ∙ passed (flat_map composite_in rest) are
+      where
+        still : (gone dying : Bool) → dying ≡ false → cond gone false dying ≡ false
+        still true dying is = refl
+        still false dying is = is
 
-    policies : (policy : Policy) (at below : ℕ)
-        → resumes_in (composite_row policy at below) ≡ 0 + suspensions_by policy
-    policies NoThread at below = refl
-    policies EventThread at below = refl
-    policies All at below = refl
+    holds : (dead : Bool) (policy : Policy) (held owed : ℕ) → held ≡ held_with m.state.stopped m.state.entry 0
+        → owed ≡ cond dead 0 (0 + suspensions_by policy)
+        → held_with m.state.stopped m.state.entry owed ≡ cond dead held (held + suspensions_by policy)
+    holds true policy held owed is owes = ap (held_with m.state.stopped m.state.entry) owes ∙ sym is
+    holds false policy held owed is owes = omega (arith, is, owes)
 
     by_phase : (at : ℕ) (composite : Composite) (phase : Phase) → m.state.phase ≡ phase → is_fresh phase ≡ false
         → flat_map composite_in m.waiting ≡ composite ∷ flat_map composite_in rest
@@ -261,24 +344,34 @@ begun_seen m item rest none late are = by_item item late are
         Sees.at_turn composite (flat_map composite_in rest) is (rw is are)
         (rw (
           is,
-          none_held,
-          policies composite.policy at m.state.next_entry,
+          holds (has_death composite.events) composite.policy (held_in m.state m.hand) _ none_held
+              (composite_owes m.state.stopped (has_death composite.events) composite.policy at m.state.next_entry),
+          composite_last (has_death composite.events) composite.policy at m.state.next_entry,
           listed_is m.state.classes (prepared_in composite),
         ) refl)
     by_phase at composite Gone is late are = Sees.as_said (rw (is, none_held) refl)
 
     by_item : (item : Item)
         → ((at : ℕ) (composite : Composite) → item ≡ a_composite at composite → is_fresh m.state.phase ≡ false)
+        → (is_end_item item ≡ true → is_gone m.state.phase ≡ true)
         → flat_map composite_in m.waiting ≡ composite_in item ++ flat_map composite_in rest
         → Sees m (begun m item rest) None
-    by_item (a_request request) late are = Sees.as_said
-        (others (resumes_in (request_parts request.command m.state))
-        (row_resumes (failure_of (wanting request.command) m.state) request.command m.state) are)
-    by_item (a_composite at composite) late are =
+    by_item (a_request request) late ends are = Sees.as_said
+        (others (request_parts request.command m.state) (row_owes m.state request.command)
+        (rw (row_last m.state request.command) (never (is_gone m.state.phase))) are)
+      where
+        never : (gone : Bool) → cond gone false false ≡ false
+        never true = refl
+        never false = refl
+    by_item (a_composite at composite) late ends are =
         by_phase at composite m.state.phase refl (late at composite refl) are
-    by_item (a_raw at body) late are = Sees.as_said (others 0 refl are)
-    by_item target_end late are = Sees.as_said (others (resumes_in (end_parts m.state.terminated))
-        (end_resumes m.state.terminated) are)
+    by_item (a_raw at body) late ends are = Sees.as_said (others [] refl (never (is_gone m.state.phase)) are)
+      where
+        never : (gone : Bool) → cond gone false false ≡ false
+        never true = refl
+        never false = refl
+    by_item target_end late ends are = Sees.as_said
+        (others (end_parts m.state.terminated) (end_owes m.state.stopped m.state.terminated) (rw (ends refl) refl) are)
 
 -- one that is no composite came
 came_seen : (m : Machine) (item : Item) → composite_in item ≡ []
@@ -304,67 +397,96 @@ composite_seen m composite now more = by_gone (is_gone m.state.phase) more
     by_gone true more = refl
     by_gone false more = ap (λ (all : List Composite). record (view_of m) { composites = all }) (more refl)
 
-view_on : (m next : Machine) (said : Option Message) → IsQuiet m → NoneLate m → Passed free_once m → IsInOrder m
-    → IsEarly m → IsMarked m → Moves m said next → Sees m next said
-view_on m next said q k f o e h (Moves.begins picked free none is) =
+responded_held : (outcome : Outcome) (state : State) (rest : List Part)
+    → held_with (numbered_by outcome state).stopped (numbered_by outcome state).entry
+    (owed_in (numbered_by outcome state).stopped rest)
+    ≡ held_with state.stopped state.entry (owed_in state.stopped rest)
+responded_held outcome state rest = rw (numbered_stop outcome state, numbered_entry outcome state) refl
+
+replied_held : (m : Machine) (command : TargetCommand) (replied : Replied)
+    → held_in (replied_to command replied m.state) (option_map (hand_replied command replied) m.hand)
+    ≡ held_in m.state m.hand
+replied_held m command replied = rw (same_stop command replied m.state, same_entry command replied m.state)
+    (ap (held_with m.state.stopped m.state.entry) (replied_owes m.state.stopped command replied m.hand))
+
+view_on : (m next : Machine) (said : Option Message) → IsQuiet m → IsKept m → NoneLate m → Passed free_once m
+    → IsInOrder m → IsEarly m → IsMarked m → IsHolding m → IsLost m → Moves m said next → Sees m next said
+view_on m next said q n k f o e h w l (Moves.begins picked free none is) =
     begun_seen m picked.item picked.rest none (λ at composite item. not_fresh m picked at composite e none is item)
+    (λ end. kept_end m n (picked_end (is_gone m.state.phase) m.waiting picked is ∙ rw end refl))
     (picked_composites (is_gone m.state.phase) m.waiting picked is)
-view_on m next said q k f o e h (Moves.drops free is none) =
-    Sees.as_said (held_as m next (sym (ap held_by is ∙ ap resumes_in none)) refl)
-view_on m next said q k f o e h (Moves.responds {outcome = outcome} free at is) =
-    Sees.as_said (held_as m next (sym (held_front at)) (response_view outcome m))
-view_on m next said q k f o e h (Moves.finds {rest = rest} {lookup} found free at needs done) =
-    Sees.as_said (held_as m next (found_resumes lookup (result_of found) m.state rest ∙ sym (held_front at)) refl)
-view_on m next said q k f o e h (Moves.passes_over {rest = rest} free at why) =
-    Sees.as_said (held_as m next (skipped_resumes rest why ∙ sym (held_front at)) refl)
-view_on m next said q k f o e h (Moves.tells {hand} {rest} {event} free at) =
-    Sees.as_said (held_as m next (sym (held_front at)) (event_view_is m hand event rest f h at))
-view_on m next said q k f o e h (Moves.sends {hand} {rest} {deed} free at near) =
-    Sees.as_said (deed_view m hand deed rest at)
-view_on m next said q k f o e h (Moves.updates {effect = effect} free at is near) =
-    Sees.as_said (held_as m next (sym (held_front at)) (sym (due_sends m.state.wishes effect (view_of m) is).1))
-view_on m next said q k f o e h (Moves.notes {note = note} free at) =
-    Sees.as_said (held_as m next (sym (held_front at)) (note_view note m))
-view_on m next said q k f o e h (Moves.unfolds {hand} {choice} {rest} free at) =
-    Sees.as_said (held_as m next (chosen_resumes choice m.state hand rest ∙ sym (held_front at)) refl)
-view_on m next said q k f o e h (Moves.queues free is) = Sees.as_said (held_as m next (sym (ap held_by is)) refl)
-view_on m next said q k f o e h (Moves.asks {want = want} free room is are) =
-    Sees.as_said (held_as m next (asked_resumes want m.hand) refl)
-view_on m next said q k f o e h (Moves.answers {question} {replied} {hand} is waits reply stays) =
+view_on m next said q n k f o e h w l (Moves.drops free is none) =
+    Sees.as_said (held_as m next (sym (ap (held_in m.state) is
+    ∙ ap (λ (parts : List Part). held_with m.state.stopped m.state.entry (owed_in m.state.stopped parts)) none))
+    (sym (ap dies is ∙ ap has_last none)) refl)
+view_on m next said q n k f o e h w l (Moves.responds {rest = rest} {outcome = outcome} free at is) =
+    Sees.as_said (held_as m next (responded_held outcome m.state rest ∙ sym (held_front at)) (sym (dies_front at))
+    (response_view outcome m))
+view_on m next said q n k f o e h w l (Moves.finds {rest = rest} {lookup} found free at needs done) =
+    Sees.as_said (held_as m next
+    (ap (held_with m.state.stopped m.state.entry) (found_owes m.state.stopped lookup (result_of found) m.state rest)
+    ∙ sym (held_front at))
+    (plain_last (finished lookup (result_of found) m.state) rest (finished_is lookup (result_of found) m.state).plain
+    ∙ sym (dies_front at)) refl)
+view_on m next said q n k f o e h w l (Moves.passes_over {rest = rest} free at why) =
+    Sees.as_said (held_as m next
+    (ap (held_with m.state.stopped m.state.entry) (skipped_owes m.state.stopped rest why) ∙ sym (held_front at))
+    (skipped_last rest why ∙ sym (dies_front at)) refl)
+view_on m next said q n k f o e h w l (Moves.tells {hand} {rest} {event} free at) =
+    Sees.as_said (event_view_is m hand event rest f h w at)
+view_on m next said q n k f o e h w l (Moves.sends {hand} {rest} {deed} free at near) =
+    Sees.as_said (deed_view_is m hand deed rest w at)
+view_on m next said q n k f o e h w l (Moves.updates {effect = effect} free at is near) =
+    Sees.as_said (held_as m next (sym (held_front at)) (sym (dies_front at))
+    (sym (due_sends m.state.wishes effect (view_of m) is).1))
+view_on m next said q n k f o e h w l (Moves.notes {hand} {note} {rest} free at) =
+    Sees.as_said (note_view m next hand note rest w at)
+view_on m next said q n k f o e h w l (Moves.unfolds {hand} {choice} {rest} free at) =
+    Sees.as_said (held_as m next
+    (ap (held_with m.state.stopped m.state.entry) (chosen_owes {choice = choice} w at) ∙ sym (held_front at))
+    (plain_last (chosen choice m.state hand) rest (chosen_is choice m.state hand).plain ∙ sym (dies_front at)) refl)
+view_on m next said q n k f o e h w l (Moves.queues free is) =
+    Sees.as_said (held_as m next (sym (ap (held_in m.state) is)) (sym (ap dies is)) refl)
+view_on m next said q n k f o e h w l (Moves.asks {want = want} free room is are) =
+    Sees.as_said (held_as m next (ap (held_with m.state.stopped m.state.entry) (asked_owes m.state.stopped want m.hand))
+    (asked_last want m.hand) refl)
+view_on m next said q n k f o e h w l (Moves.answers {question} {replied} {hand} is waits reply stays) =
     let near = near_waits m hand question q is waits in
     let here = stays_here (is_gone m.state.phase) (is_end (a_question question) replied) near stays in
-    Sees.as_said (held_as m next (replied_resumes (a_question question) replied m.hand)
+    Sees.as_said (held_as m next (replied_held m (a_question question) replied)
+    (replied_last (a_question question) replied m.hand)
     (replied_is m (a_question question) replied _ near here (learnt_is m question replied reply here)))
-view_on m next said q k f o e h (Moves.replies {effect} {replied} {hand} is flies reply stays) =
+view_on m next said q n k f o e h w l (Moves.replies {effect} {replied} {hand} is flies reply stays) =
     let near = near_flies m hand effect q is flies in
     let here = stays_here (is_gone m.state.phase) (is_end (an_effect effect) replied) near stays in
-    Sees.as_said (held_as m next (replied_resumes (an_effect effect) replied m.hand)
+    Sees.as_said (held_as m next (replied_held m (an_effect effect) replied)
+    (replied_last (an_effect effect) replied m.hand)
     (replied_is m (an_effect effect) replied _ near here
     (ap (λ (unlisted : Bool). record (view_of m) { unlisted = unlisted }) (watch_is effect replied m.state.unlisted))))
-view_on m next said q k f o e h (Moves.late {command} {replied} before after is reply) =
+view_on m next said q n k f o e h w l (Moves.late {command} {replied} before after is reply) =
     Sees.as_said (rw (late_gone m before after command k is) refl)
-view_on m next said q k f o e h (Moves.ends gone) = Sees.as_said (ended_seen m gone f)
-view_on m next said q k f o e h (Moves.loses late near Loses.by_end) = Sees.as_said (lost_seen m late)
-view_on m next said q k f o e h (Moves.loses late near (Loses.by_question {question} {replied} is waits reply last)) =
+view_on m next said q n k f o e h w l (Moves.ends gone) = Sees.as_said (ended_seen m gone f l)
+view_on m next said q n k f o e h w l (Moves.loses late near Loses.by_end) = Sees.as_said (lost_seen m late)
+view_on m next said q n k f o e h w l (Moves.loses late near (Loses.by_question {question} {replied} is waits reply last)) =
     Sees.as_said (lost_seen m late ∙ ended_is m (a_question question) replied near last)
-view_on m next said q k f o e h (Moves.loses late near (Loses.by_effect {effect} {replied} is flies reply last)) =
+view_on m next said q n k f o e h w l (Moves.loses late near (Loses.by_effect {effect} {replied} is flies reply last)) =
     Sees.as_said (lost_seen m late ∙ ended_is m (an_effect effect) replied near last)
-view_on m next said q k f o e h (Moves.hears {request} read is) =
+view_on m next said q n k f o e h w l (Moves.hears {request} read is) =
     Sees.as_said (ap (λ (closing : Bool). record (view_of next) { closing = closing }) (same_closes request.command)
     ∙ ap (λ (all : List Composite). record (view_of m) { composites = all; closing = closes request.command })
     (came_seen m (a_request request) refl))
-view_on m next said q k f o e h (Moves.comes {at} {composite} read sized taken) =
+view_on m next said q n k f o e h w l (Moves.comes {at} {composite} read sized taken) =
     Sees.as_said (composite_seen m composite (m.waiting ++ a_composite at composite ∷ [])
     (λ near. one_more composite_in m.waiting (a_composite at composite)))
-view_on m next said q k f o e h (Moves.keeps {at} {body} is) =
+view_on m next said q n k f o e h w l (Moves.keeps {at} {body} is) =
     Sees.as_said (ap (λ (all : List Composite). record (view_of m) { composites = all })
     (came_seen m (a_raw at body) refl))
-view_on m next said q k f o e h (Moves.reads {at} {body} {composite} before after read is none taken) =
+view_on m next said q n k f o e h w l (Moves.reads {at} {body} {composite} before after read is none taken) =
     Sees.as_said (composite_seen m composite (before ++ a_composite at composite ∷ after) (λ near.
     read_composites before after (a_raw at body) at composite refl none
     (subst (λ (items : List Item). in_order items ≡ true) is (waits_in_order m o near))
     ∙ ap (λ (items : List Item). flat_map composite_in items ++ composite ∷ []) (sym is)))
-view_on m next said q k f o e h _ = Sees.as_said refl
+view_on m next said q n k f o e h w l _ = Sees.as_said refl
 
 abbrev may_so : View → Option Message → Bool
 may_so view None = true
@@ -373,21 +495,21 @@ may_so view (Some message) = may_be view message
 near_sends : (gone may : Bool) → gone ≡ false → may ≡ true → cond gone false may ≡ true
 near_sends gone may near is = grind (arith, near, is)
 
-may_on : (m next : Machine) (said : Option Message) → Passed free_once m → IsMarked m → Moves m said next
+may_on : (m next : Machine) (said : Option Message) → Passed free_once m → IsMarked m → IsHolding m → Moves m said next
     → may_so (view_of m) said ≡ true
-may_on m next said f h (Moves.tells {hand} {rest} {event} free at) = event_may m hand event rest f h at
-may_on m next said f h (Moves.sends {hand} {rest} {deed} free at near) =
-    near_sends (is_gone m.state.phase) _ near (deed_may m hand deed rest at)
-may_on m next said f h (Moves.updates {effect = effect} free at is near) =
+may_on m next said f h w (Moves.tells {hand} {rest} {event} free at) = event_may m hand event rest f h w at
+may_on m next said f h w (Moves.sends {hand} {rest} {deed} free at near) =
+    near_sends (is_gone m.state.phase) _ near (deed_may m hand deed rest w at)
+may_on m next said f h w (Moves.updates {effect = effect} free at is near) =
     near_sends (is_gone m.state.phase) _ near (due_sends m.state.wishes effect (view_of m) is).0
-may_on m next said f h (Moves.greets {guard = guard} free at is near) = rw (unsent m guard is, near) refl
-may_on m next said f h (Moves.asks {hand} free room is are) = rw (near_asks m hand free is).0 refl
-may_on m next said f h (Moves.hears read is) = rw is refl
-may_on m next said f h (Moves.greeted read is) = rw is refl
-may_on m next said f h (Moves.loses late near Loses.by_end) = refl
-may_on m next said f h (Moves.loses late near (Loses.by_question is waits reply last)) = refl
-may_on m next said f h (Moves.loses late near (Loses.by_effect is flies reply last)) = refl
-may_on m next said f h _ = refl
+may_on m next said f h w (Moves.greets {guard = guard} free at is near) = rw (unsent m guard is, near) refl
+may_on m next said f h w (Moves.asks {hand} free room is are) = rw (near_asks m hand free is).0 refl
+may_on m next said f h w (Moves.hears read is) = rw is refl
+may_on m next said f h w (Moves.greeted read is) = rw is refl
+may_on m next said f h w (Moves.loses late near Loses.by_end) = refl
+may_on m next said f h w (Moves.loses late near (Loses.by_question is waits reply last)) = refl
+may_on m next said f h w (Moves.loses late near (Loses.by_effect is flies reply last)) = refl
+may_on m next said f h w _ = refl
 
 -- Numbers -------------------------------------------------------------------------------------------------------------
 
@@ -409,6 +531,7 @@ outcome_numbers : (numbers : List ℕ) (outcome : Outcome) (state : State)
 outcome_numbers numbers (Failed failure) state = no_numbers numbers state.threads
 outcome_numbers numbers (Success Nothing) state = no_numbers numbers state.threads
 outcome_numbers numbers (Success Capabilities) state = no_numbers numbers state.threads
+outcome_numbers numbers (Success Continued) state = no_numbers numbers state.threads
 outcome_numbers numbers (Success (breakpoint_list rooted listed)) state = no_numbers numbers state.threads
 outcome_numbers numbers (Success (thread_list named)) state = record {
   distinct = distinct_with state.threads named;
@@ -425,11 +548,18 @@ event_numbers numbers (some_news (thread_changed started thread)) state =
       distinct = distinct_with state.threads named;
       in_order = in_order_with numbers state.threads named;
     }
+event_numbers numbers (a_stop stopping) state =
+    let named : List NamedThread = record { thread = stopping.thread; name = [] } ∷ [] in record {
+      distinct = distinct_with state.threads named;
+      in_order = in_order_with numbers state.threads named;
+    }
 event_numbers numbers Terminated state = no_numbers numbers state.threads
 
 note_numbers : (numbers : List ℕ) (note : Note) (state : State)
     → Numbers numbers state.threads (noted note state).threads []
 note_numbers numbers (Options options) state = no_numbers numbers state.threads
+note_numbers numbers EntryHeld state = no_numbers numbers state.threads
+note_numbers numbers Configured state = no_numbers numbers state.threads
 note_numbers numbers (Roots roots) state = no_numbers numbers state.threads
 note_numbers numbers (Lines key entries) state = no_numbers numbers state.threads
 note_numbers numbers (Classes classes) state = no_numbers numbers state.threads
@@ -496,10 +626,11 @@ said_on messages m next said r s moved =
     let n = numbers_on (thread_numbers messages) m next said moved in record {
       quiet = quiet_on m next said s.quiet moved;
       kept = kept_on m next said s.kept moved;
-      marked = marked_on m next said (tested marks r) s.kept s.marked moved;
+      marked = marked_on m next said (tested marks r) s.marked moved;
       ordered = ordered_on m next said s.ordered moved;
-      said_so = said_next messages m next said (may_on m next said (tested free r) s.marked moved)
-          (view_on m next said s.quiet (no_late r) (tested free r) s.ordered (always_early r) s.marked moved) s.said_so;
+      said_so = said_next messages m next said (may_on m next said (tested free r) s.marked (holding r) moved)
+          (view_on m next said s.quiet s.kept (no_late r) (tested free r) s.ordered (always_early r) s.marked (holding r)
+          (lost_held r) moved) s.said_so;
       distinct = n.distinct s.distinct;
       in_order = order_next messages said (length next.state.threads) (n.in_order s.in_order);
     }

@@ -86,7 +86,7 @@ mark_last (part ∷ parts) is = grind (arith, is, mark_last parts)
 -- The invariant -------------------------------------------------------------------------------------------------------
 
 -- the target's end was told only where it is gone
-abbrev over_gone : Phase → Bool → Bool
+abbrev pub over_gone : Phase → Bool → Bool
 over_gone phase terminated = cond terminated (is_gone phase) true
 
 -- these parts attach a session that isn't yet, and tell of a target's end that was not told of

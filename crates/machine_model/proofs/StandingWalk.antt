@@ -18,6 +18,7 @@ use Rattle.machine_model.proofs.StandingReplies.{answered_kept, asked_kept, late
 use Rattle.machine_model.specs.Rows.{chosen, noted}
 use Rattle.machine_model.specs.Replying.{done_by, hand_replied}
 use Rattle.machine_model.specs.Telling.{after_event, numbered_by}
+use Rattle.machine_model.specs.Due.{after_deed}
 
 pub kept_on : {P : Id → Type 0} (messages : List Message) (m next : Machine) (said : Option Message) → P (class 0)
     → Waits P m → IsKept P messages m → Moves m said next → (is_gone next.state.phase ≡ false → All P (ids_said said))
@@ -55,8 +56,9 @@ kept_on messages m next said null w k (Moves.tells {rest = rest} {event} free at
       order = event_order m.state event rest near n.order;
       parts = n.parts.1;
     })
-kept_on messages m next said null w k (Moves.sends {rest = rest} free at near) brought =
-    stays m.state rest said (at_front k at) (same_state m.state) refl
+kept_on messages m next said null w k (Moves.sends {rest = rest} {deed} free at near) brought =
+    stays (after_deed deed m.state) rest said (at_front k at)
+    (record { sizes = refl; classes = refl; back = λ near. near }) refl
     (λ near n. record { wanted = n.wanted; order = n.order; parts = n.parts.1 })
 kept_on messages m next said null w k (Moves.updates {rest = rest} free at is near) brought =
     quiet_kept m.state said (at_front k at) (same_state m.state) refl refl refl

@@ -1,21 +1,22 @@
 -- What is done before a suspension is undone, and that at rest none is held.
 use Rattle.std.proofs.Common.{◌≡◌, Bool, true, false, cond, List, [], ◌∷◌, ◌++◌, Option, Some, None, refl, ap, subst}
-use Rattle.std.proofs.Common.{◌∙◌, option_map, arith}
+use Rattle.std.proofs.Common.{◌∙◌, option_map, arith, ℕ}
 use Rattle.machine_model.specs.Due.{asked_hand, due}
-use Rattle.machine_model.specs.Knowing.{is_resume, view_of}
+use Rattle.machine_model.specs.Knowing.{held_in, held_with, may_send, view_of}
 use Rattle.machine_model.specs.Lookups.{finished}
-use Rattle.machine_model.specs.Names.{Act, Attached, Choice, Command, Deed, Does, Event, Failure, Finding}
-use Rattle.machine_model.specs.Names.{Item, Leaves, Lookup, Part, Phase, Replied, Resume}
-use Rattle.machine_model.specs.Names.{TargetCommand, TellsNews, Want, a_composite, a_question, a_raw}
-use Rattle.machine_model.specs.Names.{a_request, all_threads, an_effect, class_facts, target_end}
+use Rattle.machine_model.specs.Names.{Act, Attached, Choice, Command, Configured, Decides, Deed, Does, EntryHeld}
+use Rattle.machine_model.specs.Names.{Event, Failure, Finding, Item, Leaves, Lookup, Note, Part, Phase, Replied}
+use Rattle.machine_model.specs.Names.{Resume, Suspension, TargetCommand, TellsNews, Want, a_composite, a_question}
+use Rattle.machine_model.specs.Names.{a_raw, a_request, all_threads, an_effect, class_facts, of_composite, of_entry}
+use Rattle.machine_model.specs.Names.{of_stop, target_end}
 use Rattle.machine_model.specs.Outcomes.{result_of}
 use Rattle.machine_model.specs.Plans.{Result}
 use Rattle.machine_model.specs.Replying.{hand_replied}
 use Rattle.machine_model.specs.Rest.{IsAtRest}
-use Rattle.machine_model.specs.Rows.{chosen, failure_of, news_of, parts_by, parts_of, row_of, wanting}
+use Rattle.machine_model.specs.Rows.{chosen, failure_of, news_of, parts_by, parts_of, request_parts, row_of, wanting}
 use Rattle.machine_model.specs.Runs.{Allows, Message, Run, said}
-use Rattle.machine_model.specs.State.{Hand, Machine, State, is_attached, is_empty, is_gone}
-use Rattle.machine_model.specs.Suspending.{AllRunsOn, IsBoundFirst}
+use Rattle.machine_model.specs.State.{Hand, Machine, State, is_attached, is_gone}
+use Rattle.machine_model.specs.Suspending.{IsBoundFirst, IsHeld}
 use Rattle.machine_model.specs.Telling.{after_event}
 use Rattle.machine_model.proofs.BindingLaws.{binding, in_front}
 use Rattle.machine_model.proofs.BindingParts.{IsBinding}
@@ -24,14 +25,42 @@ use Rattle.machine_model.proofs.KnowingLaws.{is_known}
 use Rattle.machine_model.proofs.RequestLaws.{Settling, front_set, settles, settling}
 use Rattle.machine_model.proofs.SizeLaws.{parts_in}
 use Rattle.machine_model.proofs.Stepping.{IsAt, Loses, Moves, by_runs, moved}
-use Rattle.machine_model.proofs.Tables.{told_alike}
+use Rattle.machine_model.proofs.Tables.{of_decided, told_alike}
 use Rattle.machine_model.proofs.Testing.{IsTest, Passed, same_noted, same_numbered, same_replied, tested, whole}
+use Rattle.machine_model.specs.Stops.{decided}
+use Rattle.machine_model.specs.Pending.{bit}
+use Rattle.machine_model.proofs.BindingHands.{binds_ahead}
+use Rattle.std.specs.Prelude.{◌+◌}
+use Rattle.machine_model.proofs.RequestSteps.{needs_set}
 
--- A Resume is the last part -------------------------------------------------------------------------------------------
+-- Behind a Resume nothing more is set or bound ----------------------------------------------------------------------
+
+-- a suspension is undone, or what becomes of one is still to be decided
+abbrev is_resume : Part → Bool
+is_resume (Part.Sends (Resume suspension)) = true
+is_resume (Part.Unfolds Decides) = true
+is_resume _ = false
+
+-- a note that changes nothing of event requests
+abbrev is_calm_note : Note → Bool
+is_calm_note EntryHeld = true
+is_calm_note Configured = true
+is_calm_note _ = false
+
+-- a part that doesn't
+abbrev is_calm : Part → Bool
+is_calm (Part.Responds outcome) = true
+is_calm (Part.Sends deed) = true
+is_calm (Part.Notes note) = is_calm_note note
+is_calm _ = false
+
+abbrev are_calm : List Part → Bool
+are_calm [] = true
+are_calm (part ∷ parts) = cond (is_calm part) (are_calm parts) false
 
 abbrev resume_last : List Part → Bool
 resume_last [] = true
-resume_last (part ∷ parts) = cond (cond (is_resume part) (is_empty parts) true) (resume_last parts) false
+resume_last (part ∷ parts) = cond (cond (is_resume part) (are_calm parts) true) (resume_last parts) false
 
 abbrev ends_resumed : Bool → List Part → Bool
 ends_resumed gone parts = resume_last parts
@@ -49,10 +78,13 @@ begun_last state (a_raw at body) = refl
 rest_last : (part : Part) (rest : List Part) → resume_last (part ∷ rest) ≡ true → resume_last rest ≡ true
 rest_last part rest is = grind (arith, is)
 
-chosen_last : (choice : Choice) (state : State) (hand : Hand) (rest : List Part) → resume_last rest ≡ true
-    → resume_last (chosen choice state hand ++ rest) ≡ true
+chosen_last : (choice : Choice) (state : State) (hand : Hand) (rest : List Part)
+    → resume_last (Part.Unfolds choice ∷ rest) ≡ true → resume_last (chosen choice state hand ++ rest) ≡ true
 chosen_last (TellsNews below) state hand rest is =
     told_alike resume_last (λ news parts. refl) state.phase (news_of below state hand.item) rest ∙ is
+chosen_last Decides state hand rest is = let last = rest_last (Part.Unfolds Decides) rest is in
+    of_decided (λ (parts : List Part). resume_last (parts ++ rest) ≡ true) last last is (λ stopping. last)
+    (λ stopping. is) state hand.item
 chosen_last (Leaves exits) state hand rest is = grind (arith, is)
 
 last_test : IsTest ends_resumed
@@ -60,14 +92,22 @@ last_test = record {
   none = λ gone. refl;
   tail = λ gone part rest is. rest_last part rest is;
   begins = begun_last;
-  unfolds = λ choice state hand rest is. chosen_last choice state hand rest (rest_last (Part.Unfolds choice) rest is);
+  unfolds = λ choice state hand rest is. chosen_last choice state hand rest is;
   finds = λ lookup result state rest is. grind (arith, is);
   gives_up = λ responds item. grind arith;
 }
 
-none_behind : (rest : List Part) → resume_last (Part.Sends Resume ∷ rest) ≡ true → rest ≡ []
-none_behind [] is = refl
-none_behind (part ∷ rest) is = cc
+calm_behind : (suspension : Suspension) (rest : List Part)
+    → resume_last (Part.Sends (Resume suspension) ∷ rest) ≡ true → are_calm rest ≡ true
+calm_behind suspension rest is = grind (arith, is)
+
+calm_set : (attached : Bool) (rest : List Part) → are_calm rest ≡ true → attached ≡ true → needs_set attached rest ≡ true
+calm_set attached [] calm is = is
+calm_set attached (part ∷ rest) calm is = grind (arith, calm, is, calm_set attached rest)
+
+calm_binds : (rest : List Part) → are_calm rest ≡ true → binds_ahead rest ≡ false
+calm_binds [] calm = refl
+calm_binds (part ∷ rest) calm = grind (arith, calm, calm_binds rest)
 
 -- It stands in an attached session ------------------------------------------------------------------------------------
 
@@ -81,17 +121,12 @@ resumes_attached phase parts = cond (is_gone phase) true (cond (has_resume parts
 abbrev IsResumed : Machine → Type 0
 IsResumed m = resumes_attached m.state.phase (parts_in m.hand) ≡ true
 
-row_none : (failure : Option Failure) (command : Command) (state : State)
-    → has_resume (parts_by failure (row_of command state)) ≡ false
-row_none failure command state = grind arith
+row_resumed : (state : State) (command : Command)
+    → resumes_attached state.phase (request_parts command state) ≡ true
+row_resumed state command = grind arith
 
 begun_resumed : (state : State) (item : Item) → resumes_attached state.phase (parts_of state item) ≡ true
-begun_resumed state (a_request request) =
-    rw (row_none (failure_of (wanting request.command) state) request.command state) (by_gone (is_gone state.phase))
-  where
-    by_gone : (gone : Bool) → cond gone true true ≡ true
-    by_gone true = refl
-    by_gone false = refl
+begun_resumed state (a_request request) = row_resumed state request.command
 begun_resumed state target_end = grind arith
 begun_resumed state (a_composite at composite) = grind arith
 begun_resumed state (a_raw at body) = grind arith
@@ -110,11 +145,19 @@ found_same : (lookup : Lookup) (result : Result Finding) (state : State) (rest :
 found_same all_threads result state rest = refl
 found_same class_facts result state rest = refl
 
-chosen_same : (choice : Choice) (state : State) (hand : Hand) (rest : List Part)
-    → has_resume (chosen choice state hand ++ rest) ≡ has_resume rest
-chosen_same (TellsNews below) state hand rest =
-    told_alike has_resume (λ news parts. refl) state.phase (news_of below state hand.item) rest
-chosen_same (Leaves exits) state hand rest = grind arith
+chosen_resumed : (choice : Choice) (state : State) (hand : Hand) (rest : List Part)
+    → resumes_attached state.phase (Part.Unfolds choice ∷ rest) ≡ true
+    → resumes_attached state.phase (chosen choice state hand ++ rest) ≡ true
+chosen_resumed (TellsNews below) state hand rest is =
+    told_alike (resumes_attached state.phase) (λ news parts. refl) state.phase (news_of below state hand.item) rest ∙ is
+chosen_resumed Decides state hand rest is =
+    there (is_gone state.phase) (is_attached state.phase) (has_resume (decided state hand.item ++ rest)) is
+  where
+    there : (gone attached has : Bool) → cond gone true attached ≡ true → cond gone true (cond has attached true) ≡ true
+    there true attached has is = refl
+    there false attached true is = is
+    there false attached false is = refl
+chosen_resumed (Leaves exits) state hand rest is = grind (arith, is)
 
 event_resumed : (event : Event) (state : State) (rest : List Part) → resumes_attached state.phase rest ≡ true
     → resumes_attached (after_event event state).phase rest ≡ true
@@ -151,7 +194,7 @@ resumed_on m next said h (Moves.greets free at is near) = h
 resumed_on m next said h (Moves.notes {note = note} {rest} free at) =
     rw (same_noted note m.state) (rest_resumed m.state.phase (Part.Notes note) rest (at_front h at))
 resumed_on m next said h (Moves.unfolds {hand} {choice} {rest} free at) =
-    rw (chosen_same choice m.state hand rest) (rest_resumed m.state.phase (Part.Unfolds choice) rest (at_front h at))
+    chosen_resumed choice m.state hand rest (at_front h at)
 resumed_on m next said h (Moves.queues free is) =
     subst (λ (held : Option Hand). resumes_attached m.state.phase (parts_in held) ≡ true) is h
 resumed_on m next said h (Moves.asks {want = want} free room is are) = rw (asked_parts want m.hand) h
@@ -176,60 +219,73 @@ resumed r = by_runs {Holds = λ (messages : List Message) (m : Machine). IsResum
 
 -- Bound before the target runs on -------------------------------------------------------------------------------------
 
-attached_there : (phase : Phase) (rest : List Part) → is_gone phase ≡ false
-    → resumes_attached phase (Part.Sends Resume ∷ rest) ≡ true → is_attached phase ≡ true
-attached_there phase rest near is = grind (arith, near, is)
+attached_there : (phase : Phase) (suspension : Suspension) (rest : List Part) → is_gone phase ≡ false
+    → resumes_attached phase (Part.Sends (Resume suspension) ∷ rest) ≡ true → is_attached phase ≡ true
+attached_there phase suspension rest near is = grind (arith, near, is)
 
 -- the part in front undoes a suspension
-bound_at : (m : Machine) (hand : Hand) (deed : Deed) (rest : List Part) → Settling m → IsBinding m
-    → Passed ends_resumed m → IsResumed m → is_gone m.state.phase ≡ false → IsAt m hand (Part.Sends deed) rest
-    → deed ≡ Resume → IsBoundFirst m.state
-bound_at m hand Resume rest s b t h near at is =
-    let none = none_behind rest (whole ends_resumed t at) in
-    let front : IsAt m hand (Part.Sends Resume) [] =
-    subst (λ (rest : List Part). IsAt m hand (Part.Sends Resume) rest) none at in
+bound_at : (m : Machine) (hand : Hand) (deed : Deed) (suspension : Suspension) (rest : List Part) → Settling m
+    → IsBinding m → Passed ends_resumed m → IsResumed m → is_gone m.state.phase ≡ false
+    → IsAt m hand (Part.Sends deed) rest → deed ≡ Resume suspension → IsBoundFirst m.state
+bound_at m hand (Resume held) suspension rest s b t h near at is =
+    let calm = calm_behind held rest (whole ends_resumed t at) in
     record {
-      none_due = front_set m hand (Part.Sends Resume) [] s.set front
-          (attached_there m.state.phase [] near (at_front h front));
-      bound = (in_front b front).bound refl;
+      none_due = front_set m hand (Part.Sends (Resume held)) rest s.set at
+          (calm_set (is_attached m.state.phase) rest calm
+          (attached_there m.state.phase held rest near (at_front h at)));
+      bound = (in_front b at).bound (calm_binds rest calm);
     }
-bound_at m hand deed rest s b t h near at is = cc
+bound_at m hand deed suspension rest s b t h near at is = cc
 
-resume_at : (m next : Machine) (said : Option Message) → Settling m → IsBinding m → Passed ends_resumed m
-    → IsResumed m → said ≡ Some (Message.sends (an_effect (Does Resume))) → Moves m said next → IsBoundFirst m.state
-resume_at m next said s b t h is (Moves.sends {hand} {rest} {deed} free at near) =
-    bound_at m hand deed rest s b t h near at cc
-resume_at m next said s b t h is (Moves.updates {effect = effect} free at due near) =
-    let same : effect ≡ Does Resume = cc in
-    let may = (due_sends m.state.wishes (Does Resume) (record (view_of m) { held = 0 })
-    (due ∙ ap Some same)).0 in cc
-resume_at m next said s b t h is (Moves.loses late near Loses.by_end) = cc
-resume_at m next said s b t h is (Moves.loses late near (Loses.by_question held waits reply last)) = cc
-resume_at m next said s b t h is (Moves.loses late near (Loses.by_effect held flies reply last)) = cc
-resume_at m next said s b t h is _ = cc
+resume_at : (m next : Machine) (said : Option Message) (suspension : Suspension) → Settling m → IsBinding m
+    → Passed ends_resumed m → IsResumed m → said ≡ Some (Message.sends (an_effect (Does (Resume suspension))))
+    → is_gone m.state.phase ≡ false → Moves m said next → IsBoundFirst m.state
+resume_at m next said suspension s b t h is close (Moves.sends {hand} {rest} {deed} free at near) =
+    bound_at m hand deed suspension rest s b t h near at cc
+resume_at m next said suspension s b t h is close (Moves.updates {effect = effect} free at due near) =
+    let same : effect ≡ Does (Resume suspension) = cc in
+    no_resume suspension (due_sends m.state.wishes (Does (Resume suspension))
+    (record (view_of m) { held = 0; stopped = false }) (due ∙ ap Some same)).0
+  where
+    no_resume : (suspension : Suspension)
+        → may_send (an_effect (Does (Resume suspension))) (record (view_of m) { held = 0; stopped = false }) ≡ true
+        → IsBoundFirst m.state
+    no_resume of_composite may = cc
+    no_resume of_entry may = cc
+    no_resume of_stop may = cc
+resume_at m next said suspension s b t h is close (Moves.loses late near Loses.by_end) = cc
+resume_at m next said suspension s b t h is close (Moves.loses late near (Loses.by_question held waits reply last)) = cc
+resume_at m next said suspension s b t h is close (Moves.loses late near (Loses.by_effect held flies reply last)) = cc
+resume_at m next said suspension s b t h is close _ = cc
 
-near_sends : (m next : Machine) (said : Option Message) → said ≡ Some (Message.sends (an_effect (Does Resume)))
-    → Moves m said next → is_gone m.state.phase ≡ false
-near_sends m next said is (Moves.sends free at near) = near
-near_sends m next said is (Moves.updates free at due near) = near
-near_sends m next said is (Moves.loses late near why) = near
-near_sends m next said is _ = cc
+near_sends : (m next : Machine) (said : Option Message) (suspension : Suspension)
+    → said ≡ Some (Message.sends (an_effect (Does (Resume suspension)))) → Moves m said next
+    → is_gone m.state.phase ≡ false
+near_sends m next said suspension is (Moves.sends free at near) = near
+near_sends m next said suspension is (Moves.updates free at due near) = near
+near_sends m next said suspension is (Moves.loses late near why) = near
+near_sends m next said suspension is _ = cc
 
-pub binds_first : (messages : List Message) (m : Machine) → Run messages m
-    → (due false m).act ≡ Act.Sends (Does Resume) → IsBoundFirst m.state
-binds_first messages m r is =
+pub binds_first : (messages : List Message) (m : Machine) (suspension : Suspension) → Run messages m
+    → (due false m).act ≡ Act.Sends (Does (Resume suspension)) → IsBoundFirst m.state
+binds_first messages m suspension r is =
     let moves = moved (Allows.acts (ap said is)) in
-    let near = near_sends m (due false m).next _ refl moves in
-    resume_at m (due false m).next _ (settling r near) (binding r near) (tested last_test r) (resumed r) refl moves
+    let near = near_sends m (due false m).next _ suspension refl moves in
+    resume_at m (due false m).next _ suspension (settling r near) (binding r near) (tested last_test r) (resumed r) refl
+    near moves
 
 -- At rest -------------------------------------------------------------------------------------------------------------
 
 pub runs_on : (messages : List Message) (m : Machine) → Run messages m → IsAtRest m → m.state.phase ≡ Attached
-    → AllRunsOn messages
+    → IsHeld messages m.state
 runs_on messages m r rests attached =
     let s = settles messages m r rests attached in record {
       view = view_of m;
       said = (is_known messages m r).said;
       none_waits = rw (attached, s.none_waits) refl;
-      none_held = rw s.none_in_hand refl;
+      stopped = refl;
+      held = alone m.state.stopped m.state.entry (held_in m.state m.hand) (ap (held_in m.state) s.none_in_hand);
     }
+  where
+    alone : (stopped entry : Bool) (held : ℕ) → held ≡ held_with stopped entry 0 → held ≡ bit stopped + bit entry
+    alone stopped entry held is = omega (arith, is)

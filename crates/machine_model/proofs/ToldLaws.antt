@@ -163,26 +163,25 @@ module _ (id : ℕ) where
     told = c.told;
   }
 
-  decided_covers : {asked : Bool} (state : State) (item : Item) (rest : List Part)
+  decided_covers : {asked : Bool} (state : State) (item : Item) (rest : List Part) → has_lines rest ≡ false
       → Covers id asked state.wishes state.phase state.next_entry state.bound rest
       → Covers id asked state.wishes state.phase state.next_entry state.bound (decided state item ++ rest)
-  decided_covers {asked} state item rest c =
+  decided_covers {asked} state item rest none c =
       of_decided (λ (parts : List Part).
       Covers id asked state.wishes state.phase state.next_entry state.bound (parts ++ rest)) c
-      (still (Part.Notes EntryHeld ∷ rest) refl refl (λ is. is)) (still (Part.Sends (Resume of_composite) ∷ rest) refl
-      refl (λ is. is)) (λ stopping. still (Part.Tells (a_stop stopping) ∷ rest) refl refl (λ is. is))
-      (λ stopping. still (Part.Tells (a_stop stopping) ∷ Part.Sends (Resume of_composite) ∷ rest) refl refl (λ is. is))
+      (still (Part.Notes EntryHeld ∷ rest) refl refl none) (still (Part.Sends (Resume of_composite) ∷ rest) refl refl none)
+      (λ stopping. still (Part.Tells (a_stop stopping) ∷ rest) refl refl none)
+      (λ stopping. still (Part.Tells (a_stop stopping) ∷ Part.Sends (Resume of_composite) ∷ rest) refl refl none)
       state item
     where
       still : (parts : List Part) → will_tell id asked rest ≡ will_tell id asked parts
-          → covers id asked rest ≡ covers id asked parts
-          → (AreNoted id asked state.phase state.next_entry rest → AreNoted id asked state.phase state.next_entry parts)
+          → covers id asked rest ≡ covers id asked parts → AreNoted id asked state.phase state.next_entry parts
           → Covers id asked state.wishes state.phase state.next_entry state.bound parts
       still parts tells covered noted = record {
         functions = c.functions;
         early = c.early;
         below = c.below;
-        noted = noted c.noted;
+        noted = noted;
         covered = λ is. sym covered ∙ c.covered is;
         told = λ is placed. ap (λ b. has_id state.bound id || b) (sym tells) ∙ c.told is placed;
       }
@@ -194,7 +193,7 @@ module _ (id : ℕ) where
   chosen_covers (TellsNews below) state hand rest near c =
       news_covers state below hand.item rest state.phase refl near c
   chosen_covers Decides state hand rest near c =
-      decided_covers state hand.item rest
+      decided_covers state hand.item rest c.noted
       (skips id state.phase (Part.Unfolds Decides) rest c c.noted (λ fresh. fresh) refl)
   chosen_covers (Leaves exits) state hand rest near c = leaves_covers state exits rest state.phase c
 
