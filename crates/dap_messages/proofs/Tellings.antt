@@ -1,19 +1,22 @@
 -- No told message has a float, so its text is the compact one.
-use Rattle.std.proofs.Common.{◌≡◌, ℕ, List, [], ◌∷◌, map, false, ◌||◌, Option, Some, None, refl, ap, ◌∙◌}
+use Rattle.std.proofs.Common.{◌≡◌, ℕ, List, [], ◌∷◌, map, false, ◌||◌, codes, Option, Some, None, refl, ap, ◌∙◌}
 use Rattle.serde_json.specs.Data.{Data}
 use Rattle.serde_json.specs.View.{items_of}
 use Rattle.serde_json.specs.Written.{compact_text, has_float, items_have_float}
 use Rattle.dap_messages.specs.Telling.{answer_data, breakpoint_data, breakpoints_data, event_data, outcome_data}
-use Rattle.dap_messages.specs.Telling.{reason_of}
+use Rattle.dap_messages.specs.Telling.{count, hit_data, reason_of, stop_data}
 use Rattle.dap_messages.specs.Telling.{standing_data, thread_data, threads_data, told_data, told_text}
 use Rattle.dap_messages.specs.declared.told.Told.{Told}
 use Rattle.dap_messages.specs.declared.told.Told.TheVariants as told
 use Rattle.dap_messages.specs.declared.told.Outcome.{Outcome}
 use Rattle.dap_messages.specs.declared.told.Outcome.TheVariants.{Success, Failure as Failed}
-use Rattle.dap_messages.specs.declared.told.Shape.TheVariants.{Nothing, Capabilities, Breakpoints, Threads}
+use Rattle.dap_messages.specs.declared.told.Shape.TheVariants.{Nothing, Capabilities, Breakpoints, Threads, Continued}
 use Rattle.dap_messages.specs.declared.told.Event.{Event}
 use Rattle.dap_messages.specs.declared.told.Event.TheVariants.{Initialized, Breakpoint as Changed, Terminated}
-use Rattle.dap_messages.specs.declared.told.Event.TheVariants.{Thread as ThreadChanged}
+use Rattle.dap_messages.specs.declared.told.Event.TheVariants.{Thread as ThreadChanged, Stopped as HasStopped}
+use Rattle.dap_messages.specs.declared.told.StopReason.{StopReason}
+use Rattle.dap_messages.specs.declared.told.StopReason.TheVariants.{Breakpoint as Hit, Pause}
+use Rattle.dap_messages.specs.declared.told.StopReason.TheVariants.{FunctionBreakpoint as FunctionHit}
 use Rattle.dap_messages.specs.declared.told.Breakpoint.{Breakpoint}
 use Rattle.dap_messages.specs.declared.told.Thread.{Thread}
 
@@ -53,13 +56,28 @@ has_float-outcome_data seq request_seq command (Success (Breakpoints breakpoints
     (has_float-breakpoints_data breakpoints)
 has_float-outcome_data seq request_seq command (Success (Threads threads)) =
     has_float-answer_data seq request_seq command (threads_data threads) (has_float-threads_data threads)
+has_float-outcome_data seq request_seq command (Success Continued) = refl
 has_float-outcome_data seq request_seq command (Failed failure) = refl
+
+items_have_float-ids : (ids : List ℕ) → items_have_float (items_of (map count ids)) ≡ false
+items_have_float-ids [] = refl
+items_have_float-ids (id ∷ ids) = items_have_float-ids ids
+
+has_float-hit_data : (reason ids : List ℕ) (thread : ℕ) → has_float (hit_data reason ids thread) ≡ false
+has_float-hit_data reason ids thread = ap (λ found. found || false) (items_have_float-ids ids)
+
+has_float-stop_data : (reason : StopReason) (thread : ℕ) → has_float (stop_data reason thread) ≡ false
+has_float-stop_data (Hit ids) thread = has_float-hit_data (codes "breakpoint") ids thread
+has_float-stop_data (FunctionHit ids) thread = has_float-hit_data (codes "function breakpoint") ids thread
+has_float-stop_data Pause thread = refl
 
 has_float-event_data : (seq : ℕ) (event : Event) → has_float (event_data seq event) ≡ false
 has_float-event_data seq Initialized = refl
 has_float-event_data seq (Changed breakpoint) =
     rw (has_float-standing_data breakpoint.id breakpoint.line (reason_of breakpoint.status)) refl
 has_float-event_data seq (ThreadChanged change) = refl
+has_float-event_data seq (HasStopped stopped) =
+    ap (λ found. found || false) (has_float-stop_data stopped.reason stopped.thread)
 has_float-event_data seq Terminated = refl
 
 pub has_float-told_data : (seq : ℕ) (message : Told) → has_float (told_data seq message) ≡ false

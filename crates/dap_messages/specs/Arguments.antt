@@ -1,17 +1,19 @@
 -- The arguments of a request, each by its rule. (DAP specification, Requests)
-use Rattle.std.specs.Prelude.{◌≡◌, ℕ, List, [], ◌∷◌, Bool, true, false, if◌then◌else◌, codes, bytes_eq, Option, Some}
-use Rattle.std.specs.Prelude.{None, option_and_then, option_map, Result, Ok, Err, ⊤}
+use Rattle.std.specs.Prelude.{◌≡◌, ℕ, ◌^◌, List, [], ◌∷◌, Bool, true, false, nat_lt, if◌then◌else◌, codes, bytes_eq}
+use Rattle.std.specs.Prelude.{Option, Some, None, option_and_then, option_map, Result, Ok, Err, ⊤}
 use Rattle.serde_json.specs.Data.{Data, null, boolean, number, string, array, object, Items, no_items, item}
-use Rattle.serde_json.specs.Find.{get, as_array, as_bool, as_str}
+use Rattle.serde_json.specs.Find.{get, as_array, as_bool, as_number, as_str, as_u64}
 use Rattle.dap_messages.specs.declared.arguments.Argument.{Argument}
 use Rattle.dap_messages.specs.declared.arguments.Argument.TheVariants.{Arguments, AdapterId, LinesStartAt1}
 use Rattle.dap_messages.specs.declared.arguments.Argument.TheVariants.{ColumnsStartAt1, PathFormat}
 use Rattle.dap_messages.specs.declared.arguments.Argument.TheVariants.{SupportsVariableType, SourceRoots}
-use Rattle.dap_messages.specs.declared.arguments.Argument.TheVariants.{Source, Breakpoints, TerminateDebuggee}
+use Rattle.dap_messages.specs.declared.arguments.Argument.TheVariants.{Source, Breakpoints, ThreadId}
+use Rattle.dap_messages.specs.declared.arguments.Argument.TheVariants.{TerminateDebuggee}
 use Rattle.dap_messages.specs.declared.arguments.Refused.{Refused}
 use Rattle.dap_messages.specs.declared.arguments.Refused.TheVariants.{NoMemory, Broken}
 use Rattle.dap_messages.specs.declared.requests.InitializeArguments.{InitializeArguments}
 use Rattle.dap_messages.specs.declared.requests.AttachArguments.{AttachArguments}
+use Rattle.dap_messages.specs.declared.requests.ThreadArguments.{ThreadArguments}
 use Rattle.dap_messages.specs.declared.requests.DisconnectArguments.{DisconnectArguments}
 
 -- the name under which an argument stands
@@ -25,6 +27,7 @@ argument_name SupportsVariableType = codes "supportsVariableType"
 argument_name SourceRoots = codes "sourceRoots"
 argument_name Source = codes "source"
 argument_name Breakpoints = codes "breakpoints"
+argument_name ThreadId = codes "threadId"
 argument_name TerminateDebuggee = codes "terminateDebuggee"
 
 -- null counts as missing
@@ -72,6 +75,18 @@ as_texts value = option_and_then unless_empty (option_and_then (each_in as_str) 
 abbrev pub texts_at : Argument → Data → Result (List (List ℕ)) Argument
 texts_at argument arguments = unless_broken argument (option_and_then as_texts (given argument arguments))
 
+-- a number of at most 2 ^ 31 - 1
+abbrev pub in_int : ℕ → Option ℕ
+in_int n = if nat_lt n (2 ^ 31) then Some n else None
+
+-- a value that is an integer from 0 to 2 ^ 31 - 1
+abbrev pub as_int : Data → Option ℕ
+as_int value = option_and_then in_int (option_and_then as_u64 (as_number value))
+
+-- an integer from 0 to 2 ^ 31 - 1 that must be there
+abbrev pub int_at : Argument → Data → Result ℕ Argument
+int_at argument arguments = unless_broken argument (option_and_then as_int (given argument arguments))
+
 -- a truth value, which may be missing
 abbrev pub flag_at : Argument → Bool → Data → Result Bool Argument
 flag_at argument missing arguments =
@@ -116,6 +131,12 @@ abbrev pub attach_of : Data → Result AttachArguments Argument
 attach_of arguments = do
   source_roots ← texts_at SourceRoots arguments
   Ok (record { source_roots = source_roots })
+
+-- what `continue` and `pause` say (DAP specification, Continue request, Pause request)
+abbrev pub thread_of : Data → Result ThreadArguments Argument
+thread_of arguments = do
+  thread_id ← int_at ThreadId arguments
+  Ok (record { thread_id = thread_id })
 
 -- what `disconnect` says (DAP specification, Disconnect request)
 abbrev pub disconnect_of : Data → Result DisconnectArguments Argument

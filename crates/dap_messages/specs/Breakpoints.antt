@@ -1,21 +1,13 @@
 -- The breakpoints that a request asks for. (DAP specification, SetBreakpoints request; Types, SourceBreakpoint)
-use Rattle.std.specs.Prelude.{ℕ, ◌^◌, ◌==◌, List, [], length, Bool, ◌&&◌, nat_lt, if◌then◌else◌, codes, Option, Some}
-use Rattle.std.specs.Prelude.{None, option_and_then, option_map, unwrap_or, Result, Ok}
+use Rattle.std.specs.Prelude.{ℕ, ◌==◌, List, [], length, Bool, ◌&&◌, codes, Option, option_and_then, option_map}
+use Rattle.std.specs.Prelude.{unwrap_or, Result, Ok}
 use Rattle.serde_json.specs.Data.{Data}
-use Rattle.serde_json.specs.Find.{get, as_array, as_number, as_str, as_u64}
-use Rattle.dap_messages.specs.Arguments.{◌>>=◌, each_in, given, or_missing, unless_broken}
+use Rattle.serde_json.specs.Find.{get, as_array, as_str}
+use Rattle.dap_messages.specs.Arguments.{◌>>=◌, as_int, each_in, given, or_missing, unless_broken}
 use Rattle.dap_messages.specs.declared.arguments.Argument.{Argument}
 use Rattle.dap_messages.specs.declared.arguments.Argument.TheVariants.{Source, Breakpoints}
 use Rattle.dap_messages.specs.declared.requests.SetBreakpointsArguments.{SetBreakpointsArguments}
 use Rattle.dap_messages.specs.declared.requests.SourceBreakpoint.{SourceBreakpoint}
-
--- a number of at most 2 ^ 31 - 1
-abbrev pub in_int : ℕ → Option ℕ
-in_int n = if nat_lt n (2 ^ 31) then Some n else None
-
--- a value that is an integer from 0 to 2 ^ 31 - 1
-abbrev pub as_int : Data → Option ℕ
-as_int value = option_and_then in_int (option_and_then as_u64 (as_number value))
 
 -- a member that is no text counts as missing, and so does an empty text
 abbrev pub lacks_text : List ℕ → Data → Bool

@@ -10,7 +10,7 @@ use Rattle.dap_messages.specs.declared.told.Response.{Response}
 use Rattle.dap_messages.specs.declared.told.Outcome.{Outcome}
 use Rattle.dap_messages.specs.declared.told.Outcome.TheVariants.{Success, Failure as Failed}
 use Rattle.dap_messages.specs.declared.told.Shape.{Shape}
-use Rattle.dap_messages.specs.declared.told.Shape.TheVariants.{Nothing, Capabilities, Breakpoints, Threads}
+use Rattle.dap_messages.specs.declared.told.Shape.TheVariants.{Nothing, Capabilities, Breakpoints, Threads, Continued}
 use Rattle.dap_messages.specs.declared.told.Breakpoint.{Breakpoint}
 use Rattle.dap_messages.specs.declared.told.BreakpointStatus.{BreakpointStatus}
 use Rattle.dap_messages.specs.declared.told.BreakpointStatus.TheVariants.{Verified, NoSourceRoot}
@@ -22,8 +22,12 @@ use Rattle.dap_messages.specs.declared.told.Detail.{Detail}
 use Rattle.dap_messages.specs.declared.told.Detail.TheVariants.{Plain, Number, Name}
 use Rattle.dap_messages.specs.declared.told.Event.{Event}
 use Rattle.dap_messages.specs.declared.told.Event.TheVariants.{Initialized, Breakpoint as Changed, Terminated}
-use Rattle.dap_messages.specs.declared.told.Event.TheVariants.{Thread as ThreadChanged}
+use Rattle.dap_messages.specs.declared.told.Event.TheVariants.{Thread as ThreadChanged, Stopped as HasStopped}
 use Rattle.dap_messages.specs.declared.told.ThreadChange.{ThreadChange}
+use Rattle.dap_messages.specs.declared.told.Stopped.{Stopped}
+use Rattle.dap_messages.specs.declared.told.StopReason.{StopReason}
+use Rattle.dap_messages.specs.declared.told.StopReason.TheVariants.{Breakpoint as Hit, Pause}
+use Rattle.dap_messages.specs.declared.told.StopReason.TheVariants.{FunctionBreakpoint as FunctionHit}
 
 -- the failures of requests: their codes are the adapter's own (DAP specification, Types, Message, `id`)
 abbrev pub unsupported : Failure
@@ -40,6 +44,9 @@ not_attached = record { code = 3; detail = Plain }
 
 abbrev pub target_gone : Failure
 target_gone = record { code = 10; detail = Plain }
+
+abbrev pub not_stopped : Failure
+not_stopped = record { code = 4; detail = Plain }
 
 abbrev pub unknown_thread : Failure
 unknown_thread = record { code = 8; detail = Plain }
@@ -118,12 +125,17 @@ thread_data thread = object_of ((codes "id", count thread.id) ∷ (codes "name",
 abbrev pub threads_data : List Thread → Data
 threads_data threads = object_of ((codes "threads", array (items_of (map thread_data threads))) ∷ [])
 
+-- the body of the response to `continue` (DAP specification, Continue request)
+abbrev pub continued_data : Data
+continued_data = object_of ((codes "allThreadsContinued", boolean true) ∷ [])
+
 -- the body of a response, where there is one
 abbrev pub shape_data : Shape → Option Data
 shape_data Nothing = None
 shape_data Capabilities = Some capabilities_data
 shape_data (Breakpoints breakpoints) = Some (breakpoints_data breakpoints)
 shape_data (Threads threads) = Some (threads_data threads)
+shape_data Continued = Some continued_data
 
 -- the member `body`, which stands before all others of a message
 abbrev pub body_member : Option Data → List (List ℕ × Data)
@@ -138,10 +150,11 @@ message_of code =
     if code == 1 then codes "unsupported" else
     (if code == 2 then codes "badArguments" else
     (if code == 3 then codes "notAttached" else
+    (if code == 4 then codes "notStopped" else
     (if code == 8 then codes "unknownThread" else
     (if code == 9 then codes "targetError" else
     (if code == 10 then codes "targetGone" else
-    (if code == 16 then codes "alreadyAttached" else []))))))
+    (if code == 16 then codes "alreadyAttached" else [])))))))
 
 -- what follows the message, with a space before it
 abbrev pub detail_text : Detail → List ℕ
@@ -229,11 +242,41 @@ thread_changed_data seq change = object_of ((
     (codes "seq", count seq) ∷
     (codes "type", string (codes "event")) ∷ [])
 
--- an event (DAP specification, Events, Initialized, Breakpoint, Thread and Terminated)
+-- the body where these breakpoints of this kind were hit (DAP specification, Events, Stopped, `hitBreakpointIds`)
+abbrev pub hit_data : List ℕ → List ℕ → ℕ → Data
+hit_data reason ids thread = object_of (
+    (codes "allThreadsStopped", boolean true) ∷
+    (codes "hitBreakpointIds", array (items_of (map count ids))) ∷
+    (codes "reason", string reason) ∷
+    (codes "threadId", count thread) ∷ [])
+
+-- the body where the client asked for the stop (DAP specification, Events, Stopped)
+abbrev pub pause_data : ℕ → Data
+pause_data thread = object_of (
+    (codes "allThreadsStopped", boolean true) ∷
+    (codes "reason", string (codes "pause")) ∷
+    (codes "threadId", count thread) ∷ [])
+
+-- why the target stands still, and the thread that this speaks of (DAP specification, Events, Stopped, `reason`)
+abbrev pub stop_data : StopReason → ℕ → Data
+stop_data (Hit ids) thread = hit_data (codes "breakpoint") ids thread
+stop_data (FunctionHit ids) thread = hit_data (codes "function breakpoint") ids thread
+stop_data Pause thread = pause_data thread
+
+-- the event of a stop (DAP specification, Events, Stopped)
+abbrev pub stopped_data : ℕ → Stopped → Data
+stopped_data seq stopped = object_of (
+    (codes "body", stop_data stopped.reason stopped.thread) ∷
+    (codes "event", string (codes "stopped")) ∷
+    (codes "seq", count seq) ∷
+    (codes "type", string (codes "event")) ∷ [])
+
+-- an event (DAP specification, Events, Initialized, Breakpoint, Thread, Stopped and Terminated)
 abbrev pub event_data : ℕ → Event → Data
 event_data seq Initialized = plain_data seq (codes "initialized")
 event_data seq (Changed breakpoint) = changed_data seq breakpoint
 event_data seq (ThreadChanged change) = thread_changed_data seq change
+event_data seq (HasStopped stopped) = stopped_data seq stopped
 event_data seq Terminated = plain_data seq (codes "terminated")
 
 -- a message (DAP specification, Base Protocol, ProtocolMessage)

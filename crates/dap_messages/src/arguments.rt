@@ -1,12 +1,14 @@
 ghost use Rattle.std.specs.Prelude.{◌≡◌, option_map};
 ghost use Rattle.serde_json.specs.Find.{as_str};
 ghost use Rattle.serde_json.specs.View.{view, items_view};
-ghost use Rattle.dap_messages.specs.Arguments.{argument_name, given, text_at, texts_at};
+ghost use Rattle.dap_messages.specs.Arguments.{argument_name, as_int, given, int_at, text_at, texts_at};
 ghost use Rattle.dap_messages.specs.Arguments.{each_in, flag_at, path_format_at, unless_broken, IsRead};
 
 use serde_json::Value;
 use std::alloc::Global;
 use wire_core::{List, NoMemory, Text};
+
+const MAX_INT: u64 = (1 << 31) - 1;
 
 /// An argument that can break its rule, or the member that holds them all.
 #[derive(Clone, Copy, Debug, Drop, PartialEq, Eq)]
@@ -20,6 +22,7 @@ pub(crate) enum Argument {
     SourceRoots,
     Source,
     Breakpoints,
+    ThreadId,
     TerminateDebuggee,
 }
 
@@ -37,6 +40,7 @@ impl Argument {
             Argument::SourceRoots => "sourceRoots",
             Argument::Source => "source",
             Argument::Breakpoints => "breakpoints",
+            Argument::ThreadId => "threadId",
             Argument::TerminateDebuggee => "terminateDebuggee",
         }
     }
@@ -113,6 +117,30 @@ fn texts_in(alloc: Global, argument: Argument, items: &[Value]) -> Result<List<T
         }
     }
     Ok(texts)
+}
+
+/// An integer from 0 to 2^31 - 1 that must be there.
+pub(crate) fn int_at(arguments: &Value, argument: Argument) -> Result<u32, Refused>
+    ensures { IsRead result (int_at argument (view arguments.now)) }
+{
+    match given(arguments, argument).and_then(as_int) {
+        Some(number) => Ok(number),
+        None => Err(Refused::Broken(argument)),
+    }
+}
+
+/// The integer from 0 to 2^31 - 1 that a value is, where it is one.
+pub(crate) fn as_int(value: &Value) -> Option<u32>
+    ensures { result ≡ as_int (view value.now) }
+{
+    match value.as_u64() {
+        Some(number) => if number <= MAX_INT {
+            Some(number as u32)
+        } else {
+            None
+        },
+        None => None,
+    }
 }
 
 /// A truth value, or `missing` where it isn't given.

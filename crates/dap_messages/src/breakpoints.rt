@@ -1,17 +1,15 @@
 ghost use Rattle.std.specs.Prelude.{◌≡◌};
 ghost use Rattle.serde_json.specs.View.{view, items_view};
 ghost use Rattle.dap_messages.specs.Arguments.{each_in, unless_broken, IsRead};
-ghost use Rattle.dap_messages.specs.Breakpoints.{as_breakpoint, as_int, breakpoints_at, is_plain};
+ghost use Rattle.dap_messages.specs.Breakpoints.{as_breakpoint, breakpoints_at, is_plain};
 ghost use Rattle.dap_messages.specs.Breakpoints.{lacks_text, path_at};
 ghost use Rattle.dap_messages.specs.declared.arguments.Argument.TheVariants as argument;
 
-use crate::arguments::{Argument, Refused, given};
+use crate::arguments::{Argument, Refused, as_int, given};
 use crate::requests::SourceBreakpoint;
 use serde_json::Value;
 use std::alloc::Global;
 use wire_core::{List, Text};
-
-const MAX_INT: u64 = (1 << 31) - 1;
 
 /// The path of the source, which must be there.
 pub(crate) fn path_at(alloc: Global, arguments: &Value) -> Result<Text, Refused>
@@ -81,17 +79,4 @@ fn lacks_text(value: &Value, name: &str) -> bool
         .and_then(Value::as_str)
         .unwrap_or("")
         .is_empty()
-}
-
-fn as_int(value: &Value) -> Option<u32>
-    ensures { result ≡ as_int (view value.now) }
-{
-    match value.as_u64() {
-        Some(number) => if number <= MAX_INT {
-            Some(number as u32)
-        } else {
-            None
-        },
-        None => None,
-    }
 }

@@ -46,6 +46,8 @@ pub enum Command {
     ConfigurationDone,
     SetBreakpoints(SetBreakpointsArguments),
     Threads,
+    Continue(ThreadArguments),
+    Pause(ThreadArguments),
     Disconnect(DisconnectArguments),
     /// A command that this adapter doesn't have.
     Unsupported,
@@ -84,6 +86,13 @@ pub struct SetBreakpointsArguments {
 pub struct SourceBreakpoint {
     pub line: u32,
     pub plain: bool,
+}
+
+/// Arguments of `continue` and `pause`: the number of a thread, from 0 to 2^31 - 1.
+/// (DAP specification, Continue request, Pause request)
+#[derive(Clone, Copy, Debug, Drop, PartialEq, Eq)]
+pub struct ThreadArguments {
+    pub thread_id: u32,
 }
 
 /// Arguments of `disconnect`: whether the target has to end, which it doesn't where that is missing.

@@ -1,13 +1,14 @@
 ghost use Rattle.std.specs.Prelude.{◌≡◌, IfOk};
 ghost use Rattle.serde_json.specs.View.{view};
-ghost use Rattle.dap_messages.specs.Arguments.{initialize_of, attach_of, disconnect_of, IsRead};
+ghost use Rattle.dap_messages.specs.Arguments.{initialize_of, attach_of, thread_of, disconnect_of, IsRead};
 ghost use Rattle.dap_messages.specs.Breakpoints.{set_breakpoints_of};
 ghost use Rattle.dap_messages.specs.Reading.{row_of, row_command, command_of};
 
-use crate::arguments::{Argument, Refused, flag_at, path_format_at, text_at, texts_at};
+use crate::arguments::{Argument, Refused, flag_at, int_at, path_format_at, text_at, texts_at};
 use crate::breakpoints::{breakpoints_at, path_at};
 use crate::requests::{
     AttachArguments, Command, DisconnectArguments, InitializeArguments, SetBreakpointsArguments,
+    ThreadArguments,
 };
 use serde_json::Value;
 use std::alloc::Global;
@@ -21,6 +22,8 @@ pub(crate) enum Row {
     ConfigurationDone,
     SetBreakpoints,
     Threads,
+    Continue,
+    Pause,
     Disconnect,
     Unsupported,
 }
@@ -38,6 +41,10 @@ fn row_of(name: &str) -> Row
         Row::SetBreakpoints
     } else if name == "threads" {
         Row::Threads
+    } else if name == "continue" {
+        Row::Continue
+    } else if name == "pause" {
+        Row::Pause
     } else if name == "disconnect" {
         Row::Disconnect
     } else {
@@ -76,6 +83,8 @@ fn row_command(alloc: Global, row: Row, request: &Value) -> Result<Command, Refu
         Row::ConfigurationDone => Ok(Command::ConfigurationDone),
         Row::SetBreakpoints => Ok(Command::SetBreakpoints(set_breakpoints_of(alloc, arguments)?)),
         Row::Threads => Ok(Command::Threads),
+        Row::Continue => Ok(Command::Continue(thread_of(arguments)?)),
+        Row::Pause => Ok(Command::Pause(thread_of(arguments)?)),
         Row::Disconnect => Ok(Command::Disconnect(disconnect_of(arguments)?)),
         Row::Unsupported => Ok(Command::Unsupported),
     }
@@ -110,6 +119,13 @@ fn set_breakpoints_of(alloc: Global, arguments: &Value) -> Result<SetBreakpoints
     let path = path_at(alloc, arguments)?;
     let breakpoints = breakpoints_at(alloc, arguments)?;
     Ok(SetBreakpointsArguments { path, breakpoints })
+}
+
+fn thread_of(arguments: &Value) -> Result<ThreadArguments, Refused>
+    ensures { IsRead result (thread_of (view arguments.now)) }
+{
+    let thread_id = int_at(arguments, Argument::ThreadId)?;
+    Ok(ThreadArguments { thread_id })
 }
 
 fn disconnect_of(arguments: &Value) -> Result<DisconnectArguments, Refused>

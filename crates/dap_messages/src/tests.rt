@@ -39,6 +39,14 @@ fn request_summary(alloc: Global, request: Request) -> Result<String, AllocError
             format!(in alloc; "{seq} {name} {path}:{breakpoints}")
         }
         Command::Threads => format!(in alloc; "{seq} {name}"),
+        Command::Continue(arguments) => {
+            let thread = arguments.thread_id;
+            format!(in alloc; "{seq} {name} resumes {thread}")
+        }
+        Command::Pause(arguments) => {
+            let thread = arguments.thread_id;
+            format!(in alloc; "{seq} {name} suspends {thread}")
+        }
         Command::Disconnect(arguments) => {
             let terminate = arguments.terminate_debuggee;
             format!(in alloc; "{seq} {name} {terminate}")

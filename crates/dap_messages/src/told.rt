@@ -35,6 +35,8 @@ pub enum Shape {
     Breakpoints(List<Breakpoint>),
     /// The threads of the target, the body of `threads`. (DAP specification, Threads request)
     Threads(List<Thread>),
+    /// All threads go on, the body of `continue`. (DAP specification, Continue request)
+    Continued,
 }
 
 /// A thread of the target: the number that the client knows it by, and its name. (DAP specification, Types, Thread)
@@ -93,8 +95,27 @@ pub struct ThreadChange {
     pub id: u64,
 }
 
+/// The target stands still: why, and the number of the thread that the reason speaks of.
+/// (DAP specification, Events, Stopped)
+#[derive(Debug, Drop)]
+pub struct Stopped {
+    pub reason: StopReason,
+    pub thread: u64,
+}
+
+/// Why the target stands still. (DAP specification, Events, Stopped, `reason` and `hitBreakpointIds`)
+#[derive(Debug, Drop)]
+pub enum StopReason {
+    /// A breakpoint of a source was hit; these breakpoints stand there, by their ids.
+    Breakpoint(List<u64>),
+    /// A breakpoint of a function was hit; these breakpoints stand there, by their ids.
+    FunctionBreakpoint(List<u64>),
+    /// The client asked for it.
+    Pause,
+}
+
 /// An event that the adapter tells without being asked. (DAP specification, Base Protocol, Event)
-#[derive(Clone, Copy, Debug, Drop, PartialEq, Eq)]
+#[derive(Debug, Drop)]
 pub enum Event {
     /// The adapter takes breakpoints now. (DAP specification, Events, Initialized)
     Initialized,
@@ -102,6 +123,8 @@ pub enum Event {
     Breakpoint(Breakpoint),
     /// A thread of the target has started or ended. (DAP specification, Events, Thread)
     Thread(ThreadChange),
+    /// The target stands still. (DAP specification, Events, Stopped)
+    Stopped(Stopped),
     /// Nothing more comes of the debuggee. (DAP specification, Events, Terminated)
     Terminated,
 }
@@ -110,7 +133,7 @@ impl Failure {
     ghost use Rattle.std.specs.Prelude.{◌≡◌};
     ghost use Rattle.dap_messages.specs.Telling.{unsupported, bad_arguments};
     ghost use Rattle.dap_messages.specs.Telling.{already_attached, not_attached, target_gone};
-    ghost use Rattle.dap_messages.specs.Telling.{unknown_thread, target_error};
+    ghost use Rattle.dap_messages.specs.Telling.{not_stopped, unknown_thread, target_error};
 
     /// The adapter doesn't have this command: code 1, `unsupported`. (DAP specification, Types, Message)
     pub fn unsupported() -> Failure
@@ -161,6 +184,16 @@ impl Failure {
     {
         Failure {
             code: 10,
+            detail: Detail::Plain,
+        }
+    }
+
+    /// The command needs a stop, and none is in hand: code 4, `notStopped`. (DAP specification, Types, Message)
+    pub fn not_stopped() -> Failure
+        ensures { result ≡ not_stopped }
+    {
+        Failure {
+            code: 4,
             detail: Detail::Plain,
         }
     }

@@ -5,10 +5,11 @@ ghost use Rattle.dap_messages.specs.Telling.{format_of, message_of, plain_data, 
 ghost use Rattle.dap_messages.specs.Telling.{answer_data, failure_data, response_data, shape_data};
 ghost use Rattle.dap_messages.specs.Telling.{breakpoint_data, breakpoints_data, reason_of, standing_data};
 ghost use Rattle.dap_messages.specs.Telling.{change_reason, thread_changed_data, thread_data, threads_data};
+ghost use Rattle.dap_messages.specs.Telling.{continued_data, hit_data, pause_data, stop_data, stopped_data};
 
 use crate::told::{
-    Breakpoint, BreakpointStatus, Detail, Event, Failure, Outcome, Response, Shape, Thread,
-    ThreadChange, Told,
+    Breakpoint, BreakpointStatus, Detail, Event, Failure, Outcome, Response, Shape, StopReason,
+    Stopped, Thread, ThreadChange, Told,
 };
 use serde_json::{Value, json};
 use std::alloc::{AllocError, Global};
@@ -30,7 +31,7 @@ fn told_value(alloc: Global, seq: u64, told: &Told) -> Result<Value, AllocError>
 {
     match told {
         Told::Response(response) => response_value(alloc, seq, response),
-        Told::Event(event) => event_value(alloc, seq, *event),
+        Told::Event(event) => event_value(alloc, seq, event),
     }
 }
 
@@ -140,6 +141,7 @@ fn message_of(code: u8) -> &'static str
         1 => "unsupported",
         2 => "badArguments",
         3 => "notAttached",
+        4 => "notStopped",
         8 => "unknownThread",
         9 => "targetError",
         10 => "targetGone",
@@ -158,6 +160,7 @@ fn shape_value(alloc: Global, shape: &Shape) -> Result<Option<Value>, AllocError
             Ok(Some(breakpoints_value(alloc, breakpoints.as_slice())?))
         }
         Shape::Threads(threads) => Ok(Some(threads_value(alloc, threads.as_slice())?)),
+        Shape::Continued => Ok(Some(continued_value(alloc)?)),
     }
 }
 
@@ -237,13 +240,20 @@ fn thread_value(alloc: Global, thread: &Thread) -> Result<Value, AllocError>
     json!(in alloc; {"id": thread.id, "name": thread.name.as_str()})
 }
 
-fn event_value(alloc: Global, seq: u64, event: Event) -> Result<Value, AllocError>
-    ensures { IfOk result (λ value. view value ≡ event_data seq event) }
+fn continued_value(alloc: Global) -> Result<Value, AllocError>
+    ensures { IfOk result (λ value. view value ≡ continued_data) }
+{
+    json!(in alloc; {"allThreadsContinued": true})
+}
+
+fn event_value(alloc: Global, seq: u64, event: &Event) -> Result<Value, AllocError>
+    ensures { IfOk result (λ value. view value ≡ event_data seq event.now) }
 {
     match event {
         Event::Initialized => plain_value(alloc, seq, "initialized"),
-        Event::Breakpoint(breakpoint) => changed_value(alloc, seq, breakpoint),
-        Event::Thread(change) => thread_changed_value(alloc, seq, change),
+        Event::Breakpoint(breakpoint) => changed_value(alloc, seq, *breakpoint),
+        Event::Thread(change) => thread_changed_value(alloc, seq, *change),
+        Event::Stopped(stopped) => stopped_value(alloc, seq, stopped),
         Event::Terminated => plain_value(alloc, seq, "terminated"),
     }
 }
@@ -281,4 +291,44 @@ fn thread_changed_value(alloc: Global, seq: u64, change: ThreadChange) -> Result
         "seq": seq,
         "type": "event"
     })
+}
+
+fn stopped_value(alloc: Global, seq: u64, stopped: &Stopped) -> Result<Value, AllocError>
+    ensures { IfOk result (λ value. view value ≡ stopped_data seq stopped.now) }
+{
+    let body = stop_value(alloc, &stopped.reason, stopped.thread)?;
+    json!(in alloc; {"body": body, "event": "stopped", "seq": seq, "type": "event"})
+}
+
+fn stop_value(alloc: Global, reason: &StopReason, thread: u64) -> Result<Value, AllocError>
+    ensures { IfOk result (λ value. view value ≡ stop_data reason.now thread) }
+{
+    match reason {
+        StopReason::Breakpoint(ids) => hit_value(alloc, "breakpoint", ids.as_slice(), thread),
+        StopReason::FunctionBreakpoint(ids) => {
+            hit_value(alloc, "function breakpoint", ids.as_slice(), thread)
+        }
+        StopReason::Pause => pause_value(alloc, thread),
+    }
+}
+
+fn hit_value(alloc: Global, reason: &str, ids: &[u64], thread: u64) -> Result<Value, AllocError>
+    ensures { IfOk result (λ value. view value ≡ hit_data reason.now ids.now thread) }
+{
+    let mut items = Vec::new(alloc);
+    for id in ids {
+        items.push(Value::from(*id))?;
+    }
+    json!(in alloc; {
+        "allThreadsStopped": true,
+        "hitBreakpointIds": Value::Array(items),
+        "reason": reason,
+        "threadId": thread
+    })
+}
+
+fn pause_value(alloc: Global, thread: u64) -> Result<Value, AllocError>
+    ensures { IfOk result (λ value. view value ≡ pause_data thread) }
+{
+    json!(in alloc; {"allThreadsStopped": true, "reason": "pause", "threadId": thread})
 }
