@@ -7,6 +7,7 @@ pub mod EffectLaws
 pub mod OpenLaws
 pub mod PlanLaws
 pub mod ReplyLaws
+pub mod StopLaws
 pub mod TalkLaws
 pub mod ThreadLaws
 pub mod TakenLaws

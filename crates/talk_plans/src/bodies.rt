@@ -1,22 +1,25 @@
 //! What the client is told, with numbers in place of the target's ids.
 ghost use Rattle.std.specs.Prelude.{◌≡◌, IfOk, OnOk, map};
 ghost use Rattle.machine_model.specs.Breakpoints.{breakpoint_told, with_told};
-ghost use Rattle.machine_model.specs.Telling.{body_told, event_told, numbered, numbered_by, outcome_told, response_to};
-ghost use Rattle.machine_model.specs.Telling.{thread_told, with_threads};
+ghost use Rattle.machine_model.specs.Telling.{body_told, event_told, hit_told, numbered, numbered_by, outcome_told};
+ghost use Rattle.machine_model.specs.Telling.{reason_told, response_to, thread_told, with_threads};
+ghost use Rattle.machine_model.specs.declared.parts.Event.TheVariants.{Stopped as a_stop};
 
 use crate::bound::BoundIds;
 use crate::breakpoints::breakpoint_told;
 use crate::news::news_told;
 use crate::state::State;
+use crate::stops::has_line;
 use crate::threads::ThreadNumbers;
 use dap_messages::{
-    Breakpoint, Event as EventTold, Outcome as OutcomeTold, Request, Response, Shape, Thread, Told,
+    Breakpoint, Event as EventTold, Outcome as OutcomeTold, Request, Response, Shape, StopReason,
+    Stopped, Thread, Told,
 };
 use jdwp_values::lossy;
-use machine_model::{Body, Event, ListedBreakpoint, NamedThread, Outcome};
+use machine_model::{Body, Event, ListedBreakpoint, NamedThread, Outcome, StopCause, Stopping};
 use std::alloc::Global;
 use wire_core::{List, NoMemory, Text};
-use wish_sets::Wishes;
+use wish_sets::{EntryAt, Wishes};
 
 fn add_threads(threads: &mut ThreadNumbers, named: &[NamedThread]) -> Result<(), NoMemory>
     ensures { OnOk result (threads.new ≡ with_threads threads.old named.now) }
@@ -82,6 +85,7 @@ fn body_told(alloc: Global, body: &Body, state: &mut State) -> Result<Shape, NoM
             add_told(&mut state.bound, told.as_slice())?;
             Ok(Shape::Breakpoints(told))
         }
+        Body::Continued => Ok(Shape::Continued),
         Body::Threads(named) => {
             add_threads(&mut state.threads, named.as_slice())?;
             Ok(Shape::Threads(threads_told(alloc, &state.threads, named.as_slice())?))
@@ -116,13 +120,57 @@ pub fn response_to(alloc: Global, request: &Request, outcome: OutcomeTold) -> Re
     }))
 }
 
-/// How an event is told.
-pub(crate) fn event_told(event: Event, state: &State) -> EventTold
-    ensures { result ≡ event_told event state.now }
+fn entry_ids(alloc: Global, entries: &[EntryAt]) -> Result<List<u64>, NoMemory>
+    ensures { IfOk result (λ ids. ids ≡ map (λ entry. entry.id) entries.now) }
+{
+    let mut ids = List::new(alloc);
+    for entry in entries {
+        ids.push(entry.id)?;
+    }
+    Ok(ids)
+}
+
+// A hit is told with the breakpoints that stand there (DAP specification, Events, Stopped, hitBreakpointIds).
+fn hit_told(alloc: Global, entries: &[EntryAt]) -> Result<StopReason, NoMemory>
+    ensures { IfOk result (λ reason. reason ≡ hit_told entries.now) }
+{
+    let ids = entry_ids(alloc, entries)?;
+    if has_line(entries) {
+        return Ok(StopReason::Breakpoint(ids));
+    }
+    Ok(StopReason::FunctionBreakpoint(ids))
+}
+
+fn reason_told(alloc: Global, cause: StopCause, state: &State) -> Result<StopReason, NoMemory>
+    ensures { IfOk result (λ reason. reason ≡ reason_told cause state.now) }
+{
+    match cause {
+        StopCause::Hit(at) => {
+            let entries = state.wishes.entries_at(alloc, &at)?;
+            hit_told(alloc, entries.as_slice())
+        }
+        StopCause::Pause => Ok(StopReason::Pause),
+    }
+}
+
+// How a stop is told: its thread by its number (DAP specification, Events, Stopped).
+fn stop_told(alloc: Global, stopping: Stopping, state: &State) -> Result<EventTold, NoMemory>
+    ensures { IfOk result (λ told. told ≡ event_told (a_stop stopping) state.now) }
+{
+    Ok(EventTold::Stopped(Stopped {
+        reason: reason_told(alloc, stopping.cause, state)?,
+        thread: state.threads.number(stopping.thread),
+    }))
+}
+
+/// How an event is told. `NoMemory` comes where memory is refused (DAP specification, Events).
+pub(crate) fn event_told(alloc: Global, event: Event, state: &State) -> Result<EventTold, NoMemory>
+    ensures { IfOk result (λ told. told ≡ event_told event state.now) }
 {
     match event {
-        Event::Initialized => EventTold::Initialized,
-        Event::News(news) => news_told(news, state),
-        Event::Terminated => EventTold::Terminated,
+        Event::Initialized => Ok(EventTold::Initialized),
+        Event::News(news) => Ok(news_told(news, state)),
+        Event::Stopped(stopping) => stop_told(alloc, stopping, state),
+        Event::Terminated => Ok(EventTold::Terminated),
     }
 }

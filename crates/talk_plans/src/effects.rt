@@ -1,5 +1,6 @@
-//! The effects of event requests, and what their replies make of what is known.
+//! The effects of event requests, what their replies make of what is known, and what the sending of a deed changes.
 ghost use Rattle.std.specs.Prelude.{◌≡◌, false, is_some, true, IfOk};
+ghost use Rattle.machine_model.specs.Due.{entry_by, still_held, still_stopped, stopped_by};
 ghost use Rattle.machine_model.specs.Requests.{effect_due, request_in, set_to, wishes_after};
 ghost use Rattle.machine_model.specs.Replying.{unlisted_by, watches};
 ghost use Rattle.talk_plans.specs.Talking.{IsNext};
@@ -9,7 +10,7 @@ ghost use Rattle.wish_sets.specs.declared.wish.Wish.{Wish as AWish};
 
 use crate::copies::wish_copy;
 use jdwp_commands::{Answer, Replied};
-use machine_model::Effect;
+use machine_model::{Deed, Effect, Suspension};
 use std::alloc::Global;
 use wire_core::NoMemory;
 use wish_sets::{Change, Settled, Wish, Wishes};
@@ -31,6 +32,52 @@ pub(crate) fn effect_due(alloc: Global, wishes: &Wishes) -> Result<Option<Effect
             request,
         })),
         Some(Change::Set { place: _, wish }) => Ok(Some(Effect::Set(wish_copy(alloc, wish)?))),
+    }
+}
+
+fn still_stopped(suspension: Suspension, stopped: bool) -> bool
+    ensures { result ≡ still_stopped suspension stopped }
+{
+    match suspension {
+        Suspension::Composite => stopped,
+        Suspension::Entry => stopped,
+        Suspension::Stop => false,
+    }
+}
+
+/// Whether a stop is in hand once a deed is sent: it begins with the Suspend of a pause, and is over with its Resume
+/// (JDWP, VirtualMachine command set, Suspend and Resume).
+pub(crate) fn stopped_by(deed: Deed, stopped: bool) -> bool
+    ensures { result ≡ stopped_by deed stopped }
+{
+    match deed {
+        Deed::Suspend => true,
+        Deed::Resume(suspension) => still_stopped(suspension, stopped),
+        Deed::Dispose => stopped,
+        Deed::Exit => stopped,
+    }
+}
+
+fn still_held(suspension: Suspension, entry: bool) -> bool
+    ensures { result ≡ still_held suspension entry }
+{
+    match suspension {
+        Suspension::Composite => entry,
+        Suspension::Entry => false,
+        Suspension::Stop => entry,
+    }
+}
+
+/// Whether the target's entry is held once a deed is sent: with its Resume it is held no longer (JDWP, VirtualMachine
+/// command set, Resume).
+pub(crate) fn entry_by(deed: Deed, entry: bool) -> bool
+    ensures { result ≡ entry_by deed entry }
+{
+    match deed {
+        Deed::Suspend => entry,
+        Deed::Resume(suspension) => still_held(suspension, entry),
+        Deed::Dispose => entry,
+        Deed::Exit => entry,
     }
 }
 

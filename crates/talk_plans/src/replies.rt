@@ -134,7 +134,8 @@ fn leaves(effect: &Effect) -> bool
     ensures { result ≡ is_leaving (an_effect effect.now) }
 {
     match effect {
-        Effect::Does(Deed::Resume) => false,
+        Effect::Does(Deed::Suspend) => false,
+        Effect::Does(Deed::Resume(_)) => false,
         Effect::Does(Deed::Dispose) => true,
         Effect::Does(Deed::Exit) => true,
         Effect::Set(_) => false,

@@ -2,19 +2,21 @@
 ghost use Rattle.std.specs.Prelude.{◌≡◌, ◌∷◌, ◌||◌, [], List as Parts, IfOk};
 ghost use Rattle.machine_model.specs.Lookups.{lookup_responds};
 ghost use Rattle.machine_model.specs.Rows.{chosen, choice_responds, end_parts, failure_of, gone_parts, gone_row};
-ghost use Rattle.machine_model.specs.Rows.{gone_tail, has_response, if_attached, is_response, leaves, leaving};
-ghost use Rattle.machine_model.specs.Rows.{options_of, parts_of, request_parts, row_of, unless_attached, wanting};
-ghost use Rattle.machine_model.specs.declared.parts.Body.TheVariants.{Nothing};
-ghost use Rattle.machine_model.specs.declared.parts.Outcome.TheVariants.{Failure as Failed, Success};
+ghost use Rattle.machine_model.specs.Rows.{gone_tail, has_response, if_attached, if_stopped, is_response, leaves};
+ghost use Rattle.machine_model.specs.Rows.{leaving, options_of, parts_of, request_parts, row_of, unless_attached};
+ghost use Rattle.machine_model.specs.Rows.{unless_stopped, wanting};
+ghost use Rattle.machine_model.specs.declared.parts.Outcome.TheVariants.{Failure as Failed};
 ghost use Rattle.talk_plans.specs.Talking.{attach_parts, disconnect_parts};
 ghost use Rattle.machine_model.specs.State.{Hand as AHand};
 ghost use Rattle.machine_model.specs.declared.parts.Part.TheVariants.{Responds};
 
 use crate::breakpoints::breakpoints_row;
-use crate::composites::composite_parts;
+use crate::composites::{composite_parts, has_death};
 use crate::copies::text_copies;
 use crate::news::told_news;
+use crate::run_rows::{configured_row, continue_row, pause_row};
 use crate::state::State;
+use crate::stops::decided;
 use dap_messages::{Command, Failure, InitializeArguments};
 use machine_model::{
     Body, Choice, ClientOptions, Deed, Event, Finish, Guard, Item, Lookup, Note, Outcome, Part,
@@ -64,16 +66,11 @@ fn disconnect_row(alloc: Global, exits: bool) -> Result<VecDeque<Part>, NoMemory
     )?)
 }
 
-fn failing(alloc: Global, failure: Failure) -> Result<VecDeque<Part>, NoMemory>
+/// A request fails.
+pub(crate) fn failing(alloc: Global, failure: Failure) -> Result<VecDeque<Part>, NoMemory>
     ensures { IfOk result (λ parts. parts.items ≡ Responds (Failed failure) ∷ []) }
 {
     Ok(VecDeque::from_array(alloc, [Part::Responds(Outcome::Failure(failure))])?)
-}
-
-fn answering(alloc: Global) -> Result<VecDeque<Part>, NoMemory>
-    ensures { IfOk result (λ parts. parts.items ≡ Responds (Success Nothing) ∷ []) }
-{
-    Ok(VecDeque::from_array(alloc, [Part::Responds(Outcome::Success(Body::Nothing))])?)
 }
 
 // What a request does that doesn't fail beforehand.
@@ -89,9 +86,11 @@ fn row_of(alloc: Global, command: &Command, state: &State) -> Result<VecDeque<Pa
             ],
         )?),
         Command::Attach(arguments) => attach_row(alloc, arguments.source_roots.as_slice()),
-        Command::ConfigurationDone => answering(alloc),
+        Command::ConfigurationDone => configured_row(alloc, state.entry),
         Command::SetBreakpoints(arguments) => breakpoints_row(alloc, arguments, state),
         Command::Threads => Ok(VecDeque::from_array(alloc, [Part::Looks(Lookup::Threads)])?),
+        Command::Continue(arguments) => continue_row(alloc, *arguments, state),
+        Command::Pause(arguments) => pause_row(alloc, *arguments, state),
         Command::Disconnect(arguments) => disconnect_row(alloc, arguments.terminate_debuggee),
         Command::Unsupported => failing(alloc, Failure::unsupported()),
         Command::BadArguments(name) => {
@@ -123,6 +122,26 @@ fn if_attached(phase: Phase) -> Option<Failure>
     }
 }
 
+fn unless_stopped(stopped: bool) -> Option<Failure>
+    ensures { result ≡ unless_stopped stopped }
+{
+    if stopped {
+        return None;
+    }
+    Some(Failure::not_stopped())
+}
+
+// What lets the target run on needs a stop.
+fn if_stopped(stopped: bool, phase: Phase) -> Option<Failure>
+    ensures { result ≡ if_stopped stopped phase }
+{
+    match phase {
+        Phase::Fresh => Some(Failure::not_attached()),
+        Phase::Attached => unless_stopped(stopped),
+        Phase::Gone => Some(Failure::target_gone()),
+    }
+}
+
 // The failure that is known before anything is done.
 fn failure_of(command: &Command, state: &State) -> Option<Failure>
     ensures { result ≡ failure_of (wanting command.now) state.now }
@@ -133,6 +152,8 @@ fn failure_of(command: &Command, state: &State) -> Option<Failure>
         Command::ConfigurationDone => if_attached(state.phase),
         Command::SetBreakpoints(_) => if_attached(state.phase),
         Command::Threads => if_attached(state.phase),
+        Command::Continue(_) => if_stopped(state.stopped, state.phase),
+        Command::Pause(_) => if_attached(state.phase),
         Command::Disconnect(_) => None,
         Command::Unsupported => None,
         Command::BadArguments(_) => None,
@@ -172,9 +193,14 @@ pub(crate) fn parts_of(
 {
     match item {
         Item::Request(request) => request_parts(alloc, &request.command, state),
-        Item::Composite { at, composite } => {
-            composite_parts(alloc, state.phase, composite.policy, *at, state.next_entry)
-        }
+        Item::Composite { at, composite } => composite_parts(
+            alloc,
+            state.phase,
+            has_death(composite.events.as_slice()),
+            composite.policy,
+            *at,
+            state.next_entry,
+        ),
         Item::Raw { .. } => Ok(VecDeque::new(alloc)),
         Item::TargetEnd => end_parts(alloc, state.terminated),
     }
@@ -209,6 +235,7 @@ pub(crate) fn chosen(
 {
     match choice {
         Choice::TellsNews(below) => told_news(alloc, below, state, item),
+        Choice::Decides => decided(alloc, state, item),
         Choice::Leaves(exits) => leaves(alloc, state.phase, exits),
     }
 }
@@ -227,6 +254,7 @@ fn choice_responds(choice: Choice) -> bool
 {
     match choice {
         Choice::TellsNews(_) => false,
+        Choice::Decides => false,
         Choice::Leaves(_) => false,
     }
 }

@@ -4,23 +4,23 @@ ghost use Rattle.machine_model.specs.Plans.{answer_in};
 ghost use Rattle.machine_model.specs.Replying.{done_by, learnt, told_by};
 ghost use Rattle.talk_plans.specs.Sizes.{sizes_seen};
 ghost use Rattle.talk_plans.specs.Talking.{IsNext};
+ghost use Rattle.machine_model.specs.Due.{after_deed};
 ghost use Rattle.machine_model.specs.Rest.{awaits_greeting};
 ghost use Rattle.machine_model.specs.Rows.{noted, taken};
-ghost use Rattle.machine_model.specs.State.{is_attached, is_gone, nothing_known};
+ghost use Rattle.machine_model.specs.State.{is_attached, is_gone, lost, nothing_known};
 ghost use Rattle.machine_model.specs.Telling.{after_event, attached_from};
-ghost use Rattle.machine_model.specs.declared.items.Phase.TheVariants.{Gone};
 ghost use Rattle.machine_model.specs.declared.parts.Note.TheVariants.{Lines};
 
 use crate::bound::BoundIds;
 use crate::composites::{learn_in, tells_of_none};
-use crate::effects::{settle, unlisted_by};
+use crate::effects::{entry_by, settle, stopped_by, unlisted_by};
 use crate::facts::learn;
 use crate::open_classes::{OpenClasses, all_open, stays_open, trimmed};
 use crate::sizes::{SizesRead, sizes_in};
 use crate::threads::ThreadNumbers;
 use class_tables::Classes;
 use jdwp_commands::{Question, Replied};
-use machine_model::{ClientOptions, Effect, Event, Item, News, Note, Phase};
+use machine_model::{ClientOptions, Deed, Effect, Event, Item, News, Note, Phase};
 use std::alloc::Global;
 use std::marker::Model;
 use std::mem;
@@ -30,9 +30,10 @@ use wish_sets::{LineEntry, Wishes};
 /// What a session knows: how the client wants to be served; where it stands with its target, which sides of the
 /// handshake went out and came, and the sizes of ids; the folders that sources stand in; the id that the next
 /// breakpoint gets; which event requests are wished and which stand; whether a watch was set since all classes were
-/// listed; the facts of classes; the threads that were told; the breakpoints that were told to be verified; whether the
-/// client was told that nothing more comes of the target; and, where that was found out, which classes may lack
-/// something, of which contracts see nothing.
+/// listed; the facts of classes; the threads that were told; the breakpoints that were told to be verified; whether a
+/// stop is in hand, whether the target's entry is held, and whether the client has configured all; whether it was told
+/// that nothing more comes of the target; and, where that was found out, which classes may lack something, of which
+/// contracts see nothing.
 #[derive(Debug, Drop)]
 pub struct State {
     pub(crate) options: ClientOptions,
@@ -47,6 +48,9 @@ pub struct State {
     pub(crate) classes: Classes,
     pub(crate) threads: ThreadNumbers,
     pub(crate) bound: BoundIds,
+    pub(crate) stopped: bool,
+    pub(crate) entry: bool,
+    pub(crate) configured: bool,
     pub(crate) terminated: bool,
     pub(crate) left: Option<OpenClasses>,
 }
@@ -73,6 +77,9 @@ impl Model for State {
       classes = s.classes;
       threads = s.threads;
       bound = s.bound;
+      stopped = s.stopped;
+      entry = s.entry;
+      configured = s.configured;
       terminated = s.terminated;
     } };
 
@@ -101,6 +108,9 @@ impl State {
             classes: Classes::new(alloc),
             threads: ThreadNumbers::new(alloc),
             bound: BoundIds::new(alloc),
+            stopped: false,
+            entry: false,
+            configured: false,
             terminated: false,
             left: None,
         })
@@ -165,11 +175,14 @@ impl State {
         self.greeting_heard = true;
     }
 
-    /// The target has ended.
+    /// The target has ended, and with it the stop in hand and the entry that was held (JDWP, Event command set,
+    /// Composite, VMDeath).
     pub fn target_ended(&mut self)
-        ensures { self.new ≡ record self.old { phase = Gone } }
+        ensures { self.new ≡ lost self.old }
     {
         self.phase = Phase::Gone;
+        self.stopped = false;
+        self.entry = false;
     }
 
     /// The session stands with its target as before a message that couldn't be told.
@@ -190,12 +203,24 @@ impl State {
             }
             Event::News(News::Verified(entry)) => self.bound.add(entry.id),
             Event::News(News::Thread { thread, .. }) => self.threads.add(thread),
+            Event::Stopped(stopping) => {
+                self.stopped = true;
+                self.threads.add(stopping.thread)
+            }
             Event::Terminated => {
-                self.phase = Phase::Gone;
                 self.terminated = true;
+                self.target_ended();
                 Ok(())
             }
         }
+    }
+
+    // What the sending of a deed changes.
+    pub(crate) fn sent(&mut self, deed: Deed)
+        ensures { self.new ≡ after_deed deed self.old }
+    {
+        self.stopped = stopped_by(deed, self.stopped);
+        self.entry = entry_by(deed, self.entry);
     }
 
     // What an item tells of classes is learnt as it is begun. Where it tells of none, what is left to be found out of them
@@ -218,7 +243,8 @@ impl State {
         }
     }
 
-    // Something is written down: what the client asked for, or what breakpoints are bound by.
+    // Something is written down: what the client asked for, what breakpoints are bound by, or where the session stands
+    // with the target's entry.
     pub(crate) fn note(&mut self, alloc: Global, note: Note) -> Result<(), NoMemory>
         ensures { OnOk result (self.new ≡ noted note self.old) }
     {
@@ -236,6 +262,14 @@ impl State {
                 self.left = None;
                 self.wishes
                     .classes_known(alloc, &self.classes, those.as_slice())
+            }
+            Note::EntryHeld => {
+                self.entry = true;
+                Ok(())
+            }
+            Note::Configured => {
+                self.configured = true;
+                Ok(())
             }
         }
     }

@@ -176,7 +176,7 @@ impl Talk {
             Part::Responds(outcome) => self.responds(alloc, state, outcome),
             Part::Tells(event) => {
                 state.tell(event)?;
-                Ok(Next::Tell(Told::Event(event_told(event, state))))
+                Ok(Next::Tell(Told::Event(event_told(alloc, event, state)?)))
             }
             Part::Sends(deed) => self.sends(state, deed),
             Part::Looks(lookup) => self.looks(alloc, state, lookup),
@@ -220,15 +220,16 @@ impl Talk {
     }
 
     // Nothing is sent to a target that is gone.
-    fn sends(&mut self, state: &State, deed: Deed) -> Result<Next, NoMemory>
+    fn sends(&mut self, state: &mut State, deed: Deed) -> Result<Next, NoMemory>
         ensures due { IfOk result (λ next. (m : Machine)
-            → step_of m next state.now self.new ≡ does m state.now self.old (parts.Sends deed)) }
-        ensures same { OnOk result (StaysSized state.now self.old state.now self.new) }
+            → step_of m next state.new self.new ≡ does m state.old self.old (parts.Sends deed)) }
+        ensures same { OnOk result (StaysSized state.old self.old state.new self.new) }
     {
         if state.is_gone() {
             self.parts.push_front(Part::Sends(deed))?;
             return Ok(Next::Wait);
         }
+        state.sent(deed);
         self.effect = Some(Doing {
             effect: Effect::Does(deed),
             reply: None,

@@ -1,5 +1,6 @@
 //! The numbers of threads.
 ghost use Rattle.std.specs.Prelude.{◌≡◌, [], OnOk};
+ghost use Rattle.machine_model.specs.Rows.{thread_with};
 ghost use Rattle.machine_model.specs.Telling.{number_among, with_thread};
 
 use indexmap::IndexSet;
@@ -50,5 +51,15 @@ impl ThreadNumbers {
             Some(place) => place as u64 + 1,
             None => next as u64 + 1,
         }
+    }
+
+    /// The thread of a number, where it was told.
+    pub(crate) fn with_number(&self, number: u32) -> Option<ThreadId>
+        ensures { result ≡ thread_with self.now number }
+    {
+        if number == 0 {
+            return None;
+        }
+        self.threads.get_index(number as usize - 1).copied()
     }
 }

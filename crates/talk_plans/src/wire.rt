@@ -9,12 +9,13 @@ use std::alloc::Global;
 use wire_core::NoMemory;
 use wish_sets::Wish;
 
-// What is done to the whole target (JDWP, VirtualMachine command set, Resume, Dispose and Exit).
+// What is done to the whole target (JDWP, VirtualMachine command set, Suspend, Resume, Dispose and Exit).
 fn wire_deed(deed: Deed) -> WireEffect
     ensures { result ≡ wire_deed deed }
 {
     match deed {
-        Deed::Resume => WireEffect::Resume,
+        Deed::Suspend => WireEffect::Suspend,
+        Deed::Resume(_) => WireEffect::Resume,
         Deed::Dispose => WireEffect::Dispose,
         Deed::Exit => WireEffect::Exit(0),
     }
@@ -31,8 +32,8 @@ fn set_of(alloc: Global, wish: &Wish) -> Result<WireEffect, NoMemory>
     })
 }
 
-/// An effect as it is sent (JDWP, VirtualMachine command set, Resume, Dispose and Exit; JDWP, EventRequest command
-/// set, Set and Clear).
+/// An effect as it is sent (JDWP, VirtualMachine command set, Suspend, Resume, Dispose and Exit; JDWP, EventRequest
+/// command set, Set and Clear).
 pub fn wire_effect(alloc: Global, effect: &Effect) -> Result<WireEffect, NoMemory>
     ensures { IfOk result (λ sent. sent ≡ wire_effect effect.now) }
 {
