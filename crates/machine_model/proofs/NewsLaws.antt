@@ -235,7 +235,7 @@ replied_news ids w parts (Set wish) replied due h =
 replied_news ids w parts (Clear wish request) replied due h =
     none_told ids (wishes_after (Clear wish request) replied w) parts (updates_none ids w parts (due refl).1 h)
 
-quiet : {messages : List Message} {m : Machine} → Run messages m → IsQuiet m
+pub quiet : {messages : List Message} {m : Machine} → Run messages m → IsQuiet m
 quiet r = by_moves {Holds = λ (messages : List Message) (m : Machine). IsQuiet m}
     (record { starts = refl; moves = λ messages m next said h moved. quiet_on m next said h moved }) r
 

@@ -6,9 +6,9 @@ use Rattle.machine_model.specs.Knowing.{held_in, held_with, may_send, view_of}
 use Rattle.machine_model.specs.Lookups.{finished}
 use Rattle.machine_model.specs.Names.{Act, Attached, Choice, Command, Configured, Decides, Deed, Does, EntryHeld}
 use Rattle.machine_model.specs.Names.{Event, Failure, Finding, Item, Leaves, Lookup, Note, Part, Phase, Replied}
-use Rattle.machine_model.specs.Names.{Resume, Suspension, TargetCommand, TellsNews, Want, a_composite, a_question}
-use Rattle.machine_model.specs.Names.{a_raw, a_request, all_threads, an_effect, class_facts, of_composite, of_entry}
-use Rattle.machine_model.specs.Names.{of_stop, target_end}
+use Rattle.machine_model.specs.Names.{Resume, Stopping, Suspension, TargetCommand, TellsNews, Want, a_composite}
+use Rattle.machine_model.specs.Names.{a_question, a_raw, a_request, a_stop, all_threads, an_effect, class_facts}
+use Rattle.machine_model.specs.Names.{of_composite, of_entry, of_stop, target_end}
 use Rattle.machine_model.specs.Outcomes.{result_of}
 use Rattle.machine_model.specs.Plans.{Result}
 use Rattle.machine_model.specs.Replying.{hand_replied}
@@ -25,7 +25,7 @@ use Rattle.machine_model.proofs.KnowingLaws.{is_known}
 use Rattle.machine_model.proofs.RequestLaws.{Settling, front_set, settles, settling}
 use Rattle.machine_model.proofs.SizeLaws.{parts_in}
 use Rattle.machine_model.proofs.Stepping.{IsAt, Loses, Moves, by_runs, moved}
-use Rattle.machine_model.proofs.Tables.{of_decided, told_alike}
+use Rattle.machine_model.proofs.Tables.{free, free_once, of_decided, told_alike}
 use Rattle.machine_model.proofs.Testing.{IsTest, Passed, same_noted, same_numbered, same_replied, tested, whole}
 use Rattle.machine_model.specs.Stops.{decided}
 use Rattle.machine_model.specs.Pending.{bit}
@@ -35,9 +35,10 @@ use Rattle.machine_model.proofs.RequestSteps.{needs_set}
 
 -- Behind a Resume nothing more is set or bound ----------------------------------------------------------------------
 
--- a suspension is undone, or what becomes of one is still to be decided
+-- a suspension is undone, or a stop is told, or what becomes of a suspension is still to be decided
 abbrev is_resume : Part → Bool
 is_resume (Part.Sends (Resume suspension)) = true
+is_resume (Part.Tells (a_stop stopping)) = true
 is_resume (Part.Unfolds Decides) = true
 is_resume _ = false
 
@@ -83,8 +84,12 @@ chosen_last : (choice : Choice) (state : State) (hand : Hand) (rest : List Part)
 chosen_last (TellsNews below) state hand rest is =
     told_alike resume_last (λ news parts. refl) state.phase (news_of below state hand.item) rest ∙ is
 chosen_last Decides state hand rest is = let last = rest_last (Part.Unfolds Decides) rest is in
-    of_decided (λ (parts : List Part). resume_last (parts ++ rest) ≡ true) last last is (λ stopping. last)
-    (λ stopping. is) state hand.item
+    of_decided (λ (parts : List Part). resume_last (parts ++ rest) ≡ true) last last is (λ stopping. is)
+    (λ stopping. twice (are_calm rest) (resume_last rest) is) state hand.item
+  where
+    twice : (calm last : Bool) → cond calm last false ≡ true → cond calm (cond calm last false) false ≡ true
+    twice true last is = is
+    twice false last is = cc
 chosen_last (Leaves exits) state hand rest is = grind (arith, is)
 
 last_test : IsTest ends_resumed
@@ -236,6 +241,31 @@ bound_at m hand (Resume held) suspension rest s b t h near at is =
       bound = (in_front b at).bound (calm_binds rest calm);
     }
 bound_at m hand deed suspension rest s b t h near at is = cc
+
+-- a stop is told
+pub bound_at_stop : {messages : List Message} {m : Machine} {hand : Hand} {stopping : Stopping} {rest : List Part}
+    → Run messages m → IsAt m hand (Part.Tells (a_stop stopping)) rest → IsBoundFirst m.state
+bound_at_stop {m = m} {hand} {stopping} {rest} r at =
+    let near = near_stop (is_gone m.state.phase) _ (whole free_once (tested free r) at) in
+    let calm = stop_calm (are_calm rest) (resume_last rest) (whole ends_resumed (tested last_test r) at) in
+    record {
+      none_due = front_set m hand (Part.Tells (a_stop stopping)) rest (settling r near).set at
+          (calm_set (is_attached m.state.phase) rest calm
+          (stop_there (is_gone m.state.phase) (is_attached m.state.phase) near (at_front (resumed r) at)));
+      bound = (in_front (binding r near) at).bound (calm_binds rest calm);
+    }
+  where
+    near_stop : (gone others : Bool) → cond (cond gone false true) others false ≡ true → gone ≡ false
+    near_stop true others is = cc
+    near_stop false others is = refl
+
+    stop_calm : (calm last : Bool) → cond calm last false ≡ true → calm ≡ true
+    stop_calm true last is = refl
+    stop_calm false last is = cc
+
+    stop_there : (gone attached : Bool) → gone ≡ false → cond gone true attached ≡ true → attached ≡ true
+    stop_there true attached near is = cc
+    stop_there false attached near is = is
 
 resume_at : (m next : Machine) (said : Option Message) (suspension : Suspension) → Settling m → IsBinding m
     → Passed ends_resumed m → IsResumed m → said ≡ Some (Message.sends (an_effect (Does (Resume suspension))))

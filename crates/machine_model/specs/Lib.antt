@@ -28,6 +28,7 @@ pub mod Rows
 pub mod Runs
 pub mod Spelling
 pub mod State
+pub mod Stopping
 pub mod Stops
 pub mod Suspending
 pub mod Telling

@@ -15,6 +15,7 @@ ghost use Rattle.machine_model.specs.PlanLaws.{Errors, Wants, Worlds};
 ghost use Rattle.machine_model.specs.Questions.{Questions};
 ghost use Rattle.machine_model.specs.Responses.{Responses, Rests};
 ghost use Rattle.machine_model.specs.Spelling.{Spells};
+ghost use Rattle.machine_model.specs.Stopping.{TellsStops};
 ghost use Rattle.machine_model.specs.Suspending.{BindsFirst, RunsOn};
 ghost use Rattle.machine_model.specs.Waiting.{Waits};
 
@@ -92,9 +93,17 @@ pub fn breakpoints_are_told_once_they_are_verified()
     ensures all { TellsAll }
 {}
 
-/// At rest, once the session is attached, each composite that came was at its turn, and each suspension of the whole
-/// target was undone: as many Resumes were sent as composites suspended it (JDWP, Event command set, Composite; JDWP,
-/// VirtualMachine command set, Resume).
+/// The event `stopped` tells of a breakpoint that was hit in the composite in hand, under an event request that is
+/// installed, once no event request is to be set or cleared and breakpoints are bound by all that is known; or it is told
+/// for a `pause`, in the stop that this began (DAP specification, Events, Stopped; JDWP, Event command set, Composite).
+pub fn stops_are_told_of_what_stops_the_target()
+    ensures { TellsStops }
+{}
+
+/// At rest, once the session is attached, each composite that came was at its turn. One suspension of the whole target is
+/// held where a stop is in hand, one more where the target's entry is, and no other: so many more composites and
+/// Suspends suspended it than Resumes were sent (JDWP, Event command set, Composite; JDWP, VirtualMachine command set,
+/// Suspend and Resume).
 pub fn the_target_runs_on_at_rest()
     ensures { RunsOn }
 {}
@@ -126,9 +135,11 @@ pub fn all_that_is_lacking_was_asked()
 
 /// What is known is what the messages say: where the session stands with its target, the two sides of the handshake,
 /// the sizes of ids, the facts of classes, whether a watch was set since all classes were listed, which composites wait
-/// for their turn, how many suspensions are held, which breakpoints the client was told to be verified, and whether it was
-/// told that the target is gone. `initialized` is told once, before the target is gone; `terminated` once, behind it. A
-/// Resume is sent only while a suspension is held. Threads are numbered 1, 2, 3 as they are first told.
+/// for their turn, how many suspensions are held and whether a stop is in hand, which breakpoints the client was told to
+/// be verified, and whether it was told that the target is gone. `initialized` is told once, before the target is gone;
+/// `terminated` once, where it is gone or a composite tells so. A Resume is sent, and `stopped` told, only while a
+/// suspension is held; that of a stop only in a stop, and a Suspend only outside one. Threads are numbered 1, 2, 3 as they
+/// are first told.
 pub fn what_is_known_is_what_messages_say()
     ensures { Knows }
 {}

@@ -20,7 +20,8 @@ pub use laws::{
     event_requests_are_settled, event_requests_stand_as_the_messages_say,
     events_tell_where_a_session_stands, look_ups_lack_what_they_have_come_to,
     look_ups_show_the_world, nothing_is_asked_but_what_is_lacking, nothing_waits_at_rest,
-    outcomes_are_what_rows_lead_to, requests_are_answered_in_order, the_first_error_decides,
+    outcomes_are_what_rows_lead_to, requests_are_answered_in_order,
+    stops_are_told_of_what_stops_the_target, the_first_error_decides,
     the_handshake_goes_out_for_an_attach, the_target_is_left_once_for_a_disconnect,
     the_target_runs_on_at_rest, what_is_known_is_what_messages_say,
 };
