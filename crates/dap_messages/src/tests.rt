@@ -1,6 +1,7 @@
 use crate::{
     Breakpoint, BreakpointStatus, Command, Event, Failure, Incoming, Outcome, ReadFault, Request,
-    Response, Shape, SourceBreakpoint, Thread, ThreadChange, Told, read_request, text_of,
+    Response, Shape, SourceBreakpoint, StopReason, Stopped, Thread, ThreadChange, Told,
+    read_request, text_of,
 };
 use std::alloc::{AllocError, Global};
 use std::test::Fail;
@@ -259,6 +260,34 @@ fn arguments_are_judged_in_order(rt: HostRuntime) -> Result<(), Fail> {
         ("threads", "null", "1 threads"),
         ("threads", "{\"threadId\":\"x\"}", "1 threads"),
         ("threads", "7", "1 threads bad arguments"),
+        ("continue", "{\"threadId\":1}", "1 continue resumes 1"),
+        (
+            "continue",
+            "{\"threadId\":2147483647,\"singleThread\":7}",
+            "1 continue resumes 2147483647",
+        ),
+        ("continue", "null", "1 continue bad threadId"),
+        ("continue", "{\"thread\":1}", "1 continue bad threadId"),
+        ("continue", "{\"threadId\":null}", "1 continue bad threadId"),
+        ("continue", "{\"threadId\":-1}", "1 continue bad threadId"),
+        (
+            "continue",
+            "{\"threadId\":2147483648}",
+            "1 continue bad threadId",
+        ),
+        (
+            "continue",
+            "{\"threadId\":\"1\"}",
+            "1 continue bad threadId",
+        ),
+        ("continue", "[1]", "1 continue bad arguments"),
+        ("pause", "{\"threadId\":0}", "1 pause suspends 0"),
+        ("pause", "{}", "1 pause bad threadId"),
+        ("pause", "{\"threadId\":-1}", "1 pause bad threadId"),
+        ("pause", "{\"threadId\":2147483648}", "1 pause bad threadId"),
+        ("pause", "{\"threadId\":1.0}", "1 pause bad threadId"),
+        ("pause", "{\"threadId\":\"1\"}", "1 pause bad threadId"),
+        ("pause", "1", "1 pause bad arguments"),
         ("disconnect", "null", "1 disconnect false"),
         (
             "disconnect",
@@ -449,6 +478,12 @@ fn messages_are_told(rt: HostRuntime) -> Result<(), Fail> {
             \"success\":true,\"type\":\"response\"}",
         ),
         (
+            8,
+            response(alloc, 6, "continue", Outcome::Success(Shape::Continued))?,
+            "{\"body\":{\"allThreadsContinued\":true},\"command\":\"continue\",\"request_seq\":6,\"seq\":8,\
+            \"success\":true,\"type\":\"response\"}",
+        ),
+        (
             1,
             response(alloc, 1, "é", Outcome::Failure(Failure::unsupported()))?,
             "{\"body\":{\"error\":{\"format\":\"unsupported\",\"id\":1}},\"command\":\"é\",\
@@ -519,6 +554,43 @@ fn a_change_of_a_thread_is_told(rt: HostRuntime) -> Result<(), Fail> {
 }
 
 #[test]
+fn stops_are_told(rt: HostRuntime) -> Result<(), Fail> {
+    let alloc = rt.alloc();
+    let table = [
+        (
+            StopReason::Breakpoint(List::from_slice(alloc, &[1, 2])?),
+            1,
+            "{\"body\":{\"allThreadsStopped\":true,\"hitBreakpointIds\":[1,2],\"reason\":\"breakpoint\",\
+            \"threadId\":1},\"event\":\"stopped\",\"seq\":7,\"type\":\"event\"}",
+        ),
+        (
+            StopReason::FunctionBreakpoint(List::from_slice(alloc, &[3])?),
+            2,
+            "{\"body\":{\"allThreadsStopped\":true,\"hitBreakpointIds\":[3],\"reason\":\"function breakpoint\",\
+            \"threadId\":2},\"event\":\"stopped\",\"seq\":7,\"type\":\"event\"}",
+        ),
+        (
+            StopReason::FunctionBreakpoint(List::new(alloc)),
+            2,
+            "{\"body\":{\"allThreadsStopped\":true,\"hitBreakpointIds\":[],\"reason\":\"function breakpoint\",\
+            \"threadId\":2},\"event\":\"stopped\",\"seq\":7,\"type\":\"event\"}",
+        ),
+        (
+            StopReason::Pause,
+            4,
+            "{\"body\":{\"allThreadsStopped\":true,\"reason\":\"pause\",\"threadId\":4},\"event\":\"stopped\",\
+            \"seq\":7,\"type\":\"event\"}",
+        ),
+    ];
+    for (reason, thread, wanted) in table {
+        let stopped = Stopped { reason, thread };
+        let text = text_of(alloc, 7, &Told::Event(Event::Stopped(stopped)))?;
+        assert!(rt; text.as_slice() == wanted.as_bytes(), "{wanted}");
+    }
+    Ok(())
+}
+
+#[test]
 fn breakpoints_are_told(rt: HostRuntime) -> Result<(), Fail> {
     let alloc = rt.alloc();
     let mut breakpoints = List::new(alloc);
@@ -564,6 +636,7 @@ fn failures_are_told(rt: HostRuntime) -> Result<(), Fail> {
         ),
         (Failure::not_attached(), "notAttached", "notAttached", 3),
         (Failure::target_gone(), "targetGone", "targetGone", 10),
+        (Failure::not_stopped(), "notStopped", "notStopped", 4),
         (
             Failure::unknown_thread(),
             "unknownThread",
