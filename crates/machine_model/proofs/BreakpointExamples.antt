@@ -25,9 +25,9 @@ use Rattle.jdwp_values.specs.declared.tag.TypeTag.{TypeTag}
 use Rattle.jdwp_values.specs.declared.tag.TypeTag.TheVariants as tags
 use Rattle.machine_model.specs.Breakpoints.{key_of}
 use Rattle.machine_model.specs.Due.{due, load_of, newly_lacked, wanted}
-use Rattle.machine_model.specs.Names.{Act, Answer, Clear, Composite, Does, OneThread, Question, Request}
-use Rattle.machine_model.specs.Names.{Resume, Set, SetBreakpoints, a_composite, a_question, an_answer, an_effect}
-use Rattle.machine_model.specs.Names.{an_error, an_event}
+use Rattle.machine_model.specs.Names.{Act, Answer, Clear, Composite, Does, OneThread, Question, Request, Resume, Set}
+use Rattle.machine_model.specs.Names.{SetBreakpoints, a_composite, a_question, an_answer, an_effect, an_error}
+use Rattle.machine_model.specs.Names.{an_event, of_composite}
 use Rattle.machine_model.specs.Plans.{chained, each, made_with, need}
 use Rattle.machine_model.specs.Replying.{answered}
 use Rattle.machine_model.specs.Runs.{Message, heard, with_item}
@@ -163,7 +163,7 @@ with_lines = answered (says_of (lines_of 4) (answers.LineTable (record { start =
       lines = line 0 9 ∷ line 5 10 ∷ line 9 11 ∷ [];
     })))
 
-abbrev at : ℕ → Location
+abbrev pub at : ℕ → Location
 at index = record { tag = tags.Class; class = class 16; method = record { 0 = 3 }; index = index }
 
 -- the breakpoint is bound where its line begins
@@ -172,7 +172,7 @@ unfolding due wanted load_of newly_lacked next_change wished need chained made_w
     lossy_after is_utf8
 binds = refl
 
-abbrev bound : Machine
+abbrev pub bound : Machine
 bound = answered (drive 8 with_lines) (an_effect (Set (wishes.Stop (at 5)))) (an_answer (answers.Set 4))
 
 is_verified : said_on 8 bound ≡ lists first_list (shown 1 10 status.Verified ∷ []) ∷ []
@@ -270,7 +270,7 @@ abbrev tells_verified : Message
 tells_verified = Message.tells (an_event (events.Breakpoint (shown 1 10 status.Verified)))
 
 -- once its breakpoint is set, the client is told so, and the suspension is undone
-resumes_bound : said_on 8 (later_bound All) ≡ tells_verified ∷ changes (Does Resume) ∷ []
+resumes_bound : said_on 8 (later_bound All) ≡ tells_verified ∷ changes (Does (Resume of_composite)) ∷ []
 unfolding due wanted load_of newly_lacked next_change wished need chained made_with each key_of chars encode lossy
     lossy_after is_utf8
 resumes_bound = refl

@@ -417,11 +417,17 @@ lost_on m next said f h (Moves.notes {note = Roots roots} free at) = h
 lost_on m next said f h (Moves.notes {note = Lines key entries} free at) = h
 lost_on m next said f h (Moves.notes {note = Classes classes} free at) = h
 lost_on m next said f h (Moves.answers {question} {replied} is waits reply stays) =
-    rw (same_replied (a_question question) replied m.state, same_stop (a_question question) replied m.state,
-    same_entry (a_question question) replied m.state) h
+    rw (
+      same_replied (a_question question) replied m.state,
+      same_stop (a_question question) replied m.state,
+      same_entry (a_question question) replied m.state,
+    ) h
 lost_on m next said f h (Moves.replies {effect} {replied} is flies reply stays) =
-    rw (same_replied (an_effect effect) replied m.state, same_stop (an_effect effect) replied m.state,
-    same_entry (an_effect effect) replied m.state) h
+    rw (
+      same_replied (an_effect effect) replied m.state,
+      same_stop (an_effect effect) replied m.state,
+      same_entry (an_effect effect) replied m.state,
+    ) h
 lost_on m next said f h (Moves.loses late near why) = refl
 lost_on m next said f h (Moves.begins picked free none is) = h
 lost_on m next said f h (Moves.drops free is none) = h

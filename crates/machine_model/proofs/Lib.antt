@@ -47,6 +47,7 @@ pub mod StandingMoves
 pub mod StandingReplies
 pub mod StandingWalk
 pub mod Stepping
+mod StopExamples
 pub mod StopLaws
 pub mod SuspendLaws
 pub mod Tables

@@ -191,8 +191,10 @@ told_marked Initialized state rest is left =
   where
     unmarked : (has : Bool) → not has ≡ true → has ≡ false
     unmarked has is = grind (arith, is)
+
     over_of : (over others : Bool) → cond over others false ≡ true → over ≡ true
     over_of over others is = grind (arith, is)
+
     still_over : (phase : Phase) → over_gone phase state.terminated ≡ true
         → over_gone (attached_from phase) state.terminated ≡ true
     still_over Fresh is = is
@@ -256,6 +258,7 @@ marked_on m next said once h (Moves.loses late near why) = given_marked m.hand
     gone_over : (told : Bool) → cond told true true ≡ true
     gone_over true = refl
     gone_over false = refl
+
     given_marked : (hand : Option Hand) → hand_marked Gone m.state.terminated (option_map given_up hand) ≡ true
     given_marked None = gone_over m.state.terminated
     given_marked (Some hand) =

@@ -75,15 +75,18 @@ hits_are w (event ∷ events) = by_event event (all_before w event events (hits_
         → All (HasHit w (happened.Breakpoint request thread at ∷ events)) (hits_in w events)
         → All (HasHit w (happened.Breakpoint request thread at ∷ events))
         (cond live (record { cause = Hit at; thread = thread } ∷ []) [] ++ hits_in w events)
-    by_live request thread at true is h = (record {
-      before = [];
-      after = events;
-      request = request;
-      at = at;
-      events_are = refl;
-      cause = refl;
-      installed = is;
-    }, h)
+    by_live request thread at true is h = (
+      record {
+        before = [];
+        after = events;
+        request = request;
+        at = at;
+        events_are = refl;
+        cause = refl;
+        installed = is;
+      },
+      h,
+    )
     by_live request thread at false is h = h
 
     by_event : (event : ATargetEvent) → All (HasHit w (event ∷ events)) (hits_in w events)
@@ -249,9 +252,10 @@ first_test = record {
 still_tells : (w now : Wishes) (item : Item) (parts : List Part) → has_hit parts ≡ false
     → All (PartTells w item) parts → All (PartTells now item) parts
 still_tells w now item [] none h = tt
-still_tells w now item (part ∷ parts) none h =
-    (by_part part (none_of (is_hit_part part) (has_hit parts) none).0 h.0,
-    still_tells w now item parts (none_of (is_hit_part part) (has_hit parts) none).1 h.1)
+still_tells w now item (part ∷ parts) none h = (
+  by_part part (none_of (is_hit_part part) (has_hit parts) none).0 h.0,
+  still_tells w now item parts (none_of (is_hit_part part) (has_hit parts) none).1 h.1,
+)
   where
     none_of : (one others : Bool) → (one || others) ≡ false → (one ≡ false) × (others ≡ false)
     none_of true others is = cc

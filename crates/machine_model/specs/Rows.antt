@@ -193,7 +193,6 @@ noted (Lines key entries) state = record state {
 noted (Classes classes) state = record state {
   wishes = rewished (with_known (found_in state.classes) classes state.wishes.wanted) state.wishes;
 }
-
 noted EntryHeld state = record state { entry = true }
 noted Configured state = record state { configured = true }
 
