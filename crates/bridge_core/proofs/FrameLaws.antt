@@ -139,6 +139,8 @@ framed_on m next said own (Moves.responds {outcome = outcome} free at is) =
     framed_by m next refl (numbered_same outcome m.state) (λ none. none)
 framed_on m next said own (Moves.tells {event = event} free at) =
     framed_by m next refl (told_same event m.state) (λ none. none)
+framed_on m next said own (Moves.sends free at near) =
+    framed_by m next refl (record { heard = refl; sizes = refl; gone = λ is. is }) (λ none. none)
 framed_on m next said own (Moves.notes {note = note} free at) =
     framed_by m next refl (noted_same note m.state) (λ none. none)
 framed_on m next said own (Moves.greets free at is near) =

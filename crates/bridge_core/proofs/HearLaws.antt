@@ -1,6 +1,6 @@
 -- How what is judged of a packet ends a session.
 use Rattle.std.proofs.Common.{◌≡◌, ℕ, ◌+◌, ◌*◌, ◌||◌, ◌++◌, ◌∷◌, Bool, true, false, List, [], Option, None, Some, Ok}
-use Rattle.std.proofs.Common.{Err, refl, sym, ap, subst, ◌∙◌, get_or, ◌&&◌, ◌<◌, cond, arith, OnOk}
+use Rattle.std.proofs.Common.{Err, refl, sym, ap, subst, ◌∙◌, get_or, ◌<◌, cond, arith, OnOk}
 use Rattle.std.specs.Prelude.{IfErr, IfOk, Result, ◌<◌, position, set}
 use Rattle.jdwp_commands.specs.Commands.{number_of}
 use Rattle.jdwp_commands.specs.declared.asked.Replied.{Replied}
@@ -18,18 +18,16 @@ use Rattle.jdwp_values.specs.Sizes.{is_no_size}
 use Rattle.jdwp_values.specs.declared.sizes.IdSizes.{IdSizes}
 use Rattle.machine_model.specs.Due.{can_read}
 use Rattle.machine_model.specs.Replying.{SizesFor, sizes_of}
-use Rattle.machine_model.specs.Runs.{Allows, Message, Run, is_served, takes}
+use Rattle.machine_model.specs.Runs.{Allows, Message, Run}
 use Rattle.machine_model.specs.State.{Machine, SizesRead, has_raw, is_gone, is_raw, is_some}
 use Rattle.machine_model.specs.declared.items.Item.{Item}
 use Rattle.machine_model.specs.declared.items.Item.TheVariants.{Composite as a_composite, Raw as a_raw}
-use Rattle.bridge_core.specs.Hearing.{AreServed, HasBadSizes, IsBadBody, IsFirstKept, IsJudged, IsReadFirst}
-use Rattle.bridge_core.specs.Hearing.{IsRefused, IsUnserved, MayBe, MayBeKept, MayBeUnserved, ReadsComposite, answer_fault}
+use Rattle.bridge_core.specs.Hearing.{AreReadOff, HasBadSizes, IsBadBody, IsFirstKept, IsJudged, IsReadFirst}
+use Rattle.bridge_core.specs.Hearing.{IsRefused, MayBe, MayBeKept, MayBeLeft, ReadsComposite, answer_fault}
 use Rattle.bridge_core.specs.Hearing.{composite_fault, is_tolerated_asked}
 use Rattle.bridge_core.specs.Moving.{RefusesKept}
 use Rattle.bridge_core.proofs.PickLaws.{kept_at}
 use Rattle.bridge_core.specs.Calls.{AreRead}
-use Rattle.jdwp_events.specs.declared.event.Event.{Event as TargetEvent}
-use Rattle.machine_model.specs.Composites.{are_served_events, is_served_event}
 use Rattle.session_model.specs.Faults.{IsBodyFault, IsCompositeFault, RefusesComposite, header, numbers_in}
 use Rattle.session_model.specs.declared.ending.Ending.{Ending}
 use Rattle.session_model.specs.declared.ending.Ending.TheVariants.{BadClient, BadTarget, ClientLink, Done, Flood, Idle}
@@ -37,7 +35,6 @@ use Rattle.session_model.specs.declared.ending.Ending.TheVariants.{Left, NoMemor
 use Rattle.session_model.specs.declared.ending.TargetFault.{TargetFault}
 use Rattle.session_model.specs.declared.ending.TargetFault.TheVariants.{BadCount, BadKind, BadPolicy, BadSizes, BadTag}
 use Rattle.session_model.specs.declared.ending.TargetFault.TheVariants.{Short, Trailing}
-use Rattle.std.specs.List.{list_all}
 
 -- a fault that was found at a place is that fault, and stands there
 found_at : (P : TargetFault → ℕ → Type 0) {at place : ℕ} {fault : TargetFault} (found : TargetFault)
@@ -131,17 +128,6 @@ known_serve sizes found used is same =
     subst (λ (s : Option SizesRead). SizesFor s used) (sym (is ∙ ap (λ (s : SizesRead). Some s) same))
     SizesFor.sizes_read
 
--- Composites that are served ------------------------------------------------------------------------------------------
-
-pub all_served : (events : List TargetEvent) → list_all is_served_event events ≡ are_served_events events
-all_served [] = refl
-all_served (event ∷ events) = by_test (is_served_event event) (all_served events)
-  where
-    by_test : (first : Bool) → list_all is_served_event events ≡ are_served_events events
-        → (first && list_all is_served_event events) ≡ cond first (are_served_events events) false
-    by_test true rest = rest
-    by_test false rest = refl
-
 -- Composites that were kept -------------------------------------------------------------------------------------------
 
 or_true : (raw : Bool) → (raw || true) ≡ true
@@ -182,11 +168,11 @@ fewer_raws used left now r =
 
 -- the machine reads them
 pub reads_all : (m : Machine) (used : IdSizes) (left : List Item) → is_gone m.state.phase ≡ false
-    → m.state.sizes ≡ Some (sizes_of used) → AreServed used m.waiting left
+    → m.state.sizes ≡ Some (sizes_of used) → AreReadOff used m.waiting left
     → AreRead m (record m { waiting = left })
-reads_all m used left near sizes AreServed.none = AreRead.none
-reads_all m used left near sizes (AreServed.one_more middle served first) =
-    AreRead.one_more (record m { waiting = middle }) (reads_all m used middle near sizes served) (record {
+reads_all m used left near sizes AreReadOff.none = AreRead.none
+reads_all m used left near sizes (AreReadOff.one_more middle read first) =
+    AreRead.one_more (record m { waiting = middle }) (reads_all m used middle near sizes read) (record {
       before = first.before;
       after = first.after;
       at = first.at;
@@ -198,12 +184,7 @@ reads_all m used left near sizes (AreServed.one_more middle served first) =
       can = rw (near, sizes, first.were) (raw_within first.before first.at first.body first.after);
       were = first.were;
       is_first = first.is_first;
-      taken = record {
-        used = used;
-        serves = serves;
-        fits = first.reads.fits;
-        is_taken = rw (near, first.served) refl;
-      };
+      taken = record { used = used; serves = serves; fits = first.reads.fits };
       are = ap (λ (waiting : List Item). record m { waiting = waiting }) first.are;
     })
   where
@@ -214,7 +195,7 @@ reads_all m used left near sizes (AreServed.one_more middle served first) =
 refuses_first : (m next : Machine) (used : IdSizes) (ending : Ending) → AreRead m next
     → is_gone next.state.phase ≡ false → next.state.sizes ≡ Some (sizes_of used)
     → IsFirstKept used next.waiting ending → RefusesKept m next ending
-refuses_first m next used ending read near sizes first = by_unserved first.unserved
+refuses_first m next used ending read near sizes first = by_body first.is_bad
   where
     fault_by : {fault : TargetFault} {offset : ℕ} → RefusesComposite next first.body first.at fault offset
         → RefusesKept m next (BadTarget fault offset 0)
@@ -234,15 +215,10 @@ refuses_first m next used ending read near sizes first = by_unserved first.unser
     by_body (IsBadBody.faulty {found} {fault} {place} reads is) =
         fault_by (RefusesComposite.bad_body used sizes reads (is_composite_fault found fault place is))
 
-    by_unserved : {ending : Ending} → IsUnserved used first.body first.at ending → RefusesKept m next ending
-    by_unserved (IsUnserved.bad_body bad) = by_body bad
-    by_unserved (IsUnserved.unserved {composite} reads other) =
-        fault_by (RefusesComposite.not_taken used sizes reads (rw (near, other) refl))
-
 -- the composite that was kept at a place is the first, and is read
 pub read_so : (used : IdSizes) (items : List Item) (place at : ℕ) (item : Item) (body : List ℕ)
     (composite : Composite) → position is_raw items ≡ Some place → item ≡ get_or items place item
-    → item ≡ a_raw at body → ReadsComposite used body composite × (is_served composite ≡ true)
+    → item ≡ a_raw at body → ReadsComposite used body composite
     → IsReadFirst used items (set items place (a_composite at composite))
 read_so used items place at item body composite first there is read =
     let k = kept_at items place item first there in
@@ -254,15 +230,14 @@ read_so used items place at item body composite first there is read =
       composite = composite;
       were = k.items_are ∙ ap (λ (i : Item). k.before ++ i ∷ k.after) is;
       is_first = k.is_first;
-      reads = read.0;
-      served = read.1;
+      reads = read;
       are = k.replaced (a_composite at composite);
     }
 
 -- or it ends the session
 pub kept_so : (used : IdSizes) (items : List Item) (place at : ℕ) (item : Item) (body : List ℕ) (ending : Ending)
     → position is_raw items ≡ Some place → item ≡ get_or items place item → item ≡ a_raw at body
-    → IsUnserved used body at ending → MayBeKept used items ending
+    → IsBadBody used body at ending → MayBeKept used items ending
 kept_so used items place at item body ending first there is cause =
     let k = kept_at items place item first there in
     MayBeKept.kept (record {
@@ -272,34 +247,33 @@ kept_so used items place at item body ending first there is cause =
       body = body;
       waiting_are = k.items_are ∙ ap (λ (i : Item). k.before ++ i ∷ k.after) is;
       is_first = k.is_first;
-      unserved = cause;
+      is_bad = cause;
     })
 
--- one that isn't served ends the session, behind those that were read
-pub unserved_behind : (used : IdSizes) (kept left now : List Item) (ending : Ending) → AreServed used kept left
-    → now ≡ left → MayBeKept used left ending → MayBeUnserved used kept now ending
-unserved_behind used kept left now ending served same MayBeKept.no_memory = MayBeUnserved.no_memory
-unserved_behind used kept left now ending served same (MayBeKept.kept first) =
-    subst (λ (items : List Item). MayBeUnserved used kept items ending) (sym same)
-    (MayBeUnserved.unserved served first)
+-- one whose body has a fault ends the session, behind those that were read
+pub left_behind : (used : IdSizes) (kept left now : List Item) (ending : Ending) → AreReadOff used kept left
+    → now ≡ left → MayBeKept used left ending → MayBeLeft used kept now ending
+left_behind used kept left now ending read same MayBeKept.no_memory = MayBeLeft.no_memory
+left_behind used kept left now ending read same (MayBeKept.kept first) =
+    subst (λ (items : List Item). MayBeLeft used kept items ending) (sym same) (MayBeLeft.left_bad read first)
 
 pub refuses_kept : (m : Machine) (used : IdSizes) (left : List Item) (ending : Ending) → is_gone m.state.phase ≡ false
-    → m.state.sizes ≡ Some (sizes_of used) → MayBeUnserved used m.waiting left ending
+    → m.state.sizes ≡ Some (sizes_of used) → MayBeLeft used m.waiting left ending
     → RefusesKept m (record m { waiting = left }) ending
-refuses_kept m used left ending near sizes MayBeUnserved.no_memory = RefusesKept.no_memory
-refuses_kept m used left ending near sizes (MayBeUnserved.unserved served first) =
-    refuses_first m (record m { waiting = left }) used ending (reads_all m used left near sizes served) near sizes first
+refuses_kept m used left ending near sizes MayBeLeft.no_memory = RefusesKept.no_memory
+refuses_kept m used left ending near sizes (MayBeLeft.left_bad read first) =
+    refuses_first m (record m { waiting = left }) used ending (reads_all m used left near sizes read) near sizes first
 
 pub refuses_kept_so : {A : Type 0} (result : Result A Ending) (m : Machine) (used : IdSizes) (left : List Item)
     → is_gone m.state.phase ≡ false → m.state.sizes ≡ Some (sizes_of used)
-    → IfErr result (MayBeUnserved used m.waiting left) → IfErr result (RefusesKept m (record m { waiting = left }))
+    → IfErr result (MayBeLeft used m.waiting left) → IfErr result (RefusesKept m (record m { waiting = left }))
 refuses_kept_so (Ok a) m used left near sizes h = tt
 refuses_kept_so (Err ending) m used left near sizes h = refuses_kept m used left ending near sizes h
 
 -- or all are read
 pub reads_kept_so : {A E : Type 0} (result : Result A E) (m : Machine) (used : IdSizes) (left : List Item)
     → is_gone m.state.phase ≡ false → m.state.sizes ≡ Some (sizes_of used)
-    → OnOk result (AreServed used m.waiting left) → OnOk result (AreRead m (record m { waiting = left }))
+    → OnOk result (AreReadOff used m.waiting left) → OnOk result (AreRead m (record m { waiting = left }))
 reads_kept_so (Ok a) m used left near sizes h = reads_all m used left near sizes h
 reads_kept_so (Err ending) m used left near sizes h = tt
 

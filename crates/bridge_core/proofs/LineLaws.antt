@@ -15,8 +15,8 @@ use Rattle.dap_messages.specs.declared.requests.SourceBreakpoint.{SourceBreakpoi
 use Rattle.jdwp_values.specs.declared.id.ClassId.{ClassId}
 use Rattle.jdwp_events.specs.declared.kind.Policy.{Policy}
 use Rattle.machine_model.specs.Breakpoints.{entry_of, is_news, newly_verified, numbered_from}
-use Rattle.machine_model.specs.Composites.{changes_in, composite_parts}
-use Rattle.machine_model.specs.Due.{Picked, asked_hand, passed_by, pick}
+use Rattle.machine_model.specs.Composites.{changes_in, composite_parts, has_death}
+use Rattle.machine_model.specs.Due.{Picked, after_deed, asked_hand, passed_by, pick}
 use Rattle.class_tables.specs.Lookups.{found_in}
 use Rattle.machine_model.specs.Lookups.{finished}
 use Rattle.machine_model.specs.Outcomes.{result_of}
@@ -24,15 +24,18 @@ use Rattle.machine_model.specs.Plans.{Result}
 use Rattle.machine_model.specs.Requests.{Wishes}
 use Rattle.machine_model.specs.declared.parts.News.{News}
 use Rattle.machine_model.specs.declared.parts.News.TheVariants.{Verified as entry_verified}
-use Rattle.machine_model.specs.Rows.{chosen, end_parts, failure_of, news_of, noted, parts_by, parts_of, row_of, told_in}
-use Rattle.machine_model.specs.Rows.{wanting}
+use Rattle.machine_model.specs.Rows.{chosen, configured_parts, continue_parts, end_parts, failure_of, news_of, noted}
+use Rattle.machine_model.specs.Rows.{parts_by, parts_of, pause_parts, row_of, thread_with, told_in, wanting}
 use Rattle.machine_model.specs.Runs.{Message}
 use Rattle.machine_model.specs.State.{Hand, Machine, State, is_gone, is_raw, knowing, left}
 use Rattle.machine_model.specs.Telling.{after_event, numbered_by}
 use Rattle.machine_model.proofs.Stepping.{IsAt, Moves}
-use Rattle.bridge_core.specs.Names.{Attached, Choice, Classes, Command, Event, Failure, Finding, Fresh, Gone, Item}
-use Rattle.bridge_core.specs.Names.{Leaves, Lines, Lookup, Note, Options, Outcome, Part, Phase, Roots, SetBreakpoints, TellsNews, a_composite, a_raw}
-use Rattle.bridge_core.specs.Names.{a_request, target_end}
+use Rattle.machine_model.proofs.Tables.{of_decided}
+use Rattle.jdwp_values.specs.declared.id.ThreadId.{ThreadId}
+use Rattle.bridge_core.specs.Names.{Attached, Choice, Classes, Command, ConfigurationDone, Configured, Continue}
+use Rattle.bridge_core.specs.Names.{Decides, EntryHeld, Event, Failure, Finding, Fresh, Gone, Item, Leaves, Lines}
+use Rattle.bridge_core.specs.Names.{Lookup, Note, Options, Outcome, Part, Pause, Phase, Roots, SetBreakpoints}
+use Rattle.bridge_core.specs.Names.{TellsNews, a_composite, a_raw, a_request, target_end}
 use Rattle.bridge_core.specs.Working.{lines_in, lines_in_hand, lines_in_item, lines_in_part, lines_listed, lines_noted}
 use Rattle.bridge_core.specs.Working.{lines_of, lines_waiting}
 use Rattle.bridge_core.proofs.OwnMoves.{is_own, not_lost}
@@ -127,6 +130,8 @@ noted_few (Lines (Some key) entries) state = put_few key entries state.wishes.wa
 noted_few (Classes classes) state =
     let same = ap lines_under (known_lists (found_in state.classes) classes state.wishes.wanted) in
     omega (arith, same)
+noted_few EntryHeld state = omega arith
+noted_few Configured state = omega arith
 
 -- Parts ---------------------------------------------------------------------------------------------------------------
 
@@ -152,22 +157,41 @@ chosen_lines (TellsNews below) state hand = by_phase state.phase (news_of below 
     by_phase Gone news = refl
     by_phase Attached [] = refl
     by_phase Attached (one ∷ news) = let more = by_phase Attached news in omega (arith, more)
+chosen_lines Decides state hand =
+    of_decided (λ (parts : List Part). lines_in parts ≡ 0) refl refl refl (λ stopping. refl) (λ stopping. refl) state
+    hand.item
 chosen_lines (Leaves exits) state hand = grind arith
+
+configured_lines : (entry : Bool) → lines_in (configured_parts entry) ≡ 0
+configured_lines true = refl
+configured_lines false = refl
+
+continue_lines : (thread : Option ThreadId) → lines_in (continue_parts thread) ≡ 0
+continue_lines None = refl
+continue_lines (Some thread) = refl
+
+pause_lines : (stopped : Bool) (thread : Option ThreadId) → lines_in (pause_parts stopped thread) ≡ 0
+pause_lines stopped None = refl
+pause_lines true (Some thread) = refl
+pause_lines false (Some thread) = refl
 
 row_lines : (command : Command) (state : State) → lines_in (row_of command state) ≡ lines_listed command
 row_lines (SetBreakpoints arguments) state =
     let listed = numbered_from state.next_entry arguments.breakpoints in
     let long = length-map listed (entry_of state.options.lines_from_one) in
     let all = numbered_length state.next_entry arguments.breakpoints in omega (arith, long, all)
+row_lines ConfigurationDone state = configured_lines state.entry
+row_lines (Continue arguments) state = continue_lines (thread_with state.threads arguments.thread_id)
+row_lines (Pause arguments) state = pause_lines state.stopped (thread_with state.threads arguments.thread_id)
 row_lines command state = grind arith
 
 parts_lines : (failure : Option Failure) (row : List Part) → lines_in (parts_by failure row) ≤ lines_in row
 parts_lines None row = omega arith
 parts_lines (Some failure) row = omega arith
 
-composite_lines : (phase : Phase) (policy : Policy) (at below : ℕ)
-    → lines_in (composite_parts phase policy at below) ≡ 0
-composite_lines phase policy at below = grind arith
+composite_lines : (phase : Phase) (dies : Bool) (policy : Policy) (at below : ℕ)
+    → lines_in (composite_parts phase dies policy at below) ≡ 0
+composite_lines phase dies policy at below = grind arith
 
 end_lines : (terminated : Bool) → lines_in (end_parts terminated) ≡ 0
 end_lines true = refl
@@ -181,7 +205,8 @@ begun_lines state (a_request request) =
     let few = parts_lines (failure_of (wanting request.command) state) (row_of request.command state) in
     omega (arith, row, few)
 begun_lines state (a_composite at composite) =
-    let none = composite_lines state.phase composite.policy at state.next_entry in omega (arith, none)
+    let none = composite_lines state.phase (has_death composite.events) composite.policy at state.next_entry in
+    omega (arith, none)
 begun_lines state (a_raw at body) = omega arith
 begun_lines state target_end = let none = end_lines state.terminated in omega (arith, none)
 
@@ -256,7 +281,7 @@ lines_on m next said own (Moves.tells {hand} {rest} {event} free at) =
     let same = ap (λ (wishes : Wishes). length (all_lines wishes.wanted)) (told_wishes event m.state) in
     part_lines m hand (Part.Tells event) rest rest (after_event event m.state) at (omega (arith, same))
 lines_on m next said own (Moves.sends {hand} {rest} {deed} free at near) =
-    part_lines m hand (Part.Sends deed) rest rest m.state at (omega arith)
+    part_lines m hand (Part.Sends deed) rest rest (after_deed deed m.state) at (omega arith)
 lines_on m next said own (Moves.updates {hand} {effect} {rest} free at is near) =
     part_lines m hand Part.Updates rest (Part.Updates ∷ rest) m.state at (omega arith)
 lines_on m next said own (Moves.greets {hand} {guard} free at is near) = omega arith

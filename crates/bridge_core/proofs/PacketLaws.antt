@@ -11,7 +11,7 @@ use Rattle.machine_model.specs.State.{Machine, has_raw, is_gone, is_raw, is_some
 use Rattle.bridge_core.specs.Names.{Item, a_composite, a_raw}
 use Rattle.bridge_core.specs.Calls.{AreRead, IsLike, RefusesPacket, TakesPacket}
 use Rattle.bridge_core.specs.Cores.{CoreState, IsReady, session_in, with_machine}
-use Rattle.bridge_core.specs.Hearing.{IsBadBody, IsUnserved}
+use Rattle.bridge_core.specs.Hearing.{IsBadBody}
 use Rattle.bridge_core.specs.Packets.{Hears, IsTakenIn, IsUntaken}
 use Rattle.bridge_core.proofs.HearLaws.{is_composite_fault}
 use Rattle.bridge_core.proofs.WindowLaws.{item_aligned}
@@ -101,7 +101,6 @@ takes_so old new used at id set number body ready is sizes taken =
       used = used;
       serves = serves;
       fits = taken.reads.fits;
-      is_taken = taken.taken;
     })
 
 -- where nothing changed
@@ -115,7 +114,7 @@ refuses_command old new at id set number body is same =
     RefusesPacket.faulty (λ unheard front. subst (λ (offset : ℕ). IsTargetFault (session_in old unheard) BadCommand
     offset 0) front.offset (IsTargetFault.bad_command front.front is)) (is_like old new same)
 
--- a composite that isn't taken does
+-- a composite that can't be read does
 pub refuses_untaken : (old new : CoreState) (used : IdSizes) (at id set number : ℕ) (body : List ℕ) (ending : Ending)
     → is_composite set number ≡ true → old.machine.state.sizes ≡ Some (sizes_of used)
     → IsUntaken old used at body new ending → RefusesPacket old at (command_packet id set number body) new ending
@@ -134,16 +133,9 @@ refuses_untaken old new used at id set number body ending is sizes untaken = by_
     by_body same (IsBadBody.faulty {found} {fault} {place} reads is) =
         faulty same (RefusesComposite.bad_body used sizes reads (is_composite_fault found fault place is))
 
-    by_unserved : {ending : Ending} → is_gone old.machine.state.phase ≡ false → new ≡ old
-        → IsUnserved used body at ending → RefusesPacket old at (command_packet id set number body) new ending
-    by_unserved near same (IsUnserved.bad_body bad) = by_body same bad
-    by_unserved near same (IsUnserved.unserved {composite} reads other) =
-        faulty same (RefusesComposite.not_taken used sizes reads (rw (near, other) refl))
-
     by_cause : {ending : Ending} → IsUntaken old used at body new ending
         → RefusesPacket old at (command_packet id set number body) new ending
     by_cause IsUntaken.no_memory = RefusesPacket.no_memory
-    by_cause (IsUntaken.unserved near bad same) = by_unserved near same bad
     by_cause (IsUntaken.bad_body bad same) = by_body same bad
 
 -- what there is no memory for ends the session

@@ -5,24 +5,28 @@ use Rattle.std.proofs.Common.{◌++◌, length, Option, Some, None, refl, sym, a
 use Rattle.std.proofs.Common.{length-append}
 use Rattle.std.proofs.lemmas.List.Concat.{flat_map-append}
 use Rattle.std.specs.List.{flat_map}
-use Rattle.machine_model.specs.Due.{Due, Load, Picked, Way, asked_first, behind_first, asked_hand, asked_next, begun}
-use Rattle.machine_model.specs.Due.{busy, can_read}
+use Rattle.machine_model.specs.Due.{Due, Load, Picked, Way, after_deed, asked_first, asked_hand, asked_next}
+use Rattle.machine_model.specs.Due.{begun, behind_first, busy, can_read}
 use Rattle.machine_model.specs.Due.{clear, due, due_by, gated, guarded, hand_due, is_full, lacking_more}
 use Rattle.machine_model.specs.Due.{lets, load_of, looked, newly_lacked, next_item, passed_by, pick, queued}
 use Rattle.machine_model.specs.Due.{queued_next, responded, updated, waiting, wanted, wanted_in, way}
 use Rattle.machine_model.specs.Due.Way.{passes, greets as greets_way, holds as holds_way, asks as asks_way}
 use Rattle.machine_model.specs.Lookups.{finished, found_for}
-use Rattle.bridge_core.specs.Names.{Act, Attached, Choice, Fresh, Gone, Leaves, Phase, TellsNews, Command, Does, Effect, Event, Failure, Finding, Item, Leaves, Lookup}
-use Rattle.bridge_core.specs.Names.{Note, Outcome, Part, Phase, Question, TargetCommand, TellsNews, Want}
+use Rattle.bridge_core.specs.Names.{Act, Attach, Attached, BadArguments, Choice, Command, ConfigurationDone, Continue}
+use Rattle.bridge_core.specs.Names.{Decides, Disconnect, Does, Effect, Event, Failure, Finding, Fresh, Gone}
+use Rattle.bridge_core.specs.Names.{Initialize, Item, Leaves, Lookup, Note, Outcome, Part, Pause, Phase, Question}
+use Rattle.bridge_core.specs.Names.{SetBreakpoints, TargetCommand, TellsNews, Threads, Unsupported, Want}
 use Rattle.bridge_core.specs.Names.{a_composite, a_question, a_raw, a_request, an_effect, target_end}
 use Rattle.machine_model.specs.Outcomes.{result_of}
 use Rattle.machine_model.specs.Plans.{Need, Result, fails, has, lacks, question_of}
 use Rattle.machine_model.specs.Replying.{pending_in, pending_of, unanswered, unanswered_effect}
 use Rattle.machine_model.specs.Requests.{effect_due}
-use Rattle.machine_model.specs.Composites.{changes_in}
+use Rattle.jdwp_values.specs.declared.id.ThreadId.{ThreadId}
+use Rattle.machine_model.specs.Composites.{changes_in, has_death}
 use Rattle.machine_model.specs.declared.parts.News.{News}
-use Rattle.machine_model.specs.Rows.{chosen, end_parts, failure_of, leaves, news_of, noted, parts_by, parts_of, row_of}
-use Rattle.machine_model.specs.Rows.{told_in, wanting}
+use Rattle.machine_model.specs.Rows.{chosen, configured_parts, continue_parts, end_parts, failure_of, leaves}
+use Rattle.machine_model.specs.Rows.{news_of, noted, parts_by, parts_of, pause_parts, row_of, thread_with, told_in}
+use Rattle.machine_model.specs.Rows.{wanting}
 use Rattle.machine_model.specs.Runs.{Allows, Message, Run, said}
 use Rattle.machine_model.specs.State.{Hand, Machine, State, has_waiting, is_empty, is_flying, is_gone, is_raw, knowing}
 use Rattle.machine_model.specs.State.{left}
@@ -32,6 +36,7 @@ use Rattle.machine_model.proofs.PendingLaws.{all_open}
 use Rattle.machine_model.proofs.QuietLaws.{lacking_hand, load_in}
 use Rattle.machine_model.proofs.RestLaws.{is_free, near_queue}
 use Rattle.machine_model.proofs.Stepping.{IsAt, Loses, Moves, moved, walks_due}
+use Rattle.machine_model.proofs.Tables.{of_decided}
 use Rattle.machine_model.proofs.TurnLaws.{Turns, turned, unsent}
 use Rattle.bridge_core.specs.Working.{choice_weight, hand_work, is_wait, is_work, lines_in, lines_in_hand, lines_of}
 use Rattle.bridge_core.specs.Working.{one_if, one_unless}
@@ -173,19 +178,46 @@ chosen_light : (lines : ℕ) (choice : Choice) (state : State) (hand : Hand)
 chosen_light lines (TellsNews below) state hand few =
     let told = news_light lines state.phase (news_of below state hand.item) in
     let listed = all_news_few below state hand.item in omega (arith, few, told, listed)
+chosen_light lines Decides state hand few =
+    of_decided (λ (parts : List Part). weights lines parts < 10) (omega arith) (omega arith) (omega arith)
+    (λ stopping. omega arith) (λ stopping. omega arith) state hand.item
 chosen_light lines (Leaves exits) state hand few = leaves_light lines exits state
 
+configured_light : (lines : ℕ) (entry : Bool) → weights lines (configured_parts entry) < 60 + lines
+configured_light lines true = omega arith
+configured_light lines false = omega arith
+
+continue_light : (lines : ℕ) (thread : Option ThreadId) → weights lines (continue_parts thread) < 60 + lines
+continue_light lines None = omega arith
+continue_light lines (Some thread) = omega arith
+
+pause_light : (lines : ℕ) (stopped : Bool) (thread : Option ThreadId)
+    → weights lines (pause_parts stopped thread) < 60 + lines
+pause_light lines stopped None = omega arith
+pause_light lines true (Some thread) = omega arith
+pause_light lines false (Some thread) = omega arith
+
 row_light : (lines : ℕ) (command : Command) (state : State) → weights lines (row_of command state) < 60 + lines
-row_light lines command state = grind arith
+row_light lines (Initialize arguments) state = omega arith
+row_light lines (Attach arguments) state = omega arith
+row_light lines ConfigurationDone state = configured_light lines state.entry
+row_light lines (SetBreakpoints arguments) state = omega arith
+row_light lines Threads state = omega arith
+row_light lines (Continue arguments) state = continue_light lines (thread_with state.threads arguments.thread_id)
+row_light lines (Pause arguments) state =
+    pause_light lines state.stopped (thread_with state.threads arguments.thread_id)
+row_light lines (Disconnect arguments) state = omega arith
+row_light lines Unsupported state = omega arith
+row_light lines (BadArguments name) state = omega arith
 
 parts_light : (lines : ℕ) (failure : Option Failure) (row : List Part) → weights lines row < 60 + lines
     → weights lines (parts_by failure row) < 60 + lines
 parts_light lines None row light = light
 parts_light lines (Some failure) row light = omega arith
 
-composite_light : (lines : ℕ) (phase : Phase) (policy : Policy) (at below : ℕ)
-    → weights lines (composite_parts phase policy at below) < 60 + lines
-composite_light lines phase policy at below = grind arith
+composite_light : (lines : ℕ) (phase : Phase) (dies : Bool) (policy : Policy) (at below : ℕ)
+    → weights lines (composite_parts phase dies policy at below) < 60 + lines
+composite_light lines phase dies policy at below = grind arith
 
 end_light : (lines : ℕ) (terminated : Bool) → weights lines (end_parts terminated) < 60 + lines
 end_light lines true = omega arith
@@ -196,7 +228,7 @@ begun_light lines state (a_request request) =
     parts_light lines (failure_of (wanting request.command) state) (row_of request.command state)
     (row_light lines request.command state)
 begun_light lines state (a_composite at composite) =
-    composite_light lines state.phase composite.policy at state.next_entry
+    composite_light lines state.phase (has_death composite.events) composite.policy at state.next_entry
 begun_light lines state (a_raw at body) = omega arith
 begun_light lines state target_end = end_light lines state.terminated
 
@@ -272,6 +304,7 @@ picked_work lines gone (item ∷ items) picked is =
 
 weight_fewer : (few many : ℕ) (part : Part) → few ≤ many → weight few part ≤ weight many part
 weight_fewer few many (Part.Unfolds (TellsNews below)) less = omega (arith, less)
+weight_fewer few many (Part.Unfolds Decides) less = omega arith
 weight_fewer few many (Part.Unfolds (Leaves exits)) less = omega arith
 weight_fewer few many (Part.Looks lookup) less = omega arith
 weight_fewer few many (Part.Responds outcome) less = omega arith
@@ -322,11 +355,14 @@ part_less lines m hand part rest parts state at greets less =
     omega arith
 
 -- an effect is sent for the part in front
-sent_less : (lines : ℕ) (m : Machine) (hand : Hand) (part : Part) (rest : List Part) (now : Hand) → IsAt m hand part rest
+sent_less : (lines : ℕ) (m : Machine) (hand : Hand) (part : Part) (rest : List Part) (now : Hand) (state : State)
+    → IsAt m hand part rest → state.greeting_sent ≡ m.state.greeting_sent
     → hand_work lines (Some now) < hand_work lines (Some hand)
-    → work_of lines (record m { hand = Some now }) < work_of lines m
-sent_less lines m hand part rest now at less =
-    let was : hand_work lines m.hand ≡ hand_work lines (Some hand) = ap (hand_work lines) at.in_hand in omega arith
+    → work_of lines (record m { hand = Some now; state = state }) < work_of lines m
+sent_less lines m hand part rest now state at greets less =
+    let was : hand_work lines m.hand ≡ hand_work lines (Some hand) = ap (hand_work lines) at.in_hand in
+    let same : one_unless state.greeting_sent ≡ one_unless m.state.greeting_sent = ap one_unless greets in
+    omega arith
 
 queued_less : (lines : ℕ) (m : Machine) (hand : Hand) → load_of m ≡ lacking_more → m.hand ≡ Some hand
     → work_of lines (record m { hand = Some (record hand { queue = newly_lacked m.state hand }) }) < work_of lines m
@@ -401,14 +437,14 @@ less_by lines m next said few own (Moves.tells {hand} {rest} {event} free at) =
 less_by lines m next said few own (Moves.sends {hand} {rest} {deed} free at near) =
     let heavy : weights lines hand.parts ≡ 1 + weights lines rest = ap (weights lines) at.parts in
     sent_less lines m hand (Part.Sends deed) rest
-    (record hand { parts = rest; effect = Some (record { effect = Does deed; reply = None }) }) at
-    (omega (arith, heavy))
+    (record hand { parts = rest; effect = Some (record { effect = Does deed; reply = None }) })
+    (after_deed deed m.state) at refl (omega (arith, heavy))
 less_by lines m next said few own (Moves.updates {hand} {effect} {rest} free at is near) =
     let heavy : weights lines hand.parts ≡ 1 + weights lines rest = ap (weights lines) at.parts in
     let lands : one_unless (is_flying hand.effect) ≡ 1 = ap one_unless (is_free m hand free near at.in_hand).lands in
     sent_less lines m hand Part.Updates rest
-    (record hand { parts = Part.Updates ∷ rest; effect = Some (record { effect = effect; reply = None }) }) at
-    (omega (arith, heavy, lands))
+    (record hand { parts = Part.Updates ∷ rest; effect = Some (record { effect = effect; reply = None }) }) m.state
+    at refl (omega (arith, heavy, lands))
 less_by lines m next said few own (Moves.greets {hand} {guard} free at is near) =
     let before : one_unless m.state.greeting_sent ≡ 1 = ap one_unless (unsent m guard is) in omega (arith, before)
 less_by lines m next said few own (Moves.notes {hand} {note} {rest} free at) =

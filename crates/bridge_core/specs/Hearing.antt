@@ -18,7 +18,6 @@ use Rattle.jdwp_events.specs.declared.composite.CompositeFault.TheVariants as co
 use Rattle.jdwp_values.specs.Sizes.{is_no_size}
 use Rattle.jdwp_values.specs.declared.sizes.IdSizes.{IdSizes}
 use Rattle.machine_model.specs.Replying.{has_good_sizes, is_essential_question}
-use Rattle.machine_model.specs.Runs.{is_served}
 use Rattle.machine_model.specs.State.{has_raw}
 use Rattle.machine_model.specs.declared.items.Item.{Item}
 use Rattle.machine_model.specs.declared.items.Item.TheVariants.{Composite as a_composite, Raw as a_raw}
@@ -26,8 +25,8 @@ use Rattle.session_model.specs.Faults.{header, numbers_in}
 use Rattle.session_model.specs.declared.ending.Ending.{Ending}
 use Rattle.session_model.specs.declared.ending.Ending.TheVariants.{BadTarget, NoMemory, TargetRefused}
 use Rattle.session_model.specs.declared.ending.TargetFault.{TargetFault}
-use Rattle.session_model.specs.declared.ending.TargetFault.TheVariants.{BadCommand, BadCount, BadKind, BadPolicy}
-use Rattle.session_model.specs.declared.ending.TargetFault.TheVariants.{BadSizes, BadTag, Short, Trailing}
+use Rattle.session_model.specs.declared.ending.TargetFault.TheVariants.{BadCount, BadKind, BadPolicy, BadSizes}
+use Rattle.session_model.specs.declared.ending.TargetFault.TheVariants.{BadTag, Short, Trailing}
 
 -- it is this ending, unless memory ran out
 abbrev pub MayBe : Ending → Ending → Type 0
@@ -66,13 +65,7 @@ pub data IsBadBody (used : IdSizes) (body : List ℕ) (at : ℕ) : Ending → Ty
   faulty : {found : CompositeFault} {fault : TargetFault} {place : ℕ} → composite_at used body ≡ Err found
       → composite_fault found ≡ Some (fault, place) → IsBadBody used body at (BadTarget fault (at + header + place) 0)
 
--- a composite that isn't served ends the session: at a fault of its body, or at its packet
-pub data IsUnserved (used : IdSizes) (body : List ℕ) (at : ℕ) : Ending → Type 0 where
-  bad_body : {ending : Ending} → IsBadBody used body at ending → IsUnserved used body at ending
-  unserved : {composite : Composite} → composite_at used body ≡ Ok composite → is_served composite ≡ false
-      → IsUnserved used body at (BadTarget BadCommand at 0)
-
--- the first of the composites that were kept is read, and is served
+-- the first of the composites that were kept is read
 pub record IsReadFirst (used : IdSizes) (old new : List Item) : Type 0 where
   pub before : List Item
   pub after : List Item
@@ -82,14 +75,13 @@ pub record IsReadFirst (used : IdSizes) (old new : List Item) : Type 0 where
   pub were : old ≡ before ++ a_raw at body ∷ after
   pub is_first : has_raw before ≡ false
   pub reads : ReadsComposite used body composite
-  pub served : is_served composite ≡ true
   pub are : new ≡ before ++ a_composite at composite ∷ after
 
 -- some are read, one by one
-pub data AreServed (used : IdSizes) (kept : List Item) : List Item → Type 0 where
-  none : AreServed used kept kept
-  one_more : {left : List Item} (middle : List Item) → AreServed used kept middle → IsReadFirst used middle left
-      → AreServed used kept left
+pub data AreReadOff (used : IdSizes) (kept : List Item) : List Item → Type 0 where
+  none : AreReadOff used kept kept
+  one_more : {left : List Item} (middle : List Item) → AreReadOff used kept middle → IsReadFirst used middle left
+      → AreReadOff used kept left
 
 -- the first that is left ends the session
 pub record IsFirstKept (used : IdSizes) (waiting : List Item) (ending : Ending) : Type 0 where
@@ -99,7 +91,7 @@ pub record IsFirstKept (used : IdSizes) (waiting : List Item) (ending : Ending) 
   pub body : List ℕ
   pub waiting_are : waiting ≡ before ++ a_raw at body ∷ after
   pub is_first : has_raw before ≡ false
-  pub unserved : IsUnserved used body at ending
+  pub is_bad : IsBadBody used body at ending
 
 -- that is so, unless memory ran out
 pub data MayBeKept (used : IdSizes) (waiting : List Item) : Ending → Type 0 where
@@ -107,10 +99,10 @@ pub data MayBeKept (used : IdSizes) (waiting : List Item) : Ending → Type 0 wh
   kept : {ending : Ending} → IsFirstKept used waiting ending → MayBeKept used waiting ending
 
 -- some were read, and then one ends the session, unless memory ran out
-pub data MayBeUnserved (used : IdSizes) (kept left : List Item) : Ending → Type 0 where
-  no_memory : MayBeUnserved used kept left NoMemory
-  unserved : {ending : Ending} → AreServed used kept left → IsFirstKept used left ending
-      → MayBeUnserved used kept left ending
+pub data MayBeLeft (used : IdSizes) (kept left : List Item) : Ending → Type 0 where
+  no_memory : MayBeLeft used kept left NoMemory
+  left_bad : {ending : Ending} → AreReadOff used kept left → IsFirstKept used left ending
+      → MayBeLeft used kept left ending
 
 -- Replies -------------------------------------------------------------------------------------------------------------
 
@@ -118,6 +110,7 @@ pub data MayBeUnserved (used : IdSizes) (kept left : List Item) : Ending → Typ
 abbrev pub is_essential_asked : Asked → Bool
 is_essential_asked (commands.Question question) = is_essential_question question
 is_essential_asked (commands.Effect (effects.Clear kind request)) = true
+is_essential_asked (commands.Effect effects.Suspend) = true
 is_essential_asked (commands.Effect effects.Resume) = true
 is_essential_asked (commands.Effect _) = false
 

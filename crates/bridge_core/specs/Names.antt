@@ -1,6 +1,8 @@
 -- The words of the machine and of commands, under the names that the definitions and lemmas use.
 pub use Rattle.dap_messages.specs.declared.requests.Command.{Command}
-pub use Rattle.dap_messages.specs.declared.requests.Command.TheVariants.{SetBreakpoints}
+pub use Rattle.dap_messages.specs.declared.requests.Command.TheVariants.{Attach, BadArguments, ConfigurationDone}
+pub use Rattle.dap_messages.specs.declared.requests.Command.TheVariants.{Continue, Disconnect, Initialize, Pause}
+pub use Rattle.dap_messages.specs.declared.requests.Command.TheVariants.{SetBreakpoints, Threads, Unsupported}
 pub use Rattle.dap_messages.specs.declared.requests.Request.{Request}
 pub use Rattle.dap_messages.specs.declared.told.Failure.{Failure}
 pub use Rattle.dap_messages.specs.declared.told.Told.{Told}
@@ -22,11 +24,12 @@ pub use Rattle.machine_model.specs.declared.items.Item.TheVariants.{Request as a
 pub use Rattle.machine_model.specs.declared.items.Phase.{Phase}
 pub use Rattle.machine_model.specs.declared.items.Phase.TheVariants.{Attached, Fresh, Gone}
 pub use Rattle.machine_model.specs.declared.parts.Choice.{Choice}
-pub use Rattle.machine_model.specs.declared.parts.Choice.TheVariants.{Leaves, TellsNews}
+pub use Rattle.machine_model.specs.declared.parts.Choice.TheVariants.{Decides, Leaves, TellsNews}
 pub use Rattle.machine_model.specs.declared.parts.Event.{Event}
 pub use Rattle.machine_model.specs.declared.parts.Finding.{Finding}
 pub use Rattle.machine_model.specs.declared.parts.Lookup.{Lookup}
 pub use Rattle.machine_model.specs.declared.parts.Note.{Note}
-pub use Rattle.machine_model.specs.declared.parts.Note.TheVariants.{Classes, Lines, Options, Roots}
+pub use Rattle.machine_model.specs.declared.parts.Note.TheVariants.{Classes, Configured, EntryHeld, Lines}
+pub use Rattle.machine_model.specs.declared.parts.Note.TheVariants.{Options, Roots}
 pub use Rattle.machine_model.specs.declared.parts.Outcome.{Outcome}
 pub use Rattle.machine_model.specs.declared.parts.Part.{Part}

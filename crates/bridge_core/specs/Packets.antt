@@ -9,7 +9,7 @@ use Rattle.jdwp_events.specs.declared.composite.Composite.{Composite}
 use Rattle.jdwp_packets.specs.Packets.{Packet}
 use Rattle.jdwp_values.specs.declared.sizes.IdSizes.{IdSizes}
 use Rattle.machine_model.specs.Replying.{SizesFor, answered}
-use Rattle.machine_model.specs.Runs.{takes, with_item}
+use Rattle.machine_model.specs.Runs.{with_item}
 use Rattle.machine_model.specs.State.{Hand, Machine, is_gone}
 use Rattle.machine_model.specs.declared.acts.Effect.{Effect}
 use Rattle.machine_model.specs.declared.acts.TargetCommand.TheVariants.{Effect as an_effect, Question as a_question}
@@ -17,7 +17,7 @@ use Rattle.machine_model.specs.declared.items.Item.TheVariants.{Composite as a_c
 use Rattle.pending_table.specs.Windows.{pending_under, settled}
 use Rattle.bridge_core.specs.Calls.{TakesPacket}
 use Rattle.bridge_core.specs.Cores.{CoreState, IsSound, with_machine}
-use Rattle.bridge_core.specs.Hearing.{IsBadBody, IsJudged, IsRefused, IsUnserved, ReadsComposite}
+use Rattle.bridge_core.specs.Hearing.{IsBadBody, IsJudged, IsRefused, ReadsComposite}
 use Rattle.bridge_core.specs.Moving.{IsFlight}
 use Rattle.session_model.specs.declared.ending.Ending.{Ending}
 use Rattle.session_model.specs.declared.ending.Ending.TheVariants.{NoMemory}
@@ -30,19 +30,16 @@ pub record Hears (old : CoreState) (at : ℕ) (packet : Packet) (new : CoreState
 
 -- Composites ----------------------------------------------------------------------------------------------------------
 
--- a composite that can be read is taken where it is served, or the target is gone
+-- a composite that can be read is taken
 pub record IsTakenIn (old : CoreState) (used : IdSizes) (at : ℕ) (body : List ℕ) (new : CoreState) : Type 0 where
   pub composite : Composite
   pub reads : ReadsComposite used body composite
-  pub taken : takes old.machine.state.phase composite ≡ true
   pub same : new ≡ with_machine old (with_item old.machine (a_composite at composite))
 
--- a composite that can be read ends the session
+-- one that can't be read ends the session
 pub data IsUntaken (old : CoreState) (used : IdSizes) (at : ℕ) (body : List ℕ) (new : CoreState) : Ending → Type 0
   where
     no_memory : IsUntaken old used at body new NoMemory
-    unserved : {ending : Ending} → is_gone old.machine.state.phase ≡ false → IsUnserved used body at ending → new ≡ old
-        → IsUntaken old used at body new ending
     bad_body : {ending : Ending} → IsBadBody used body at ending → new ≡ old → IsUntaken old used at body new ending
 
 -- Replies -------------------------------------------------------------------------------------------------------------

@@ -1,7 +1,7 @@
 -- How much a machine can still do by itself: a measure that each act lessens but a wait and an end.
 use Rattle.std.specs.Prelude.{ℕ, ◌+◌, ◌-◌, ◌*◌, Bool, true, false, List, [], ◌∷◌, length, Option, Some, None}
 use Rattle.std.specs.List.{flat_map}
-use Rattle.bridge_core.specs.Names.{Act, Choice, Command, Item, Leaves, Lines, Note, Part, Sent, SetBreakpoints}
+use Rattle.bridge_core.specs.Names.{Act, Choice, Command, Decides, Item, Leaves, Lines, Note, Part, Sent, SetBreakpoints}
 use Rattle.bridge_core.specs.Names.{TellsNews, a_composite, a_raw, a_request, target_end}
 use Rattle.machine_model.specs.Composites.{changes_in}
 use Rattle.machine_model.specs.Replying.{unanswered}
@@ -74,6 +74,7 @@ lines_of m =
 -- a choice weighs more than what it becomes
 abbrev pub choice_weight : ℕ → Choice → ℕ
 choice_weight lines (TellsNews below) = 10 + lines
+choice_weight lines Decides = 10
 choice_weight lines (Leaves exits) = 10
 
 -- a part weighs more than those that it may become, where there is at most so much news

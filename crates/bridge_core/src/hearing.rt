@@ -1,6 +1,5 @@
 //! What the target's packets say, and how they end a session.
 ghost use Rattle.std.specs.Prelude.{◌≡◌, ◌+◌, ◌<◌, Err, false, true, IfErr, IfOk, MatchOption, OnOk};
-ghost use Rattle.std.specs.List.{list_all};
 ghost use Rattle.std.specs.Prelude.{position, set, OnErr, ℕ, List, Ok, Some};
 ghost use Rattle.jdwp_commands.specs.Answers.{answer_at};
 ghost use Rattle.jdwp_commands.specs.Bodies.{IsRead as AreReadSo};
@@ -10,11 +9,9 @@ ghost use Rattle.jdwp_events.specs.Composites.{composite_at, IsRead};
 ghost use Rattle.jdwp_values.specs.Sizes.{is_no_size};
 ghost use Rattle.jdwp_values.specs.declared.sizes.IdSizes.{IdSizes as Sizes};
 ghost use Rattle.machine_model.specs.Replying.{has_good_sizes, is_dead};
-ghost use Rattle.machine_model.specs.Composites.{is_served_event};
-ghost use Rattle.machine_model.specs.Runs.{is_served};
 ghost use Rattle.machine_model.specs.State.{has_raw, is_raw};
-ghost use Rattle.bridge_core.specs.Hearing.{AreServed, IsBadBody, IsJudged, IsReadFirst, IsRefused, IsUnserved};
-ghost use Rattle.bridge_core.specs.Hearing.{MayBe, MayBeKept, MayBeUnserved};
+ghost use Rattle.bridge_core.specs.Hearing.{AreReadOff, IsBadBody, IsJudged, IsReadFirst, IsRefused};
+ghost use Rattle.bridge_core.specs.Hearing.{MayBe, MayBeKept, MayBeLeft};
 ghost use Rattle.bridge_core.specs.Hearing.{is_essential_asked, is_tolerated_asked};
 ghost use Rattle.bridge_core.specs.Hearing.{HasBadSizes, ReadsComposite, answer_fault, composite_fault};
 ghost use Rattle.session_model.specs.Faults.{header, numbers_in};
@@ -24,7 +21,7 @@ ghost use Rattle.jdwp_commands.specs.declared.asked.Replied.TheVariants.{Error a
 
 use crate::waiting::{first_kept, put_at};
 use jdwp_commands::{Answer, Asked, BodyFault, Effect, Question, Replied, read_answer};
-use jdwp_events::{Composite, CompositeFault, Event, read_composite};
+use jdwp_events::{Composite, CompositeFault, read_composite};
 use jdwp_values::IdSizes;
 use machine_model::Item;
 use session_model::{Ending, TargetFault};
@@ -108,51 +105,7 @@ pub(crate) fn composite(
     }
 }
 
-fn is_served_event(event: &Event) -> bool
-    ensures { result ≡ is_served_event event.now }
-{
-    matches!(
-        event,
-        Event::ClassPrepare { .. } | Event::ThreadStart { .. } | Event::ThreadDeath { .. }
-    )
-}
-
-fn are_served_events(events: &[Event]) -> bool
-    ensures { result ≡ list_all is_served_event events.now }
-{
-    events.iter().all(is_served_event)
-}
-
-// Whether a composite is served: it tells of classes that were prepared, and of threads that started or ended.
-#[tactic(auto, using(crate::proofs::HearLaws::all_served))]
-fn is_served(composite: &Composite) -> bool
-    ensures { result ≡ is_served composite.now }
-{
-    are_served_events(composite.events.as_slice())
-}
-
-/// Reads a composite that is served, whose packet stands at this offset; another one ends the session.
-pub(crate) fn served(
-    alloc: Global,
-    sizes: IdSizes,
-    at: u64,
-    body: &[u8],
-) -> Result<Composite, Ending>
-    ensures ok { IfOk result (λ read. ReadsComposite sizes body.now read × (is_served read ≡ true)) }
-    ensures err { IfErr result (IsUnserved sizes body.now at) }
-{
-    let composite = composite(alloc, sizes, at, body)?;
-    if !is_served(&composite) {
-        return Err(Ending::BadTarget {
-            fault: TargetFault::BadCommand,
-            at,
-            id: 0,
-        });
-    }
-    Ok(composite)
-}
-
-// Reads the composite that was kept at this place; one that isn't served ends the session.
+// Reads the composite that was kept at this place; one whose body has a fault ends the session.
 #[tactic(auto, using(crate::proofs::HearLaws::read_so, crate::proofs::HearLaws::kept_so))]
 fn read_at(
     alloc: Global,
@@ -167,7 +120,7 @@ fn read_at(
     match waiting.get(place) {
         Some(Item::Raw { at, body }) => Ok(Item::Composite {
             at: *at,
-            composite: served(alloc, sizes, *at, body.as_slice())?,
+            composite: composite(alloc, sizes, *at, body.as_slice())?,
         }),
         _ => Err(Ending::NoMemory),
     }
@@ -190,16 +143,16 @@ fn read_first(
     Ok(())
 }
 
-/// Reads the composites that were kept, in order; the first that isn't served ends the session.
+/// Reads the composites that were kept, in order; the first whose body has a fault ends the session.
 #[tactic(auto, using(crate::proofs::PickLaws::none_kept, crate::proofs::HearLaws::fewer_raws))]
 pub(crate) fn read_kept(
     alloc: Global,
     sizes: IdSizes,
     waiting: &mut VecDeque<Item>,
 ) -> Result<(), Ending>
-    ensures ok { OnOk result (AreServed sizes waiting.old.items waiting.new.items) }
+    ensures ok { OnOk result (AreReadOff sizes waiting.old.items waiting.new.items) }
     ensures none { OnOk result (has_raw waiting.new.items ≡ false) }
-    ensures err { IfErr result (MayBeUnserved sizes waiting.old.items waiting.new.items) }
+    ensures err { IfErr result (MayBeLeft sizes waiting.old.items waiting.new.items) }
 {
     while let Some(place) = first_kept(waiting) {
         read_first(alloc, sizes, waiting, place)?;
@@ -215,6 +168,7 @@ fn is_essential(asked: &Asked) -> bool
         Asked::Question(Question::AllClasses) => true,
         Asked::Question(_) => false,
         Asked::Effect(Effect::Clear { .. }) => true,
+        Asked::Effect(Effect::Suspend) => true,
         Asked::Effect(Effect::Resume) => true,
         Asked::Effect(_) => false,
     }

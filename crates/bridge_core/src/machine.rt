@@ -137,7 +137,7 @@ impl Machine {
         self.closing
     }
 
-    /// Reads the composites that were kept, once the sizes of ids are known; the first that isn't served ends the
+    /// Reads the composites that were kept, once the sizes of ids are known; the first whose body has a fault ends the
     /// session (JDWP, Event command set, Composite).
     pub(crate) fn read_kept(&mut self, alloc: Global) -> Result<(), Ending>
         ensures ok { OnOk result (AreRead self.old self.new) }

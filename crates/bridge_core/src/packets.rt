@@ -9,7 +9,7 @@ ghost use Rattle.bridge_core.specs.Cores.{IsReady, with_machine};
 ghost use Rattle.bridge_core.specs.Packets.{Hears, IsSettled, IsTakenIn, IsUnsettled, IsUntaken};
 ghost use Rattle.session_model.specs.declared.ending.Ending.TheVariants.{BadTarget, NoMemory as no_memory};
 
-use crate::hearing::{composite, is_composite, judged, served};
+use crate::hearing::{composite, is_composite, judged};
 use crate::session::Core;
 use crate::sizes::{known, serving};
 use jdwp_packets::Packet;
@@ -57,8 +57,7 @@ impl Core {
         }
     }
 
-    // A command of the target's is a composite, which is kept until the sizes of ids are known. Once they are one that
-    // isn't served ends the session, but in a target that is gone.
+    // A command of the target's is a composite, which is kept until the sizes of ids are known.
     pub(crate) fn take_command(
         &mut self,
         alloc: Global,
@@ -92,16 +91,12 @@ impl Core {
         Ok(())
     }
 
-    // A composite that can be read is taken where it is served; in a target that is gone it does nothing.
+    // A composite is read, once the sizes of ids are known.
     fn come(&mut self, alloc: Global, sizes: IdSizes, at: u64, body: &[u8]) -> Result<(), Ending>
         ensures ok { OnOk result (IsTakenIn self.old sizes at body.now self.new) }
         ensures err { IfErr result (IsUntaken self.old sizes at body.now self.new) }
     {
-        let composite = if self.machine.state.is_gone() {
-            composite(alloc, sizes, at, body)?
-        } else {
-            served(alloc, sizes, at, body)?
-        };
+        let composite = composite(alloc, sizes, at, body)?;
         self.machine.add(Item::Composite { at, composite })?;
         Ok(())
     }

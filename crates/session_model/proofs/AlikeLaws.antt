@@ -77,6 +77,8 @@ unfolding answer_at
 early_alike (commands.Question question) is used other body =
     subst (λ question. answer_at used (commands.Question question) body
     ≡ answer_at other (commands.Question question) body) (sym (sizes_is question is)) (sizes_alike used other body)
+early_alike (commands.Effect effects.Suspend) is used other body =
+    same_read no_more variants.Suspend used other body body
 early_alike (commands.Effect effects.Resume) is used other body =
     same_read no_more variants.Resume used other body body
 early_alike (commands.Effect effects.Dispose) is used other body =

@@ -7,7 +7,7 @@ use Rattle.jdwp_commands.specs.declared.asked.Asked.TheVariants as commands
 use Rattle.jdwp_commands.specs.declared.effect.Effect.TheVariants as effects
 use Rattle.jdwp_commands.specs.declared.answer.Answer.TheVariants as answers
 use Rattle.jdwp_commands.specs.declared.question.Question.TheVariants as questions
-use Rattle.machine_model.specs.Knowing.{AreSaid, View, come_view, is_farewell, learnt_view, nothing_said}
+use Rattle.machine_model.specs.Knowing.{AreSaid, View, come_view, deed_view, is_farewell, learnt_view, nothing_said}
 use Rattle.machine_model.specs.Knowing.{replied_view, says, says_dead, sent_view, sizes_said, told_view}
 use Rattle.machine_model.specs.Pending.{bit}
 use Rattle.machine_model.specs.Pending.{count as count_of}
@@ -20,9 +20,9 @@ use Rattle.machine_model.proofs.PendingLaws.{all_open}
 use Rattle.machine_model.proofs.PlanIds.{is_sizes}
 use Rattle.machine_model.proofs.Stepping.{Moves, by_runs, with_said}
 use Rattle.machine_model.proofs.TurnLaws.{Turns, turned}
-use Rattle.session_model.specs.Names.{Clear, Composite, Dispose, Does, Exit, Question, Replied, Resume, Set}
-use Rattle.session_model.specs.Names.{TargetCommand, Told, a_question, a_response, an_answer, an_effect, an_error}
-use Rattle.session_model.specs.Names.{an_event}
+use Rattle.session_model.specs.Names.{Clear, Composite, Deed, Dispose, Does, Exit, Question, Replied, Resume, Set}
+use Rattle.session_model.specs.Names.{Suspend, TargetCommand, Told, a_question, a_response, an_answer, an_effect}
+use Rattle.session_model.specs.Names.{an_error, an_event}
 use Rattle.session_model.specs.Replies.{count_under}
 use Rattle.session_model.proofs.SizeLaws.{any_id, early_sent, is_early}
 use Rattle.pending_table.specs.Windows.{pending_under}
@@ -56,6 +56,7 @@ told_alike (a_response response) a b h = h
 told_alike (an_event events.Initialized) a b h = (refl, h.1)
 told_alike (an_event (events.Breakpoint breakpoint)) a b h = h
 told_alike (an_event (events.Thread change)) a b h = h
+told_alike (an_event (events.Stopped stop)) a b h = h
 told_alike (an_event events.Terminated) a b h = (refl, h.1)
 
 come_alike : (gone other : Bool) (composite : Composite) (a b : View) → Alike a b
@@ -65,9 +66,17 @@ come_alike true false composite a b h = h
 come_alike false true composite a b h = h
 come_alike false false composite a b h = h
 
+done_alike : (deed : Deed) (a b : View) → Alike a b → Alike (deed_view deed a) (deed_view deed b)
+done_alike Suspend a b h = h
+done_alike (Resume suspension) a b h = h
+done_alike Dispose a b h = h
+done_alike Exit a b h = h
+
 sent_alike : (command : TargetCommand) (a b : View) → Alike a b → Alike (sent_view command a) (sent_view command b)
-sent_alike (an_effect (Does Resume)) a b h = h
-sent_alike _ a b h = h
+sent_alike (a_question question) a b h = h
+sent_alike (an_effect (Does deed)) a b h = done_alike deed a b h
+sent_alike (an_effect (Set wish)) a b h = h
+sent_alike (an_effect (Clear wish request)) a b h = h
 
 says_alike : (message : Message) (a b : View) → Alike a b → Alike (says message a) (says message b)
 says_alike (Message.answers command replied) a b h =
@@ -121,10 +130,18 @@ come_none : (gone : Bool) (composite : Composite) (view : View)
 come_none true composite view is = is
 come_none false composite view is = is
 
+done_none : (deed : Deed) (view : View) → is_some (deed_view deed view).sizes ≡ false → is_some view.sizes ≡ false
+done_none Suspend view is = is
+done_none (Resume suspension) view is = is
+done_none Dispose view is = is
+done_none Exit view is = is
+
 sent_none : (command : TargetCommand) (view : View) → is_some (sent_view command view).sizes ≡ false
     → is_some view.sizes ≡ false
-sent_none (an_effect (Does Resume)) view is = is
-sent_none _ view is = is
+sent_none (a_question question) view is = is
+sent_none (an_effect (Does deed)) view is = done_none deed view is
+sent_none (an_effect (Set wish)) view is = is
+sent_none (an_effect (Clear wish request)) view is = is
 
 says_none : (message : Message) (view : View) → is_some (says message view).sizes ≡ false
     → is_some view.sizes ≡ false
@@ -195,6 +212,7 @@ all_early r = by_runs {Holds = IsEarly} (record {
 -- a command of the wire whose answer has no id
 abbrev pub early_asked : Asked → Bool
 early_asked (commands.Question question) = is_sizes question
+early_asked (commands.Effect effects.Suspend) = true
 early_asked (commands.Effect effects.Resume) = true
 early_asked (commands.Effect effects.Dispose) = true
 early_asked (commands.Effect (effects.Exit code)) = true
@@ -202,7 +220,8 @@ early_asked _ = false
 
 early_wire : (command : TargetCommand) → is_early command ≡ true → early_asked (wire command) ≡ true
 early_wire (a_question question) is = is
-early_wire (an_effect (Does Resume)) is = refl
+early_wire (an_effect (Does Suspend)) is = refl
+early_wire (an_effect (Does (Resume suspension))) is = refl
 early_wire (an_effect (Does Dispose)) is = refl
 early_wire (an_effect (Does Exit)) is = refl
 early_wire (an_effect (Set wish)) is = cc

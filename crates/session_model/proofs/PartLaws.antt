@@ -1,21 +1,30 @@
 -- A `disconnect` goes on to its success and is done directly behind it; nothing else is.
-use Rattle.std.proofs.Common.{◌≡◌, Bool, true, false, cond, not, List, [], ◌∷◌, ◌++◌, Option, Some, None, refl, sym}
+use Rattle.std.proofs.Common.{◌≡◌, ℕ, Bool, true, false, cond, not, List, [], ◌∷◌, ◌++◌, Option, Some, None, refl, sym}
 use Rattle.std.proofs.Common.{ap, append-nil, subst, ◌∙◌, option_map, arith, ◌||◌}
+use Rattle.dap_messages.specs.declared.requests.Command.TheVariants.{Attach, BadArguments, ConfigurationDone, Continue}
+use Rattle.dap_messages.specs.declared.requests.Command.TheVariants.{Disconnect, Initialize, Pause, SetBreakpoints}
+use Rattle.dap_messages.specs.declared.requests.Command.TheVariants.{Threads, Unsupported}
+use Rattle.dap_messages.specs.declared.told.Failure.{Failure}
+use Rattle.jdwp_events.specs.declared.kind.Policy.{Policy}
+use Rattle.jdwp_values.specs.declared.id.ThreadId.{ThreadId}
+use Rattle.machine_model.specs.Composites.{composite_parts, has_death}
 use Rattle.machine_model.specs.Due.{asked_hand, clear, load_of}
 use Rattle.machine_model.specs.Lookups.{finished}
 use Rattle.machine_model.specs.Outcomes.{result_of}
 use Rattle.machine_model.specs.Plans.{Result}
 use Rattle.machine_model.specs.Replying.{given_up, hand_replied}
 use Rattle.machine_model.specs.Rest.{request_in}
-use Rattle.machine_model.specs.Rows.{chosen, gone_parts, has_response, is_response, news_of, parts_of, told_in}
+use Rattle.machine_model.specs.Rows.{chosen, configured_parts, continue_parts, end_parts, failure_of, gone_parts}
+use Rattle.machine_model.specs.Rows.{has_response, is_response, news_of, parts_by, parts_of, pause_parts}
+use Rattle.machine_model.specs.Rows.{request_parts, row_of, thread_with, told_in, wanting}
 use Rattle.machine_model.specs.Runs.{Message, is_disconnect}
 use Rattle.machine_model.specs.State.{Hand, Machine, State, is_empty, knowing, left}
 use Rattle.machine_model.specs.Telling.{numbered_by, outcome_told, response_to}
 use Rattle.machine_model.proofs.Stepping.{IsAt, Moves, Skips}
-use Rattle.machine_model.proofs.Tables.{told_alike}
-use Rattle.session_model.specs.Names.{a_composite, a_question, a_raw, a_request, an_effect, Choice}
-use Rattle.session_model.specs.Names.{Finding, finish_done, Item, Leaves, Lookup, Nothing, Outcome, Part}
-use Rattle.session_model.specs.Names.{Replied, Request, Success, target_end, TargetCommand, TellsNews, Want}
+use Rattle.machine_model.proofs.Tables.{of_decided, told_alike}
+use Rattle.session_model.specs.Names.{Choice, Command, Decides, Finding, Item, Leaves, Lookup, Nothing, Outcome, Part}
+use Rattle.session_model.specs.Names.{Phase, Replied, Request, Success, TargetCommand, TellsNews, Want, a_composite}
+use Rattle.session_model.specs.Names.{a_question, a_raw, a_request, an_effect, finish_done, target_end}
 
 -- Lists of parts ------------------------------------------------------------------------------------------------------
 
@@ -69,8 +78,62 @@ is_fit leaves parts = cond leaves (to_end parts) (no_end parts)
 abbrev pub goes_on : Bool → List Part → Bool
 goes_on leaves parts = cond (is_fit leaves parts) (not (ends_first parts)) false
 
+configured_on : (entry : Bool) → goes_on false (configured_parts entry) ≡ true
+configured_on true = refl
+configured_on false = refl
+
+continue_on : (thread : Option ThreadId) → goes_on false (continue_parts thread) ≡ true
+continue_on None = refl
+continue_on (Some thread) = refl
+
+pause_on : (stopped : Bool) (thread : Option ThreadId) → goes_on false (pause_parts stopped thread) ≡ true
+pause_on stopped None = refl
+pause_on true (Some thread) = refl
+pause_on false (Some thread) = refl
+
+row_on : (command : Command) (state : State) → goes_on (is_disconnect command) (row_of command state) ≡ true
+row_on (Initialize arguments) state = refl
+row_on (Attach arguments) state = refl
+row_on ConfigurationDone state = configured_on state.entry
+row_on (SetBreakpoints arguments) state = refl
+row_on Threads state = refl
+row_on (Continue arguments) state = continue_on (thread_with state.threads arguments.thread_id)
+row_on (Pause arguments) state = pause_on state.stopped (thread_with state.threads arguments.thread_id)
+row_on (Disconnect arguments) state = refl
+row_on Unsupported state = refl
+row_on (BadArguments name) state = refl
+
+-- a `disconnect` wants nothing, so that it can't fail before it is done
+request_on : (command : Command) (state : State)
+    → goes_on (is_disconnect command) (request_parts command state) ≡ true
+request_on command state =
+    by_failure (is_disconnect command) (failure_of (wanting command) state) (failed command state)
+    (row_of command state) (row_on command state)
+  where
+    failed : (command : Command) (state : State) → is_disconnect command ≡ true
+        → failure_of (wanting command) state ≡ None
+    failed command state is = grind (arith, is)
+
+    by_failure : (leaves : Bool) (failure : Option Failure) → (leaves ≡ true → failure ≡ None) → (row : List Part)
+        → goes_on leaves row ≡ true → goes_on leaves (parts_by failure row) ≡ true
+    by_failure leaves None none row is = is
+    by_failure true (Some failure) none row is = let no = none refl in cc
+    by_failure false (Some failure) none row is = refl
+
+composite_on : (phase : Phase) (dies : Bool) (policy : Policy) (at below : ℕ)
+    → goes_on false (composite_parts phase dies policy at below) ≡ true
+composite_on phase dies policy at below = grind arith
+
+end_on : (terminated : Bool) → goes_on false (end_parts terminated) ≡ true
+end_on true = refl
+end_on false = refl
+
 begun_on : (state : State) (item : Item) → goes_on (leaves_by item) (parts_of state item) ≡ true
-begun_on state item = grind arith
+begun_on state (a_request request) = request_on request.command state
+begun_on state (a_composite at composite) =
+    composite_on state.phase (has_death composite.events) composite.policy at state.next_entry
+begun_on state (a_raw at body) = refl
+begun_on state target_end = end_on state.terminated
 
 finished_none : (lookup : Lookup) (result : Result Finding) (state : State)
     → no_end (finished lookup result state) ≡ true
@@ -110,6 +173,9 @@ chosen_silent (TellsNews below) state hand =
     let news = news_of below state hand.item in
     ap are_silent (sym (append-nil (told_in state.phase news)))
     ∙ told_alike are_silent (λ news parts. refl) state.phase news []
+chosen_silent Decides state hand =
+    of_decided (λ (parts : List Part). are_silent parts ≡ true) refl refl refl (λ stopping. refl) (λ stopping. refl)
+    state hand.item
 chosen_silent (Leaves exits) state hand = grind arith
 
 -- a response that is a success is a response

@@ -18,7 +18,7 @@ use Rattle.machine_model.proofs.RestLaws.{near_asks}
 use Rattle.machine_model.proofs.Standing.{IsKept, at_front, in_order, queue_in}
 use Rattle.machine_model.proofs.StandingReplies.{sizes_is}
 use Rattle.machine_model.proofs.Stepping.{Loses, Moves, moved}
-use Rattle.session_model.specs.Names.{a_question, an_effect, Clear, Dispose, Does, Exit, Part, Resume, Set}
+use Rattle.session_model.specs.Names.{a_question, an_effect, Clear, Dispose, Does, Exit, Part, Resume, Set, Suspend}
 use Rattle.session_model.specs.Names.{TargetCommand}
 
 -- Sizes that were read are one ----------------------------------------------------------------------------------------
@@ -98,7 +98,8 @@ unfolding spell_command
 early_alike (a_question question) is a b =
     subst (λ question. spell_command a (wire (a_question question)) ≡ spell_command b (wire (a_question question)))
     (sym (sizes_is question is)) (sizes_alike a b)
-early_alike (an_effect (Does Resume)) is a b = refl
+early_alike (an_effect (Does Suspend)) is a b = refl
+early_alike (an_effect (Does (Resume suspension))) is a b = refl
 early_alike (an_effect (Does Dispose)) is a b = refl
 early_alike (an_effect (Does Exit)) is a b = refl
 early_alike (an_effect (Set wish)) is a b = cc

@@ -18,11 +18,10 @@ use Rattle.jdwp_values.specs.Sizes.{is_no_size}
 use Rattle.jdwp_values.specs.declared.sizes.IdSizes.{IdSizes}
 use Rattle.machine_model.specs.Due.{can_read}
 use Rattle.machine_model.specs.Replying.{SizesFor, sizes_of, wire}
-use Rattle.machine_model.specs.Runs.{takes}
 use Rattle.machine_model.specs.State.{Machine, has_raw}
 use Rattle.pending_table.specs.Windows.{pending_under}
 use Rattle.session_model.specs.Names.{a_raw, Answer, BadCommand, BadCount, BadKind, BadPolicy}
-use Rattle.session_model.specs.Names.{BadSizes, BadTag, ClientFault, Composite}
+use Rattle.session_model.specs.Names.{BadSizes, BadTag, ClientFault}
 use Rattle.session_model.specs.Names.{Item}
 use Rattle.session_model.specs.Names.{misframed, mispacked, NotAMessage, NotJson, Short}
 use Rattle.session_model.specs.Names.{TargetCommand, TargetFault, Trailing, UnknownReply}
@@ -64,19 +63,13 @@ pub data IsCompositeFault : CompositeFault → TargetFault → ℕ → Type 0 wh
   bad_tag : {place : ℕ} → IsCompositeFault (composite_faults.BadTag place) BadTag place
   trailing : {place : ℕ} → IsCompositeFault (composite_faults.Trailing place) Trailing place
 
--- the machine doesn't take the composite
-abbrev pub IsNotTaken : Machine → Composite → Type 0
-IsNotTaken m composite = takes m.state.phase composite ≡ false
-
--- The composite with this body, whose packet begins at this offset, is refused: its body has a fault; or it is a good
--- one that isn't taken, which is refused at its packet (JDWP, Event command set, Composite).
+-- The composite with this body, whose packet begins at this offset, is refused: its body has a fault (JDWP, Event command
+-- set, Composite).
 pub data RefusesComposite (m : Machine) (body : List ℕ) (at : ℕ) : TargetFault → ℕ → Type 0 where
   bad_body : {found : CompositeFault} {fault : TargetFault} {place : ℕ}
       (used : IdSizes) → m.state.sizes ≡ Some (sizes_of used) → composite_at used body ≡ Err found
       → IsCompositeFault found fault place
       → RefusesComposite m body at fault (at + header + place)
-  not_taken : {composite : Composite} (used : IdSizes) → m.state.sizes ≡ Some (sizes_of used)
-      → composite_at used body ≡ Ok composite → IsNotTaken m composite → RefusesComposite m body at BadCommand at
 
 -- the sizes of ids in an answer, in the order of its body (JDWP, VirtualMachine command set, IDSizes)
 abbrev pub numbers_in : Answer → List ℕ

@@ -41,11 +41,10 @@ pub enum ClientFault {
     NotAMessage,
 }
 
-/// What is wrong with the target's bytes: a packet, a part of a body, sizes of ids outside 1 to 8, a command that the
-/// bridge doesn't take, or a reply to no command (JDWP, JDWP Packets; JDWP, Detailed Command Information). A composite
-/// is taken where all its events tell of classes that were prepared; a good one with another event is a `BadCommand`. One
-/// that is taken and suspends one thread alone is a `PolicyThread` when its turn comes, at the byte of its policy (JDWP,
-/// Event command set, Composite; JDWP, Constants, SuspendPolicy).
+/// What is wrong with the target's bytes: a packet, a part of a body, sizes of ids outside 1 to 8, a command that is no
+/// composite, or a reply to no command (JDWP, JDWP Packets; JDWP, Detailed Command Information). A composite that
+/// suspends one thread alone is a `PolicyThread` when its turn comes, at the byte of its policy (JDWP, Event command
+/// set, Composite; JDWP, Constants, SuspendPolicy).
 #[derive(Clone, Copy, Debug, PartialEq, Eq)]
 pub enum TargetFault {
     Packet(PacketFault),

@@ -1,17 +1,17 @@
 use Rattle.std.proofs.lemmas.Result.{err_from_is_err_and}
-use Rattle.bridge_core.specs.Hearing.{AreServed}
-use Rattle.bridge_core.proofs.HearLaws.{unserved_behind}
+use Rattle.bridge_core.specs.Hearing.{AreReadOff}
+use Rattle.bridge_core.proofs.HearLaws.{left_behind}
 use Rattle.bridge_core.proofs.hearing.read_kept.Goals as goal
 
 pub loop-place-init : goal.loop-place-init
-loop-place-init c = AreServed.none
+loop-place-init c = AreReadOff.none
 
 pub loop-place-preserved : goal.loop-place-preserved
-loop-place-preserved c = AreServed.one_more _ c.loop-place.invariant c.in_ok-read_first.ensures.ok
+loop-place-preserved c = AreReadOff.one_more _ c.loop-place.invariant c.in_ok-read_first.ensures.ok
 
 pub returns-in_err-read_first-clause-err : goal.returns-in_err-read_first-clause-err
 returns-in_err-read_first-clause-err c =
     let gives = err_from_is_err_and c.from_residual.result c.from_residual.ensures.1 in
     rw (gives.1, gives.2)
-    (unserved_behind _ _ _ _ c.in_err-read_first.field-0.0 c.loop-place.invariant c.in_err-read_first.ensures.same
+    (left_behind _ _ _ _ c.in_err-read_first.field-0.0 c.loop-place.invariant c.in_err-read_first.ensures.same
     c.in_err-read_first.ensures.err)

@@ -1,10 +1,10 @@
 use Rattle.bridge_core.proofs.HearLaws.{raws}
-use Rattle.bridge_core.specs.Hearing.{AreServed}
+use Rattle.bridge_core.specs.Hearing.{AreReadOff}
 use Rattle.bridge_core.proofs.hearing.read_kept.Given as goal
 
--- those before were read, and are served
+-- those before were read
 abbrev pub invariant-loop-place : goal.invariant-loop-place
-invariant-loop-place l = AreServed l.initial.sizes l.initial.waiting.items l.waiting.items
+invariant-loop-place l = AreReadOff l.initial.sizes l.initial.waiting.items l.waiting.items
 
 -- each time one less is left
 abbrev pub decreases-loop-place : goal.decreases-loop-place
