@@ -180,6 +180,18 @@ fn decided_by(
     }
 }
 
+// The hit that is told of these events.
+fn stop_in(
+    alloc: Global,
+    wishes: &Wishes,
+    events: &[TargetEvent],
+) -> Result<Option<Stopping>, NoMemory>
+    ensures { IfOk result (λ stop. stop ≡ stop_among wishes.now (hits_in wishes.now events.now)) }
+{
+    let hits = hits_in(alloc, wishes, events)?;
+    stop_among(alloc, wishes, hits.as_slice())
+}
+
 fn decided_of(
     alloc: Global,
     state: &State,
@@ -187,9 +199,9 @@ fn decided_of(
 ) -> Result<VecDeque<Part>, NoMemory>
     ensures { IfOk result (λ parts. parts.items ≡ decided_of state.now events.now) }
 {
-    let hits = hits_in(alloc, &state.wishes, events)?;
-    let stop = stop_among(alloc, &state.wishes, hits.as_slice())?;
-    decided_by(alloc, state.stopped, holds_entry(state, events), stop)
+    let stop = stop_in(alloc, &state.wishes, events)?;
+    let holds = holds_entry(state, events);
+    decided_by(alloc, state.stopped, holds, stop)
 }
 
 /// What becomes of the suspension of the composite in hand, as long as the session is attached: a hit is told, the entry
