@@ -1,6 +1,6 @@
 -- How many breakpoints of sources are listed, or still to be, and of how many threads is to be told: no act of the
 -- machine makes them more, and no more news is told at once.
-use Rattle.std.proofs.Common.{◌≡◌, ℕ, ◌+◌, ◌<◌, ◌≤◌, Bool, true, false, cond, List, [], ◌∷◌, ◌++◌, length, Option, Some}
+use Rattle.std.proofs.Common.{◌≡◌, ℕ, ◌+◌, ◌≤◌, Bool, true, false, cond, List, [], ◌∷◌, ◌++◌, length, Option, Some}
 use Rattle.std.proofs.Common.{None, refl, sym, ap, ◌∙◌, arith, map, length-append, option_map, subst}
 use Rattle.std.proofs.lemmas.List.{length-map}
 use Rattle.std.specs.BTreeSet.{insert_key}
@@ -17,7 +17,6 @@ use Rattle.jdwp_events.specs.declared.kind.Policy.{Policy}
 use Rattle.machine_model.specs.Breakpoints.{entry_of, is_news, newly_verified, numbered_from}
 use Rattle.machine_model.specs.Composites.{changes_in, composite_parts, has_death}
 use Rattle.machine_model.specs.Due.{Picked, after_deed, asked_hand, passed_by, pick}
-use Rattle.class_tables.specs.Lookups.{found_in}
 use Rattle.machine_model.specs.Lookups.{finished}
 use Rattle.machine_model.specs.Outcomes.{result_of}
 use Rattle.machine_model.specs.Plans.{Result}
@@ -36,11 +35,11 @@ use Rattle.bridge_core.specs.Names.{Attached, Choice, Classes, Command, Configur
 use Rattle.bridge_core.specs.Names.{Decides, EntryHeld, Event, Failure, Finding, Fresh, Gone, Item, Leaves, Lines}
 use Rattle.bridge_core.specs.Names.{Lookup, Note, Options, Outcome, Part, Pause, Phase, Roots, SetBreakpoints}
 use Rattle.bridge_core.specs.Names.{TellsNews, a_composite, a_raw, a_request, target_end}
-use Rattle.bridge_core.specs.Working.{lines_in, lines_in_hand, lines_in_item, lines_in_part, lines_listed, lines_noted}
-use Rattle.bridge_core.specs.Working.{lines_of, lines_waiting}
+use Rattle.bridge_core.specs.Working.{lines_in, lines_in_part, lines_listed, lines_noted, news_in_hand, news_in_item}
+use Rattle.bridge_core.specs.Working.{news_left, news_waiting}
 use Rattle.bridge_core.proofs.OwnMoves.{is_own, not_lost}
 use Rattle.wish_sets.specs.Entries.{all_lines, is_verified, verified}
-use Rattle.wish_sets.specs.Wanted.{Wanted, with_class, with_known, with_lines}
+use Rattle.wish_sets.specs.Wanted.{Wanted, with_class, with_known}
 use Rattle.wish_sets.specs.declared.entry.LineEntry.{LineEntry}
 
 -- Lists ---------------------------------------------------------------------------------------------------------------
@@ -198,46 +197,46 @@ end_lines true = refl
 end_lines false = refl
 
 -- an item that is begun lists no more than it did while it waited
-pub begun_lines : (state : State) (item : Item)
-    → lines_in (parts_of state item) + length (changes_in item) ≤ lines_in_item item
-begun_lines state (a_request request) =
+pub begun_news : (state : State) (item : Item)
+    → lines_in (parts_of state item) + length (changes_in item) ≤ news_in_item item
+begun_news state (a_request request) =
     let row = row_lines request.command state in
     let few = parts_lines (failure_of (wanting request.command) state) (row_of request.command state) in
     omega (arith, row, few)
-begun_lines state (a_composite at composite) =
+begun_news state (a_composite at composite) =
     let none = composite_lines state.phase (has_death composite.events) composite.policy at state.next_entry in
     omega (arith, none)
-begun_lines state (a_raw at body) = omega arith
-begun_lines state target_end = let none = end_lines state.terminated in omega (arith, none)
+begun_news state (a_raw at body) = omega arith
+begun_news state target_end = let none = end_lines state.terminated in omega (arith, none)
 
 -- Items ---------------------------------------------------------------------------------------------------------------
 
-pub picked_lines : (gone : Bool) (items : List Item) (picked : Picked) → pick gone items ≡ Some picked
-    → lines_in_item picked.item + lines_waiting picked.rest ≡ lines_waiting items
-picked_lines gone [] picked is = cc
-picked_lines gone (item ∷ items) picked is =
-    by_test (cond gone false (is_raw item)) (pick gone items) is (λ other same. picked_lines gone items other same)
+pub picked_news : (gone : Bool) (items : List Item) (picked : Picked) → pick gone items ≡ Some picked
+    → news_in_item picked.item + news_waiting picked.rest ≡ news_waiting items
+picked_news gone [] picked is = cc
+picked_news gone (item ∷ items) picked is =
+    by_test (cond gone false (is_raw item)) (pick gone items) is (λ other same. picked_news gone items other same)
   where
     by_below : (below : Option Picked) → passed_by item below ≡ Some picked
         → ((other : Picked) → below ≡ Some other
-        → lines_in_item other.item + lines_waiting other.rest ≡ lines_waiting items)
-        → lines_in_item picked.item + lines_waiting picked.rest ≡ lines_waiting (item ∷ items)
+        → news_in_item other.item + news_waiting other.rest ≡ news_waiting items)
+        → news_in_item picked.item + news_waiting picked.rest ≡ news_waiting (item ∷ items)
     by_below None is all = cc
     by_below (Some other) is all =
         let more = all other refl in
         let one : record { item = other.item; rest = item ∷ other.rest } ≡ picked = cc in
-        subst (λ (p : Picked). lines_in_item p.item + lines_waiting p.rest ≡ lines_waiting (item ∷ items)) one
+        subst (λ (p : Picked). news_in_item p.item + news_waiting p.rest ≡ news_waiting (item ∷ items)) one
         (omega (arith, more))
 
     by_test : (skips : Bool) (below : Option Picked)
         → cond skips (passed_by item below) (Some (record { item = item; rest = items })) ≡ Some picked
         → ((other : Picked) → below ≡ Some other
-        → lines_in_item other.item + lines_waiting other.rest ≡ lines_waiting items)
-        → lines_in_item picked.item + lines_waiting picked.rest ≡ lines_waiting (item ∷ items)
+        → news_in_item other.item + news_waiting other.rest ≡ news_waiting items)
+        → news_in_item picked.item + news_waiting picked.rest ≡ news_waiting (item ∷ items)
     by_test true below is all = by_below below is all
     by_test false below is all =
         let one : record { item = item; rest = items } ≡ picked = cc in
-        subst (λ (p : Picked). lines_in_item p.item + lines_waiting p.rest ≡ lines_waiting (item ∷ items)) one refl
+        subst (λ (p : Picked). news_in_item p.item + news_waiting p.rest ≡ news_waiting (item ∷ items)) one refl
 
 -- The moves -----------------------------------------------------------------------------------------------------------
 
@@ -248,60 +247,60 @@ told_wishes : (event : Event) (state : State) → (after_event event state).wish
 told_wishes event state = grind arith
 
 -- a part makes room for others
-part_lines : (m : Machine) (hand : Hand) (part : Part) (rest parts : List Part) (state : State)
+part_news : (m : Machine) (hand : Hand) (part : Part) (rest parts : List Part) (state : State)
     → IsAt m hand part rest
     → length (all_lines state.wishes.wanted) + lines_in parts
     ≤ length (all_lines m.state.wishes.wanted) + (lines_in_part part + lines_in rest)
-    → lines_of (left (knowing m state) hand parts) ≤ lines_of m
-part_lines m hand part rest parts state at few =
-    let was : lines_in_hand m.hand ≡ lines_in hand.parts + length (changes_in hand.item) =
-    ap lines_in_hand at.in_hand in
+    → news_left (left (knowing m state) hand parts) ≤ news_left m
+part_news m hand part rest parts state at few =
+    let was : news_in_hand m.hand ≡ lines_in hand.parts + length (changes_in hand.item) =
+    ap news_in_hand at.in_hand in
     let all : lines_in hand.parts ≡ lines_in_part part + lines_in rest = ap lines_in at.parts in
     omega (arith, few, was, all)
 
 -- no act makes them more
-pub lines_on : (m next : Machine) (said : Option Message) → is_own said ≡ true → Moves m said next
-    → lines_of next ≤ lines_of m
-lines_on m next said own (Moves.begins picked free none is) =
-    let one = picked_lines (is_gone m.state.phase) m.waiting picked is in
-    let few = begun_lines m.state picked.item in
-    let was : lines_in_hand m.hand ≡ 0 = ap lines_in_hand none in omega (arith, one, few, was)
-lines_on m next said own (Moves.drops {hand} free is none) = omega arith
-lines_on m next said own (Moves.responds {hand} {rest} {outcome = outcome} free at is) =
+pub news_on : (m next : Machine) (said : Option Message) → is_own said ≡ true → Moves m said next
+    → news_left next ≤ news_left m
+news_on m next said own (Moves.begins picked free none is) =
+    let one = picked_news (is_gone m.state.phase) m.waiting picked is in
+    let few = begun_news m.state picked.item in
+    let was : news_in_hand m.hand ≡ 0 = ap news_in_hand none in omega (arith, one, few, was)
+news_on m next said own (Moves.drops {hand} free is none) = omega arith
+news_on m next said own (Moves.responds {hand} {rest} {outcome = outcome} free at is) =
     let same = ap (λ (wishes : Wishes). length (all_lines wishes.wanted)) (numbered_wishes outcome m.state) in
-    part_lines m hand (Part.Responds outcome) rest rest (numbered_by outcome m.state) at (omega (arith, same))
-lines_on m next said own (Moves.finds {hand} {rest} {lookup} found free at needs done) =
+    part_news m hand (Part.Responds outcome) rest rest (numbered_by outcome m.state) at (omega (arith, same))
+news_on m next said own (Moves.finds {hand} {rest} {lookup} found free at needs done) =
     let parts = finished lookup (result_of found) m.state in
     let none = finished_lines lookup (result_of found) m.state in
     let both = lines_joined parts rest in
-    part_lines m hand (Part.Looks lookup) rest (parts ++ rest) m.state at (omega (arith, none, both))
-lines_on m next said own (Moves.passes_over {hand} {part} {rest} free at why) =
-    part_lines m hand part rest rest m.state at (omega arith)
-lines_on m next said own (Moves.tells {hand} {rest} {event} free at) =
+    part_news m hand (Part.Looks lookup) rest (parts ++ rest) m.state at (omega (arith, none, both))
+news_on m next said own (Moves.passes_over {hand} {part} {rest} free at why) =
+    part_news m hand part rest rest m.state at (omega arith)
+news_on m next said own (Moves.tells {hand} {rest} {event} free at) =
     let same = ap (λ (wishes : Wishes). length (all_lines wishes.wanted)) (told_wishes event m.state) in
-    part_lines m hand (Part.Tells event) rest rest (after_event event m.state) at (omega (arith, same))
-lines_on m next said own (Moves.sends {hand} {rest} {deed} free at near) =
-    part_lines m hand (Part.Sends deed) rest rest (after_deed deed m.state) at (omega arith)
-lines_on m next said own (Moves.updates {hand} {effect} {rest} free at is near) =
-    part_lines m hand Part.Updates rest (Part.Updates ∷ rest) m.state at (omega arith)
-lines_on m next said own (Moves.greets {hand} {guard} free at is near) = omega arith
-lines_on m next said own (Moves.notes {hand} {note} {rest} free at) =
+    part_news m hand (Part.Tells event) rest rest (after_event event m.state) at (omega (arith, same))
+news_on m next said own (Moves.sends {hand} {rest} {deed} free at near) =
+    part_news m hand (Part.Sends deed) rest rest (after_deed deed m.state) at (omega arith)
+news_on m next said own (Moves.updates {hand} {effect} {rest} free at is near) =
+    part_news m hand Part.Updates rest (Part.Updates ∷ rest) m.state at (omega arith)
+news_on m next said own (Moves.greets {hand} {guard} free at is near) = omega arith
+news_on m next said own (Moves.notes {hand} {note} {rest} free at) =
     let few = noted_few note m.state in
-    part_lines m hand (Part.Notes note) rest rest (noted note m.state) at (omega (arith, few))
-lines_on m next said own (Moves.unfolds {hand} {choice} {rest} free at) =
+    part_news m hand (Part.Notes note) rest rest (noted note m.state) at (omega (arith, few))
+news_on m next said own (Moves.unfolds {hand} {choice} {rest} free at) =
     let parts = chosen choice m.state hand in
     let none = chosen_lines choice m.state hand in
     let both = lines_joined parts rest in
-    part_lines m hand (Part.Unfolds choice) rest (parts ++ rest) m.state at (omega (arith, none, both))
-lines_on m next said own (Moves.queues {hand} free is) =
-    let was : lines_in_hand m.hand ≡ lines_in hand.parts + length (changes_in hand.item) =
-    ap lines_in_hand is in omega (arith, was)
-lines_on m next said own (Moves.asks {hand} {want} {wants} free room is are) =
-    let was : lines_in_hand m.hand ≡ lines_in hand.parts + length (changes_in hand.item) =
-    ap lines_in_hand is in
-    let now : lines_in_hand (option_map (asked_hand want) m.hand)
+    part_news m hand (Part.Unfolds choice) rest (parts ++ rest) m.state at (omega (arith, none, both))
+news_on m next said own (Moves.queues {hand} free is) =
+    let was : news_in_hand m.hand ≡ lines_in hand.parts + length (changes_in hand.item) =
+    ap news_in_hand is in omega (arith, was)
+news_on m next said own (Moves.asks {hand} {want} {wants} free room is are) =
+    let was : news_in_hand m.hand ≡ lines_in hand.parts + length (changes_in hand.item) =
+    ap news_in_hand is in
+    let now : news_in_hand (option_map (asked_hand want) m.hand)
     ≡ lines_in hand.parts + length (changes_in hand.item) =
-    ap (λ (held : Option Hand). lines_in_hand (option_map (asked_hand want) held)) is in omega (arith, was, now)
-lines_on m next said own (Moves.loses {message} late near why) =
+    ap (λ (held : Option Hand). news_in_hand (option_map (asked_hand want) held)) is in omega (arith, was, now)
+news_on m next said own (Moves.loses {message} late near why) =
     let no : true ≡ false = sym own ∙ not_lost m message late why in cc
-lines_on m next said own _ = cc
+news_on m next said own _ = cc

@@ -5,11 +5,10 @@ use Rattle.std.proofs.Common.{◌++◌, length, Option, Some, None, refl, sym, a
 use Rattle.std.proofs.Common.{length-append}
 use Rattle.std.proofs.lemmas.List.Concat.{flat_map-append}
 use Rattle.std.specs.List.{flat_map}
-use Rattle.machine_model.specs.Due.{Due, Load, Picked, Way, after_deed, asked_first, asked_hand, asked_next}
-use Rattle.machine_model.specs.Due.{begun, behind_first, busy, can_read}
-use Rattle.machine_model.specs.Due.{clear, due, due_by, gated, guarded, hand_due, is_full, lacking_more}
-use Rattle.machine_model.specs.Due.{lets, load_of, looked, newly_lacked, next_item, passed_by, pick, queued}
-use Rattle.machine_model.specs.Due.{queued_next, responded, updated, waiting, wanted, wanted_in, way}
+use Rattle.machine_model.specs.Due.{Due, Load, Picked, Way, after_deed, asked_first, asked_hand, asked_next, begun}
+use Rattle.machine_model.specs.Due.{behind_first, busy, can_read, clear, due, due_by, gated, guarded, hand_due}
+use Rattle.machine_model.specs.Due.{is_full, lacking_more, lets, load_of, looked, newly_lacked, next_item, passed_by}
+use Rattle.machine_model.specs.Due.{pick, queued, queued_next, responded, updated, waiting, wanted, wanted_in, way}
 use Rattle.machine_model.specs.Due.Way.{passes, greets as greets_way, holds as holds_way, asks as asks_way}
 use Rattle.machine_model.specs.Lookups.{finished, found_for}
 use Rattle.bridge_core.specs.Names.{Act, Attach, Attached, BadArguments, Choice, Command, ConfigurationDone, Continue}
@@ -22,11 +21,10 @@ use Rattle.machine_model.specs.Plans.{Need, Result, fails, has, lacks, question_
 use Rattle.machine_model.specs.Replying.{pending_in, pending_of, unanswered, unanswered_effect}
 use Rattle.machine_model.specs.Requests.{effect_due}
 use Rattle.jdwp_values.specs.declared.id.ThreadId.{ThreadId}
-use Rattle.machine_model.specs.Composites.{changes_in, has_death}
+use Rattle.machine_model.specs.Composites.{changes_in, composite_parts, has_death}
 use Rattle.machine_model.specs.declared.parts.News.{News}
-use Rattle.machine_model.specs.Rows.{chosen, configured_parts, continue_parts, end_parts, failure_of, leaves}
-use Rattle.machine_model.specs.Rows.{news_of, noted, parts_by, parts_of, pause_parts, row_of, thread_with, told_in}
-use Rattle.machine_model.specs.Rows.{wanting}
+use Rattle.machine_model.specs.Rows.{chosen, configured_parts, continue_parts, end_parts, failure_of, leaves, news_of}
+use Rattle.machine_model.specs.Rows.{noted, parts_by, parts_of, pause_parts, row_of, thread_with, told_in, wanting}
 use Rattle.machine_model.specs.Runs.{Allows, Message, Run, said}
 use Rattle.machine_model.specs.State.{Hand, Machine, State, has_waiting, is_empty, is_flying, is_gone, is_raw, knowing}
 use Rattle.machine_model.specs.State.{left}
@@ -35,18 +33,15 @@ use Rattle.machine_model.proofs.HandshakeLaws.{has_handshake}
 use Rattle.machine_model.proofs.PendingLaws.{all_open}
 use Rattle.machine_model.proofs.QuietLaws.{lacking_hand, load_in}
 use Rattle.machine_model.proofs.RestLaws.{is_free, near_queue}
-use Rattle.machine_model.proofs.Stepping.{IsAt, Loses, Moves, moved, walks_due}
+use Rattle.machine_model.proofs.Stepping.{IsAt, Moves, moved, walks_due}
 use Rattle.machine_model.proofs.Tables.{of_decided}
 use Rattle.machine_model.proofs.TurnLaws.{Turns, turned, unsent}
-use Rattle.bridge_core.specs.Working.{choice_weight, hand_work, is_wait, is_work, lines_in, lines_in_hand, lines_of}
-use Rattle.bridge_core.specs.Working.{one_if, one_unless}
-use Rattle.bridge_core.specs.Working.{waiting_work, weight, weights, work, work_of}
+use Rattle.bridge_core.specs.Working.{choice_weight, hand_work, is_wait, is_work, lines_in, news_in_hand, news_left}
+use Rattle.bridge_core.specs.Working.{one_if, one_unless, waiting_work, weight, weights, work, work_of}
 use Rattle.jdwp_events.specs.declared.kind.Policy.{Policy}
 use Rattle.wish_sets.specs.Entries.{all_lines}
-use Rattle.wish_sets.specs.declared.entry.LineEntry.{LineEntry}
-use Rattle.machine_model.specs.Composites.{composite_parts}
-use Rattle.bridge_core.proofs.LineLaws.{all_news_few, lines_on}
-use Rattle.bridge_core.proofs.OwnMoves.{is_own, is_own_message, not_lost}
+use Rattle.bridge_core.proofs.LineLaws.{all_news_few, news_on}
+use Rattle.bridge_core.proofs.OwnMoves.{is_own, not_lost}
 
 -- Whether the next id is pending --------------------------------------------------------------------------------------
 
@@ -159,78 +154,78 @@ sends_alone {messages} {m} r id_pending effect is =
 
 -- The tables ----------------------------------------------------------------------------------------------------------
 
-finished_light : (lines : ℕ) (lookup : Lookup) (result : Result Finding) (state : State)
-    → weights lines (finished lookup result state) < 10
-finished_light lines lookup result state = grind arith
+finished_light : (most : ℕ) (lookup : Lookup) (result : Result Finding) (state : State)
+    → weights most (finished lookup result state) < 10
+finished_light most lookup result state = grind arith
 
-leaves_light : (lines : ℕ) (exits : Bool) (state : State) → weights lines (leaves state.phase exits) < 10
-leaves_light lines exits state = grind arith
+leaves_light : (most : ℕ) (exits : Bool) (state : State) → weights most (leaves state.phase exits) < 10
+leaves_light most exits state = grind arith
 
-news_light : (lines : ℕ) (phase : Phase) (news : List News) → weights lines (told_in phase news) ≤ length news
-news_light lines Fresh news = omega arith
-news_light lines Gone news = omega arith
-news_light lines Attached [] = omega arith
-news_light lines Attached (one ∷ news) = let more = news_light lines Attached news in omega (arith, more)
+news_light : (most : ℕ) (phase : Phase) (news : List News) → weights most (told_in phase news) ≤ length news
+news_light most Fresh news = omega arith
+news_light most Gone news = omega arith
+news_light most Attached [] = omega arith
+news_light most Attached (one ∷ news) = let more = news_light most Attached news in omega (arith, more)
 
-chosen_light : (lines : ℕ) (choice : Choice) (state : State) (hand : Hand)
-    → length (all_lines state.wishes.wanted) + length (changes_in hand.item) ≤ lines
-    → weights lines (chosen choice state hand) < choice_weight lines choice
-chosen_light lines (TellsNews below) state hand few =
-    let told = news_light lines state.phase (news_of below state hand.item) in
+chosen_light : (most : ℕ) (choice : Choice) (state : State) (hand : Hand)
+    → length (all_lines state.wishes.wanted) + length (changes_in hand.item) ≤ most
+    → weights most (chosen choice state hand) < choice_weight most choice
+chosen_light most (TellsNews below) state hand few =
+    let told = news_light most state.phase (news_of below state hand.item) in
     let listed = all_news_few below state hand.item in omega (arith, few, told, listed)
-chosen_light lines Decides state hand few =
-    of_decided (λ (parts : List Part). weights lines parts < 10) (omega arith) (omega arith) (omega arith)
+chosen_light most Decides state hand few =
+    of_decided (λ (parts : List Part). weights most parts < 10) (omega arith) (omega arith) (omega arith)
     (λ stopping. omega arith) (λ stopping. omega arith) state hand.item
-chosen_light lines (Leaves exits) state hand few = leaves_light lines exits state
+chosen_light most (Leaves exits) state hand few = leaves_light most exits state
 
-configured_light : (lines : ℕ) (entry : Bool) → weights lines (configured_parts entry) < 60 + lines
-configured_light lines true = omega arith
-configured_light lines false = omega arith
+configured_light : (most : ℕ) (entry : Bool) → weights most (configured_parts entry) < 60 + most
+configured_light most true = omega arith
+configured_light most false = omega arith
 
-continue_light : (lines : ℕ) (thread : Option ThreadId) → weights lines (continue_parts thread) < 60 + lines
-continue_light lines None = omega arith
-continue_light lines (Some thread) = omega arith
+continue_light : (most : ℕ) (thread : Option ThreadId) → weights most (continue_parts thread) < 60 + most
+continue_light most None = omega arith
+continue_light most (Some thread) = omega arith
 
-pause_light : (lines : ℕ) (stopped : Bool) (thread : Option ThreadId)
-    → weights lines (pause_parts stopped thread) < 60 + lines
-pause_light lines stopped None = omega arith
-pause_light lines true (Some thread) = omega arith
-pause_light lines false (Some thread) = omega arith
+pause_light : (most : ℕ) (stopped : Bool) (thread : Option ThreadId)
+    → weights most (pause_parts stopped thread) < 60 + most
+pause_light most stopped None = omega arith
+pause_light most true (Some thread) = omega arith
+pause_light most false (Some thread) = omega arith
 
-row_light : (lines : ℕ) (command : Command) (state : State) → weights lines (row_of command state) < 60 + lines
-row_light lines (Initialize arguments) state = omega arith
-row_light lines (Attach arguments) state = omega arith
-row_light lines ConfigurationDone state = configured_light lines state.entry
-row_light lines (SetBreakpoints arguments) state = omega arith
-row_light lines Threads state = omega arith
-row_light lines (Continue arguments) state = continue_light lines (thread_with state.threads arguments.thread_id)
-row_light lines (Pause arguments) state =
-    pause_light lines state.stopped (thread_with state.threads arguments.thread_id)
-row_light lines (Disconnect arguments) state = omega arith
-row_light lines Unsupported state = omega arith
-row_light lines (BadArguments name) state = omega arith
+row_light : (most : ℕ) (command : Command) (state : State) → weights most (row_of command state) < 60 + most
+row_light most (Initialize arguments) state = omega arith
+row_light most (Attach arguments) state = omega arith
+row_light most ConfigurationDone state = configured_light most state.entry
+row_light most (SetBreakpoints arguments) state = omega arith
+row_light most Threads state = omega arith
+row_light most (Continue arguments) state = continue_light most (thread_with state.threads arguments.thread_id)
+row_light most (Pause arguments) state =
+    pause_light most state.stopped (thread_with state.threads arguments.thread_id)
+row_light most (Disconnect arguments) state = omega arith
+row_light most Unsupported state = omega arith
+row_light most (BadArguments name) state = omega arith
 
-parts_light : (lines : ℕ) (failure : Option Failure) (row : List Part) → weights lines row < 60 + lines
-    → weights lines (parts_by failure row) < 60 + lines
-parts_light lines None row light = light
-parts_light lines (Some failure) row light = omega arith
+parts_light : (most : ℕ) (failure : Option Failure) (row : List Part) → weights most row < 60 + most
+    → weights most (parts_by failure row) < 60 + most
+parts_light most None row light = light
+parts_light most (Some failure) row light = omega arith
 
-composite_light : (lines : ℕ) (phase : Phase) (dies : Bool) (policy : Policy) (at below : ℕ)
-    → weights lines (composite_parts phase dies policy at below) < 60 + lines
-composite_light lines phase dies policy at below = grind arith
+composite_light : (most : ℕ) (phase : Phase) (dies : Bool) (policy : Policy) (at below : ℕ)
+    → weights most (composite_parts phase dies policy at below) < 60 + most
+composite_light most phase dies policy at below = grind arith
 
-end_light : (lines : ℕ) (terminated : Bool) → weights lines (end_parts terminated) < 60 + lines
-end_light lines true = omega arith
-end_light lines false = omega arith
+end_light : (most : ℕ) (terminated : Bool) → weights most (end_parts terminated) < 60 + most
+end_light most true = omega arith
+end_light most false = omega arith
 
-begun_light : (lines : ℕ) (state : State) (item : Item) → weights lines (parts_of state item) < 60 + lines
-begun_light lines state (a_request request) =
-    parts_light lines (failure_of (wanting request.command) state) (row_of request.command state)
-    (row_light lines request.command state)
-begun_light lines state (a_composite at composite) =
-    composite_light lines state.phase (has_death composite.events) composite.policy at state.next_entry
-begun_light lines state (a_raw at body) = omega arith
-begun_light lines state target_end = end_light lines state.terminated
+begun_light : (most : ℕ) (state : State) (item : Item) → weights most (parts_of state item) < 60 + most
+begun_light most state (a_request request) =
+    parts_light most (failure_of (wanting request.command) state) (row_of request.command state)
+    (row_light most request.command state)
+begun_light most state (a_composite at composite) =
+    composite_light most state.phase (has_death composite.events) composite.policy at state.next_entry
+begun_light most state (a_raw at body) = omega arith
+begun_light most state target_end = end_light most state.terminated
 
 numbered_greets : (outcome : Outcome) (state : State) → (numbered_by outcome state).greeting_sent ≡ state.greeting_sent
 numbered_greets outcome state = grind arith
@@ -241,11 +236,11 @@ told_greets event state = grind arith
 noted_greets : (note : Note) (state : State) → (noted note state).greeting_sent ≡ state.greeting_sent
 noted_greets note state = grind arith
 
-weights_joined : (lines : ℕ) (some others : List Part)
-    → weights lines (some ++ others) ≡ weights lines some + weights lines others
-weights_joined lines [] others = omega arith
-weights_joined lines (part ∷ some) others =
-    let more = weights_joined lines some others in omega (arith, more)
+weights_joined : (most : ℕ) (some others : List Part)
+    → weights most (some ++ others) ≡ weights most some + weights most others
+weights_joined most [] others = omega arith
+weights_joined most (part ∷ some) others =
+    let more = weights_joined most some others in omega (arith, more)
 
 -- one item fewer waits
 picked_less : (gone : Bool) (items : List Item) (picked : Picked) → pick gone items ≡ Some picked
@@ -273,34 +268,34 @@ picked_less gone (item ∷ items) picked is =
         let long : length items ≡ length picked.rest = ap length rest in omega arith
 
 -- all but what it counts for is left
-picked_work : (lines : ℕ) (gone : Bool) (items : List Item) (picked : Picked) → pick gone items ≡ Some picked
-    → waiting_work lines picked.rest + (100 + lines) ≡ waiting_work lines items
-picked_work lines gone [] picked is = cc
-picked_work lines gone (item ∷ items) picked is =
+picked_work : (most : ℕ) (gone : Bool) (items : List Item) (picked : Picked) → pick gone items ≡ Some picked
+    → waiting_work most picked.rest + (100 + most) ≡ waiting_work most items
+picked_work most gone [] picked is = cc
+picked_work most gone (item ∷ items) picked is =
     by_test (cond gone false (is_raw item)) (pick gone items) is
-    (λ other same. picked_work lines gone items other same)
+    (λ other same. picked_work most gone items other same)
   where
     by_below : (below : Option Picked) → passed_by item below ≡ Some picked
         → ((other : Picked) → below ≡ Some other
-        → waiting_work lines other.rest + (100 + lines) ≡ waiting_work lines items)
-        → waiting_work lines picked.rest + (100 + lines) ≡ waiting_work lines (item ∷ items)
+        → waiting_work most other.rest + (100 + most) ≡ waiting_work most items)
+        → waiting_work most picked.rest + (100 + most) ≡ waiting_work most (item ∷ items)
     by_below None is all = cc
     by_below (Some other) is all =
         let more = all other refl in
         let rest : item ∷ other.rest ≡ picked.rest = cc in
-        let same = ap (waiting_work lines) rest in omega (arith, more, same)
+        let same = ap (waiting_work most) rest in omega (arith, more, same)
 
     by_test : (skips : Bool) (below : Option Picked)
         → cond skips (passed_by item below) (Some (record { item = item; rest = items })) ≡ Some picked
         → ((other : Picked) → below ≡ Some other
-        → waiting_work lines other.rest + (100 + lines) ≡ waiting_work lines items)
-        → waiting_work lines picked.rest + (100 + lines) ≡ waiting_work lines (item ∷ items)
+        → waiting_work most other.rest + (100 + most) ≡ waiting_work most items)
+        → waiting_work most picked.rest + (100 + most) ≡ waiting_work most (item ∷ items)
     by_test true below is all = by_below below is all
     by_test false below is all =
         let rest : items ≡ picked.rest = cc in
-        let same = ap (waiting_work lines) rest in omega (arith, same)
+        let same = ap (waiting_work most) rest in omega (arith, same)
 
--- Fewer breakpoints ---------------------------------------------------------------------------------------------------
+-- Less news -----------------------------------------------------------------------------------------------------------
 
 weight_fewer : (few many : ℕ) (part : Part) → few ≤ many → weight few part ≤ weight many part
 weight_fewer few many (Part.Unfolds (TellsNews below)) less = omega (arith, less)
@@ -337,37 +332,37 @@ work_fewer few many m less =
 
 -- The moves -----------------------------------------------------------------------------------------------------------
 
-begun_less : (lines : ℕ) (m : Machine) (picked : Picked) → m.hand ≡ None
+begun_less : (most : ℕ) (m : Machine) (picked : Picked) → m.hand ≡ None
     → pick (is_gone m.state.phase) m.waiting ≡ Some picked
-    → work_of lines (begun m picked.item picked.rest) < work_of lines m
-begun_less lines m picked none is =
-    let less = picked_work lines (is_gone m.state.phase) m.waiting picked is in
-    let light = begun_light lines m.state picked.item in
-    let was : hand_work lines m.hand ≡ 0 = ap (hand_work lines) none in omega (arith, less, light, was)
+    → work_of most (begun m picked.item picked.rest) < work_of most m
+begun_less most m picked none is =
+    let less = picked_work most (is_gone m.state.phase) m.waiting picked is in
+    let light = begun_light most m.state picked.item in
+    let was : hand_work most m.hand ≡ 0 = ap (hand_work most) none in omega (arith, less, light, was)
 
-part_less : (lines : ℕ) (m : Machine) (hand : Hand) (part : Part) (rest parts : List Part) (state : State) → IsAt m hand part rest
-    → state.greeting_sent ≡ m.state.greeting_sent → weights lines parts < weight lines part + weights lines rest
-    → work_of lines (left (knowing m state) hand parts) < work_of lines m
-part_less lines m hand part rest parts state at greets less =
-    let was : hand_work lines m.hand ≡ hand_work lines (Some hand) = ap (hand_work lines) at.in_hand in
-    let heavy : weights lines hand.parts ≡ weight lines part + weights lines rest = ap (weights lines) at.parts in
+part_less : (most : ℕ) (m : Machine) (hand : Hand) (part : Part) (rest parts : List Part) (state : State) → IsAt m hand part rest
+    → state.greeting_sent ≡ m.state.greeting_sent → weights most parts < weight most part + weights most rest
+    → work_of most (left (knowing m state) hand parts) < work_of most m
+part_less most m hand part rest parts state at greets less =
+    let was : hand_work most m.hand ≡ hand_work most (Some hand) = ap (hand_work most) at.in_hand in
+    let heavy : weights most hand.parts ≡ weight most part + weights most rest = ap (weights most) at.parts in
     let same : one_unless state.greeting_sent ≡ one_unless m.state.greeting_sent = ap one_unless greets in
     omega arith
 
 -- an effect is sent for the part in front
-sent_less : (lines : ℕ) (m : Machine) (hand : Hand) (part : Part) (rest : List Part) (now : Hand) (state : State)
+sent_less : (most : ℕ) (m : Machine) (hand : Hand) (part : Part) (rest : List Part) (now : Hand) (state : State)
     → IsAt m hand part rest → state.greeting_sent ≡ m.state.greeting_sent
-    → hand_work lines (Some now) < hand_work lines (Some hand)
-    → work_of lines (record m { hand = Some now; state = state }) < work_of lines m
-sent_less lines m hand part rest now state at greets less =
-    let was : hand_work lines m.hand ≡ hand_work lines (Some hand) = ap (hand_work lines) at.in_hand in
+    → hand_work most (Some now) < hand_work most (Some hand)
+    → work_of most (record m { hand = Some now; state = state }) < work_of most m
+sent_less most m hand part rest now state at greets less =
+    let was : hand_work most m.hand ≡ hand_work most (Some hand) = ap (hand_work most) at.in_hand in
     let same : one_unless state.greeting_sent ≡ one_unless m.state.greeting_sent = ap one_unless greets in
     omega arith
 
-queued_less : (lines : ℕ) (m : Machine) (hand : Hand) → load_of m ≡ lacking_more → m.hand ≡ Some hand
-    → work_of lines (record m { hand = Some (record hand { queue = newly_lacked m.state hand }) }) < work_of lines m
-queued_less lines m hand free is =
-    let was : hand_work lines m.hand ≡ hand_work lines (Some hand) = ap (hand_work lines) is in
+queued_less : (most : ℕ) (m : Machine) (hand : Hand) → load_of m ≡ lacking_more → m.hand ≡ Some hand
+    → work_of most (record m { hand = Some (record hand { queue = newly_lacked m.state hand }) }) < work_of most m
+queued_less most m hand free is =
+    let was : hand_work most m.hand ≡ hand_work most (Some hand) = ap (hand_work most) is in
     let before : one_if (is_empty hand.queue) ≡ 1 = ap one_if
     (by_bools (can_read m) (is_flying hand.effect) (is_empty hand.queue) (is_empty (newly_lacked m.state hand))
     (has_waiting hand.asked) (load_in m hand lacking_more free (near_queue m free) is)) in
@@ -383,13 +378,13 @@ at_most : (b : Bool) → one_if b ≤ 1
 at_most true = omega arith
 at_most false = omega arith
 
-asked_less : (lines : ℕ) (m : Machine) (hand : Hand) (want : Want) (wants : List Want) → is_full false m ≡ false
+asked_less : (most : ℕ) (m : Machine) (hand : Hand) (want : Want) (wants : List Want) → is_full false m ≡ false
     → m.hand ≡ Some hand → hand.queue ≡ want ∷ wants
-    → work_of lines (record m { hand = option_map (asked_hand want) m.hand }) < work_of lines m
-asked_less lines m hand want wants room is are =
-    let was : hand_work lines m.hand ≡ hand_work lines (Some hand) = ap (hand_work lines) is in
-    let now : hand_work lines (option_map (asked_hand want) m.hand) ≡ hand_work lines (Some (asked_hand want hand)) =
-    ap (λ (held : Option Hand). hand_work lines (option_map (asked_hand want) held)) is in
+    → work_of most (record m { hand = option_map (asked_hand want) m.hand }) < work_of most m
+asked_less most m hand want wants room is are =
+    let was : hand_work most m.hand ≡ hand_work most (Some hand) = ap (hand_work most) is in
+    let now : hand_work most (option_map (asked_hand want) m.hand) ≡ hand_work most (Some (asked_hand want hand)) =
+    ap (λ (held : Option Hand). hand_work most (option_map (asked_hand want) held)) is in
     let before : one_if (is_empty hand.queue) ≡ 0 = ap (λ (queue : List Want). one_if (is_empty queue)) are in
     let one : List TargetCommand = a_question (question_of want) ∷ [] in
     let more : length (flat_map unanswered (hand.asked ++ record { want = want; reply = None } ∷ []))
@@ -412,63 +407,63 @@ asked_less lines m hand want wants room is are =
         let outer = length-append m.late (flat_map unanswered hand.asked ++ unanswered_effect hand.effect) in
         let inner = length-append (flat_map unanswered hand.asked) (unanswered_effect hand.effect) in omega arith
 
-some_weight : (lines : ℕ) (part : Part) (rest : ℕ) → rest < weight lines part + rest
-some_weight lines part rest = grind arith
+some_weight : (most : ℕ) (part : Part) (rest : ℕ) → rest < weight most part + rest
+some_weight most part rest = grind arith
 
 -- each move of the machine's own lessens what it can still do, where so much may be told
-less_by : (lines : ℕ) (m next : Machine) (said : Option Message) → lines_of m ≤ lines
-    → is_own said ≡ true → Moves m said next → work_of lines next < work_of lines m
-less_by lines m next said few own (Moves.begins picked free none is) = begun_less lines m picked none is
-less_by lines m next said few own (Moves.drops {hand} free is none) =
-    let was : hand_work lines m.hand ≡ hand_work lines (Some hand) = ap (hand_work lines) is in omega (arith, was)
-less_by lines m next said few own (Moves.responds {hand} {rest} {outcome = outcome} free at is) =
-    part_less lines m hand (Part.Responds outcome) rest rest (numbered_by outcome m.state) at
+less_by : (most : ℕ) (m next : Machine) (said : Option Message) → news_left m ≤ most
+    → is_own said ≡ true → Moves m said next → work_of most next < work_of most m
+less_by most m next said few own (Moves.begins picked free none is) = begun_less most m picked none is
+less_by most m next said few own (Moves.drops {hand} free is none) =
+    let was : hand_work most m.hand ≡ hand_work most (Some hand) = ap (hand_work most) is in omega (arith, was)
+less_by most m next said few own (Moves.responds {hand} {rest} {outcome = outcome} free at is) =
+    part_less most m hand (Part.Responds outcome) rest rest (numbered_by outcome m.state) at
     (numbered_greets outcome m.state) (omega arith)
-less_by lines m next said few own (Moves.finds {hand} {rest} {lookup} found free at needs done) =
+less_by most m next said few own (Moves.finds {hand} {rest} {lookup} found free at needs done) =
     let parts = finished lookup (result_of found) m.state in
-    let light = finished_light lines lookup (result_of found) m.state in
-    let both = weights_joined lines parts rest in
-    part_less lines m hand (Part.Looks lookup) rest (parts ++ rest) m.state at refl (omega (arith, light, both))
-less_by lines m next said few own (Moves.passes_over {hand} {part} {rest} free at why) =
-    part_less lines m hand part rest rest m.state at refl (some_weight lines part (weights lines rest))
-less_by lines m next said few own (Moves.tells {hand} {rest} {event} free at) =
-    part_less lines m hand (Part.Tells event) rest rest (after_event event m.state) at (told_greets event m.state)
+    let light = finished_light most lookup (result_of found) m.state in
+    let both = weights_joined most parts rest in
+    part_less most m hand (Part.Looks lookup) rest (parts ++ rest) m.state at refl (omega (arith, light, both))
+less_by most m next said few own (Moves.passes_over {hand} {part} {rest} free at why) =
+    part_less most m hand part rest rest m.state at refl (some_weight most part (weights most rest))
+less_by most m next said few own (Moves.tells {hand} {rest} {event} free at) =
+    part_less most m hand (Part.Tells event) rest rest (after_event event m.state) at (told_greets event m.state)
     (omega arith)
-less_by lines m next said few own (Moves.sends {hand} {rest} {deed} free at near) =
-    let heavy : weights lines hand.parts ≡ 1 + weights lines rest = ap (weights lines) at.parts in
-    sent_less lines m hand (Part.Sends deed) rest
+less_by most m next said few own (Moves.sends {hand} {rest} {deed} free at near) =
+    let heavy : weights most hand.parts ≡ 1 + weights most rest = ap (weights most) at.parts in
+    sent_less most m hand (Part.Sends deed) rest
     (record hand { parts = rest; effect = Some (record { effect = Does deed; reply = None }) })
     (after_deed deed m.state) at refl (omega (arith, heavy))
-less_by lines m next said few own (Moves.updates {hand} {effect} {rest} free at is near) =
-    let heavy : weights lines hand.parts ≡ 1 + weights lines rest = ap (weights lines) at.parts in
+less_by most m next said few own (Moves.updates {hand} {effect} {rest} free at is near) =
+    let heavy : weights most hand.parts ≡ 1 + weights most rest = ap (weights most) at.parts in
     let lands : one_unless (is_flying hand.effect) ≡ 1 = ap one_unless (is_free m hand free near at.in_hand).lands in
-    sent_less lines m hand Part.Updates rest
+    sent_less most m hand Part.Updates rest
     (record hand { parts = Part.Updates ∷ rest; effect = Some (record { effect = effect; reply = None }) }) m.state
     at refl (omega (arith, heavy, lands))
-less_by lines m next said few own (Moves.greets {hand} {guard} free at is near) =
+less_by most m next said few own (Moves.greets {hand} {guard} free at is near) =
     let before : one_unless m.state.greeting_sent ≡ 1 = ap one_unless (unsent m guard is) in omega (arith, before)
-less_by lines m next said few own (Moves.notes {hand} {note} {rest} free at) =
-    part_less lines m hand (Part.Notes note) rest rest (noted note m.state) at (noted_greets note m.state)
+less_by most m next said few own (Moves.notes {hand} {note} {rest} free at) =
+    part_less most m hand (Part.Notes note) rest rest (noted note m.state) at (noted_greets note m.state)
     (omega arith)
-less_by lines m next said few own (Moves.unfolds {hand} {choice} {rest} free at) =
+less_by most m next said few own (Moves.unfolds {hand} {choice} {rest} free at) =
     let parts = chosen choice m.state hand in
-    let was : lines_in_hand m.hand ≡ lines_in hand.parts + length (changes_in hand.item) =
-    ap lines_in_hand at.in_hand in
-    let light = chosen_light lines choice m.state hand (omega (arith, few, was)) in
-    let both = weights_joined lines parts rest in
-    part_less lines m hand (Part.Unfolds choice) rest (parts ++ rest) m.state at refl (omega (arith, light, both))
-less_by lines m next said few own (Moves.queues {hand} free is) = queued_less lines m hand free is
-less_by lines m next said few own (Moves.asks {hand} {want} {wants} free room is are) =
-    asked_less lines m hand want wants room is are
-less_by lines m next said few own (Moves.loses {message} late near why) =
+    let was : news_in_hand m.hand ≡ lines_in hand.parts + length (changes_in hand.item) =
+    ap news_in_hand at.in_hand in
+    let light = chosen_light most choice m.state hand (omega (arith, few, was)) in
+    let both = weights_joined most parts rest in
+    part_less most m hand (Part.Unfolds choice) rest (parts ++ rest) m.state at refl (omega (arith, light, both))
+less_by most m next said few own (Moves.queues {hand} free is) = queued_less most m hand free is
+less_by most m next said few own (Moves.asks {hand} {want} {wants} free room is are) =
+    asked_less most m hand want wants room is are
+less_by most m next said few own (Moves.loses {message} late near why) =
     let no : true ≡ false = sym own ∙ not_lost m message late why in cc
-less_by lines m next said few own _ = cc
+less_by most m next said few own _ = cc
 
--- and makes the breakpoints no more
+-- and makes the news no more
 less_on : (m next : Machine) (said : Option Message) → is_own said ≡ true → Moves m said next → work next < work m
 less_on m next said own move =
-    let less = less_by (lines_of m) m next said (omega arith) own move in
-    let few = work_fewer (lines_of next) (lines_of m) next (lines_on m next said own move) in
+    let less = less_by (news_left m) m next said (omega arith) own move in
+    let few = work_fewer (news_left next) (news_left m) next (news_on m next said own move) in
     omega (arith, less, few)
 
 goes : (m : Machine) → (due false m).act ≡ Act.Goes → Moves m None (due false m).next

@@ -44,55 +44,55 @@ lines_in [] = 0
 lines_in (part ∷ parts) = lines_in_part part + lines_in parts
 
 -- those that an item in hand lists, and the threads of which it tells
-abbrev pub lines_in_hand : Option Hand → ℕ
-lines_in_hand None = 0
-lines_in_hand (Some hand) = lines_in hand.parts + length (changes_in hand.item)
+abbrev pub news_in_hand : Option Hand → ℕ
+news_in_hand None = 0
+news_in_hand (Some hand) = lines_in hand.parts + length (changes_in hand.item)
 
 -- how many a request lists (DAP specification, SetBreakpoints request)
 abbrev pub lines_listed : Command → ℕ
 lines_listed (SetBreakpoints arguments) = length arguments.breakpoints
 lines_listed _ = 0
 
-abbrev pub lines_in_item : Item → ℕ
-lines_in_item (a_request request) = lines_listed request.command
-lines_in_item (a_composite at composite) = length (changes_in (a_composite at composite))
-lines_in_item (a_raw at body) = 0
-lines_in_item target_end = 0
+abbrev pub news_in_item : Item → ℕ
+news_in_item (a_request request) = lines_listed request.command
+news_in_item (a_composite at composite) = length (changes_in (a_composite at composite))
+news_in_item (a_raw at body) = 0
+news_in_item target_end = 0
 
-abbrev pub lines_waiting : List Item → ℕ
-lines_waiting [] = 0
-lines_waiting (item ∷ items) = lines_in_item item + lines_waiting items
+abbrev pub news_waiting : List Item → ℕ
+news_waiting [] = 0
+news_waiting (item ∷ items) = news_in_item item + news_waiting items
 
 -- How many breakpoints of sources are listed, or are still to be written down, and of how many threads the client is
 -- still to be told: no act of the machine makes them more, and no more news is told at once.
-abbrev pub lines_of : Machine → ℕ
-lines_of m =
-    length (all_lines m.state.wishes.wanted) + (lines_in_hand m.hand + lines_waiting m.waiting)
+abbrev pub news_left : Machine → ℕ
+news_left m =
+    length (all_lines m.state.wishes.wanted) + (news_in_hand m.hand + news_waiting m.waiting)
 
 -- What is left to do --------------------------------------------------------------------------------------------------
 
 -- a choice weighs more than what it becomes
 abbrev pub choice_weight : ℕ → Choice → ℕ
-choice_weight lines (TellsNews below) = 10 + lines
-choice_weight lines Decides = 10
-choice_weight lines (Leaves exits) = 10
+choice_weight most (TellsNews below) = 10 + most
+choice_weight most Decides = 10
+choice_weight most (Leaves exits) = 10
 
 -- a part weighs more than those that it may become, where there is at most so much news
 abbrev pub weight : ℕ → Part → ℕ
-weight lines (Part.Looks lookup) = 10
-weight lines (Part.Unfolds choice) = choice_weight lines choice
-weight lines (Part.Responds outcome) = 1
-weight lines (Part.Tells event) = 1
-weight lines (Part.Sends deed) = 1
-weight lines (Part.Awaits guard) = 1
-weight lines Part.Updates = 1
-weight lines (Part.Notes note) = 1
-weight lines (Part.Ends finish) = 1
+weight most (Part.Looks lookup) = 10
+weight most (Part.Unfolds choice) = choice_weight most choice
+weight most (Part.Responds outcome) = 1
+weight most (Part.Tells event) = 1
+weight most (Part.Sends deed) = 1
+weight most (Part.Awaits guard) = 1
+weight most Part.Updates = 1
+weight most (Part.Notes note) = 1
+weight most (Part.Ends finish) = 1
 
 -- what the parts of a list weigh
 abbrev pub weights : ℕ → List Part → ℕ
-weights lines [] = 0
-weights lines (part ∷ parts) = weight lines part + weights lines parts
+weights most [] = 0
+weights most (part ∷ parts) = weight most part + weights most parts
 
 -- one where this holds
 abbrev pub one_if : Bool → ℕ
@@ -110,21 +110,21 @@ free_places asked = 16 - length (flat_map unanswered asked)
 
 -- what an item in hand can still do
 abbrev pub hand_work : ℕ → Option Hand → ℕ
-hand_work lines None = 0
-hand_work lines (Some hand) =
-    1 + (weights lines hand.parts + (one_unless (is_flying hand.effect) + (one_if (is_empty hand.queue)
+hand_work most None = 0
+hand_work most (Some hand) =
+    1 + (weights most hand.parts + (one_unless (is_flying hand.effect) + (one_if (is_empty hand.queue)
     + 2 * free_places hand.asked)))
 
 -- each item that waits counts for more than it can do once it is begun
 abbrev pub waiting_work : ℕ → List Item → ℕ
-waiting_work lines [] = 0
-waiting_work lines (item ∷ items) = 100 + (lines + waiting_work lines items)
+waiting_work most [] = 0
+waiting_work most (item ∷ items) = 100 + (most + waiting_work most items)
 
 -- what a machine can still do, where there is at most so much news
 abbrev pub work_of : ℕ → Machine → ℕ
-work_of lines m =
-    waiting_work lines m.waiting + (hand_work lines m.hand + one_unless m.state.greeting_sent)
+work_of most m =
+    waiting_work most m.waiting + (hand_work most m.hand + one_unless m.state.greeting_sent)
 
 -- what the whole machine can still do
 abbrev pub work : Machine → ℕ
-work m = work_of (lines_of m) m
+work m = work_of (news_left m) m
