@@ -77,6 +77,10 @@ def dial(port, process=None):
             time.sleep(0.02)
 
 
+def framed(body):
+    return b"Content-Length: %d\r\n\r\n" % len(body) + body
+
+
 class Client:
     """A client's end of the link: bodies go out and come in as frames."""
 
@@ -84,9 +88,13 @@ class Client:
         self.stream = stream
         self.rest = b""
 
+    def send_all(self, bodies):
+        """Sends frames in one piece."""
+        self.stream.sendall(b"".join(framed(body) for body in bodies))
+
     def send(self, body, by=None):
         """Sends a frame, whole or so many bytes at a time."""
-        frame = b"Content-Length: %d\r\n\r\n" % len(body) + body
+        frame = framed(body)
         step = by or len(frame)
         for start in range(0, len(frame), step):
             self.stream.sendall(frame[start : start + step])

@@ -1,0 +1,338 @@
+#!/usr/bin/env python3
+"""The program over a Java machine that stops: each case runs both, and a client that holds a session, and is kept or
+broken.
+
+Each message to the client is compared, byte for byte but for numbers of threads, and so are the program's line and
+status, the Java program's status, and all that it prints to its standard output. Where no line says another thing, it
+runs to its end, which is told, and the client disconnects.
+
+- A class is loaded two seconds after a breakpoint was set in it: it stops there before that line prints.
+- The Java program waits for its debugger, and is let go by `configurationDone`.
+- A class is loaded by one loader after the other: each copy stops, also where a pause comes between.
+- Two threads come to a breakpoint at once, again and again: each hit is told once, in one stop or in two.
+- The same with a pause behind each hit, in whose stop the next hit may be told.
+- A thread starts and ends between two stops: both are told before the second.
+- `pause` holds a program that counts, and a second one changes nothing.
+- `continue` without a stop is refused, and so are both for a thread that was never told.
+- The client disconnects in a stop, or goes away: the Java program runs on. It is killed in a stop: that is told.
+- 1,000 hits, each continued, are told one by one, as many as a debugger by the Java Debug Interface counts.
+
+Where there is no JDK, or none with an agent for JDWP, it says so in one line, and its status is 0.
+
+usage: examples/java_stops.py [PROGRAM]
+"""
+import glob
+import os
+import signal
+import subprocess
+import sys
+import tempfile
+import time
+
+from building import PATIENCE, plainly, program_of
+from java_machine import DEBUGGER, EXAMPLES, JavaProgram, compiled, hits_by_jdi, lacking
+from over_tcp import Program
+from sessions import RUNS_ON, TERMINATED, Session, begin, bound, failed, go_on, has_to_be, line_of, stopped, succeeded
+
+COPIES = 6
+ROUNDS = 20
+HITS = 1000
+# A number that no thread gets.
+NOBODY = 2147483647
+SOURCES = [*glob.glob(os.path.join(EXAMPLES, "stops", "*.java")), os.path.join(EXAMPLES, "Ticks.java"), DEBUGGER]
+
+
+def a_class_loaded_late(java, bridge, session):
+    line = line_of("stops/Late.java", "first line")
+    begin(session, "stops/Late.java", [line], is_loaded=False)
+    java.go_on()
+    has_to_be("the event of the class", session.event(), bound(1, line))
+    number = hit(session, [1])
+    has_to_be("the thread", session.names().get(number), "main")
+    has_to_be("what is printed before the line", java.heard(0.3), b"soon\n")
+    go_on(session, number)
+    has_to_be("what is printed behind it", ended(java, bridge, session), b"first line\nsecond line\n")
+
+
+def started_suspended(java, bridge, session):
+    line = line_of("Ticks.java", "println")
+    begin(session, "Ticks.java", [line], is_loaded=False)
+    has_to_be("the event of the class", session.event(), bound(1, line))
+    for before in (b"", b"second 1\n"):
+        number = hit(session, [1])
+        has_to_be("the thread", session.names().get(number), "main")
+        has_to_be("what is printed before the line", java.heard(0.3), before)
+        go_on(session, number)
+    has_to_be("what is printed behind it", ended(java, bridge, session), b"second 2\n")
+
+
+def a_class_of_many_loaders(java, bridge, session):
+    line = line_of("stops/Copies.java", '"a copy"')
+    begin(session, "stops/Copies.java", [line], is_loaded=False)
+    java.go_on()
+    has_to_be("the event of the first copy", session.event(), bound(1, line))
+    printed = b""
+    for copy in range(COPIES):
+        number = hit(session, [1])
+        printed += java.heard(0.1)
+        has_to_be("what is printed before the line", printed, copy * b"a copy\n")
+        if copy % 2 == 0:
+            pause_behind_continue(session, number)
+            printed += stands_still(java)
+        go_on(session, number)
+        has_to_be("events in the stop", session.waiting, [])
+    has_to_be("what is printed", printed + ended(java, bridge, session), COPIES * b"a copy\n")
+
+
+def two_threads_at_once(java, bridge, session):
+    begin(session, "stops/Pair.java", [line_of("stops/Pair.java", "println(getName()")])
+    java.go_on()
+    numbers, stops, printed = [], 0, b""
+    while len(numbers) < 2 * ROUNDS:
+        before = len(numbers)
+        numbers.append(hit(session, [1]))
+        if stops % 2 == 0:
+            # What comes in a stop is told in it. No thread runs on by itself.
+            printed += java.heard(0.05)
+            has_to_be("as many lines as were let go, or fewer", printed.count(b"\n") <= before, True)
+        go_on(session, numbers[-1])
+        numbers += [hit(session, [1]) for _ in range(len(session.waiting))]
+        stops += 1
+    both_were_there(numbers, printed + ended(java, bridge, session))
+
+
+def pause_among_hits(java, bridge, session):
+    begin(session, "stops/Pair.java", [line_of("stops/Pair.java", "println(getName()")])
+    java.go_on()
+    numbers, within, printed = [], 0, b""
+    while len(numbers) < 2 * ROUNDS:
+        numbers.append(hit(session, [1]))
+        if len(numbers) < ROUNDS:
+            pause_behind_continue(session, numbers[-1])
+            printed += java.heard(0.02)
+            has_to_be("as many lines as were let go, or fewer", printed.count(b"\n") <= len(numbers), True)
+        go_on(session, numbers[-1])
+        told = [hit(session, [1]) for _ in range(len(session.waiting))]
+        numbers += told
+        within += len(told)
+    print("%d of %d hits were told in a stop that was there" % (within, len(numbers)))
+    both_were_there(numbers, printed + ended(java, bridge, session))
+
+
+def a_thread_between_stops(java, bridge, session):
+    number = first_stop_of_two(java, session)
+    known = max([*session.names(), *(other for _, other in session.threads)])
+    go_on(session, number)
+    has_to_be("the thread of the second stop", hit(session, [2]), number)
+    new = [told for told in session.threads if told[1] > known]
+    has_to_be("what is told of new threads", new, [("started", known + 1), ("exited", known + 1)])
+    has_to_be("what is printed before the line", java.heard(0.3), b"before\n")
+    go_on(session, number)
+    has_to_be("what is printed behind it", ended(java, bridge, session), b"behind\n")
+
+
+def pause_of_a_running_program(java, bridge, session):
+    begin(session)
+    number = session.number_of("main")
+    printed = java.heard(0.2)
+    has_to_be("pause", session.ask("pause", {"threadId": number}), succeeded())
+    has_to_be("events before its response", session.waiting, [])
+    has_to_be("the event behind it", session.event(), stopped(number))
+    printed += stands_still(java)
+    has_to_be("a second pause", session.ask("pause", {"threadId": number}), succeeded())
+    has_to_be("the thread", session.names().get(number), "main")
+    has_to_be("events behind the second pause", session.waiting, [])
+    has_to_be("what is printed in the stop", stands_still(java), b"")
+    go_on(session, number)
+    counts_on(java, bridge, session, printed)
+
+
+def refused_without_stop_or_thread(java, bridge, session):
+    begin(session)
+    number = session.number_of("main")
+    for known in (number, NOBODY):
+        has_to_be("continue, no stop", session.ask("continue", {"threadId": known}), failed(4, "notStopped"))
+    has_to_be("pause, no thread", session.ask("pause", {"threadId": NOBODY}), failed(8, "unknownThread"))
+    printed = java.heard(0.2)
+    has_to_be("pause", session.ask("pause", {"threadId": number}), succeeded())
+    has_to_be("the event behind it", session.event(), stopped(number))
+    for command in ("continue", "pause"):
+        has_to_be(command + ", no thread", session.ask(command, {"threadId": NOBODY}), failed(8, "unknownThread"))
+    printed += stands_still(java)
+    go_on(session, number)
+    has_to_be("continue, no stop any more", session.ask("continue", {"threadId": number}), failed(4, "notStopped"))
+    counts_on(java, bridge, session, printed)
+
+
+def a_thousand_hits(java, bridge, session):
+    line = line_of("stops/Rounds.java", "sum +=")
+    begin(session, "stops/Rounds.java", [line], is_loaded=False)
+    has_to_be("the event of the class", session.event(), bound(1, line))
+    number = hit(session, [1])
+    hits = 1
+    go_on(session, number)
+    while (event := session.event()) != TERMINATED:
+        has_to_be("the stop behind %d others" % hits, event, stopped(number, [1]))
+        hits += 1
+        go_on(session, number)
+    has_to_be("what is printed at the end", left(java, bridge, session), b"sum 500500\n")
+    has_to_be("the hits", hits, HITS)
+    with JavaProgram(java.classes, "stops.Rounds", [str(HITS)], suspend=True) as other:
+        has_to_be("the hits by the Java Debug Interface", hits_by_jdi(other, "stops.Rounds", line)[0], HITS)
+
+
+def left_in_a_stop(java, bridge, session):
+    first_stop_of_two(java, session)
+    has_to_be("what is printed", left(java, bridge, session), b"before\nbehind\n")
+
+
+def client_gone_in_a_stop(java, bridge, session):
+    first_stop_of_two(java, session)
+    session.client.close()
+    says(bridge, b"ended 1 left\n", 1)
+    has_to_be("the Java program", java.end(), (b"before\nbehind\n", 0))
+
+
+def killed_in_a_stop(java, bridge, session):
+    number = first_stop_of_two(java, session)
+    java.process.kill()
+    has_to_be("the event behind it", session.event(), TERMINATED)
+    for command in ("continue", "pause"):
+        has_to_be(command + ", no target", session.ask(command, {"threadId": number}), failed(10, "targetGone"))
+    leaves(bridge, session)
+
+
+def first_stop_of_two(java, session):
+    """The number of the thread that stops at the first of two breakpoints, before that line prints."""
+    begin(session, "stops/Between.java", [line_of("stops/Between.java", text) for text in ("before", "behind")])
+    java.go_on()
+    number = hit(session, [1])
+    has_to_be("what is printed before the line", java.heard(0.3), b"")
+    return number
+
+
+def both_were_there(numbers, printed):
+    """Each of two threads came to the line as often as is due, by the stops that were told and by what it printed."""
+    has_to_be("the hits of each thread", [numbers.count(number) for number in set(numbers)], [ROUNDS, ROUNDS])
+    due = [b"%s %d" % (name, times) for name in (b"left", b"right") for times in range(1, ROUNDS + 1)]
+    has_to_be("the lines", sorted(printed.splitlines()), sorted(due))
+
+
+def pause_behind_continue(session, number):
+    """Lets the Java program run on, and pauses it, in one piece: so the pause comes before what happens meanwhile."""
+    asked = {"threadId": number}
+    said = session.ask_all([("continue", asked), ("pause", asked)])
+    has_to_be("continue and pause", said, [RUNS_ON, succeeded()])
+    has_to_be("events before their responses", session.waiting, [])
+    has_to_be("the event behind them", session.event(), stopped(number))
+
+
+def hit(session, entries):
+    """The number of the thread that stopped at breakpoints with these ids, which the next event tells."""
+    event = session.event()
+    number = event.get("body", {}).get("threadId")
+    has_to_be("the stop", event, stopped(number, entries))
+    return number
+
+
+def stands_still(java):
+    """What was printed up to a stop. Behind it nothing is printed, for half a second."""
+    printed = java.heard(0.1)
+    has_to_be("what is printed in the stop", java.heard(0.5), b"")
+    return printed
+
+
+def counts_on(java, bridge, session, printed):
+    """The program that counts goes on from where it stood, which was printed, and is ended."""
+    more = java.process.stdout.readline()
+    has_to_be("whether it counts on", more != b"", True)
+    java.go_on()
+    *counted, last = (printed + more + ended(java, bridge, session)).split()
+    has_to_be("the count", counted, [b"%d" % number for number in range(1, len(counted) + 1)])
+    has_to_be("its end", last, b"down")
+
+
+def ended(java, bridge, session):
+    """What the Java program prints up to its end, which it comes to by itself, and which is told."""
+    has_to_be("the event at the end", session.event(), TERMINATED)
+    return left(java, bridge, session)
+
+
+def leaves(bridge, session):
+    """The client disconnects, and the program ends."""
+    has_to_be("disconnect", session.ask("disconnect"), succeeded())
+    client = session.client
+    has_to_be("what comes behind its response", client.rest + client.stream.recv(1), b"")
+    client.close()
+    says(bridge, b"ended 0 done\n", 0)
+
+
+def says(bridge, line, status):
+    """The program ends with this line and status."""
+    said, _ = bridge.process.communicate(timeout=PATIENCE)
+    has_to_be("the program's line and status", (said, bridge.process.returncode), (line, status))
+
+
+def left(java, bridge, session):
+    """What the Java program prints up to its end. The client disconnects, and the program ends."""
+    leaves(bridge, session)
+    printed, status = java.end()
+    has_to_be("the status of the Java program", status, 0)
+    return printed
+
+
+# The cases, each with whether the Java program waits for its debugger, and its words.
+CASES = (
+    (a_class_loaded_late, False, "stops.Late"),
+    (started_suspended, True, "Ticks", "2"),
+    (a_class_of_many_loaders, False, "stops.Copies", str(COPIES)),
+    (two_threads_at_once, False, "stops.Pair", str(ROUNDS)),
+    (pause_among_hits, False, "stops.Pair", str(ROUNDS)),
+    (a_thread_between_stops, False, "stops.Between"),
+    (pause_of_a_running_program, False, "stops.Counting"),
+    (refused_without_stop_or_thread, False, "stops.Counting"),
+    (left_in_a_stop, False, "stops.Between"),
+    (client_gone_in_a_stop, False, "stops.Between"),
+    (killed_in_a_stop, False, "stops.Between"),
+    (a_thousand_hits, True, "stops.Rounds", str(HITS)),
+)
+
+
+def is_kept(program, classes, case, suspend, main, *words):
+    """Whether a case is kept. Where it isn't, why is printed, and the standard error of the Java program."""
+    kept = False
+    with JavaProgram(classes, main, words, suspend) as java:
+        try:
+            if suspend:
+                java.wait_until_listening()
+            else:
+                java.wait_until_up()
+            with Program(program, java.port, subprocess.PIPE) as bridge:
+                case(java, bridge, Session(bridge.client()))
+            kept = True
+        except (OSError, EOFError, ValueError, LookupError, subprocess.SubprocessError) as trouble:
+            print(str(trouble) or type(trouble).__name__)
+    if not kept:
+        print("standard error of the Java program:", java.errors())
+    return kept
+
+
+def main():
+    signal.signal(signal.SIGTERM, lambda *_: sys.exit(130))
+    why = lacking("java", "javac")
+    if why:
+        print("java stops skipped: %s" % why)
+        return 0
+    program = program_of(sys.argv[1:])
+    broken = 0
+    with tempfile.TemporaryDirectory() as folder:
+        classes = compiled(folder, *SOURCES)
+        for case, *started in CASES:
+            kept = is_kept(program, classes, case, *started)
+            print(case.__name__, "kept" if kept else "BROKEN", flush=True)
+            broken += not kept
+    return 1 if broken else 0
+
+
+if __name__ == "__main__":
+    plainly(main)

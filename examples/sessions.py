@@ -1,0 +1,129 @@
+"""What the scripts share of a session with stops: a client that numbers what it asks and keeps the events that come
+meanwhile, and the requests that a session begins with."""
+import json
+import os
+
+from java_machine import EXAMPLES
+from over_tcp import CAPABILITIES, compact, request
+
+TERMINATED = {"event": "terminated"}
+RUNS_ON = {"success": True, "body": {"allThreadsContinued": True}}
+
+
+def has_to_be(what, found, due):
+    """Ends the case where something isn't as is due."""
+    if found != due:
+        raise ValueError("%s: %r, and due is %r" % (what, found, due))
+
+
+def succeeded(body=None):
+    """What a response says that succeeds."""
+    return {"success": True} if body is None else {"success": True, "body": body}
+
+
+def failed(code, name):
+    """What a response says that fails (DAP specification, Base Protocol, ErrorResponse)."""
+    return {"success": False, "message": name, "body": {"error": {"format": name, "id": code}}}
+
+
+def stopped(number, entries=None):
+    """The event of a stop at breakpoints with these ids, or of one that was asked for (DAP specification, Events,
+    Stopped)."""
+    body = {"allThreadsStopped": True, "reason": "breakpoint" if entries else "pause", "threadId": number}
+    if entries:
+        body["hitBreakpointIds"] = entries
+    return {"event": "stopped", "body": body}
+
+
+def bound(number, line):
+    """The event of a breakpoint that is bound now (DAP specification, Events, Breakpoint)."""
+    breakpoint = {"id": number, "line": line, "verified": True}
+    return {"event": "breakpoint", "body": {"reason": "changed", "breakpoint": breakpoint}}
+
+
+class Session:
+    """A client's session. Each message that comes has to have the next number, and to be written as the program writes
+    messages, so that it is known byte for byte where its parts are."""
+
+    def __init__(self, client):
+        self.client = client
+        self.asked = 0
+        self.told = 0
+        # The events that came before a response, and what events told of threads: the reason and the number of each.
+        self.waiting = []
+        self.threads = []
+
+    def receive(self):
+        """The next message that is no event of a thread, without its number. Those of threads before it are kept."""
+        while True:
+            body = self.client.receive()
+            self.told += 1
+            message = json.loads(body)
+            has_to_be("the text of a message", body, compact(message))
+            has_to_be("the number of %r" % body, message.pop("seq"), self.told)
+            if message.get("event") != "thread":
+                return message
+            self.threads.append((message["body"]["reason"], message["body"]["threadId"]))
+
+    def ask(self, command, arguments=None):
+        """Asks for something, and gives what the response says. Events that come before it wait."""
+        return self.ask_all([(command, arguments)])[0]
+
+    def ask_all(self, requests):
+        """Asks for some things in one piece, and gives what the responses say, which come in the same order."""
+        first = self.asked + 1
+        self.asked += len(requests)
+        self.client.send_all(request(first + place, *asked) for place, asked in enumerate(requests))
+        return [self.answer(first + place, command) for place, (command, _) in enumerate(requests)]
+
+    def answer(self, number, command):
+        """What the next response says, which answers this request."""
+        message = self.receive()
+        while message["type"] == "event":
+            self.waiting.append(message)
+            message = self.receive()
+        answers = {"type": "response", "request_seq": number, "command": command}
+        has_to_be("the answer", {name: message.pop(name) for name in answers}, answers)
+        return message
+
+    def event(self):
+        """The next event that is of no thread, without its type."""
+        message = self.waiting.pop(0) if self.waiting else self.receive()
+        has_to_be("the type of %r" % message, message.pop("type"), "event")
+        return message
+
+    def names(self):
+        """The names of the threads by their numbers."""
+        said = self.ask("threads")
+        has_to_be("whether threads succeeds", said["success"], True)
+        return {thread["id"]: thread["name"] for thread in said["body"]["threads"]}
+
+    def number_of(self, name):
+        """The number of the thread of a name."""
+        return next((number for number, other in self.names().items() if other == name), None)
+
+
+def line_of(source, text):
+    """The number of the line of a source of this folder in which a text stands, and stands alone."""
+    with open(os.path.join(EXAMPLES, source), encoding="utf-8") as file:
+        (number,) = [number for number, line in enumerate(file, 1) if text in line]
+    return number
+
+
+def begin(session, source=None, lines=(), is_loaded=True):
+    """Begins a session with breakpoints in these lines of a source, bound at once where their class is loaded."""
+    has_to_be("initialize", session.ask("initialize", {"adapterID": "jdwp"}), succeeded(CAPABILITIES))
+    has_to_be("attach", session.ask("attach", {"sourceRoots": [EXAMPLES]}), succeeded())
+    has_to_be("the event behind it", session.event(), {"event": "initialized"})
+    if source:
+        listed = {"path": os.path.join(EXAMPLES, source)}
+        said = session.ask("setBreakpoints", {"source": listed, "breakpoints": [{"line": line} for line in lines]})
+        left = {"verified": True} if is_loaded else {"verified": False, "message": "not bound yet"}
+        due = [{"id": number, "line": line, **left} for number, line in enumerate(lines, 1)]
+        has_to_be("setBreakpoints", said, succeeded({"breakpoints": due}))
+    has_to_be("configurationDone", session.ask("configurationDone"), succeeded())
+
+
+def go_on(session, number):
+    """Lets the Java program run on from a stop."""
+    has_to_be("continue", session.ask("continue", {"threadId": number}), RUNS_ON)
