@@ -8,7 +8,7 @@ Ctrl-C.
 
 usage: examples/debug.py [--suspend] [--port N] [--class-path PATH] [--sources FOLDER] [--program PROGRAM] MAIN [WORD..]
 
-  --suspend           the Java program waits for its debugger before its first line; today such a session ends at attach
+  --suspend           the Java program waits before its first line, until the editor has set its breakpoints
   --port N            the port for the editor; without it a free one
   --class-path PATH   where the classes are; without it the current folder, or where a .java file is compiled to
   --sources FOLDER    a root of sources, once or more; without it the current folder, or the root of a .java file
