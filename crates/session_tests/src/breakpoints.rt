@@ -15,7 +15,7 @@ const NOT_BOUND_YET: &[u8] =
     \"verified\":false}]},\"command\":\"setBreakpoints\",\"request_seq\":2,\"seq\":3,\"success\":true,\
     \"type\":\"response\"}";
 
-const VERIFIED: &[u8] =
+pub(crate) const VERIFIED: &[u8] =
     b"Content-Length: 145\r\n\r\n{\"body\":{\"breakpoints\":[{\"id\":1,\"line\":10,\"verified\":true}]},\
     \"command\":\"setBreakpoints\",\"request_seq\":2,\"seq\":3,\"success\":true,\"type\":\"response\"}";
 

@@ -7,7 +7,7 @@ use std::test::Fail;
 use wire_core::Side;
 
 // A list of one breakpoint (DAP specification, SetBreakpoints request), and its answer where it waits.
-const LIST: &[u8] =
+pub(crate) const LIST: &[u8] =
     b"Content-Length: 140\r\n\r\n{\"seq\":2,\"type\":\"request\",\"command\":\"setBreakpoints\",\"arguments\":{\
     \"source\":{\"path\":\"/p/src/com/acme/Foo.java\"},\"breakpoints\":[{\"line\":10}]}}";
 
@@ -23,12 +23,12 @@ pub(crate) const BOUND: &[u8] =
 
 // The classes of its package are watched, and all classes are listed (JDWP, EventRequest command set, Set; JDWP,
 // VirtualMachine command set, AllClasses).
-const WATCH: &[u8] =
+pub(crate) const WATCH: &[u8] =
     b"\x00\x00\x00\x20\x00\x00\x00\x04\x00\x0f\x01\x08\x02\x00\x00\x00\x01\x05\x00\x00\x00\x0acom.acme.*";
 
-const WATCHED: &[u8] = b"\x00\x00\x00\x0f\x00\x00\x00\x04\x80\x00\x00\x00\x00\x00\x03";
+pub(crate) const WATCHED: &[u8] = b"\x00\x00\x00\x0f\x00\x00\x00\x04\x80\x00\x00\x00\x00\x00\x03";
 
-const ASK_CLASSES: &[u8] = b"\x00\x00\x00\x0b\x00\x00\x00\x05\x00\x01\x03";
+pub(crate) const ASK_CLASSES: &[u8] = b"\x00\x00\x00\x0b\x00\x00\x00\x05\x00\x01\x03";
 
 const NO_CLASSES: &[u8] = b"\x00\x00\x00\x0f\x00\x00\x00\x05\x80\x00\x00\x00\x00\x00\x00";
 
@@ -485,12 +485,12 @@ const ENDS: &[Course<'static>] = &[
             id: 0,
         },
     },
-    // the target ends at the same time, and no such event is served yet
+    // a command of the same set, which is no composite
     Course {
         first: &[ATTACHES],
         steps: &[Came::Bytes(
             Side::Target,
-            b"\x00\x00\x00\x41\x00\x00\x00\x01\x00\x40\x64\x02\x00\x00\x00\x02\x08\x00\x00\x00\x03\x00\x00\x00\x00\x00\x00\x00\x01\x01\x00\x00\x00\x00\x00\x00\x00\x10\x00\x00\x00\x0e\x4c\x63\x6f\x6d\x2f\x61\x63\x6d\x65\x2f\x46\x6f\x6f\x3b\x00\x00\x00\x07\x63\x00\x00\x00\x00",
+            b"\x00\x00\x00\x0b\x00\x00\x00\x01\x00\x40\x65",
         )],
         limits: USUAL,
         failing: &[],

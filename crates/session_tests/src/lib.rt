@@ -15,4 +15,6 @@ mod listed_classes;
 #[cfg(test)]
 mod sessions;
 #[cfg(test)]
+mod stops;
+#[cfg(test)]
 mod threads;

@@ -598,12 +598,12 @@ const FAULTS: &[Course<'static>] = &[
             id: 0,
         },
     },
-    // an event that is served by nobody
+    // a command of another set
     Course {
         first: &[ATTACHES],
         steps: &[Came::Bytes(
             Side::Target,
-            b"\x00\x00\x00\x15\x00\x00\x00\x01\x00@d\x00\x00\x00\x00\x01c\x00\x00\x00\x00",
+            b"\x00\x00\x00\x0b\x00\x00\x00\x01\x00\x01\x64",
         )],
         limits: USUAL,
         failing: &[],
@@ -615,14 +615,14 @@ const FAULTS: &[Course<'static>] = &[
             id: 0,
         },
     },
-    // and one that comes before it can be read
+    // an event of no kind, which comes before it can be read
     Course {
         first: &[],
         steps: &[
             Came::Bytes(Side::Client, ATTACH),
             Came::Bytes(
                 Side::Target,
-                b"JDWP-Handshake\x00\x00\x00\x1d\x00\x00\x00\x01\x00@d\x02\x00\x00\x00\x01Z\x00\x00\x00\x00\x00\x00\x00\x00\x00\x00\x00\x01",
+                b"JDWP-Handshake\x00\x00\x00\x11\x00\x00\x00\x01\x00\x40\x64\x00\x00\x00\x00\x01\x03",
             ),
             Came::Bytes(
                 Side::Target,
@@ -637,8 +637,8 @@ const FAULTS: &[Course<'static>] = &[
             b"\x00\x00\x00\x0b\x00\x00\x00\x01\x00\x01\x07",
         ],
         ending: Ending::BadTarget {
-            fault: TargetFault::BadCommand,
-            at: 14,
+            fault: TargetFault::BadKind,
+            at: 30,
             id: 0,
         },
     },

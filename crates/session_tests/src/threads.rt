@@ -11,10 +11,10 @@ use std::test::Fail;
 use wire_core::Side;
 
 // A thread starts (JDWP, Event command set, Composite, ThreadStart).
-const STARTED: &[u8] =
+pub(crate) const STARTED: &[u8] =
     b"\x00\x00\x00\x1d\x00\x00\x00\x01\x00\x40\x64\x00\x00\x00\x00\x01\x06\x00\x00\x00\x01\x00\x00\x00\x00\x00\x00\x00\x07";
 
-const TOLD_STARTED: &[u8] =
+pub(crate) const TOLD_STARTED: &[u8] =
     b"Content-Length: 82\r\n\r\n{\"body\":{\"reason\":\"started\",\"threadId\":1},\"event\":\"thread\",\"seq\":3,\"type\":\"event\"}";
 
 const CHANGES: &[Course<'static>] = &[
