@@ -280,13 +280,13 @@ pub stop_held : {m : Machine} {hand : Hand} {stopping : Stopping} {rest : List P
     × (nat_lt 0 (held_in m.state m.hand) ≡ true)
 stop_held {m} {stopping = stopping} {rest} h at =
     by_cause stopping.cause m.state.stopped m.state.entry (owed_in true rest) (held_in m.state m.hand)
-    (first (may_stop stopping.cause m.state.stopped) _ (may_front h at)) (held_front at)
+    (first (may_stop stopping.cause m.state.stopped rest) _ (may_front h at)) (held_front at)
   where
     first : (one others : Bool) → cond one others false ≡ true → one ≡ true
     first true others is = refl
     first false others is = cc
 
-    by_cause : (cause : StopCause) (stopped entry : Bool) (owed held : ℕ) → may_stop cause stopped ≡ true
+    by_cause : (cause : StopCause) (stopped entry : Bool) (owed held : ℕ) → may_stop cause stopped rest ≡ true
         → held ≡ held_with stopped entry (cond (begins stopped cause) (owed + 1) owed)
         → (held_with true entry owed ≡ held) × (nat_lt 0 held ≡ true)
     by_cause (Hit at) true entry owed held may is = (sym is, grind (arith, is))

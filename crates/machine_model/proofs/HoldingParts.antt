@@ -61,16 +61,21 @@ entry_behind (Part.Sends deed) entry = entry_by deed entry
 entry_behind (Part.Notes note) entry = entry_noted note entry
 entry_behind _ entry = entry
 
--- a pause is told in its stop
-abbrev pub may_stop : StopCause → Bool → Bool
-may_stop (Hit at) stopped = true
-may_stop by_client stopped = stopped
+-- the suspension of the composite in hand is undone, and nothing else is done
+abbrev pub only_resumes : List Part → Bool
+only_resumes (Part.Sends (Resume of_composite) ∷ []) = true
+only_resumes _ = false
 
-abbrev may_tell_so : Event → Bool → Bool
-may_tell_so Initialized stopped = true
-may_tell_so (some_news news) stopped = true
-may_tell_so (a_stop stopping) stopped = may_stop stopping.cause stopped
-may_tell_so Terminated stopped = true
+-- a hit that is told in a stop is a surplus, and a pause is told in its stop
+abbrev pub may_stop : StopCause → Bool → List Part → Bool
+may_stop (Hit at) stopped rest = cond stopped (only_resumes rest) true
+may_stop by_client stopped rest = stopped
+
+abbrev may_tell_so : Event → Bool → List Part → Bool
+may_tell_so Initialized stopped rest = true
+may_tell_so (some_news news) stopped rest = true
+may_tell_so (a_stop stopping) stopped rest = may_stop stopping.cause stopped rest
+may_tell_so Terminated stopped rest = true
 
 abbrev may_undo : Suspension → Bool → Bool → Bool
 may_undo of_composite stopped entry = true
@@ -93,7 +98,7 @@ may_choose Decides phase rest = cond (is_attached phase) (is_empty rest) false
 may_choose (Leaves exits) phase rest = true
 
 abbrev may_part : Phase → Bool → Bool → Part → List Part → Bool
-may_part phase stopped entry (Part.Tells event) rest = may_tell_so event stopped
+may_part phase stopped entry (Part.Tells event) rest = may_tell_so event stopped rest
 may_part phase stopped entry (Part.Sends deed) rest = may_do_so deed stopped entry
 may_part phase stopped entry (Part.Notes note) rest = may_note note entry
 may_part phase stopped entry (Part.Unfolds choice) rest = may_choose choice phase rest
@@ -206,9 +211,14 @@ decided_may phase state item =
     by_stop (is_attached state.phase) state.stopped state.entry state.configured (has_start (events_in item))
     (stop_among state.wishes (hits_in state.wishes (events_in item))) (stop_hit state.wishes (events_in item))
   where
-    by_cause : (cause : StopCause) (stopped : Bool) → is_hit cause ≡ true → may_stop cause stopped ≡ true
-    by_cause (Hit at) stopped is = refl
-    by_cause by_client stopped is = cc
+    first_stop : (cause : StopCause) → is_hit cause ≡ true → may_stop cause false [] ≡ true
+    first_stop (Hit at) is = refl
+    first_stop by_client is = cc
+
+    surplus : (cause : StopCause) → is_hit cause ≡ true
+        → may_stop cause true (Part.Sends (Resume of_composite) ∷ []) ≡ true
+    surplus (Hit at) is = refl
+    surplus by_client is = cc
 
     by_stop : (attached stopped entry configured starts : Bool) (stop : Option Stopping) → hit_in stop ≡ true
         → may_all phase stopped entry
@@ -218,8 +228,8 @@ decided_may phase state item =
     by_stop true stopped true false starts None is = refl
     by_stop true stopped false false true None is = refl
     by_stop true stopped false false false None is = refl
-    by_stop true true entry configured starts (Some stopping) is = rw (by_cause stopping.cause true is) refl
-    by_stop true false entry configured starts (Some stopping) is = rw (by_cause stopping.cause false is) refl
+    by_stop true true entry configured starts (Some stopping) is = rw (surplus stopping.cause is) refl
+    by_stop true false entry configured starts (Some stopping) is = rw (first_stop stopping.cause is) refl
 
 chosen_may : (choice : Choice) (state : State) (hand : Hand) (rest : List Part)
     → may_all state.phase state.stopped state.entry (Part.Unfolds choice ∷ rest) ≡ true

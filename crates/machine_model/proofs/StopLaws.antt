@@ -1,6 +1,6 @@
 -- A stop is told of a breakpoint that was hit and stands, or that the client asked for.
-use Rattle.std.proofs.Common.{◌≡◌, ℕ, Bool, true, false, cond, not, ◌||◌, List, [], ◌∷◌, ◌++◌, Option, Some, None, refl}
-use Rattle.std.proofs.Common.{sym, ap, subst, ◌∙◌, option_map, arith}
+use Rattle.std.proofs.Common.{◌≡◌, ℕ, Bool, true, false, cond, not, ◌||◌, List, [], ◌∷◌, ◌++◌, Option, Some, None}
+use Rattle.std.proofs.Common.{refl, sym, ap, subst, ◌∙◌, option_map, arith}
 use Rattle.std.specs.List.{AllByRecursion as All}
 use Rattle.std.specs.Option.{option_or}
 use Rattle.std.specs.Prelude.{find}
@@ -12,15 +12,17 @@ use Rattle.jdwp_events.specs.declared.event.Event.TheVariants as happened
 use Rattle.jdwp_events.specs.declared.kind.Policy.{Policy}
 use Rattle.jdwp_events.specs.declared.kind.Policy.TheVariants.{NoThread, EventThread, All as AllThreads}
 use Rattle.machine_model.specs.Composites.{composite_parts, has_death}
-use Rattle.machine_model.specs.Due.{asked_hand, due}
+use Rattle.machine_model.specs.Due.{Load, asked_hand, busy, can_read, clear, due, hand_load, load_of, newly_lacked}
+use Rattle.machine_model.specs.Due.{wanted}
 use Rattle.machine_model.specs.Lookups.{finished}
 use Rattle.machine_model.specs.Names.{Act, Attach, Attached, BadArguments, Choice, Clear, Command, ConfigurationDone}
-use Rattle.machine_model.specs.Names.{Continue, Decides, Disconnect, Does, Effect, Event, Failure, Finding, Fresh, Gone}
-use Rattle.machine_model.specs.Names.{Hit, Initialize, Initialized, Item, Leaves, Location, Lookup, News, Note, Part}
-use Rattle.machine_model.specs.Names.{Pause, Phase, Replied, Set, SetBreakpoints, StopCause, Stopping, TargetCommand}
-use Rattle.machine_model.specs.Names.{TellsNews, Terminated, ThreadId, Threads, Unsupported, Want, a_composite, a_question}
-use Rattle.machine_model.specs.Names.{a_raw, a_request, a_stop, all_threads, an_effect, an_event, by_client, class_facts}
-use Rattle.machine_model.specs.Names.{entry_verified, some_news, target_end, thread_changed}
+use Rattle.machine_model.specs.Names.{Continue, Decides, Deed, Disconnect, Does, Effect, Event, Failure, Finding}
+use Rattle.machine_model.specs.Names.{Fresh, Gone, Hit, Initialize, Initialized, Item, Leaves, Location, Lookup, News}
+use Rattle.machine_model.specs.Names.{Note, Part, Pause, Phase, Replied, Resume, Set, SetBreakpoints, StopCause}
+use Rattle.machine_model.specs.Names.{Stopping, TargetCommand, TellsNews, Terminated, ThreadId, Threads, Unsupported}
+use Rattle.machine_model.specs.Names.{Want, a_composite, a_question, a_raw, a_request, a_stop, all_threads, an_effect}
+use Rattle.machine_model.specs.Names.{an_event, by_client, class_facts, entry_verified, of_composite, some_news}
+use Rattle.machine_model.specs.Names.{target_end, thread_changed}
 use Rattle.machine_model.specs.Outcomes.{result_of}
 use Rattle.machine_model.specs.Plans.{Result}
 use Rattle.machine_model.specs.Replying.{given_up, hand_replied}
@@ -29,22 +31,23 @@ use Rattle.machine_model.specs.Rows.{chosen, configured_parts, continue_parts, e
 use Rattle.machine_model.specs.Rows.{gone_tail, has_response, leaves, news_of, noted, parts_by, parts_of, pause_parts}
 use Rattle.machine_model.specs.Rows.{request_parts, row_of, thread_with, told_in, wanting}
 use Rattle.machine_model.specs.Runs.{Allows, Message, Run, said}
-use Rattle.machine_model.specs.State.{Hand, Machine, State, is_attached, is_gone}
+use Rattle.machine_model.specs.State.{Hand, Machine, State, is_attached, is_gone, knowing, left}
 use Rattle.machine_model.specs.Stopping.{HasHit, IsStop, IsToldAs}
 use Rattle.machine_model.specs.Stops.{decided_by, events_in, first_of, hit_by, hits_in, holds_entry, is_at_line, is_live}
 use Rattle.machine_model.specs.Stops.{stop_among}
 use Rattle.machine_model.specs.Suspending.{IsBoundFirst}
 use Rattle.machine_model.specs.Telling.{after_event, reason_told}
 use Rattle.machine_model.proofs.BindingParts.{event_wishes}
-use Rattle.machine_model.proofs.HoldingParts.{holding, may_all, may_front, may_stop}
+use Rattle.machine_model.proofs.HoldingParts.{holding, may_all, may_front, may_stop, only_resumes}
 use Rattle.machine_model.proofs.NewsLaws.{quiet}
 use Rattle.machine_model.proofs.QuietLaws.{near_flies}
 use Rattle.machine_model.proofs.RequestLaws.{IsDue, settling, was_due}
 use Rattle.machine_model.proofs.RequestSteps.{flying_in, flying_of, learnt_wishes, numbered_wishes, parts_left}
 use Rattle.machine_model.proofs.Stepping.{IsAt, Loses, Moves, by_runs, moved}
 use Rattle.machine_model.proofs.SuspendLaws.{bound_at_stop}
-use Rattle.machine_model.proofs.Tables.{of_decided, starts_updates, told_alike}
+use Rattle.machine_model.proofs.Tables.{free as free_test, free_once, of_decided, starts_updates, told_alike}
 use Rattle.machine_model.proofs.Testing.{IsTest, Passed, passed, tested, whole}
+use Rattle.machine_model.proofs.RestLaws.{is_free}
 
 -- Hits ----------------------------------------------------------------------------------------------------------------
 
@@ -568,8 +571,8 @@ stop_at m next said stop r is (Moves.tells {hand} {rest} {event = a_stop stoppin
     told = cc
 
     first_may : may_all m.state.phase m.state.stopped m.state.entry (Part.Tells (a_stop stopping) ∷ rest) ≡ true
-        → may_stop stopping.cause m.state.stopped ≡ true
-    first_may may = first (may_stop stopping.cause m.state.stopped) _ may
+        → may_stop stopping.cause m.state.stopped rest ≡ true
+    first_may may = first (may_stop stopping.cause m.state.stopped rest) _ may
       where
         first : (one others : Bool) → cond one others false ≡ true → one ≡ true
         first true others is = refl
@@ -579,7 +582,7 @@ stop_at m next said stop r is (Moves.tells {hand} {rest} {event = a_stop stoppin
     reason_is = cc
 
     by_cause : (cause : StopCause) → stopping.cause ≡ cause → StopOf m.state.wishes hand.item stopping cause
-        → may_stop cause m.state.stopped ≡ true → IsStop m stop
+        → may_stop cause m.state.stopped rest ≡ true → IsStop m stop
     by_cause (Hit place) same hit may =
         told_stop m hand stopping stop at.in_hand told (bound_at_stop r at) hand.item refl hit
     by_cause by_client same pauses may =
@@ -589,6 +592,95 @@ stop_at m next said stop r is (Moves.loses late near Loses.by_end) = cc
 stop_at m next said stop r is (Moves.loses late near (Loses.by_question held waits reply last)) = cc
 stop_at m next said stop r is (Moves.loses late near (Loses.by_effect held flies reply last)) = cc
 stop_at m next said stop r is _ = cc
+
+-- A surplus -----------------------------------------------------------------------------------------------------------
+
+-- where nothing hinders it, a deed in front is due
+deed_due : (m : Machine) (hand : Hand) (deed : Deed) (rest : List Part) → load_of m ≡ clear
+    → is_gone m.state.phase ≡ false → IsAt m hand (Part.Sends deed) rest → (due false m).act ≡ Act.Sends (Does deed)
+unfolding due wanted
+deed_due m hand deed rest free near at = rw (free, at.in_hand, at.parts, near) refl
+
+-- what is told hinders nothing of what stands behind it
+still_free : (m : Machine) (hand : Hand) (stopping : Stopping) (deed : Deed) (rest : List Part) → load_of m ≡ clear
+    → is_gone m.state.phase ≡ false → m.hand ≡ Some hand
+    → load_of (left (knowing m (after_event (a_stop stopping) m.state)) hand (Part.Sends deed ∷ rest)) ≡ clear
+unfolding load_of newly_lacked
+still_free m hand stopping deed rest free near is =
+    let f = is_free m hand free near is in
+    by_parts (is_gone m.state.phase) (can_read m) _ near
+    (none_read (is_gone m.state.phase) (can_read m) (hand_load m.state m.hand) near free)
+    (rw (f.lands, f.no_queue, f.silent) refl)
+  where
+    none_read : (gone read : Bool) (load : Load) → gone ≡ false → cond gone clear (cond read busy load) ≡ clear
+        → read ≡ false
+    none_read true read load near is = cc
+    none_read false true load near is = cc
+    none_read false false load near is = refl
+
+    by_parts : (gone read : Bool) (load : Load) → gone ≡ false → read ≡ false → load ≡ clear
+        → cond gone clear (cond read busy load) ≡ clear
+    by_parts true read load near none is = cc
+    by_parts false true load near none is = cc
+    by_parts false false load near none is = is
+
+surplus_at : {messages : List Message} (m next : Machine) (said : Option Message) (stop : Stopped) → Run messages m
+    → m.state.stopped ≡ true → ¬ (stop.reason ≡ reasons.Pause)
+    → said ≡ Some (Message.tells (an_event (events.Stopped stop))) → Moves m said next
+    → (due false next).act ≡ Act.Sends (Does (Resume of_composite))
+surplus_at m next said stop r stopped hit is (Moves.tells {event = Initialized} free at) = cc
+surplus_at m next said stop r stopped hit is (Moves.tells {event = some_news (entry_verified entry)} free at) = cc
+surplus_at m next said stop r stopped hit is (Moves.tells {event = some_news (thread_changed started thread)} free at) = cc
+surplus_at m next said stop r stopped hit is (Moves.tells {event = Terminated} free at) = cc
+surplus_at m next said stop r stopped hit is (Moves.tells {hand} {rest} {event = a_stop stopping} free at) =
+    by_cause stopping.cause refl (first_may (may_front (holding r) at))
+  where
+    near : is_gone m.state.phase ≡ false
+    near = near_stop (is_gone m.state.phase) _ (whole free_once (tested free_test r) at)
+      where
+        near_stop : (gone others : Bool) → cond (cond gone false true) others false ≡ true → gone ≡ false
+        near_stop true others is = cc
+        near_stop false others is = refl
+
+    first_may : may_all m.state.phase m.state.stopped m.state.entry (Part.Tells (a_stop stopping) ∷ rest) ≡ true
+        → may_stop stopping.cause m.state.stopped rest ≡ true
+    first_may may = first (may_stop stopping.cause m.state.stopped rest) _ may
+      where
+        first : (one others : Bool) → cond one others false ≡ true → one ≡ true
+        first true others is = refl
+        first false others is = cc
+
+    reason_is : stop.reason ≡ reason_told stopping.cause (after_event (a_stop stopping) m.state)
+    reason_is = cc
+
+    by_rest : (behind : List Part) → rest ≡ behind → only_resumes behind ≡ true
+        → (due false (left (knowing m (after_event (a_stop stopping) m.state)) hand rest)).act
+        ≡ Act.Sends (Does (Resume of_composite))
+    by_rest (Part.Sends (Resume of_composite) ∷ []) same only =
+        rw same (deed_due _ (record hand { parts = Part.Sends (Resume of_composite) ∷ [] }) (Resume of_composite) []
+        (still_free m hand stopping (Resume of_composite) [] free near at.in_hand) near
+        (record { in_hand = refl; parts = refl }))
+    by_rest _ same only = cc
+
+    by_cause : (cause : StopCause) → stopping.cause ≡ cause → may_stop cause m.state.stopped rest ≡ true
+        → (due false (left (knowing m (after_event (a_stop stopping) m.state)) hand rest)).act
+        ≡ Act.Sends (Does (Resume of_composite))
+    by_cause (Hit place) same may = by_rest rest refl
+        (sym (ap (λ (stopped : Bool). cond stopped (only_resumes rest) true) stopped) ∙ may)
+    by_cause by_client same may =
+        absurd (hit (reason_is ∙ ap (λ (cause : StopCause). reason_told cause (after_event (a_stop stopping) m.state))
+        same))
+surplus_at m next said stop r stopped hit is (Moves.loses late near Loses.by_end) = cc
+surplus_at m next said stop r stopped hit is (Moves.loses late near (Loses.by_question held waits reply last)) = cc
+surplus_at m next said stop r stopped hit is (Moves.loses late near (Loses.by_effect held flies reply last)) = cc
+surplus_at m next said stop r stopped hit is _ = cc
+
+pub undoes_surplus : (messages : List Message) (m : Machine) (stop : Stopped) → Run messages m
+    → m.state.stopped ≡ true → ¬ (stop.reason ≡ reasons.Pause)
+    → (due false m).act ≡ Act.Tells (an_event (events.Stopped stop))
+    → (due false (due false m).next).act ≡ Act.Sends (Does (Resume of_composite))
+undoes_surplus messages m stop r stopped hit is =
+    surplus_at m (due false m).next _ stop r stopped hit refl (moved (Allows.acts (ap said is)))
 
 pub tells_stops : (messages : List Message) (m : Machine) (stop : Stopped) → Run messages m
     → (due false m).act ≡ Act.Tells (an_event (events.Stopped stop)) → IsStop m stop

@@ -1,5 +1,6 @@
--- The event `stopped`, in every run (DAP specification, Events, Stopped). The law stands at the end, behind what it speaks of.
-use Rattle.std.specs.Prelude.{ℕ, ◌≡◌, ◌∷◌, ◌++◌, List, false, true, Some}
+-- The event `stopped`, in every run (DAP specification, Events, Stopped). The laws stand at the end, behind what they
+-- speak of.
+use Rattle.std.specs.Prelude.{ℕ, ◌≡◌, ◌≢◌, ◌∷◌, ◌++◌, List, false, true, Some}
 use Rattle.dap_messages.specs.declared.requests.ThreadArguments.{ThreadArguments}
 use Rattle.dap_messages.specs.declared.told.Event.TheVariants as events
 use Rattle.dap_messages.specs.declared.told.StopReason.TheVariants as reasons
@@ -8,8 +9,8 @@ use Rattle.jdwp_events.specs.declared.event.Event.{Event as ATargetEvent}
 use Rattle.jdwp_events.specs.declared.event.Event.TheVariants as happened
 use Rattle.jdwp_events.specs.declared.kind.EventKind.TheVariants as kinds
 use Rattle.machine_model.specs.Due.{due}
-use Rattle.machine_model.specs.Names.{Act, Composite, Hit, Location, Pause, Request, Stopping, a_composite, a_request}
-use Rattle.machine_model.specs.Names.{a_stop, an_event}
+use Rattle.machine_model.specs.Names.{Act, Composite, Does, Hit, Location, Pause, Request, Resume, Stopping, a_composite}
+use Rattle.machine_model.specs.Names.{a_request, a_stop, an_event, of_composite}
 use Rattle.machine_model.specs.Runs.{Message, Run}
 use Rattle.machine_model.specs.State.{Hand, Machine, State, is_some}
 use Rattle.machine_model.specs.Suspending.{IsBoundFirst}
@@ -45,3 +46,10 @@ pub data IsStop (m : Machine) (stop : Stopped) : Type 0 where
 abbrev pub TellsStops : Type 0
 TellsStops = (messages : List Message) (m : Machine) (stop : Stopped) → Run messages m
     → (due false m).act ≡ Act.Tells (an_event (events.Stopped stop)) → IsStop m stop
+
+-- With a stop in hand the suspension that a further hit brings is undone right behind its event (JDWP, VirtualMachine
+-- command set, Resume).
+abbrev pub UndoesSurplus : Type 0
+UndoesSurplus = (messages : List Message) (m : Machine) (stop : Stopped) → Run messages m → m.state.stopped ≡ true
+    → stop.reason ≢ reasons.Pause → (due false m).act ≡ Act.Tells (an_event (events.Stopped stop))
+    → (due false (due false m).next).act ≡ Act.Sends (Does (Resume of_composite))

@@ -15,7 +15,7 @@ ghost use Rattle.machine_model.specs.PlanLaws.{Errors, Wants, Worlds};
 ghost use Rattle.machine_model.specs.Questions.{Questions};
 ghost use Rattle.machine_model.specs.Responses.{Responses, Rests};
 ghost use Rattle.machine_model.specs.Spelling.{Spells};
-ghost use Rattle.machine_model.specs.Stopping.{TellsStops};
+ghost use Rattle.machine_model.specs.Stopping.{TellsStops, UndoesSurplus};
 ghost use Rattle.machine_model.specs.Suspending.{BindsFirst, RunsOn};
 ghost use Rattle.machine_model.specs.Waiting.{Waits};
 
@@ -95,9 +95,12 @@ pub fn breakpoints_are_told_once_they_are_verified()
 
 /// The event `stopped` tells of a breakpoint that was hit in the composite in hand, under an event request that is
 /// installed, once no event request is to be set or cleared and breakpoints are bound by all that is known; or it is told
-/// for a `pause`, in the stop that this began (DAP specification, Events, Stopped; JDWP, Event command set, Composite).
+/// for a `pause`, in the stop that this began. Where a hit is told in a stop, the Resume that undoes its suspension is due
+/// right behind it (DAP specification, Events, Stopped; JDWP, Event command set, Composite; JDWP, VirtualMachine command
+/// set, Resume).
 pub fn stops_are_told_of_what_stops_the_target()
-    ensures { TellsStops }
+    ensures told { TellsStops }
+    ensures surplus { UndoesSurplus }
 {}
 
 /// At rest, once the session is attached, each composite that came was at its turn. One suspension of the whole target is
