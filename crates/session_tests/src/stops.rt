@@ -12,7 +12,7 @@ use session_model::{Ending, TargetFault};
 use std::test::Fail;
 use wire_core::Side;
 
-// A thread starts the whole target, which is suspended for it (JDWP, Event command set, Composite, VMStart).
+// The target starts, and is suspended for it (JDWP, Event command set, Composite, VMStart).
 const STARTS: &[u8] =
     b"\x00\x00\x00\x1d\x00\x00\x00\x01\x00\x40\x64\x02\x00\x00\x00\x01\x5a\x00\x00\x00\x00\x00\x00\x00\x00\x00\x00\x00\
     \x01";
@@ -153,7 +153,7 @@ const HELD: &[Course<'static>] = &[
         told: &[
             CONFIGURED,
             b"Content-Length: 88\r\n\r\n{\"command\":\"configurationDone\",\"request_seq\":3,\"seq\":4,\
-                \"success\":true,\"type\":\"response\"}",
+            \"success\":true,\"type\":\"response\"}",
         ],
         sent: &[RESUME_FIRST, DISPOSE_SECOND],
         ending: Ending::Left,
@@ -164,8 +164,8 @@ const HELD: &[Course<'static>] = &[
         steps: &[
             Came::Bytes(
                 Side::Target,
-                b"\x00\x00\x00\x1d\x00\x00\x00\x02\x00\x40\x64\x02\x00\x00\x00\x01\x5a\x00\x00\x00\x00\x00\x00\x00\
-                    \x00\x00\x00\x00\x02",
+                b"\x00\x00\x00\x1d\x00\x00\x00\x02\x00\x40\x64\x02\x00\x00\x00\x01\x5a\x00\x00\x00\x00\x00\x00\x00\x00\
+                \x00\x00\x00\x02",
             ),
             Came::Bytes(Side::Target, RESUMED_FIRST),
             Came::Bytes(Side::Client, CONFIGURE),
@@ -190,8 +190,8 @@ const HELD: &[Course<'static>] = &[
         steps: &[
             Came::Bytes(
                 Side::Target,
-                b"\x00\x00\x00\x1d\x00\x00\x00\x03\x00\x40\x64\x02\x00\x00\x00\x01\x5a\x00\x00\x00\x00\x00\x00\x00\
-                    \x00\x00\x00\x00\x01",
+                b"\x00\x00\x00\x1d\x00\x00\x00\x03\x00\x40\x64\x02\x00\x00\x00\x01\x5a\x00\x00\x00\x00\x00\x00\x00\x00\
+                \x00\x00\x00\x01",
             ),
             Came::Bytes(Side::Client, CONTINUE),
             Came::Bytes(Side::Target, RESUMED),
@@ -209,7 +209,7 @@ const HELD: &[Course<'static>] = &[
         told: &[
             CONTINUED,
             b"Content-Length: 88\r\n\r\n{\"command\":\"configurationDone\",\"request_seq\":4,\"seq\":6,\
-                \"success\":true,\"type\":\"response\"}",
+            \"success\":true,\"type\":\"response\"}",
         ],
         sent: &[
             RESUME,
@@ -249,8 +249,8 @@ const NOT_HELD: &[Course<'static>] = &[
         steps: &[
             Came::Bytes(
                 Side::Target,
-                b"\x00\x00\x00\x1d\x00\x00\x00\x01\x00\x40\x64\x00\x00\x00\x00\x01\x5a\x00\x00\x00\x00\x00\x00\x00\
-                    \x00\x00\x00\x00\x01",
+                b"\x00\x00\x00\x1d\x00\x00\x00\x01\x00\x40\x64\x00\x00\x00\x00\x01\x5a\x00\x00\x00\x00\x00\x00\x00\x00\
+                \x00\x00\x00\x01",
             ),
             Came::Bytes(Side::Client, CONFIGURE),
         ],
@@ -312,9 +312,9 @@ const HITS: &[Course<'static>] = &[
             Came::Bytes(Side::Target, RESUMED),
             Came::Bytes(
                 Side::Target,
-                b"\x00\x00\x00\x36\x00\x00\x00\x03\x00\x40\x64\x02\x00\x00\x00\x01\x02\x00\x00\x00\x04\x00\x00\x00\
-                    \x00\x00\x00\x00\x07\x01\x00\x00\x00\x00\x00\x00\x00\x10\x00\x00\x00\x00\x00\x00\x00\x03\x00\x00\
-                    \x00\x00\x00\x00\x00\x05",
+                b"\x00\x00\x00\x36\x00\x00\x00\x03\x00\x40\x64\x02\x00\x00\x00\x01\x02\x00\x00\x00\x04\x00\x00\x00\x00\
+                \x00\x00\x00\x07\x01\x00\x00\x00\x00\x00\x00\x00\x10\x00\x00\x00\x00\x00\x00\x00\x03\x00\x00\x00\x00\
+                \x00\x00\x00\x05",
             ),
         ],
         limits: USUAL,
@@ -322,7 +322,7 @@ const HITS: &[Course<'static>] = &[
         told: &[
             CONTINUED,
             b"Content-Length: 134\r\n\r\n{\"body\":{\"allThreadsStopped\":true,\"hitBreakpointIds\":[1],\
-                \"reason\":\"breakpoint\",\"threadId\":1},\"event\":\"stopped\",\"seq\":6,\"type\":\"event\"}",
+            \"reason\":\"breakpoint\",\"threadId\":1},\"event\":\"stopped\",\"seq\":6,\"type\":\"event\"}",
         ],
         sent: &[RESUME, DISPOSE_NEXT],
         ending: Ending::Left,
@@ -361,8 +361,8 @@ const HITS: &[Course<'static>] = &[
             Came::Bytes(
                 Side::Client,
                 b"Content-Length: 152\r\n\r\n{\"seq\":2,\"type\":\"request\",\"command\":\"setBreakpoints\",\
-                    \"arguments\":{\"source\":{\"path\":\"/p/src/com/acme/Foo.java\"},\
-                    \"breakpoints\":[{\"line\":10},{\"line\":10}]}}",
+                \"arguments\":{\"source\":{\"path\":\"/p/src/com/acme/Foo.java\"},\"breakpoints\":[{\"line\":10},\
+                {\"line\":10}]}}",
             ),
             Came::Bytes(Side::Target, WATCHED),
             Came::Bytes(Side::Target, ONE_CLASS),
@@ -376,10 +376,10 @@ const HITS: &[Course<'static>] = &[
         failing: &[],
         told: &[
             b"Content-Length: 180\r\n\r\n{\"body\":{\"breakpoints\":[{\"id\":1,\"line\":10,\"verified\":true},\
-                {\"id\":2,\"line\":10,\"verified\":true}]},\"command\":\"setBreakpoints\",\"request_seq\":2,\
-                \"seq\":3,\"success\":true,\"type\":\"response\"}",
+            {\"id\":2,\"line\":10,\"verified\":true}]},\"command\":\"setBreakpoints\",\"request_seq\":2,\"seq\":3,\
+            \"success\":true,\"type\":\"response\"}",
             b"Content-Length: 136\r\n\r\n{\"body\":{\"allThreadsStopped\":true,\"hitBreakpointIds\":[1,2],\
-                \"reason\":\"breakpoint\",\"threadId\":1},\"event\":\"stopped\",\"seq\":4,\"type\":\"event\"}",
+            \"reason\":\"breakpoint\",\"threadId\":1},\"event\":\"stopped\",\"seq\":4,\"type\":\"event\"}",
         ],
         sent: &[
             WATCH,
@@ -412,7 +412,7 @@ const TWO_HITS: &[Course<'static>] = &[
             Came::Bytes(
                 Side::Client,
                 b"Content-Length: 74\r\n\r\n{\"seq\":3,\"type\":\"request\",\"command\":\"continue\",\
-                    \"arguments\":{\"threadId\":2}}",
+                \"arguments\":{\"threadId\":2}}",
             ),
             Came::Bytes(
                 Side::Target,
@@ -423,9 +423,9 @@ const TWO_HITS: &[Course<'static>] = &[
         failing: &[],
         told: &[
             b"Content-Length: 134\r\n\r\n{\"body\":{\"allThreadsStopped\":true,\"hitBreakpointIds\":[1],\
-                \"reason\":\"breakpoint\",\"threadId\":2},\"event\":\"stopped\",\"seq\":5,\"type\":\"event\"}",
+            \"reason\":\"breakpoint\",\"threadId\":2},\"event\":\"stopped\",\"seq\":5,\"type\":\"event\"}",
             b"Content-Length: 115\r\n\r\n{\"body\":{\"allThreadsContinued\":true},\"command\":\"continue\",\
-                \"request_seq\":3,\"seq\":6,\"success\":true,\"type\":\"response\"}",
+            \"request_seq\":3,\"seq\":6,\"success\":true,\"type\":\"response\"}",
         ],
         sent: &[
             RESUME,
@@ -447,7 +447,7 @@ const TWO_HITS: &[Course<'static>] = &[
         told: &[
             CONTINUED,
             b"Content-Length: 134\r\n\r\n{\"body\":{\"allThreadsStopped\":true,\"hitBreakpointIds\":[1],\
-                \"reason\":\"breakpoint\",\"threadId\":2},\"event\":\"stopped\",\"seq\":6,\"type\":\"event\"}",
+            \"reason\":\"breakpoint\",\"threadId\":2},\"event\":\"stopped\",\"seq\":6,\"type\":\"event\"}",
         ],
         sent: &[RESUME, DISPOSE_NEXT],
         ending: Ending::Left,
@@ -545,9 +545,9 @@ const QUIET: &[Course<'static>] = &[
         steps: &[
             Came::Bytes(
                 Side::Target,
-                b"\x00\x00\x00\x36\x00\x00\x00\x02\x00\x40\x64\x02\x00\x00\x00\x01\x02\x00\x00\x00\x63\x00\x00\x00\
-                    \x00\x00\x00\x00\x07\x01\x00\x00\x00\x00\x00\x00\x00\x10\x00\x00\x00\x00\x00\x00\x00\x03\x00\x00\
-                    \x00\x00\x00\x00\x00\x05",
+                b"\x00\x00\x00\x36\x00\x00\x00\x02\x00\x40\x64\x02\x00\x00\x00\x01\x02\x00\x00\x00\x63\x00\x00\x00\x00\
+                \x00\x00\x00\x07\x01\x00\x00\x00\x00\x00\x00\x00\x10\x00\x00\x00\x00\x00\x00\x00\x03\x00\x00\x00\x00\
+                \x00\x00\x00\x05",
             ),
             Came::Bytes(Side::Target, RESUMED),
         ],
@@ -563,10 +563,10 @@ const QUIET: &[Course<'static>] = &[
         steps: &[
             Came::Bytes(
                 Side::Target,
-                b"\x00\x00\x00\x58\x00\x00\x00\x02\x00\x40\x64\x02\x00\x00\x00\x01\x04\x00\x00\x00\x04\x00\x00\x00\
-                    \x00\x00\x00\x00\x07\x01\x00\x00\x00\x00\x00\x00\x00\x10\x00\x00\x00\x00\x00\x00\x00\x03\x00\x00\
-                    \x00\x00\x00\x00\x00\x05\x4c\x00\x00\x00\x00\x00\x00\x00\x1f\x00\x00\x00\x00\x00\x00\x00\x00\x00\
-                    \x00\x00\x00\x00\x00\x00\x00\x00\x00\x00\x00\x00\x00\x00\x00\x00",
+                b"\x00\x00\x00\x58\x00\x00\x00\x02\x00\x40\x64\x02\x00\x00\x00\x01\x04\x00\x00\x00\x04\x00\x00\x00\x00\
+                \x00\x00\x00\x07\x01\x00\x00\x00\x00\x00\x00\x00\x10\x00\x00\x00\x00\x00\x00\x00\x03\x00\x00\x00\x00\
+                \x00\x00\x00\x05\x4c\x00\x00\x00\x00\x00\x00\x00\x1f\x00\x00\x00\x00\x00\x00\x00\x00\x00\x00\x00\x00\
+                \x00\x00\x00\x00\x00\x00\x00\x00\x00\x00\x00\x00\x00",
             ),
             Came::Bytes(Side::Target, RESUMED),
         ],
@@ -582,9 +582,9 @@ const QUIET: &[Course<'static>] = &[
         steps: &[
             Came::Bytes(
                 Side::Target,
-                b"\x00\x00\x00\x36\x00\x00\x00\x02\x00\x40\x64\x02\x00\x00\x00\x01\x01\x00\x00\x00\x04\x00\x00\x00\
-                    \x00\x00\x00\x00\x07\x01\x00\x00\x00\x00\x00\x00\x00\x10\x00\x00\x00\x00\x00\x00\x00\x03\x00\x00\
-                    \x00\x00\x00\x00\x00\x05",
+                b"\x00\x00\x00\x36\x00\x00\x00\x02\x00\x40\x64\x02\x00\x00\x00\x01\x01\x00\x00\x00\x04\x00\x00\x00\x00\
+                \x00\x00\x00\x07\x01\x00\x00\x00\x00\x00\x00\x00\x10\x00\x00\x00\x00\x00\x00\x00\x03\x00\x00\x00\x00\
+                \x00\x00\x00\x05",
             ),
             Came::Bytes(Side::Target, RESUMED),
         ],
@@ -615,9 +615,9 @@ const QUIET: &[Course<'static>] = &[
         first: &[ATTACHES, BINDS],
         steps: &[Came::Bytes(
             Side::Target,
-            b"\x00\x00\x00\x36\x00\x00\x00\x02\x00\x40\x64\x00\x00\x00\x00\x01\x02\x00\x00\x00\x04\x00\x00\x00\x00\
-                \x00\x00\x00\x07\x01\x00\x00\x00\x00\x00\x00\x00\x10\x00\x00\x00\x00\x00\x00\x00\x03\x00\x00\x00\x00\
-                \x00\x00\x00\x05",
+            b"\x00\x00\x00\x36\x00\x00\x00\x02\x00\x40\x64\x00\x00\x00\x00\x01\x02\x00\x00\x00\x04\x00\x00\x00\x00\x00\
+            \x00\x00\x07\x01\x00\x00\x00\x00\x00\x00\x00\x10\x00\x00\x00\x00\x00\x00\x00\x03\x00\x00\x00\x00\x00\x00\
+            \x00\x05",
         )],
         limits: USUAL,
         failing: &[],
@@ -639,8 +639,8 @@ fn other_events_do_not_stop_the_target(rt: HostRuntime) -> Result<(), Fail> {
 const STARTS_LATER: Stage<'static> = Stage {
     steps: &[Came::Bytes(Side::Target, STARTED)],
     told: &[
-        b"Content-Length: 82\r\n\r\n{\"body\":{\"reason\":\"started\",\"threadId\":1},\"event\":\"thread\",\
-            \"seq\":4,\"type\":\"event\"}",
+        b"Content-Length: 82\r\n\r\n{\"body\":{\"reason\":\"started\",\"threadId\":1},\"event\":\"thread\",\"seq\":4,\
+        \"type\":\"event\"}",
     ],
     sent: &[],
 };
@@ -651,10 +651,10 @@ const AMONG: &[Course<'static>] = &[
         first: &[ATTACHES, BINDS],
         steps: &[Came::Bytes(
             Side::Target,
-            b"\x00\x00\x00\x5c\x00\x00\x00\x02\x00\x40\x64\x02\x00\x00\x00\x02\x01\x00\x00\x00\x09\x00\x00\x00\x00\
-                \x00\x00\x00\x07\x01\x00\x00\x00\x00\x00\x00\x00\x10\x00\x00\x00\x00\x00\x00\x00\x03\x00\x00\x00\x00\
-                \x00\x00\x00\x05\x02\x00\x00\x00\x04\x00\x00\x00\x00\x00\x00\x00\x07\x01\x00\x00\x00\x00\x00\x00\x00\
-                \x10\x00\x00\x00\x00\x00\x00\x00\x03\x00\x00\x00\x00\x00\x00\x00\x05",
+            b"\x00\x00\x00\x5c\x00\x00\x00\x02\x00\x40\x64\x02\x00\x00\x00\x02\x01\x00\x00\x00\x09\x00\x00\x00\x00\x00\
+            \x00\x00\x07\x01\x00\x00\x00\x00\x00\x00\x00\x10\x00\x00\x00\x00\x00\x00\x00\x03\x00\x00\x00\x00\x00\x00\
+            \x00\x05\x02\x00\x00\x00\x04\x00\x00\x00\x00\x00\x00\x00\x07\x01\x00\x00\x00\x00\x00\x00\x00\x10\x00\x00\
+            \x00\x00\x00\x00\x00\x03\x00\x00\x00\x00\x00\x00\x00\x05",
         )],
         limits: USUAL,
         failing: &[],
@@ -667,16 +667,16 @@ const AMONG: &[Course<'static>] = &[
         first: &[ATTACHES, BINDS, STARTS_LATER],
         steps: &[Came::Bytes(
             Side::Target,
-            b"\x00\x00\x00\x5c\x00\x00\x00\x02\x00\x40\x64\x02\x00\x00\x00\x02\x02\x00\x00\x00\x63\x00\x00\x00\x00\
-                \x00\x00\x00\x08\x01\x00\x00\x00\x00\x00\x00\x00\x10\x00\x00\x00\x00\x00\x00\x00\x03\x00\x00\x00\x00\
-                \x00\x00\x00\x05\x02\x00\x00\x00\x04\x00\x00\x00\x00\x00\x00\x00\x07\x01\x00\x00\x00\x00\x00\x00\x00\
-                \x10\x00\x00\x00\x00\x00\x00\x00\x03\x00\x00\x00\x00\x00\x00\x00\x05",
+            b"\x00\x00\x00\x5c\x00\x00\x00\x02\x00\x40\x64\x02\x00\x00\x00\x02\x02\x00\x00\x00\x63\x00\x00\x00\x00\x00\
+            \x00\x00\x08\x01\x00\x00\x00\x00\x00\x00\x00\x10\x00\x00\x00\x00\x00\x00\x00\x03\x00\x00\x00\x00\x00\x00\
+            \x00\x05\x02\x00\x00\x00\x04\x00\x00\x00\x00\x00\x00\x00\x07\x01\x00\x00\x00\x00\x00\x00\x00\x10\x00\x00\
+            \x00\x00\x00\x00\x00\x03\x00\x00\x00\x00\x00\x00\x00\x05",
         )],
         limits: USUAL,
         failing: &[],
         told: &[
             b"Content-Length: 134\r\n\r\n{\"body\":{\"allThreadsStopped\":true,\"hitBreakpointIds\":[1],\
-                \"reason\":\"breakpoint\",\"threadId\":1},\"event\":\"stopped\",\"seq\":5,\"type\":\"event\"}",
+            \"reason\":\"breakpoint\",\"threadId\":1},\"event\":\"stopped\",\"seq\":5,\"type\":\"event\"}",
         ],
         sent: &[DISPOSE],
         ending: Ending::Left,
@@ -686,16 +686,16 @@ const AMONG: &[Course<'static>] = &[
         first: &[ATTACHES, BINDS, STARTS_LATER],
         steps: &[Came::Bytes(
             Side::Target,
-            b"\x00\x00\x00\x5c\x00\x00\x00\x02\x00\x40\x64\x02\x00\x00\x00\x02\x02\x00\x00\x00\x04\x00\x00\x00\x00\
-                \x00\x00\x00\x08\x01\x00\x00\x00\x00\x00\x00\x00\x10\x00\x00\x00\x00\x00\x00\x00\x03\x00\x00\x00\x00\
-                \x00\x00\x00\x05\x02\x00\x00\x00\x04\x00\x00\x00\x00\x00\x00\x00\x07\x01\x00\x00\x00\x00\x00\x00\x00\
-                \x10\x00\x00\x00\x00\x00\x00\x00\x03\x00\x00\x00\x00\x00\x00\x00\x05",
+            b"\x00\x00\x00\x5c\x00\x00\x00\x02\x00\x40\x64\x02\x00\x00\x00\x02\x02\x00\x00\x00\x04\x00\x00\x00\x00\x00\
+            \x00\x00\x08\x01\x00\x00\x00\x00\x00\x00\x00\x10\x00\x00\x00\x00\x00\x00\x00\x03\x00\x00\x00\x00\x00\x00\
+            \x00\x05\x02\x00\x00\x00\x04\x00\x00\x00\x00\x00\x00\x00\x07\x01\x00\x00\x00\x00\x00\x00\x00\x10\x00\x00\
+            \x00\x00\x00\x00\x00\x03\x00\x00\x00\x00\x00\x00\x00\x05",
         )],
         limits: USUAL,
         failing: &[],
         told: &[
             b"Content-Length: 134\r\n\r\n{\"body\":{\"allThreadsStopped\":true,\"hitBreakpointIds\":[1],\
-                \"reason\":\"breakpoint\",\"threadId\":2},\"event\":\"stopped\",\"seq\":5,\"type\":\"event\"}",
+            \"reason\":\"breakpoint\",\"threadId\":2},\"event\":\"stopped\",\"seq\":5,\"type\":\"event\"}",
         ],
         sent: &[DISPOSE],
         ending: Ending::Left,
@@ -705,17 +705,17 @@ const AMONG: &[Course<'static>] = &[
         first: &[ATTACHES, BINDS],
         steps: &[Came::Bytes(
             Side::Target,
-            b"\x00\x00\x00\x43\x00\x00\x00\x02\x00\x40\x64\x02\x00\x00\x00\x02\x02\x00\x00\x00\x04\x00\x00\x00\x00\
-                \x00\x00\x00\x07\x01\x00\x00\x00\x00\x00\x00\x00\x10\x00\x00\x00\x00\x00\x00\x00\x03\x00\x00\x00\x00\
-                \x00\x00\x00\x05\x06\x00\x00\x00\x01\x00\x00\x00\x00\x00\x00\x00\x08",
+            b"\x00\x00\x00\x43\x00\x00\x00\x02\x00\x40\x64\x02\x00\x00\x00\x02\x02\x00\x00\x00\x04\x00\x00\x00\x00\x00\
+            \x00\x00\x07\x01\x00\x00\x00\x00\x00\x00\x00\x10\x00\x00\x00\x00\x00\x00\x00\x03\x00\x00\x00\x00\x00\x00\
+            \x00\x05\x06\x00\x00\x00\x01\x00\x00\x00\x00\x00\x00\x00\x08",
         )],
         limits: USUAL,
         failing: &[],
         told: &[
             b"Content-Length: 82\r\n\r\n{\"body\":{\"reason\":\"started\",\"threadId\":1},\"event\":\"thread\",\
-                \"seq\":4,\"type\":\"event\"}",
+            \"seq\":4,\"type\":\"event\"}",
             b"Content-Length: 134\r\n\r\n{\"body\":{\"allThreadsStopped\":true,\"hitBreakpointIds\":[1],\
-                \"reason\":\"breakpoint\",\"threadId\":2},\"event\":\"stopped\",\"seq\":5,\"type\":\"event\"}",
+            \"reason\":\"breakpoint\",\"threadId\":2},\"event\":\"stopped\",\"seq\":5,\"type\":\"event\"}",
         ],
         sent: &[DISPOSE],
         ending: Ending::Left,
@@ -726,9 +726,9 @@ const AMONG: &[Course<'static>] = &[
         steps: &[
             Came::Bytes(
                 Side::Target,
-                b"\x00\x00\x00\x43\x00\x00\x00\x02\x00\x40\x64\x02\x00\x00\x00\x02\x5a\x00\x00\x00\x00\x00\x00\x00\
-                    \x00\x00\x00\x00\x07\x02\x00\x00\x00\x04\x00\x00\x00\x00\x00\x00\x00\x07\x01\x00\x00\x00\x00\x00\
-                    \x00\x00\x10\x00\x00\x00\x00\x00\x00\x00\x03\x00\x00\x00\x00\x00\x00\x00\x05",
+                b"\x00\x00\x00\x43\x00\x00\x00\x02\x00\x40\x64\x02\x00\x00\x00\x02\x5a\x00\x00\x00\x00\x00\x00\x00\x00\
+                \x00\x00\x00\x07\x02\x00\x00\x00\x04\x00\x00\x00\x00\x00\x00\x00\x07\x01\x00\x00\x00\x00\x00\x00\x00\
+                \x10\x00\x00\x00\x00\x00\x00\x00\x03\x00\x00\x00\x00\x00\x00\x00\x05",
             ),
             Came::Bytes(
                 Side::Client,
@@ -737,7 +737,7 @@ const AMONG: &[Course<'static>] = &[
             Came::Bytes(
                 Side::Client,
                 b"Content-Length: 74\r\n\r\n{\"seq\":4,\"type\":\"request\",\"command\":\"continue\",\
-                    \"arguments\":{\"threadId\":1}}",
+                \"arguments\":{\"threadId\":1}}",
             ),
             Came::Bytes(Side::Target, RESUMED),
         ],
@@ -746,9 +746,9 @@ const AMONG: &[Course<'static>] = &[
         told: &[
             TOLD_HIT,
             b"Content-Length: 88\r\n\r\n{\"command\":\"configurationDone\",\"request_seq\":3,\"seq\":5,\
-                \"success\":true,\"type\":\"response\"}",
+            \"success\":true,\"type\":\"response\"}",
             b"Content-Length: 115\r\n\r\n{\"body\":{\"allThreadsContinued\":true},\"command\":\"continue\",\
-                \"request_seq\":4,\"seq\":6,\"success\":true,\"type\":\"response\"}",
+            \"request_seq\":4,\"seq\":6,\"success\":true,\"type\":\"response\"}",
         ],
         sent: &[RESUME, DISPOSE_NEXT],
         ending: Ending::Left,
@@ -760,8 +760,8 @@ const AMONG: &[Course<'static>] = &[
             Came::Bytes(
                 Side::Client,
                 b"Content-Length: 152\r\n\r\n{\"seq\":2,\"type\":\"request\",\"command\":\"setBreakpoints\",\
-                    \"arguments\":{\"source\":{\"path\":\"/p/src/com/acme/Foo.java\"},\
-                    \"breakpoints\":[{\"line\":10},{\"line\":20}]}}",
+                \"arguments\":{\"source\":{\"path\":\"/p/src/com/acme/Foo.java\"},\"breakpoints\":[{\"line\":10},\
+                {\"line\":20}]}}",
             ),
             Came::Bytes(Side::Target, WATCHED),
             Came::Bytes(Side::Target, ONE_CLASS),
@@ -771,10 +771,10 @@ const AMONG: &[Course<'static>] = &[
             Came::Bytes(Side::Target, STOPPED),
             Came::Bytes(
                 Side::Target,
-                b"\x00\x00\x00\x64\x00\x00\x00\x02\x00\x40\x64\x02\x00\x00\x00\x02\x02\x00\x00\x00\x04\x00\x00\x00\
-                    \x00\x00\x00\x00\x07\x01\x00\x00\x00\x00\x00\x00\x00\x10\x00\x00\x00\x00\x00\x00\x00\x03\x00\x00\
-                    \x00\x00\x00\x00\x00\x05\x08\x00\x00\x00\x03\x00\x00\x00\x00\x00\x00\x00\x07\x01\x00\x00\x00\x00\
-                    \x00\x00\x00\x11\x00\x00\x00\x10Lcom/acme/Foo$1;\x00\x00\x00\x07",
+                b"\x00\x00\x00\x64\x00\x00\x00\x02\x00\x40\x64\x02\x00\x00\x00\x02\x02\x00\x00\x00\x04\x00\x00\x00\x00\
+                \x00\x00\x00\x07\x01\x00\x00\x00\x00\x00\x00\x00\x10\x00\x00\x00\x00\x00\x00\x00\x03\x00\x00\x00\x00\
+                \x00\x00\x00\x05\x08\x00\x00\x00\x03\x00\x00\x00\x00\x00\x00\x00\x07\x01\x00\x00\x00\x00\x00\x00\x00\
+                \x11\x00\x00\x00\x10Lcom/acme/Foo$1;\x00\x00\x00\x07",
             ),
             Came::Bytes(
                 Side::Target,
@@ -782,14 +782,14 @@ const AMONG: &[Course<'static>] = &[
             ),
             Came::Bytes(
                 Side::Target,
-                b"\x00\x00\x00\x29\x00\x00\x00\x0b\x80\x00\x00\x00\x00\x00\x01\x00\x00\x00\x00\x00\x00\x00\x04\x00\
-                    \x00\x00\x03run\x00\x00\x00\x03()V\x00\x00\x00\x01",
+                b"\x00\x00\x00\x29\x00\x00\x00\x0b\x80\x00\x00\x00\x00\x00\x01\x00\x00\x00\x00\x00\x00\x00\x04\x00\x00\
+                \x00\x03run\x00\x00\x00\x03()V\x00\x00\x00\x01",
             ),
             Came::Bytes(
                 Side::Target,
-                b"\x00\x00\x00\x37\x00\x00\x00\x0c\x80\x00\x00\x00\x00\x00\x00\x00\x00\x00\x00\x00\x00\x00\x00\x00\
-                    \x00\x00\x08\x00\x00\x00\x02\x00\x00\x00\x00\x00\x00\x00\x00\x00\x00\x00\x13\x00\x00\x00\x00\x00\
-                    \x00\x00\x03\x00\x00\x00\x14",
+                b"\x00\x00\x00\x37\x00\x00\x00\x0c\x80\x00\x00\x00\x00\x00\x00\x00\x00\x00\x00\x00\x00\x00\x00\x00\x00\
+                \x00\x08\x00\x00\x00\x02\x00\x00\x00\x00\x00\x00\x00\x00\x00\x00\x00\x13\x00\x00\x00\x00\x00\x00\x00\
+                \x03\x00\x00\x00\x14",
             ),
             Came::Bytes(
                 Side::Target,
@@ -800,12 +800,12 @@ const AMONG: &[Course<'static>] = &[
         failing: &[],
         told: &[
             b"Content-Length: 207\r\n\r\n{\"body\":{\"breakpoints\":[{\"id\":1,\"line\":10,\"verified\":true},\
-                {\"id\":2,\"line\":20,\"message\":\"not bound yet\",\"verified\":false}]},\
-                \"command\":\"setBreakpoints\",\"request_seq\":2,\"seq\":3,\"success\":true,\"type\":\"response\"}",
+            {\"id\":2,\"line\":20,\"message\":\"not bound yet\",\"verified\":false}]},\
+            \"command\":\"setBreakpoints\",\"request_seq\":2,\"seq\":3,\"success\":true,\"type\":\"response\"}",
             b"Content-Length: 121\r\n\r\n{\"body\":{\"breakpoint\":{\"id\":2,\"line\":20,\"verified\":true},\
-                \"reason\":\"changed\"},\"event\":\"breakpoint\",\"seq\":4,\"type\":\"event\"}",
+            \"reason\":\"changed\"},\"event\":\"breakpoint\",\"seq\":4,\"type\":\"event\"}",
             b"Content-Length: 134\r\n\r\n{\"body\":{\"allThreadsStopped\":true,\"hitBreakpointIds\":[1],\
-                \"reason\":\"breakpoint\",\"threadId\":1},\"event\":\"stopped\",\"seq\":5,\"type\":\"event\"}",
+            \"reason\":\"breakpoint\",\"threadId\":1},\"event\":\"stopped\",\"seq\":5,\"type\":\"event\"}",
         ],
         sent: &[
             WATCH,
@@ -816,10 +816,10 @@ const AMONG: &[Course<'static>] = &[
             STOP,
             b"\x00\x00\x00\x13\x00\x00\x00\x0a\x00\x02\x07\x00\x00\x00\x00\x00\x00\x00\x11",
             b"\x00\x00\x00\x13\x00\x00\x00\x0b\x00\x02\x05\x00\x00\x00\x00\x00\x00\x00\x11",
-            b"\x00\x00\x00\x1b\x00\x00\x00\x0c\x00\x06\x01\x00\x00\x00\x00\x00\x00\x00\x11\x00\x00\x00\x00\x00\x00\
-                \x00\x04",
-            b"\x00\x00\x00\x2b\x00\x00\x00\x0d\x00\x0f\x01\x02\x02\x00\x00\x00\x01\x07\x01\x00\x00\x00\x00\x00\x00\
-                \x00\x11\x00\x00\x00\x00\x00\x00\x00\x04\x00\x00\x00\x00\x00\x00\x00\x03",
+            b"\x00\x00\x00\x1b\x00\x00\x00\x0c\x00\x06\x01\x00\x00\x00\x00\x00\x00\x00\x11\x00\x00\x00\x00\x00\x00\x00\
+            \x04",
+            b"\x00\x00\x00\x2b\x00\x00\x00\x0d\x00\x0f\x01\x02\x02\x00\x00\x00\x01\x07\x01\x00\x00\x00\x00\x00\x00\x00\
+            \x11\x00\x00\x00\x00\x00\x00\x00\x04\x00\x00\x00\x00\x00\x00\x00\x03",
             b"\x00\x00\x00\x0b\x00\x00\x00\x0e\x00\x01\x06",
         ],
         ending: Ending::Left,
@@ -842,12 +842,12 @@ const FAILS: &[Course<'static>] = &[
             Came::Bytes(
                 Side::Client,
                 b"Content-Length: 74\r\n\r\n{\"seq\":1,\"type\":\"request\",\"command\":\"continue\",\
-                    \"arguments\":{\"threadId\":1}}",
+                \"arguments\":{\"threadId\":1}}",
             ),
             Came::Bytes(
                 Side::Client,
                 b"Content-Length: 71\r\n\r\n{\"seq\":2,\"type\":\"request\",\"command\":\"pause\",\
-                    \"arguments\":{\"threadId\":1}}",
+                \"arguments\":{\"threadId\":1}}",
             ),
             Came::Bytes(
                 Side::Client,
@@ -858,14 +858,14 @@ const FAILS: &[Course<'static>] = &[
         failing: &[],
         told: &[
             b"Content-Length: 153\r\n\r\n{\"body\":{\"error\":{\"format\":\"notAttached\",\"id\":3}},\
-                \"command\":\"continue\",\"message\":\"notAttached\",\"request_seq\":1,\"seq\":1,\"success\":false,\
-                \"type\":\"response\"}",
+            \"command\":\"continue\",\"message\":\"notAttached\",\"request_seq\":1,\"seq\":1,\"success\":false,\
+            \"type\":\"response\"}",
             b"Content-Length: 150\r\n\r\n{\"body\":{\"error\":{\"format\":\"notAttached\",\"id\":3}},\
-                \"command\":\"pause\",\"message\":\"notAttached\",\"request_seq\":2,\"seq\":2,\"success\":false,\
-                \"type\":\"response\"}",
+            \"command\":\"pause\",\"message\":\"notAttached\",\"request_seq\":2,\"seq\":2,\"success\":false,\
+            \"type\":\"response\"}",
             b"Content-Length: 164\r\n\r\n{\"body\":{\"error\":{\"format\":\"badArguments threadId\",\"id\":2}},\
-                \"command\":\"continue\",\"message\":\"badArguments\",\"request_seq\":3,\"seq\":3,\"success\":false,\
-                \"type\":\"response\"}",
+            \"command\":\"continue\",\"message\":\"badArguments\",\"request_seq\":3,\"seq\":3,\"success\":false,\
+            \"type\":\"response\"}",
         ],
         sent: &[],
         ending: Ending::Left,
@@ -877,23 +877,23 @@ const FAILS: &[Course<'static>] = &[
             Came::Bytes(
                 Side::Client,
                 b"Content-Length: 74\r\n\r\n{\"seq\":2,\"type\":\"request\",\"command\":\"continue\",\
-                    \"arguments\":{\"threadId\":1}}",
+                \"arguments\":{\"threadId\":1}}",
             ),
             Came::Bytes(
                 Side::Client,
                 b"Content-Length: 71\r\n\r\n{\"seq\":3,\"type\":\"request\",\"command\":\"pause\",\
-                    \"arguments\":{\"threadId\":1}}",
+                \"arguments\":{\"threadId\":1}}",
             ),
         ],
         limits: USUAL,
         failing: &[],
         told: &[
             b"Content-Length: 151\r\n\r\n{\"body\":{\"error\":{\"format\":\"notStopped\",\"id\":4}},\
-                \"command\":\"continue\",\"message\":\"notStopped\",\"request_seq\":2,\"seq\":3,\"success\":false,\
-                \"type\":\"response\"}",
+            \"command\":\"continue\",\"message\":\"notStopped\",\"request_seq\":2,\"seq\":3,\"success\":false,\
+            \"type\":\"response\"}",
             b"Content-Length: 154\r\n\r\n{\"body\":{\"error\":{\"format\":\"unknownThread\",\"id\":8}},\
-                \"command\":\"pause\",\"message\":\"unknownThread\",\"request_seq\":3,\"seq\":4,\"success\":false,\
-                \"type\":\"response\"}",
+            \"command\":\"pause\",\"message\":\"unknownThread\",\"request_seq\":3,\"seq\":4,\"success\":false,\
+            \"type\":\"response\"}",
         ],
         sent: &[DISPOSE_FIRST],
         ending: Ending::Left,
@@ -905,31 +905,31 @@ const FAILS: &[Course<'static>] = &[
             Came::Bytes(
                 Side::Client,
                 b"Content-Length: 74\r\n\r\n{\"seq\":3,\"type\":\"request\",\"command\":\"continue\",\
-                    \"arguments\":{\"threadId\":2}}",
+                \"arguments\":{\"threadId\":2}}",
             ),
             Came::Bytes(
                 Side::Client,
                 b"Content-Length: 74\r\n\r\n{\"seq\":4,\"type\":\"request\",\"command\":\"continue\",\
-                    \"arguments\":{\"threadId\":0}}",
+                \"arguments\":{\"threadId\":0}}",
             ),
             Came::Bytes(
                 Side::Client,
                 b"Content-Length: 71\r\n\r\n{\"seq\":5,\"type\":\"request\",\"command\":\"pause\",\
-                    \"arguments\":{\"threadId\":2}}",
+                \"arguments\":{\"threadId\":2}}",
             ),
         ],
         limits: USUAL,
         failing: &[],
         told: &[
             b"Content-Length: 157\r\n\r\n{\"body\":{\"error\":{\"format\":\"unknownThread\",\"id\":8}},\
-                \"command\":\"continue\",\"message\":\"unknownThread\",\"request_seq\":3,\"seq\":5,\
-                \"success\":false,\"type\":\"response\"}",
+            \"command\":\"continue\",\"message\":\"unknownThread\",\"request_seq\":3,\"seq\":5,\"success\":false,\
+            \"type\":\"response\"}",
             b"Content-Length: 157\r\n\r\n{\"body\":{\"error\":{\"format\":\"unknownThread\",\"id\":8}},\
-                \"command\":\"continue\",\"message\":\"unknownThread\",\"request_seq\":4,\"seq\":6,\
-                \"success\":false,\"type\":\"response\"}",
+            \"command\":\"continue\",\"message\":\"unknownThread\",\"request_seq\":4,\"seq\":6,\"success\":false,\
+            \"type\":\"response\"}",
             b"Content-Length: 154\r\n\r\n{\"body\":{\"error\":{\"format\":\"unknownThread\",\"id\":8}},\
-                \"command\":\"pause\",\"message\":\"unknownThread\",\"request_seq\":5,\"seq\":7,\"success\":false,\
-                \"type\":\"response\"}",
+            \"command\":\"pause\",\"message\":\"unknownThread\",\"request_seq\":5,\"seq\":7,\"success\":false,\
+            \"type\":\"response\"}",
         ],
         sent: &[DISPOSE],
         ending: Ending::Left,
@@ -942,7 +942,7 @@ const FAILS: &[Course<'static>] = &[
             Came::Bytes(
                 Side::Client,
                 b"Content-Length: 74\r\n\r\n{\"seq\":4,\"type\":\"request\",\"command\":\"continue\",\
-                    \"arguments\":{\"threadId\":1}}",
+                \"arguments\":{\"threadId\":1}}",
             ),
             Came::Bytes(Side::Target, RESUMED),
         ],
@@ -951,8 +951,8 @@ const FAILS: &[Course<'static>] = &[
         told: &[
             CONTINUED,
             b"Content-Length: 151\r\n\r\n{\"body\":{\"error\":{\"format\":\"notStopped\",\"id\":4}},\
-                \"command\":\"continue\",\"message\":\"notStopped\",\"request_seq\":4,\"seq\":6,\"success\":false,\
-                \"type\":\"response\"}",
+            \"command\":\"continue\",\"message\":\"notStopped\",\"request_seq\":4,\"seq\":6,\"success\":false,\
+            \"type\":\"response\"}",
         ],
         sent: &[RESUME, DISPOSE_NEXT],
         ending: Ending::Left,
@@ -1008,12 +1008,12 @@ const SUSPENDS: &[Course<'static>] = &[
             Came::Bytes(
                 Side::Client,
                 b"Content-Length: 71\r\n\r\n{\"seq\":3,\"type\":\"request\",\"command\":\"pause\",\
-                    \"arguments\":{\"threadId\":1}}",
+                \"arguments\":{\"threadId\":1}}",
             ),
             Came::Bytes(
                 Side::Client,
                 b"Content-Length: 74\r\n\r\n{\"seq\":4,\"type\":\"request\",\"command\":\"continue\",\
-                    \"arguments\":{\"threadId\":1}}",
+                \"arguments\":{\"threadId\":1}}",
             ),
             Came::Bytes(
                 Side::Target,
@@ -1024,9 +1024,9 @@ const SUSPENDS: &[Course<'static>] = &[
         failing: &[],
         told: &[
             b"Content-Length: 76\r\n\r\n{\"command\":\"pause\",\"request_seq\":3,\"seq\":6,\"success\":true,\
-                \"type\":\"response\"}",
+            \"type\":\"response\"}",
             b"Content-Length: 115\r\n\r\n{\"body\":{\"allThreadsContinued\":true},\"command\":\"continue\",\
-                \"request_seq\":4,\"seq\":7,\"success\":true,\"type\":\"response\"}",
+            \"request_seq\":4,\"seq\":7,\"success\":true,\"type\":\"response\"}",
         ],
         sent: &[
             b"\x00\x00\x00\x0b\x00\x00\x00\x05\x00\x01\x09",
@@ -1050,13 +1050,13 @@ const SUSPENDS: &[Course<'static>] = &[
         steps: &[Came::Bytes(
             Side::Client,
             b"Content-Length: 71\r\n\r\n{\"seq\":3,\"type\":\"request\",\"command\":\"pause\",\
-                \"arguments\":{\"threadId\":1}}",
+            \"arguments\":{\"threadId\":1}}",
         )],
         limits: USUAL,
         failing: &[],
         told: &[
             b"Content-Length: 76\r\n\r\n{\"command\":\"pause\",\"request_seq\":3,\"seq\":5,\"success\":true,\
-                \"type\":\"response\"}",
+            \"type\":\"response\"}",
         ],
         sent: &[DISPOSE],
         ending: Ending::Left,
@@ -1068,7 +1068,7 @@ const SUSPENDS: &[Course<'static>] = &[
             Came::Bytes(
                 Side::Client,
                 b"Content-Length: 71\r\n\r\n{\"seq\":3,\"type\":\"request\",\"command\":\"pause\",\
-                    \"arguments\":{\"threadId\":1}}",
+                \"arguments\":{\"threadId\":1}}",
             ),
             Came::Bytes(Side::Target, HIT),
             Came::Bytes(
@@ -1084,11 +1084,11 @@ const SUSPENDS: &[Course<'static>] = &[
         failing: &[],
         told: &[
             b"Content-Length: 76\r\n\r\n{\"command\":\"pause\",\"request_seq\":3,\"seq\":5,\"success\":true,\
-                \"type\":\"response\"}",
-            b"Content-Length: 106\r\n\r\n{\"body\":{\"allThreadsStopped\":true,\"reason\":\"pause\",\
-                \"threadId\":1},\"event\":\"stopped\",\"seq\":6,\"type\":\"event\"}",
+            \"type\":\"response\"}",
+            b"Content-Length: 106\r\n\r\n{\"body\":{\"allThreadsStopped\":true,\"reason\":\"pause\",\"threadId\":1},\
+            \"event\":\"stopped\",\"seq\":6,\"type\":\"event\"}",
             b"Content-Length: 134\r\n\r\n{\"body\":{\"allThreadsStopped\":true,\"hitBreakpointIds\":[1],\
-                \"reason\":\"breakpoint\",\"threadId\":1},\"event\":\"stopped\",\"seq\":7,\"type\":\"event\"}",
+            \"reason\":\"breakpoint\",\"threadId\":1},\"event\":\"stopped\",\"seq\":7,\"type\":\"event\"}",
         ],
         sent: &[
             b"\x00\x00\x00\x0b\x00\x00\x00\x0a\x00\x01\x08",
@@ -1112,7 +1112,7 @@ const SUSPENDS: &[Course<'static>] = &[
             Came::Bytes(
                 Side::Client,
                 b"Content-Length: 74\r\n\r\n{\"seq\":4,\"type\":\"request\",\"command\":\"continue\",\
-                    \"arguments\":{\"threadId\":1}}",
+                \"arguments\":{\"threadId\":1}}",
             ),
             Came::Bytes(
                 Side::Target,
@@ -1123,9 +1123,9 @@ const SUSPENDS: &[Course<'static>] = &[
         failing: &[],
         told: &[
             b"Content-Length: 88\r\n\r\n{\"command\":\"configurationDone\",\"request_seq\":3,\"seq\":6,\
-                \"success\":true,\"type\":\"response\"}",
+            \"success\":true,\"type\":\"response\"}",
             b"Content-Length: 115\r\n\r\n{\"body\":{\"allThreadsContinued\":true},\"command\":\"continue\",\
-                \"request_seq\":4,\"seq\":7,\"success\":true,\"type\":\"response\"}",
+            \"request_seq\":4,\"seq\":7,\"success\":true,\"type\":\"response\"}",
         ],
         sent: &[
             b"\x00\x00\x00\x0b\x00\x00\x00\x05\x00\x01\x09",
@@ -1159,8 +1159,8 @@ const REFUSED: &[Course<'static>] = &[
         failing: &[],
         told: &[
             b"Content-Length: 152\r\n\r\n{\"body\":{\"error\":{\"format\":\"targetGone\",\"id\":10}},\
-                \"command\":\"continue\",\"message\":\"targetGone\",\"request_seq\":3,\"seq\":5,\"success\":false,\
-                \"type\":\"response\"}",
+            \"command\":\"continue\",\"message\":\"targetGone\",\"request_seq\":3,\"seq\":5,\"success\":false,\
+            \"type\":\"response\"}",
             b"Content-Length: 45\r\n\r\n{\"event\":\"terminated\",\"seq\":6,\"type\":\"event\"}",
         ],
         sent: &[RESUME, DISPOSE_NEXT],
@@ -1170,7 +1170,7 @@ const REFUSED: &[Course<'static>] = &[
             code: 13,
         },
     },
-    // nor behind its start
+    // and not behind its start
     Course {
         first: &[ENTERS],
         steps: &[
@@ -1184,8 +1184,8 @@ const REFUSED: &[Course<'static>] = &[
         failing: &[],
         told: &[
             b"Content-Length: 161\r\n\r\n{\"body\":{\"error\":{\"format\":\"targetGone\",\"id\":10}},\
-                \"command\":\"configurationDone\",\"message\":\"targetGone\",\"request_seq\":2,\"seq\":3,\
-                \"success\":false,\"type\":\"response\"}",
+            \"command\":\"configurationDone\",\"message\":\"targetGone\",\"request_seq\":2,\"seq\":3,\
+            \"success\":false,\"type\":\"response\"}",
             b"Content-Length: 45\r\n\r\n{\"event\":\"terminated\",\"seq\":4,\"type\":\"event\"}",
         ],
         sent: &[RESUME_FIRST, DISPOSE_SECOND],
@@ -1209,7 +1209,7 @@ const REFUSED: &[Course<'static>] = &[
         failing: &[],
         told: &[
             b"Content-Length: 134\r\n\r\n{\"body\":{\"allThreadsStopped\":true,\"hitBreakpointIds\":[1],\
-                \"reason\":\"breakpoint\",\"threadId\":2},\"event\":\"stopped\",\"seq\":5,\"type\":\"event\"}",
+            \"reason\":\"breakpoint\",\"threadId\":2},\"event\":\"stopped\",\"seq\":5,\"type\":\"event\"}",
             b"Content-Length: 45\r\n\r\n{\"event\":\"terminated\",\"seq\":6,\"type\":\"event\"}",
         ],
         sent: &[RESUME, DISPOSE_NEXT],
@@ -1233,8 +1233,8 @@ const REFUSED: &[Course<'static>] = &[
         failing: &[],
         told: &[
             b"Content-Length: 149\r\n\r\n{\"body\":{\"error\":{\"format\":\"targetGone\",\"id\":10}},\
-                \"command\":\"pause\",\"message\":\"targetGone\",\"request_seq\":2,\"seq\":4,\"success\":false,\
-                \"type\":\"response\"}",
+            \"command\":\"pause\",\"message\":\"targetGone\",\"request_seq\":2,\"seq\":4,\"success\":false,\
+            \"type\":\"response\"}",
             b"Content-Length: 45\r\n\r\n{\"event\":\"terminated\",\"seq\":5,\"type\":\"event\"}",
         ],
         sent: &[SUSPEND, DISPOSE_SECOND],
@@ -1258,8 +1258,8 @@ const REFUSED: &[Course<'static>] = &[
         failing: &[],
         told: &[
             b"Content-Length: 152\r\n\r\n{\"body\":{\"error\":{\"format\":\"targetGone\",\"id\":10}},\
-                \"command\":\"continue\",\"message\":\"targetGone\",\"request_seq\":3,\"seq\":5,\"success\":false,\
-                \"type\":\"response\"}",
+            \"command\":\"continue\",\"message\":\"targetGone\",\"request_seq\":3,\"seq\":5,\"success\":false,\
+            \"type\":\"response\"}",
             b"Content-Length: 45\r\n\r\n{\"event\":\"terminated\",\"seq\":6,\"type\":\"event\"}",
         ],
         sent: &[RESUME],
@@ -1282,8 +1282,8 @@ const DIES: &[Course<'static>] = &[
         steps: &[
             Came::Bytes(
                 Side::Target,
-                b"\x00\x00\x00\x22\x00\x00\x00\x01\x00\x40\x64\x00\x00\x00\x00\x02\x07\x00\x00\x00\x02\x00\x00\x00\
-                    \x00\x00\x00\x00\x07\x63\x00\x00\x00\x00",
+                b"\x00\x00\x00\x22\x00\x00\x00\x01\x00\x40\x64\x00\x00\x00\x00\x02\x07\x00\x00\x00\x02\x00\x00\x00\x00\
+                \x00\x00\x00\x07\x63\x00\x00\x00\x00",
             ),
             Came::Bytes(
                 Side::Client,
@@ -1299,10 +1299,10 @@ const DIES: &[Course<'static>] = &[
         told: &[
             b"Content-Length: 45\r\n\r\n{\"event\":\"terminated\",\"seq\":3,\"type\":\"event\"}",
             b"Content-Length: 151\r\n\r\n{\"body\":{\"error\":{\"format\":\"targetGone\",\"id\":10}},\
-                \"command\":\"threads\",\"message\":\"targetGone\",\"request_seq\":2,\"seq\":4,\"success\":false,\
-                \"type\":\"response\"}",
+            \"command\":\"threads\",\"message\":\"targetGone\",\"request_seq\":2,\"seq\":4,\"success\":false,\
+            \"type\":\"response\"}",
             b"Content-Length: 81\r\n\r\n{\"command\":\"disconnect\",\"request_seq\":3,\"seq\":5,\"success\":true,\
-                \"type\":\"response\"}",
+            \"type\":\"response\"}",
         ],
         sent: &[],
         ending: Ending::Done,
@@ -1319,7 +1319,7 @@ const DIES: &[Course<'static>] = &[
             Came::Bytes(
                 Side::Client,
                 b"Content-Length: 71\r\n\r\n{\"seq\":4,\"type\":\"request\",\"command\":\"pause\",\
-                    \"arguments\":{\"threadId\":1}}",
+                \"arguments\":{\"threadId\":1}}",
             ),
             Came::Bytes(
                 Side::Client,
@@ -1331,13 +1331,13 @@ const DIES: &[Course<'static>] = &[
         told: &[
             b"Content-Length: 45\r\n\r\n{\"event\":\"terminated\",\"seq\":5,\"type\":\"event\"}",
             b"Content-Length: 152\r\n\r\n{\"body\":{\"error\":{\"format\":\"targetGone\",\"id\":10}},\
-                \"command\":\"continue\",\"message\":\"targetGone\",\"request_seq\":3,\"seq\":6,\"success\":false,\
-                \"type\":\"response\"}",
+            \"command\":\"continue\",\"message\":\"targetGone\",\"request_seq\":3,\"seq\":6,\"success\":false,\
+            \"type\":\"response\"}",
             b"Content-Length: 149\r\n\r\n{\"body\":{\"error\":{\"format\":\"targetGone\",\"id\":10}},\
-                \"command\":\"pause\",\"message\":\"targetGone\",\"request_seq\":4,\"seq\":7,\"success\":false,\
-                \"type\":\"response\"}",
+            \"command\":\"pause\",\"message\":\"targetGone\",\"request_seq\":4,\"seq\":7,\"success\":false,\
+            \"type\":\"response\"}",
             b"Content-Length: 81\r\n\r\n{\"command\":\"disconnect\",\"request_seq\":5,\"seq\":8,\"success\":true,\
-                \"type\":\"response\"}",
+            \"type\":\"response\"}",
         ],
         sent: &[],
         ending: Ending::Done,
@@ -1357,8 +1357,8 @@ const DIES: &[Course<'static>] = &[
         told: &[
             b"Content-Length: 45\r\n\r\n{\"event\":\"terminated\",\"seq\":3,\"type\":\"event\"}",
             b"Content-Length: 161\r\n\r\n{\"body\":{\"error\":{\"format\":\"targetGone\",\"id\":10}},\
-                \"command\":\"configurationDone\",\"message\":\"targetGone\",\"request_seq\":2,\"seq\":4,\
-                \"success\":false,\"type\":\"response\"}",
+            \"command\":\"configurationDone\",\"message\":\"targetGone\",\"request_seq\":2,\"seq\":4,\
+            \"success\":false,\"type\":\"response\"}",
         ],
         sent: &[],
         ending: Ending::Left,
@@ -1369,9 +1369,9 @@ const DIES: &[Course<'static>] = &[
         steps: &[
             Came::Bytes(
                 Side::Target,
-                b"\x00\x00\x00\x41\x00\x00\x00\x01\x00\x40\x64\x02\x00\x00\x00\x02\x08\x00\x00\x00\x03\x00\x00\x00\
-                    \x00\x00\x00\x00\x01\x01\x00\x00\x00\x00\x00\x00\x00\x10\x00\x00\x00\x0eLcom/acme/Foo;\x00\x00\
-                    \x00\x07\x63\x00\x00\x00\x00",
+                b"\x00\x00\x00\x41\x00\x00\x00\x01\x00\x40\x64\x02\x00\x00\x00\x02\x08\x00\x00\x00\x03\x00\x00\x00\x00\
+                \x00\x00\x00\x01\x01\x00\x00\x00\x00\x00\x00\x00\x10\x00\x00\x00\x0eLcom/acme/Foo;\x00\x00\x00\x07\
+                \x63\x00\x00\x00\x00",
             ),
             Came::Shut(Side::Target),
         ],
@@ -1404,7 +1404,7 @@ const DIES: &[Course<'static>] = &[
         failing: &[],
         told: &[
             b"Content-Length: 100\r\n\r\n{\"body\":{\"threads\":[]},\"command\":\"threads\",\"request_seq\":2,\
-                \"seq\":3,\"success\":true,\"type\":\"response\"}",
+            \"seq\":3,\"success\":true,\"type\":\"response\"}",
             b"Content-Length: 45\r\n\r\n{\"event\":\"terminated\",\"seq\":4,\"type\":\"event\"}",
         ],
         sent: &[b"\x00\x00\x00\x0b\x00\x00\x00\x04\x00\x01\x04"],
@@ -1457,7 +1457,7 @@ const LEAVES: &[Course<'static>] = &[
         failing: &[],
         told: &[
             b"Content-Length: 81\r\n\r\n{\"command\":\"disconnect\",\"request_seq\":3,\"seq\":5,\"success\":true,\
-                \"type\":\"response\"}",
+            \"type\":\"response\"}",
         ],
         sent: &[DISPOSE],
         ending: Ending::Done,
@@ -1469,7 +1469,7 @@ const LEAVES: &[Course<'static>] = &[
             Came::Bytes(
                 Side::Client,
                 b"Content-Length: 88\r\n\r\n{\"seq\":3,\"type\":\"request\",\"command\":\"disconnect\",\
-                    \"arguments\":{\"terminateDebuggee\":true}}",
+                \"arguments\":{\"terminateDebuggee\":true}}",
             ),
             Came::Bytes(
                 Side::Target,
@@ -1480,7 +1480,7 @@ const LEAVES: &[Course<'static>] = &[
         failing: &[],
         told: &[
             b"Content-Length: 81\r\n\r\n{\"command\":\"disconnect\",\"request_seq\":3,\"seq\":5,\"success\":true,\
-                \"type\":\"response\"}",
+            \"type\":\"response\"}",
         ],
         sent: &[b"\x00\x00\x00\x0f\x00\x00\x00\x0a\x00\x01\x0a\x00\x00\x00\x00"],
         ending: Ending::Done,
@@ -1502,7 +1502,7 @@ const LEAVES: &[Course<'static>] = &[
         failing: &[],
         told: &[
             b"Content-Length: 81\r\n\r\n{\"command\":\"disconnect\",\"request_seq\":2,\"seq\":3,\"success\":true,\
-                \"type\":\"response\"}",
+            \"type\":\"response\"}",
         ],
         sent: &[DISPOSE_FIRST],
         ending: Ending::Done,
@@ -1549,8 +1549,8 @@ const LINKS: &[Course<'static>] = &[
         failing: &[(Side::Target, 4, 5)],
         told: &[
             b"Content-Length: 161\r\n\r\n{\"body\":{\"error\":{\"format\":\"targetGone\",\"id\":10}},\
-                \"command\":\"configurationDone\",\"message\":\"targetGone\",\"request_seq\":2,\"seq\":3,\
-                \"success\":false,\"type\":\"response\"}",
+            \"command\":\"configurationDone\",\"message\":\"targetGone\",\"request_seq\":2,\"seq\":3,\
+            \"success\":false,\"type\":\"response\"}",
             b"Content-Length: 45\r\n\r\n{\"event\":\"terminated\",\"seq\":4,\"type\":\"event\"}",
         ],
         sent: &[b"\x00\x00\x00\x0b\x00"],
