@@ -435,18 +435,15 @@ fn response(
 }
 
 #[test]
-fn messages_are_told(rt: HostRuntime) -> Result<(), Fail> {
+fn responses_are_told(rt: HostRuntime) -> Result<(), Fail> {
     let alloc = rt.alloc();
     let name = Text::from_str(alloc, "a \"b\"")?;
     let table = [
         (
             1,
-            response(
-                alloc,
-                1,
-                "initialize",
-                Outcome::Success(Shape::Capabilities),
-            )?,
+            1,
+            "initialize",
+            Outcome::Success(Shape::Capabilities),
             "{\"body\":{\"exceptionBreakpointFilters\":[{\"filter\":\"caught\",\"label\":\"Caught exceptions\"},\
             {\"filter\":\"uncaught\",\"label\":\"Uncaught exceptions\"}],\"supportTerminateDebuggee\":true,\
             \"supportsConfigurationDoneRequest\":true,\"supportsEvaluateForHovers\":true,\
@@ -456,63 +453,77 @@ fn messages_are_told(rt: HostRuntime) -> Result<(), Fail> {
         ),
         (
             2,
-            response(alloc, 2, "disconnect", Outcome::Success(Shape::Nothing))?,
+            2,
+            "disconnect",
+            Outcome::Success(Shape::Nothing),
             "{\"command\":\"disconnect\",\"request_seq\":2,\"seq\":2,\"success\":true,\"type\":\"response\"}",
         ),
         (
             3,
-            response(alloc, 7, "threads", Outcome::Success(threads(alloc)?))?,
+            7,
+            "threads",
+            Outcome::Success(threads(alloc)?),
             "{\"body\":{\"threads\":[{\"id\":1,\"name\":\"main\"},\
             {\"id\":2,\"name\":\"Signal \\\"Dispatcher\\\"\"}]},\"command\":\"threads\",\"request_seq\":7,\
             \"seq\":3,\"success\":true,\"type\":\"response\"}",
         ),
         (
             3,
-            response(
-                alloc,
-                7,
-                "threads",
-                Outcome::Success(Shape::Threads(List::new(alloc))),
-            )?,
+            7,
+            "threads",
+            Outcome::Success(Shape::Threads(List::new(alloc))),
             "{\"body\":{\"threads\":[]},\"command\":\"threads\",\"request_seq\":7,\"seq\":3,\
             \"success\":true,\"type\":\"response\"}",
         ),
         (
             8,
-            response(alloc, 6, "continue", Outcome::Success(Shape::Continued))?,
+            6,
+            "continue",
+            Outcome::Success(Shape::Continued),
             "{\"body\":{\"allThreadsContinued\":true},\"command\":\"continue\",\"request_seq\":6,\"seq\":8,\
             \"success\":true,\"type\":\"response\"}",
         ),
         (
             1,
-            response(alloc, 1, "é", Outcome::Failure(Failure::unsupported()))?,
+            1,
+            "é",
+            Outcome::Failure(Failure::unsupported()),
             "{\"body\":{\"error\":{\"format\":\"unsupported\",\"id\":1}},\"command\":\"é\",\
             \"message\":\"unsupported\",\"request_seq\":1,\"seq\":1,\"success\":false,\"type\":\"response\"}",
         ),
         (
             7,
-            response(
-                alloc,
-                9,
-                "c",
-                Outcome::Failure(Failure::bad_arguments(name)),
-            )?,
+            9,
+            "c",
+            Outcome::Failure(Failure::bad_arguments(name)),
             "{\"body\":{\"error\":{\"format\":\"badArguments a \\\"b\\\"\",\"id\":2}},\"command\":\"c\",\
             \"message\":\"badArguments\",\"request_seq\":9,\"seq\":7,\"success\":false,\"type\":\"response\"}",
         ),
+    ];
+    for (seq, request_seq, command, outcome, wanted) in table {
+        let told = response(alloc, request_seq, command, outcome)?;
+        let text = text_of(alloc, seq, &told)?;
+        assert!(rt; text.as_slice() == wanted.as_bytes(), "{wanted}");
+    }
+    Ok(())
+}
+
+#[test]
+fn events_without_a_body_are_told(rt: HostRuntime) -> Result<(), Fail> {
+    let table = [
         (
             1,
-            Told::Event(Event::Terminated),
+            Event::Terminated,
             "{\"event\":\"terminated\",\"seq\":1,\"type\":\"event\"}",
         ),
         (
             3,
-            Told::Event(Event::Initialized),
+            Event::Initialized,
             "{\"event\":\"initialized\",\"seq\":3,\"type\":\"event\"}",
         ),
     ];
-    for (seq, told, wanted) in table {
-        let text = text_of(alloc, seq, &told)?;
+    for (seq, event, wanted) in table {
+        let text = text_of(rt.alloc(), seq, &Told::Event(event))?;
         assert!(rt; text.as_slice() == wanted.as_bytes(), "{wanted}");
     }
     Ok(())
