@@ -1,0 +1,6 @@
+pub mod KeptLaws
+pub mod HoldLaws
+pub mod SoundLaws
+pub mod ReferenceLaws
+pub mod StoringLaws
+pub mod ChangeLaws

@@ -1,0 +1,8 @@
+use Rattle.std.proofs.Common.{◌≡◌, ◌++◌, drop}
+use Rattle.world_model.specs.Effects.{requests_left}
+use Rattle.world_model.proofs.changes.requests_left.Given as goal
+
+-- those that are left of all are those found so far, and those that are left of the rest
+abbrev pub invariant-loop-row : goal.invariant-loop-row
+invariant-loop-row l =
+    l.left ++ requests_left l.kind l.id (drop l.row-index l.requests) ≡ requests_left l.kind l.id l.requests

@@ -1,0 +1,12 @@
+pub mod Codes
+pub mod Scans
+pub mod Kinds
+pub mod Classes
+pub mod Threads
+pub mod Objects
+pub mod Replies
+pub mod Requests
+pub mod Storing
+pub mod Effects
+pub mod Kept
+pub mod Sound
