@@ -1,16 +1,19 @@
 -- No told message has a float, so its text is the compact one.
-use Rattle.std.proofs.Common.{◌≡◌, ℕ, List, [], ◌∷◌, map, false, ◌||◌, codes, Option, Some, None, refl, ap, ◌∙◌}
+use Rattle.std.proofs.Common.{◌≡◌, ℕ, ℤ, pos, negsuc, List, [], ◌∷◌, map, false, ◌||◌, codes, Option, Some, None, refl}
+use Rattle.std.proofs.Common.{option_map, ap, ◌∙◌}
 use Rattle.serde_json.specs.Data.{Data}
 use Rattle.serde_json.specs.View.{items_of}
-use Rattle.serde_json.specs.Written.{compact_text, has_float, items_have_float}
+use Rattle.serde_json.specs.Written.{compact_text, has_float, items_have_float, members_have_float}
 use Rattle.dap_messages.specs.Telling.{answer_data, breakpoint_data, breakpoints_data, event_data, outcome_data}
-use Rattle.dap_messages.specs.Telling.{count, hit_data, reason_of, stop_data}
+use Rattle.dap_messages.specs.Telling.{count, hit_data, integer, members_of, reason_of, stop_data}
+use Rattle.dap_messages.specs.Telling.{frame_data, source_data, source_member, stack_frames_data}
 use Rattle.dap_messages.specs.Telling.{standing_data, thread_data, threads_data, told_data, told_text}
 use Rattle.dap_messages.specs.declared.told.Told.{Told}
 use Rattle.dap_messages.specs.declared.told.Told.TheVariants as told
 use Rattle.dap_messages.specs.declared.told.Outcome.{Outcome}
 use Rattle.dap_messages.specs.declared.told.Outcome.TheVariants.{Success, Failure as Failed}
 use Rattle.dap_messages.specs.declared.told.Shape.TheVariants.{Nothing, Capabilities, Breakpoints, Threads, Continued}
+use Rattle.dap_messages.specs.declared.told.Shape.TheVariants.{StackFrames}
 use Rattle.dap_messages.specs.declared.told.Event.{Event}
 use Rattle.dap_messages.specs.declared.told.Event.TheVariants.{Initialized, Breakpoint as Changed, Terminated}
 use Rattle.dap_messages.specs.declared.told.Event.TheVariants.{Thread as ThreadChanged, Stopped as HasStopped}
@@ -19,6 +22,8 @@ use Rattle.dap_messages.specs.declared.told.StopReason.TheVariants.{Breakpoint a
 use Rattle.dap_messages.specs.declared.told.StopReason.TheVariants.{FunctionBreakpoint as FunctionHit}
 use Rattle.dap_messages.specs.declared.told.Breakpoint.{Breakpoint}
 use Rattle.dap_messages.specs.declared.told.Thread.{Thread}
+use Rattle.dap_messages.specs.declared.told.Source.{Source}
+use Rattle.dap_messages.specs.declared.told.StackFrame.{StackFrame}
 
 has_float-standing_data : (id line : ℕ) (reason : Option (List ℕ)) → has_float (standing_data id line reason) ≡ false
 has_float-standing_data id line None = refl
@@ -42,6 +47,31 @@ items_have_float-threads (thread ∷ threads) = items_have_float-threads threads
 has_float-threads_data : (threads : List Thread) → has_float (threads_data threads) ≡ false
 has_float-threads_data threads = ap (λ found. found || false) (items_have_float-threads threads)
 
+has_float-integer : (z : ℤ) → has_float (integer z) ≡ false
+has_float-integer (pos n) = refl
+has_float-integer (negsuc n) = refl
+
+members_have_float-source : (source : Option Source) →
+    members_have_float (members_of (source_member (option_map source_data source))) ≡ false
+members_have_float-source None = refl
+members_have_float-source (Some source) = refl
+
+has_float-frame_data : (frame : StackFrame) → has_float (frame_data frame) ≡ false
+has_float-frame_data frame =
+    ap (λ found. found || members_have_float (members_of (source_member (option_map source_data frame.source))))
+    (has_float-integer frame.line)
+    ∙ members_have_float-source frame.source
+
+items_have_float-frames : (frames : List StackFrame) → items_have_float (items_of (map frame_data frames)) ≡ false
+items_have_float-frames [] = refl
+items_have_float-frames (frame ∷ frames) =
+    ap (λ found. found || items_have_float (items_of (map frame_data frames))) (has_float-frame_data frame)
+    ∙ items_have_float-frames frames
+
+has_float-stack_frames_data : (frames : List StackFrame) (total : ℕ) →
+    has_float (stack_frames_data frames total) ≡ false
+has_float-stack_frames_data frames total = ap (λ found. found || false) (items_have_float-frames frames)
+
 has_float-answer_data : (seq request_seq : ℕ) (command : List ℕ) (body : Data) →
     has_float body ≡ false → has_float (answer_data seq request_seq command (Some body)) ≡ false
 has_float-answer_data seq request_seq command body none = ap (λ found. found || false) none
@@ -56,6 +86,10 @@ has_float-outcome_data seq request_seq command (Success (Breakpoints breakpoints
     (has_float-breakpoints_data breakpoints)
 has_float-outcome_data seq request_seq command (Success (Threads threads)) =
     has_float-answer_data seq request_seq command (threads_data threads) (has_float-threads_data threads)
+has_float-outcome_data seq request_seq command (Success (StackFrames frames total)) =
+    has_float-answer_data seq request_seq command
+    (stack_frames_data frames total)
+    (has_float-stack_frames_data frames total)
 has_float-outcome_data seq request_seq command (Success Continued) = refl
 has_float-outcome_data seq request_seq command (Failed failure) = refl
 

@@ -8,12 +8,13 @@ use Rattle.dap_messages.specs.declared.arguments.Argument.TheVariants.{Arguments
 use Rattle.dap_messages.specs.declared.arguments.Argument.TheVariants.{ColumnsStartAt1, PathFormat}
 use Rattle.dap_messages.specs.declared.arguments.Argument.TheVariants.{SupportsVariableType, SourceRoots}
 use Rattle.dap_messages.specs.declared.arguments.Argument.TheVariants.{Source, Breakpoints, ThreadId}
-use Rattle.dap_messages.specs.declared.arguments.Argument.TheVariants.{TerminateDebuggee}
+use Rattle.dap_messages.specs.declared.arguments.Argument.TheVariants.{StartFrame, Levels, TerminateDebuggee}
 use Rattle.dap_messages.specs.declared.arguments.Refused.{Refused}
 use Rattle.dap_messages.specs.declared.arguments.Refused.TheVariants.{NoMemory, Broken}
 use Rattle.dap_messages.specs.declared.requests.InitializeArguments.{InitializeArguments}
 use Rattle.dap_messages.specs.declared.requests.AttachArguments.{AttachArguments}
 use Rattle.dap_messages.specs.declared.requests.ThreadArguments.{ThreadArguments}
+use Rattle.dap_messages.specs.declared.requests.StackTraceArguments.{StackTraceArguments}
 use Rattle.dap_messages.specs.declared.requests.DisconnectArguments.{DisconnectArguments}
 
 -- the name under which an argument stands
@@ -28,6 +29,8 @@ argument_name SourceRoots = codes "sourceRoots"
 argument_name Source = codes "source"
 argument_name Breakpoints = codes "breakpoints"
 argument_name ThreadId = codes "threadId"
+argument_name StartFrame = codes "startFrame"
+argument_name Levels = codes "levels"
 argument_name TerminateDebuggee = codes "terminateDebuggee"
 
 -- null counts as missing
@@ -87,6 +90,11 @@ as_int value = option_and_then in_int (option_and_then as_u64 (as_number value))
 abbrev pub int_at : Argument → Data → Result ℕ Argument
 int_at argument arguments = unless_broken argument (option_and_then as_int (given argument arguments))
 
+-- an integer from 0 to 2 ^ 31 - 1, which may be missing
+abbrev pub int_or : Argument → ℕ → Data → Result ℕ Argument
+int_or argument missing arguments =
+    or_missing missing (λ value. unless_broken argument (as_int value)) (given argument arguments)
+
 -- a truth value, which may be missing
 abbrev pub flag_at : Argument → Bool → Data → Result Bool Argument
 flag_at argument missing arguments =
@@ -137,6 +145,14 @@ abbrev pub thread_of : Data → Result ThreadArguments Argument
 thread_of arguments = do
   thread_id ← int_at ThreadId arguments
   Ok (record { thread_id = thread_id })
+
+-- what `stackTrace` says, with the defaults of what is missing (DAP specification, StackTrace request)
+abbrev pub stack_trace_of : Data → Result StackTraceArguments Argument
+stack_trace_of arguments = do
+  thread_id ← int_at ThreadId arguments
+  start_frame ← int_or StartFrame 0 arguments
+  levels ← int_or Levels 0 arguments
+  Ok (record { thread_id = thread_id; start_frame = start_frame; levels = levels })
 
 -- what `disconnect` says (DAP specification, Disconnect request)
 abbrev pub disconnect_of : Data → Result DisconnectArguments Argument

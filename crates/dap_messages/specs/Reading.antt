@@ -6,6 +6,7 @@ use Rattle.serde_json.specs.Data.{Data, null}
 use Rattle.serde_json.specs.Read.{read}
 use Rattle.serde_json.specs.Find.{get, as_null, as_number, as_object, as_str, as_u64}
 use Rattle.dap_messages.specs.Arguments.{◌>>=◌, argument_name, initialize_of, attach_of, thread_of, disconnect_of}
+use Rattle.dap_messages.specs.Arguments.{stack_trace_of}
 use Rattle.dap_messages.specs.Breakpoints.{set_breakpoints_of}
 use Rattle.dap_messages.specs.declared.arguments.Argument.{Argument}
 use Rattle.dap_messages.specs.declared.arguments.Argument.TheVariants.{Arguments}
@@ -14,7 +15,8 @@ use Rattle.dap_messages.specs.declared.rows.Row.TheVariants as row
 use Rattle.dap_messages.specs.declared.requests.Command.{Command}
 use Rattle.dap_messages.specs.declared.requests.Command.TheVariants.{Initialize, Attach, ConfigurationDone}
 use Rattle.dap_messages.specs.declared.requests.Command.TheVariants.{SetBreakpoints, Threads, Continue}
-use Rattle.dap_messages.specs.declared.requests.Command.TheVariants.{Pause, Disconnect, Unsupported, BadArguments}
+use Rattle.dap_messages.specs.declared.requests.Command.TheVariants.{Pause, StackTrace, Disconnect, Unsupported}
+use Rattle.dap_messages.specs.declared.requests.Command.TheVariants.{BadArguments}
 use Rattle.dap_messages.specs.declared.requests.Incoming.{Incoming}
 use Rattle.dap_messages.specs.declared.requests.Incoming.TheVariants.{Request, Ignored}
 use Rattle.dap_messages.specs.declared.requests.ReadFault.{ReadFault}
@@ -30,8 +32,9 @@ row_of name =
     (if bytes_eq name (codes "threads") then row.Threads else
     (if bytes_eq name (codes "continue") then row.Continue else
     (if bytes_eq name (codes "pause") then row.Pause else
+    (if bytes_eq name (codes "stackTrace") then row.StackTrace else
     (if bytes_eq name (codes "disconnect") then row.Disconnect else
-    row.Unsupported)))))))
+    row.Unsupported))))))))
 
 -- arguments are an object or null
 abbrev pub object_or_null : Data → Result Data Argument
@@ -69,6 +72,10 @@ row_command row.Pause request = do
   arguments ← arguments_of request
   thread ← thread_of arguments
   Ok (Pause thread)
+row_command row.StackTrace request = do
+  arguments ← arguments_of request
+  stack_trace ← stack_trace_of arguments
+  Ok (StackTrace stack_trace)
 row_command row.Disconnect request = do
   arguments ← arguments_of request
   disconnect ← disconnect_of arguments

@@ -1,7 +1,8 @@
 -- The JSON of a told message. (DAP specification, Base Protocol, Response, ErrorResponse and Event)
 use Rattle.std.specs.Prelude.{ℕ, ◌==◌, List, [], ◌∷◌, ◌++◌, map, true, false, if◌then◌else◌, codes, decimal, Option, Bool}
-use Rattle.std.specs.Prelude.{Some, None}
+use Rattle.std.specs.Prelude.{Some, None, option_map, ℤ}
 use Rattle.serde_json.specs.Data.{Data, number, unsigned, string, boolean, array, object, Members, no_members, member}
+use Rattle.serde_json.specs.Find.{of_integer}
 use Rattle.serde_json.specs.View.{items_of}
 use Rattle.serde_json.specs.Written.{compact_text}
 use Rattle.dap_messages.specs.declared.told.Told.{Told}
@@ -11,12 +12,15 @@ use Rattle.dap_messages.specs.declared.told.Outcome.{Outcome}
 use Rattle.dap_messages.specs.declared.told.Outcome.TheVariants.{Success, Failure as Failed}
 use Rattle.dap_messages.specs.declared.told.Shape.{Shape}
 use Rattle.dap_messages.specs.declared.told.Shape.TheVariants.{Nothing, Capabilities, Breakpoints, Threads, Continued}
+use Rattle.dap_messages.specs.declared.told.Shape.TheVariants.{StackFrames}
 use Rattle.dap_messages.specs.declared.told.Breakpoint.{Breakpoint}
 use Rattle.dap_messages.specs.declared.told.BreakpointStatus.{BreakpointStatus}
 use Rattle.dap_messages.specs.declared.told.BreakpointStatus.TheVariants.{Verified, NoSourceRoot}
 use Rattle.dap_messages.specs.declared.told.BreakpointStatus.TheVariants.{ConditionsUnsupported, RefusedByTarget}
 use Rattle.dap_messages.specs.declared.told.BreakpointStatus.TheVariants.{NotBoundYet}
 use Rattle.dap_messages.specs.declared.told.Thread.{Thread}
+use Rattle.dap_messages.specs.declared.told.Source.{Source}
+use Rattle.dap_messages.specs.declared.told.StackFrame.{StackFrame}
 use Rattle.dap_messages.specs.declared.told.Failure.{Failure}
 use Rattle.dap_messages.specs.declared.told.Detail.{Detail}
 use Rattle.dap_messages.specs.declared.told.Detail.TheVariants.{Plain, Number, Name}
@@ -54,6 +58,9 @@ unknown_thread = record { code = 8; detail = Plain }
 abbrev pub target_error : ℕ → Failure
 target_error error = record { code = 9; detail = Number error }
 
+abbrev pub references_spent : Failure
+references_spent = record { code = 15; detail = Plain }
+
 -- members in this order
 abbrev pub members_of : List (List ℕ × Data) → Members
 members_of [] = no_members
@@ -66,6 +73,10 @@ object_of members = object (members_of members)
 -- a number that is an integer from 0
 abbrev pub count : ℕ → Data
 count n = number (unsigned n)
+
+-- a number that is an integer
+abbrev pub integer : ℤ → Data
+integer z = number (of_integer z)
 
 -- ---- bodies of responses
 
@@ -125,6 +136,33 @@ thread_data thread = object_of ((codes "id", count thread.id) ∷ (codes "name",
 abbrev pub threads_data : List Thread → Data
 threads_data threads = object_of ((codes "threads", array (items_of (map thread_data threads))) ∷ [])
 
+-- a source (DAP specification, Types, Source)
+abbrev pub source_data : Source → Data
+source_data source = object_of ((codes "name", string source.name) ∷ (codes "path", string source.path) ∷ [])
+
+-- the member `source`, which is left out where no source is known (DAP specification, Types, StackFrame, `source`)
+abbrev pub source_member : Option Data → List (List ℕ × Data)
+source_member None = []
+source_member (Some source) = (codes "source", source) ∷ []
+
+-- a frame with this source (DAP specification, Types, StackFrame)
+abbrev pub located_data : StackFrame → Option Data → Data
+located_data frame source = object_of (
+    (codes "column", count frame.column) ∷
+    (codes "id", count frame.id) ∷
+    (codes "line", integer frame.line) ∷
+    (codes "name", string frame.name) ∷ source_member source)
+
+-- a frame (DAP specification, Types, StackFrame)
+abbrev pub frame_data : StackFrame → Data
+frame_data frame = located_data frame (option_map source_data frame.source)
+
+-- the body of the response to `stackTrace` (DAP specification, StackTrace request)
+abbrev pub stack_frames_data : List StackFrame → ℕ → Data
+stack_frames_data frames total = object_of (
+    (codes "stackFrames", array (items_of (map frame_data frames))) ∷
+    (codes "totalFrames", count total) ∷ [])
+
 -- the body of the response to `continue` (DAP specification, Continue request)
 abbrev pub continued_data : Data
 continued_data = object_of ((codes "allThreadsContinued", boolean true) ∷ [])
@@ -135,6 +173,7 @@ shape_data Nothing = None
 shape_data Capabilities = Some capabilities_data
 shape_data (Breakpoints breakpoints) = Some (breakpoints_data breakpoints)
 shape_data (Threads threads) = Some (threads_data threads)
+shape_data (StackFrames frames total) = Some (stack_frames_data frames total)
 shape_data Continued = Some continued_data
 
 -- the member `body`, which stands before all others of a message
@@ -154,7 +193,8 @@ message_of code =
     (if code == 8 then codes "unknownThread" else
     (if code == 9 then codes "targetError" else
     (if code == 10 then codes "targetGone" else
-    (if code == 16 then codes "alreadyAttached" else [])))))))
+    (if code == 15 then codes "referencesSpent" else
+    (if code == 16 then codes "alreadyAttached" else []))))))))
 
 -- what follows the message, with a space before it
 abbrev pub detail_text : Detail → List ℕ

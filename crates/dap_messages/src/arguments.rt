@@ -1,7 +1,7 @@
 ghost use Rattle.std.specs.Prelude.{◌≡◌, option_map};
 ghost use Rattle.serde_json.specs.Find.{as_str};
 ghost use Rattle.serde_json.specs.View.{view, items_view};
-ghost use Rattle.dap_messages.specs.Arguments.{argument_name, as_int, given, int_at, text_at, texts_at};
+ghost use Rattle.dap_messages.specs.Arguments.{argument_name, as_int, given, int_at, int_or, text_at, texts_at};
 ghost use Rattle.dap_messages.specs.Arguments.{each_in, flag_at, path_format_at, unless_broken, IsRead};
 
 use serde_json::Value;
@@ -23,6 +23,8 @@ pub(crate) enum Argument {
     Source,
     Breakpoints,
     ThreadId,
+    StartFrame,
+    Levels,
     TerminateDebuggee,
 }
 
@@ -41,6 +43,8 @@ impl Argument {
             Argument::Source => "source",
             Argument::Breakpoints => "breakpoints",
             Argument::ThreadId => "threadId",
+            Argument::StartFrame => "startFrame",
+            Argument::Levels => "levels",
             Argument::TerminateDebuggee => "terminateDebuggee",
         }
     }
@@ -126,6 +130,19 @@ pub(crate) fn int_at(arguments: &Value, argument: Argument) -> Result<u32, Refus
     match given(arguments, argument).and_then(as_int) {
         Some(number) => Ok(number),
         None => Err(Refused::Broken(argument)),
+    }
+}
+
+/// An integer from 0 to 2^31 - 1, or `missing` where it isn't given.
+pub(crate) fn int_or(arguments: &Value, argument: Argument, missing: u32) -> Result<u32, Refused>
+    ensures { IsRead result (int_or argument missing (view arguments.now)) }
+{
+    match given(arguments, argument) {
+        Some(value) => match as_int(value) {
+            Some(number) => Ok(number),
+            None => Err(Refused::Broken(argument)),
+        },
+        None => Ok(missing),
     }
 }
 

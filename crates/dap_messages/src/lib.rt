@@ -14,10 +14,10 @@ mod write;
 pub use read::read_request;
 pub use requests::{
     AttachArguments, Command, DisconnectArguments, Incoming, InitializeArguments, ReadFault,
-    Request, SetBreakpointsArguments, SourceBreakpoint, ThreadArguments,
+    Request, SetBreakpointsArguments, SourceBreakpoint, StackTraceArguments, ThreadArguments,
 };
 pub use told::{
-    Breakpoint, BreakpointStatus, Detail, Event, Failure, Outcome, Response, Shape, StopReason,
-    Stopped, Thread, ThreadChange, Told,
+    Breakpoint, BreakpointStatus, Detail, Event, Failure, Outcome, Response, Shape, Source,
+    StackFrame, StopReason, Stopped, Thread, ThreadChange, Told,
 };
 pub use write::text_of;

@@ -48,6 +48,7 @@ pub enum Command {
     Threads,
     Continue(ThreadArguments),
     Pause(ThreadArguments),
+    StackTrace(StackTraceArguments),
     Disconnect(DisconnectArguments),
     /// A command that this adapter doesn't have.
     Unsupported,
@@ -93,6 +94,16 @@ pub struct SourceBreakpoint {
 #[derive(Clone, Copy, Debug, Drop, PartialEq, Eq)]
 pub struct ThreadArguments {
     pub thread_id: u32,
+}
+
+/// Arguments of `stackTrace`: the number of a thread, the first of its frames that is wanted, and how many are wanted
+/// at most, where 0 stands for all; each from 0 to 2^31 - 1, and the last two are 0 where they are missing.
+/// (DAP specification, StackTrace request)
+#[derive(Clone, Copy, Debug, Drop, PartialEq, Eq)]
+pub struct StackTraceArguments {
+    pub thread_id: u32,
+    pub start_frame: u32,
+    pub levels: u32,
 }
 
 /// Arguments of `disconnect`: whether the target has to end, which it doesn't where that is missing.

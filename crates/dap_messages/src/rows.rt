@@ -1,14 +1,17 @@
 ghost use Rattle.std.specs.Prelude.{◌≡◌, IfOk};
 ghost use Rattle.serde_json.specs.View.{view};
 ghost use Rattle.dap_messages.specs.Arguments.{initialize_of, attach_of, thread_of, disconnect_of, IsRead};
+ghost use Rattle.dap_messages.specs.Arguments.{stack_trace_of};
 ghost use Rattle.dap_messages.specs.Breakpoints.{set_breakpoints_of};
 ghost use Rattle.dap_messages.specs.Reading.{row_of, row_command, command_of};
 
-use crate::arguments::{Argument, Refused, flag_at, int_at, path_format_at, text_at, texts_at};
+use crate::arguments::{
+    Argument, Refused, flag_at, int_at, int_or, path_format_at, text_at, texts_at,
+};
 use crate::breakpoints::{breakpoints_at, path_at};
 use crate::requests::{
     AttachArguments, Command, DisconnectArguments, InitializeArguments, SetBreakpointsArguments,
-    ThreadArguments,
+    StackTraceArguments, ThreadArguments,
 };
 use serde_json::Value;
 use std::alloc::Global;
@@ -24,6 +27,7 @@ pub(crate) enum Row {
     Threads,
     Continue,
     Pause,
+    StackTrace,
     Disconnect,
     Unsupported,
 }
@@ -45,6 +49,8 @@ fn row_of(name: &str) -> Row
         Row::Continue
     } else if name == "pause" {
         Row::Pause
+    } else if name == "stackTrace" {
+        Row::StackTrace
     } else if name == "disconnect" {
         Row::Disconnect
     } else {
@@ -85,6 +91,7 @@ fn row_command(alloc: Global, row: Row, request: &Value) -> Result<Command, Refu
         Row::Threads => Ok(Command::Threads),
         Row::Continue => Ok(Command::Continue(thread_of(arguments)?)),
         Row::Pause => Ok(Command::Pause(thread_of(arguments)?)),
+        Row::StackTrace => Ok(Command::StackTrace(stack_trace_of(arguments)?)),
         Row::Disconnect => Ok(Command::Disconnect(disconnect_of(arguments)?)),
         Row::Unsupported => Ok(Command::Unsupported),
     }
@@ -126,6 +133,19 @@ fn thread_of(arguments: &Value) -> Result<ThreadArguments, Refused>
 {
     let thread_id = int_at(arguments, Argument::ThreadId)?;
     Ok(ThreadArguments { thread_id })
+}
+
+fn stack_trace_of(arguments: &Value) -> Result<StackTraceArguments, Refused>
+    ensures { IsRead result (stack_trace_of (view arguments.now)) }
+{
+    let thread_id = int_at(arguments, Argument::ThreadId)?;
+    let start_frame = int_or(arguments, Argument::StartFrame, 0)?;
+    let levels = int_or(arguments, Argument::Levels, 0)?;
+    Ok(StackTraceArguments {
+        thread_id,
+        start_frame,
+        levels,
+    })
 }
 
 fn disconnect_of(arguments: &Value) -> Result<DisconnectArguments, Refused>

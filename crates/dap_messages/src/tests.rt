@@ -1,9 +1,10 @@
 use crate::{
-    Breakpoint, BreakpointStatus, Command, Event, Failure, Incoming, Outcome, ReadFault, Request,
-    Response, Shape, SourceBreakpoint, StopReason, Stopped, Thread, ThreadChange, Told,
-    read_request, text_of,
+    Breakpoint, BreakpointStatus, Command, Event, Failure, Incoming, InitializeArguments, Outcome,
+    ReadFault, Request, Response, Shape, Source, SourceBreakpoint, StackFrame, StopReason, Stopped,
+    Thread, ThreadChange, Told, read_request, text_of,
 };
 use std::alloc::{AllocError, Global};
+use std::process::Abort;
 use std::test::Fail;
 use wire_core::{List, NoMemory, Text};
 
@@ -19,45 +20,56 @@ fn summary(alloc: Global, body: &[u8]) -> Result<String, AllocError> {
 }
 
 fn request_summary(alloc: Global, request: Request) -> Result<String, AllocError> {
-    let Request { seq, name, command } = request;
-    let name = name.as_str();
+    let said = command_summary(alloc, &request.command)?;
+    let seq = request.seq;
+    let name = request.name.as_str();
+    format!(in alloc; "{seq} {name} {said}")
+}
+
+fn command_summary(alloc: Global, command: &Command) -> Result<String, AllocError> {
     match command {
-        Command::Initialize(arguments) => {
-            let adapter = arguments.adapter_id.as_str();
-            let lines = arguments.lines_start_at1;
-            let columns = arguments.columns_start_at1;
-            let types = arguments.supports_variable_type;
-            format!(in alloc; "{seq} {name} {adapter} {lines} {columns} {types}")
-        }
-        Command::Attach(arguments) => {
-            let roots = joined(alloc, arguments.source_roots.as_slice())?;
-            format!(in alloc; "{seq} {name} {roots}")
-        }
-        Command::ConfigurationDone => format!(in alloc; "{seq} {name}"),
+        Command::Initialize(arguments) => initialize_summary(alloc, arguments),
+        Command::Attach(arguments) => joined(alloc, arguments.source_roots.as_slice()),
+        Command::ConfigurationDone => String::from_str(alloc, "runs"),
         Command::SetBreakpoints(arguments) => {
             let path = arguments.path.as_str();
             let breakpoints = listed(alloc, arguments.breakpoints.as_slice())?;
-            format!(in alloc; "{seq} {name} {path}:{breakpoints}")
+            format!(in alloc; "{path}:{breakpoints}")
         }
-        Command::Threads => format!(in alloc; "{seq} {name}"),
-        Command::Continue(arguments) => {
+        Command::Threads => String::from_str(alloc, "lists"),
+        Command::Continue(arguments) => numbered(alloc, "resumes", arguments.thread_id),
+        Command::Pause(arguments) => numbered(alloc, "suspends", arguments.thread_id),
+        Command::StackTrace(arguments) => {
             let thread = arguments.thread_id;
-            format!(in alloc; "{seq} {name} resumes {thread}")
-        }
-        Command::Pause(arguments) => {
-            let thread = arguments.thread_id;
-            format!(in alloc; "{seq} {name} suspends {thread}")
+            let start = arguments.start_frame;
+            let levels = arguments.levels;
+            format!(in alloc; "{thread} from {start} for {levels}")
         }
         Command::Disconnect(arguments) => {
             let terminate = arguments.terminate_debuggee;
-            format!(in alloc; "{seq} {name} {terminate}")
+            format!(in alloc; "terminates {terminate}")
         }
-        Command::Unsupported => format!(in alloc; "{seq} {name} unsupported"),
+        Command::Unsupported => String::from_str(alloc, "unsupported"),
         Command::BadArguments(argument) => {
             let argument = argument.as_str();
-            format!(in alloc; "{seq} {name} bad {argument}")
+            format!(in alloc; "bad {argument}")
         }
     }
+}
+
+fn initialize_summary(
+    alloc: Global,
+    arguments: &InitializeArguments,
+) -> Result<String, AllocError> {
+    let adapter = arguments.adapter_id.as_str();
+    let lines = arguments.lines_start_at1;
+    let columns = arguments.columns_start_at1;
+    let types = arguments.supports_variable_type;
+    format!(in alloc; "{adapter} {lines} {columns} {types}")
+}
+
+fn numbered(alloc: Global, verb: &str, thread: u32) -> Result<String, AllocError> {
+    format!(in alloc; "{verb} {thread}")
 }
 
 // Texts, each with `;` behind it.
@@ -81,324 +93,76 @@ fn listed(alloc: Global, breakpoints: &[SourceBreakpoint]) -> Result<String, All
     Ok(all)
 }
 
+// A body says this.
+fn is_read(rt: &(impl Abort + AllocGlobal), body: &str, wanted: &str) -> Result<(), Fail> {
+    let said = summary(rt.alloc(), body.as_bytes())?;
+    assert!(rt; said.as_str() == wanted, "{body}: {said}");
+    Ok(())
+}
+
+// Each body says what stands beside it.
+fn are_read(rt: &(impl Abort + AllocGlobal), table: &[(&str, &str)]) -> Result<(), Fail> {
+    for row in table {
+        is_read(rt, row.0, row.1)?;
+    }
+    Ok(())
+}
+
+// A command with each of these arguments says what stands beside them.
+fn arguments_are_read(
+    rt: &(impl Abort + AllocGlobal),
+    command: &str,
+    table: &[(&str, &str)],
+) -> Result<(), Fail> {
+    for row in table {
+        let arguments = row.0;
+        let wanted = row.1;
+        let body = format!(in rt.alloc();
+            "{{\"arguments\":{arguments},\"command\":\"{command}\",\"seq\":1,\"type\":\"request\"}}"
+        )?;
+        let wanted = format!(in rt.alloc(); "1 {command} {wanted}")?;
+        is_read(rt, body.as_str(), wanted.as_str())?;
+    }
+    Ok(())
+}
+
 #[test]
-fn bodies_are_judged(rt: HostRuntime) -> Result<(), Fail> {
+fn types_of_messages_are_told_apart(rt: HostRuntime) -> Result<(), Fail> {
     let table = [
-        // no message
         ("", "not JSON"),
-        ("{\"seq\":1,", "not JSON"),
-        ("{\"seq\":1}{}", "not JSON"),
+        (r#"{"seq":1,"#, "not JSON"),
+        (r#"{"seq":1}{}"#, "not JSON"),
         (
-            "{\"seq\":1,\"type\":\"request\",\"command\":\"\\ud800\"}",
+            r#"{"seq":1,"type":"request","command":"\ud800"}"#,
             "not JSON",
         ),
         ("[1]", "not a message"),
         ("null", "not a message"),
-        ("{\"seq\":1,\"command\":\"disconnect\"}", "not a message"),
+        (r#"{"seq":1,"command":"f"}"#, "not a message"),
+        (r#"{"seq":1,"type":7,"command":"f"}"#, "not a message"),
         (
-            "{\"seq\":1,\"type\":7,\"command\":\"disconnect\"}",
+            r#"{"seq":1,"type":"Request","command":"f"}"#,
             "not a message",
         ),
+        (r#"{"seq":1,"type":"request"}"#, "not a message"),
         (
-            "{\"seq\":1,\"type\":\"Request\",\"command\":\"disconnect\"}",
+            r#"{"seq":1,"type":"request","command":null}"#,
             "not a message",
         ),
-        ("{\"seq\":1,\"type\":\"request\"}", "not a message"),
+        (r#"{"type":"response"}"#, "ignored"),
+        (r#"{"seq":-1,"type":"event"}"#, "ignored"),
         (
-            "{\"seq\":1,\"type\":\"request\",\"command\":null}",
-            "not a message",
-        ),
-        (
-            "{\"type\":\"request\",\"command\":\"disconnect\"}",
-            "not a message",
-        ),
-        (
-            "{\"seq\":\"1\",\"type\":\"request\",\"command\":\"disconnect\"}",
-            "not a message",
-        ),
-        ("{\"type\":\"response\"}", "ignored"),
-        ("{\"seq\":-1,\"type\":\"event\"}", "ignored"),
-        // sequence numbers
-        (
-            "{\"seq\":0,\"type\":\"request\",\"command\":\"f\"}",
-            "0 f unsupported",
-        ),
-        (
-            "{\"seq\":9007199254740991,\"type\":\"request\",\"command\":\"f\"}",
-            "9007199254740991 f unsupported",
-        ),
-        (
-            "{\"seq\":9007199254740992,\"type\":\"request\",\"command\":\"f\"}",
-            "not a message",
-        ),
-        (
-            "{\"seq\":18446744073709551617,\"type\":\"request\",\"command\":\"f\"}",
-            "not a message",
-        ),
-        (
-            "{\"seq\":-1,\"type\":\"request\",\"command\":\"f\"}",
-            "not a message",
-        ),
-        (
-            "{\"seq\":-0,\"type\":\"request\",\"command\":\"f\"}",
-            "not a message",
-        ),
-        (
-            "{\"seq\":1.0,\"type\":\"request\",\"command\":\"f\"}",
-            "not a message",
-        ),
-        (
-            "{\"seq\":1e0,\"type\":\"request\",\"command\":\"f\"}",
-            "not a message",
-        ),
-        // members: the last of a repeated one counts, escapes are read, others are passed over
-        (
-            "{\"seq\":1,\"seq\":2,\"type\":\"request\",\"command\":\"f\"}",
-            "2 f unsupported",
-        ),
-        (
-            "{\"\\u0073eq\":3,\"type\":\"requ\\u0065st\",\"command\":\"\\u0066\",\"x\":[]}",
-            "3 f unsupported",
-        ),
-        (
-            "{\"seq\":1,\"type\":\"request\",\"command\":\"Initialize\",\"arguments\":7}",
-            "1 Initialize unsupported",
+            r#"{"seq":1,"type":"request","command":"f"}"#,
+            "1 f unsupported",
         ),
     ];
-    for (body, wanted) in table {
-        let said = summary(rt.alloc(), body.as_bytes())?;
-        assert!(rt; said.as_str() == wanted, "{body}: {said}");
-    }
-    assert!(rt; summary(rt.alloc(), b"{\"type\":\"event\"\xff}")?.as_str() == "not JSON");
-    Ok(())
+    are_read(&rt, &table)
 }
 
 #[test]
-fn arguments_are_judged_in_order(rt: HostRuntime) -> Result<(), Fail> {
-    let table = [
-        (
-            "initialize",
-            "{\"adapterID\":\"jdwp\"}",
-            "1 initialize jdwp true true false",
-        ),
-        (
-            "initialize",
-            "{\"adapterID\":\"\",\"linesStartAt1\":false,\"columnsStartAt1\":false,\"pathFormat\":\"path\",\
-            \"supportsVariableType\":true,\"clientID\":7}",
-            "1 initialize  false false true",
-        ),
-        (
-            "initialize",
-            "{\"adapterID\":\"a\",\"linesStartAt1\":null,\"columnsStartAt1\":null,\"pathFormat\":null,\
-            \"supportsVariableType\":null}",
-            "1 initialize a true true false",
-        ),
-        ("initialize", "null", "1 initialize bad adapterID"),
-        ("initialize", "{}", "1 initialize bad adapterID"),
-        ("initialize", "[]", "1 initialize bad arguments"),
-        (
-            "initialize",
-            "{\"adapterID\":null,\"linesStartAt1\":1}",
-            "1 initialize bad adapterID",
-        ),
-        (
-            "initialize",
-            "{\"adapterID\":\"a\",\"columnsStartAt1\":1,\"linesStartAt1\":1}",
-            "1 initialize bad linesStartAt1",
-        ),
-        (
-            "initialize",
-            "{\"adapterID\":\"a\",\"pathFormat\":\"uri\",\"columnsStartAt1\":\"\"}",
-            "1 initialize bad columnsStartAt1",
-        ),
-        (
-            "initialize",
-            "{\"adapterID\":\"a\",\"pathFormat\":\"uri\",\"supportsVariableType\":0}",
-            "1 initialize bad pathFormat",
-        ),
-        (
-            "initialize",
-            "{\"adapterID\":\"a\",\"supportsVariableType\":0}",
-            "1 initialize bad supportsVariableType",
-        ),
-        (
-            "attach",
-            "{\"sourceRoots\":[\"/p/src\",\"\",\"\\u00e9\"],\"port\":5005}",
-            "1 attach /p/src;;é;",
-        ),
-        ("attach", "null", "1 attach bad sourceRoots"),
-        ("attach", "{}", "1 attach bad sourceRoots"),
-        (
-            "attach",
-            "{\"sourceRoots\":null}",
-            "1 attach bad sourceRoots",
-        ),
-        (
-            "attach",
-            "{\"sourceRoots\":\"/p/src\"}",
-            "1 attach bad sourceRoots",
-        ),
-        ("attach", "{\"sourceRoots\":[]}", "1 attach bad sourceRoots"),
-        (
-            "attach",
-            "{\"sourceRoots\":[\"/p/src\",7]}",
-            "1 attach bad sourceRoots",
-        ),
-        (
-            "attach",
-            "{\"sourceRoots\":[null,\"/p/src\"]}",
-            "1 attach bad sourceRoots",
-        ),
-        ("attach", "[\"/p/src\"]", "1 attach bad arguments"),
-        ("configurationDone", "null", "1 configurationDone"),
-        ("configurationDone", "{\"a\":1}", "1 configurationDone"),
-        (
-            "configurationDone",
-            "\"\"",
-            "1 configurationDone bad arguments",
-        ),
-        ("threads", "null", "1 threads"),
-        ("threads", "{\"threadId\":\"x\"}", "1 threads"),
-        ("threads", "7", "1 threads bad arguments"),
-        ("continue", "{\"threadId\":1}", "1 continue resumes 1"),
-        (
-            "continue",
-            "{\"threadId\":2147483647,\"singleThread\":7}",
-            "1 continue resumes 2147483647",
-        ),
-        ("continue", "null", "1 continue bad threadId"),
-        ("continue", "{\"thread\":1}", "1 continue bad threadId"),
-        ("continue", "{\"threadId\":null}", "1 continue bad threadId"),
-        ("continue", "{\"threadId\":-1}", "1 continue bad threadId"),
-        (
-            "continue",
-            "{\"threadId\":2147483648}",
-            "1 continue bad threadId",
-        ),
-        (
-            "continue",
-            "{\"threadId\":\"1\"}",
-            "1 continue bad threadId",
-        ),
-        ("continue", "[1]", "1 continue bad arguments"),
-        ("pause", "{\"threadId\":0}", "1 pause suspends 0"),
-        ("pause", "{}", "1 pause bad threadId"),
-        ("pause", "{\"threadId\":-1}", "1 pause bad threadId"),
-        ("pause", "{\"threadId\":2147483648}", "1 pause bad threadId"),
-        ("pause", "{\"threadId\":1.0}", "1 pause bad threadId"),
-        ("pause", "{\"threadId\":\"1\"}", "1 pause bad threadId"),
-        ("pause", "1", "1 pause bad arguments"),
-        ("disconnect", "null", "1 disconnect false"),
-        (
-            "disconnect",
-            "{\"terminateDebuggee\":true,\"restart\":7}",
-            "1 disconnect true",
-        ),
-        (
-            "disconnect",
-            "{\"terminateDebuggee\":1}",
-            "1 disconnect bad terminateDebuggee",
-        ),
-        ("disconnect", "false", "1 disconnect bad arguments"),
-        ("launch", "false", "1 launch unsupported"),
-    ];
-    for (command, arguments, wanted) in table {
-        let said = arguments_summary(rt.alloc(), command, arguments)?;
-        assert!(rt; said.as_str() == wanted, "{command} {arguments}: {said}");
-    }
-    Ok(())
-}
-
-// What a request with these arguments says, in a few words.
-fn arguments_summary(alloc: Global, command: &str, arguments: &str) -> Result<String, AllocError> {
-    let body = format!(in alloc;
-        "{{\"arguments\":{arguments},\"command\":\"{command}\",\"seq\":1,\"type\":\"request\"}}"
-    )?;
-    summary(alloc, body.as_bytes())
-}
-
-#[test]
-fn breakpoints_are_judged(rt: HostRuntime) -> Result<(), Fail> {
-    let table = [
-        // the source
-        ("null", "bad source"),
-        ("[]", "bad arguments"),
-        ("{\"breakpoints\":7}", "bad source"),
-        ("{\"source\":null,\"breakpoints\":[]}", "bad source"),
-        ("{\"source\":\"/a\"}", "bad source"),
-        ("{\"source\":{}}", "bad source"),
-        ("{\"source\":{\"path\":null}}", "bad source"),
-        ("{\"source\":{\"path\":7}}", "bad source"),
-        ("{\"source\":{\"path\":\"\"}}", ":"),
-        (
-            "{\"lines\":7,\"source\":{\"path\":\"/p/\\u00e9.java\",\"name\":7}}",
-            "/p/é.java:",
-        ),
-        // the list
-        ("{\"source\":{\"path\":\"/a\"},\"breakpoints\":null}", "/a:"),
-        ("{\"source\":{\"path\":\"/a\"},\"breakpoints\":[]}", "/a:"),
-        (
-            "{\"source\":{\"path\":\"/a\"},\"breakpoints\":{}}",
-            "bad breakpoints",
-        ),
-        (
-            "{\"source\":{\"path\":\"/a\"},\"breakpoints\":false}",
-            "bad breakpoints",
-        ),
-        (
-            "{\"source\":{\"path\":\"/a\"},\"breakpoints\":[{\"line\":7,\"column\":\"x\"},{\"line\":7},\
-            {\"line\":3}]}",
-            "/a: 7 7 3",
-        ),
-    ];
-    for (arguments, wanted) in table {
-        let said = arguments_summary(rt.alloc(), "setBreakpoints", arguments)?;
-        let wanted = format!(in rt.alloc(); "1 setBreakpoints {wanted}")?;
-        assert!(rt; said.as_str() == wanted.as_str(), "{arguments}: {said}");
-    }
-    Ok(())
-}
-
-#[test]
-fn lines_and_conditions_are_judged(rt: HostRuntime) -> Result<(), Fail> {
-    let table = [
-        // lines
-        ("{\"line\":0}", "/a: 1 0"),
-        ("{\"line\":2147483647}", "/a: 1 2147483647"),
-        ("{\"line\":2147483648}", "bad breakpoints"),
-        ("{\"line\":18446744073709551617}", "bad breakpoints"),
-        ("{\"line\":-1}", "bad breakpoints"),
-        ("{\"line\":-0}", "bad breakpoints"),
-        ("{\"line\":1.0}", "bad breakpoints"),
-        ("{\"line\":1e0}", "bad breakpoints"),
-        ("{\"line\":\"1\"}", "bad breakpoints"),
-        ("{\"line\":null}", "bad breakpoints"),
-        ("{}", "bad breakpoints"),
-        ("null", "bad breakpoints"),
-        ("7", "bad breakpoints"),
-        ("[]", "bad breakpoints"),
-        // conditions
-        ("{\"line\":2,\"condition\":\"x > 1\"}", "/a: 1 2?"),
-        ("{\"line\":2,\"hitCondition\":\"5\"}", "/a: 1 2?"),
-        ("{\"line\":2,\"logMessage\":\" \"}", "/a: 1 2?"),
-        (
-            "{\"line\":2,\"condition\":\"\",\"hitCondition\":\"\",\"logMessage\":\"\"}",
-            "/a: 1 2",
-        ),
-        (
-            "{\"line\":2,\"condition\":null,\"hitCondition\":5,\"logMessage\":[\"x\"]}",
-            "/a: 1 2",
-        ),
-        ("{\"line\":2,\"Condition\":\"x\"}", "/a: 1 2"),
-    ];
-    for (breakpoint, wanted) in table {
-        let arguments = format!(in rt.alloc();
-            "{{\"source\":{{\"path\":\"/a\"}},\"breakpoints\":[{{\"line\":1}},{breakpoint}]}}"
-        )?;
-        let said = arguments_summary(rt.alloc(), "setBreakpoints", arguments.as_str())?;
-        let wanted = format!(in rt.alloc(); "1 setBreakpoints {wanted}")?;
-        assert!(rt; said.as_str() == wanted.as_str(), "{breakpoint}: {said}");
-    }
+fn bytes_outside_utf8_are_no_json(rt: HostRuntime) -> Result<(), Fail> {
+    let said = summary(rt.alloc(), b"{\"type\":\"event\"\xff}")?;
+    assert!(rt; said.as_str() == "not JSON");
     Ok(())
 }
 
@@ -407,18 +171,321 @@ fn memory_that_is_refused_is_no_fault_of_a_body(rt: HostRuntime) {
     assert_eq!(rt; ReadFault::from(NoMemory), ReadFault::NoMemory);
 }
 
-fn thread(alloc: Global, id: u64, name: &str) -> Result<Thread, Fail> {
-    Ok(Thread {
-        id,
-        name: Text::from_str(alloc, name)?,
-    })
+// The last of repeated members counts, escapes are read, others are passed over.
+#[test]
+fn members_are_found(rt: HostRuntime) -> Result<(), Fail> {
+    let table = [
+        (r#"{"type":"request","command":"f"}"#, "not a message"),
+        (
+            r#"{"seq":1,"seq":2,"type":"request","command":"f"}"#,
+            "2 f unsupported",
+        ),
+        (
+            r#"{"\u0073eq":3,"type":"requ\u0065st","command":"\u0066","x":[]}"#,
+            "3 f unsupported",
+        ),
+        (
+            r#"{"seq":1,"type":"request","command":"Initialize","arguments":7}"#,
+            "1 Initialize unsupported",
+        ),
+    ];
+    are_read(&rt, &table)
 }
 
-fn threads(alloc: Global) -> Result<Shape, Fail> {
-    let mut threads = List::new(alloc);
-    threads.push(thread(alloc, 1, "main")?)?;
-    threads.push(thread(alloc, 2, "Signal \"Dispatcher\"")?)?;
-    Ok(Shape::Threads(threads))
+#[test]
+fn sequence_numbers_are_read(rt: HostRuntime) -> Result<(), Fail> {
+    let table = [
+        ("0", "0 f unsupported"),
+        ("9007199254740991", "9007199254740991 f unsupported"),
+        ("9007199254740992", "not a message"),
+        ("18446744073709551617", "not a message"),
+        ("-1", "not a message"),
+        ("-0", "not a message"),
+        ("1.0", "not a message"),
+        ("1e0", "not a message"),
+        (r#""1""#, "not a message"),
+    ];
+    for (seq, wanted) in table {
+        let body = format!(in rt.alloc();
+            "{{\"seq\":{seq},\"type\":\"request\",\"command\":\"f\"}}"
+        )?;
+        is_read(&rt, body.as_str(), wanted)?;
+    }
+    Ok(())
+}
+
+#[test]
+fn initialize_is_read(rt: HostRuntime) -> Result<(), Fail> {
+    let table = [
+        (r#"{"adapterID":"jdwp"}"#, "jdwp true true false"),
+        (
+            r#"{"adapterID":"","linesStartAt1":false,"columnsStartAt1":false,"pathFormat":"path",
+            "supportsVariableType":true,"clientID":7}"#,
+            " false false true",
+        ),
+        (
+            r#"{"adapterID":"a","linesStartAt1":null,"columnsStartAt1":null,"pathFormat":null,
+            "supportsVariableType":null}"#,
+            "a true true false",
+        ),
+        ("null", "bad adapterID"),
+        ("{}", "bad adapterID"),
+        ("[]", "bad arguments"),
+        (r#"{"adapterID":null,"linesStartAt1":1}"#, "bad adapterID"),
+        (
+            r#"{"adapterID":"a","columnsStartAt1":1,"linesStartAt1":1}"#,
+            "bad linesStartAt1",
+        ),
+        (
+            r#"{"adapterID":"a","pathFormat":"uri","columnsStartAt1":""}"#,
+            "bad columnsStartAt1",
+        ),
+        (
+            r#"{"adapterID":"a","pathFormat":"uri","supportsVariableType":0}"#,
+            "bad pathFormat",
+        ),
+        (
+            r#"{"adapterID":"a","supportsVariableType":0}"#,
+            "bad supportsVariableType",
+        ),
+    ];
+    arguments_are_read(&rt, "initialize", &table)
+}
+
+#[test]
+fn attach_is_read(rt: HostRuntime) -> Result<(), Fail> {
+    let table = [
+        (
+            r#"{"sourceRoots":["/p/src","","\u00e9"],"port":5005}"#,
+            "/p/src;;é;",
+        ),
+        ("null", "bad sourceRoots"),
+        ("{}", "bad sourceRoots"),
+        (r#"{"sourceRoots":null}"#, "bad sourceRoots"),
+        (r#"{"sourceRoots":"/p/src"}"#, "bad sourceRoots"),
+        (r#"{"sourceRoots":[]}"#, "bad sourceRoots"),
+        (r#"{"sourceRoots":["/p/src",7]}"#, "bad sourceRoots"),
+        (r#"{"sourceRoots":[null,"/p/src"]}"#, "bad sourceRoots"),
+        (r#"["/p/src"]"#, "bad arguments"),
+    ];
+    arguments_are_read(&rt, "attach", &table)
+}
+
+#[test]
+fn configuration_done_is_read(rt: HostRuntime) -> Result<(), Fail> {
+    let table = [
+        ("null", "runs"),
+        (r#"{"a":1}"#, "runs"),
+        (r#""""#, "bad arguments"),
+    ];
+    arguments_are_read(&rt, "configurationDone", &table)
+}
+
+#[test]
+fn threads_is_read(rt: HostRuntime) -> Result<(), Fail> {
+    let table = [
+        ("null", "lists"),
+        (r#"{"threadId":"x"}"#, "lists"),
+        ("7", "bad arguments"),
+    ];
+    arguments_are_read(&rt, "threads", &table)
+}
+
+#[test]
+fn disconnect_is_read(rt: HostRuntime) -> Result<(), Fail> {
+    let table = [
+        ("null", "terminates false"),
+        (
+            r#"{"terminateDebuggee":true,"restart":7}"#,
+            "terminates true",
+        ),
+        (r#"{"terminateDebuggee":1}"#, "bad terminateDebuggee"),
+        ("false", "bad arguments"),
+    ];
+    arguments_are_read(&rt, "disconnect", &table)
+}
+
+#[test]
+fn an_unknown_command_is_read(rt: HostRuntime) -> Result<(), Fail> {
+    let table = [("false", "unsupported"), ("{}", "unsupported")];
+    arguments_are_read(&rt, "launch", &table)
+}
+
+#[test]
+fn continue_is_read(rt: HostRuntime) -> Result<(), Fail> {
+    let table = [
+        (r#"{"threadId":1}"#, "resumes 1"),
+        (
+            r#"{"threadId":2147483647,"singleThread":7}"#,
+            "resumes 2147483647",
+        ),
+        ("null", "bad threadId"),
+        (r#"{"thread":1}"#, "bad threadId"),
+        (r#"{"threadId":null}"#, "bad threadId"),
+        (r#"{"threadId":-1}"#, "bad threadId"),
+        (r#"{"threadId":2147483648}"#, "bad threadId"),
+        (r#"{"threadId":"1"}"#, "bad threadId"),
+        ("[1]", "bad arguments"),
+    ];
+    arguments_are_read(&rt, "continue", &table)
+}
+
+#[test]
+fn pause_is_read(rt: HostRuntime) -> Result<(), Fail> {
+    let table = [
+        (r#"{"threadId":0}"#, "suspends 0"),
+        ("{}", "bad threadId"),
+        (r#"{"threadId":-1}"#, "bad threadId"),
+        (r#"{"threadId":2147483648}"#, "bad threadId"),
+        (r#"{"threadId":1.0}"#, "bad threadId"),
+        (r#"{"threadId":"1"}"#, "bad threadId"),
+        ("1", "bad arguments"),
+    ];
+    arguments_are_read(&rt, "pause", &table)
+}
+
+#[test]
+fn stack_trace_is_read(rt: HostRuntime) -> Result<(), Fail> {
+    let table = [
+        (r#"{"threadId":1}"#, "1 from 0 for 0"),
+        (
+            r#"{"threadId":1,"startFrame":null,"levels":null}"#,
+            "1 from 0 for 0",
+        ),
+        (
+            r#"{"levels":20,"startFrame":3,"threadId":0,"format":7}"#,
+            "0 from 3 for 20",
+        ),
+        (
+            r#"{"threadId":1,"startFrame":2147483647}"#,
+            "1 from 2147483647 for 0",
+        ),
+        (
+            r#"{"threadId":1,"levels":2147483647}"#,
+            "1 from 0 for 2147483647",
+        ),
+        ("null", "bad threadId"),
+        (r#"{"startFrame":"","levels":""}"#, "bad threadId"),
+        (r#"{"threadId":2147483648,"startFrame":-1}"#, "bad threadId"),
+        (
+            r#"{"threadId":1,"levels":-1,"startFrame":-1}"#,
+            "bad startFrame",
+        ),
+        (
+            r#"{"threadId":1,"startFrame":2147483648}"#,
+            "bad startFrame",
+        ),
+        (r#"{"threadId":1,"startFrame":0.0}"#, "bad startFrame"),
+        (r#"{"threadId":1,"startFrame":"0"}"#, "bad startFrame"),
+        (r#"{"threadId":1,"levels":-1}"#, "bad levels"),
+        (r#"{"threadId":1,"levels":2147483648}"#, "bad levels"),
+        (r#"{"threadId":1,"levels":[]}"#, "bad levels"),
+        ("[]", "bad arguments"),
+    ];
+    arguments_are_read(&rt, "stackTrace", &table)
+}
+
+#[test]
+fn breakpoints_are_read(rt: HostRuntime) -> Result<(), Fail> {
+    let table = [
+        // the source
+        ("null", "bad source"),
+        ("[]", "bad arguments"),
+        (r#"{"breakpoints":7}"#, "bad source"),
+        (r#"{"source":null,"breakpoints":[]}"#, "bad source"),
+        (r#"{"source":"/a"}"#, "bad source"),
+        (r#"{"source":{}}"#, "bad source"),
+        (r#"{"source":{"path":null}}"#, "bad source"),
+        (r#"{"source":{"path":7}}"#, "bad source"),
+        (r#"{"source":{"path":""}}"#, ":"),
+        (
+            r#"{"lines":7,"source":{"path":"/p/\u00e9.java","name":7}}"#,
+            "/p/é.java:",
+        ),
+        // the list
+        (r#"{"source":{"path":"/a"},"breakpoints":null}"#, "/a:"),
+        (r#"{"source":{"path":"/a"},"breakpoints":[]}"#, "/a:"),
+        (
+            r#"{"source":{"path":"/a"},"breakpoints":{}}"#,
+            "bad breakpoints",
+        ),
+        (
+            r#"{"source":{"path":"/a"},"breakpoints":false}"#,
+            "bad breakpoints",
+        ),
+        (
+            r#"{"source":{"path":"/a"},"breakpoints":[{"line":7,"column":"x"},{"line":7},{"line":3}]}"#,
+            "/a: 7 7 3",
+        ),
+    ];
+    arguments_are_read(&rt, "setBreakpoints", &table)
+}
+
+// What stands beside it is said of a list with each of these breakpoints behind another one.
+fn breakpoints_end_with(
+    rt: &(impl Abort + AllocGlobal),
+    table: &[(&str, &str)],
+) -> Result<(), Fail> {
+    for row in table {
+        let breakpoint = row.0;
+        let arguments = format!(in rt.alloc();
+            "{{\"source\":{{\"path\":\"/a\"}},\"breakpoints\":[{{\"line\":1}},{breakpoint}]}}"
+        )?;
+        arguments_are_read(rt, "setBreakpoints", &[(arguments.as_str(), row.1)])?;
+    }
+    Ok(())
+}
+
+#[test]
+fn lines_are_read(rt: HostRuntime) -> Result<(), Fail> {
+    let table = [
+        (r#"{"line":0}"#, "/a: 1 0"),
+        (r#"{"line":2147483647}"#, "/a: 1 2147483647"),
+        (r#"{"line":2147483648}"#, "bad breakpoints"),
+        (r#"{"line":18446744073709551617}"#, "bad breakpoints"),
+        (r#"{"line":-1}"#, "bad breakpoints"),
+        (r#"{"line":-0}"#, "bad breakpoints"),
+        (r#"{"line":1.0}"#, "bad breakpoints"),
+        (r#"{"line":1e0}"#, "bad breakpoints"),
+        (r#"{"line":"1"}"#, "bad breakpoints"),
+        (r#"{"line":null}"#, "bad breakpoints"),
+        ("{}", "bad breakpoints"),
+        ("null", "bad breakpoints"),
+        ("7", "bad breakpoints"),
+        ("[]", "bad breakpoints"),
+    ];
+    breakpoints_end_with(&rt, &table)
+}
+
+#[test]
+fn conditions_are_read(rt: HostRuntime) -> Result<(), Fail> {
+    let table = [
+        (r#"{"line":2,"condition":"x > 1"}"#, "/a: 1 2?"),
+        (r#"{"line":2,"hitCondition":"5"}"#, "/a: 1 2?"),
+        (r#"{"line":2,"logMessage":" "}"#, "/a: 1 2?"),
+        (
+            r#"{"line":2,"condition":"","hitCondition":"","logMessage":""}"#,
+            "/a: 1 2",
+        ),
+        (
+            r#"{"line":2,"condition":null,"hitCondition":5,"logMessage":["x"]}"#,
+            "/a: 1 2",
+        ),
+        (r#"{"line":2,"Condition":"x"}"#, "/a: 1 2"),
+    ];
+    breakpoints_end_with(&rt, &table)
+}
+
+// A message is told by this text.
+fn is_told(
+    rt: &(impl Abort + AllocGlobal),
+    seq: u64,
+    told: Told,
+    wanted: &str,
+) -> Result<(), Fail> {
+    let text = text_of(rt.alloc(), seq, &told)?;
+    assert!(rt; text.as_slice() == wanted.as_bytes(), "{wanted}");
+    Ok(())
 }
 
 fn response(
@@ -426,7 +493,7 @@ fn response(
     request_seq: u64,
     command: &str,
     outcome: Outcome,
-) -> Result<Told, Fail> {
+) -> Result<Told, NoMemory> {
     Ok(Told::Response(Response {
         request_seq,
         command: Text::from_str(alloc, command)?,
@@ -434,177 +501,122 @@ fn response(
     }))
 }
 
-#[test]
-fn responses_are_told(rt: HostRuntime) -> Result<(), Fail> {
-    let alloc = rt.alloc();
-    let name = Text::from_str(alloc, "a \"b\"")?;
-    let table = [
-        (
-            1,
-            1,
-            "initialize",
-            Outcome::Success(Shape::Capabilities),
-            "{\"body\":{\"exceptionBreakpointFilters\":[{\"filter\":\"caught\",\"label\":\"Caught exceptions\"},\
-            {\"filter\":\"uncaught\",\"label\":\"Uncaught exceptions\"}],\"supportTerminateDebuggee\":true,\
-            \"supportsConfigurationDoneRequest\":true,\"supportsEvaluateForHovers\":true,\
-            \"supportsExceptionInfoRequest\":true,\"supportsFunctionBreakpoints\":true,\
-            \"supportsSetVariable\":true},\"command\":\"initialize\",\"request_seq\":1,\"seq\":1,\"success\":true,\
-            \"type\":\"response\"}",
-        ),
-        (
-            2,
-            2,
-            "disconnect",
-            Outcome::Success(Shape::Nothing),
-            "{\"command\":\"disconnect\",\"request_seq\":2,\"seq\":2,\"success\":true,\"type\":\"response\"}",
-        ),
-        (
-            3,
-            7,
-            "threads",
-            Outcome::Success(threads(alloc)?),
-            "{\"body\":{\"threads\":[{\"id\":1,\"name\":\"main\"},\
-            {\"id\":2,\"name\":\"Signal \\\"Dispatcher\\\"\"}]},\"command\":\"threads\",\"request_seq\":7,\
-            \"seq\":3,\"success\":true,\"type\":\"response\"}",
-        ),
-        (
-            3,
-            7,
-            "threads",
-            Outcome::Success(Shape::Threads(List::new(alloc))),
-            "{\"body\":{\"threads\":[]},\"command\":\"threads\",\"request_seq\":7,\"seq\":3,\
-            \"success\":true,\"type\":\"response\"}",
-        ),
-        (
-            8,
-            6,
-            "continue",
-            Outcome::Success(Shape::Continued),
-            "{\"body\":{\"allThreadsContinued\":true},\"command\":\"continue\",\"request_seq\":6,\"seq\":8,\
-            \"success\":true,\"type\":\"response\"}",
-        ),
-        (
-            1,
-            1,
-            "é",
-            Outcome::Failure(Failure::unsupported()),
-            "{\"body\":{\"error\":{\"format\":\"unsupported\",\"id\":1}},\"command\":\"é\",\
-            \"message\":\"unsupported\",\"request_seq\":1,\"seq\":1,\"success\":false,\"type\":\"response\"}",
-        ),
-        (
-            7,
-            9,
-            "c",
-            Outcome::Failure(Failure::bad_arguments(name)),
-            "{\"body\":{\"error\":{\"format\":\"badArguments a \\\"b\\\"\",\"id\":2}},\"command\":\"c\",\
-            \"message\":\"badArguments\",\"request_seq\":9,\"seq\":7,\"success\":false,\"type\":\"response\"}",
-        ),
-    ];
-    for (seq, request_seq, command, outcome, wanted) in table {
-        let told = response(alloc, request_seq, command, outcome)?;
-        let text = text_of(alloc, seq, &told)?;
-        assert!(rt; text.as_slice() == wanted.as_bytes(), "{wanted}");
-    }
-    Ok(())
+// A body is told by this text, within a response.
+fn body_is_told(rt: &(impl Abort + AllocGlobal), shape: Shape, body: &str) -> Result<(), Fail> {
+    let wanted = format!(in rt.alloc();
+        "{{\"body\":{body},\"command\":\"é\",\"request_seq\":7,\"seq\":3,\"success\":true,\"type\":\"response\"}}"
+    )?;
+    let told = response(rt.alloc(), 7, "é", Outcome::Success(shape))?;
+    is_told(rt, 3, told, wanted.as_str())
 }
 
 #[test]
-fn events_without_a_body_are_told(rt: HostRuntime) -> Result<(), Fail> {
-    let table = [
-        (
-            1,
-            Event::Terminated,
-            "{\"event\":\"terminated\",\"seq\":1,\"type\":\"event\"}",
-        ),
-        (
-            3,
-            Event::Initialized,
-            "{\"event\":\"initialized\",\"seq\":3,\"type\":\"event\"}",
-        ),
-    ];
-    for (seq, event, wanted) in table {
-        let text = text_of(rt.alloc(), seq, &Told::Event(event))?;
-        assert!(rt; text.as_slice() == wanted.as_bytes(), "{wanted}");
-    }
-    Ok(())
-}
-
-#[test]
-fn a_change_of_a_breakpoint_is_told(rt: HostRuntime) -> Result<(), Fail> {
-    let changed = Breakpoint {
-        id: 1,
-        line: 10,
-        status: BreakpointStatus::Verified,
-    };
-    let text = text_of(rt.alloc(), 5, &Told::Event(Event::Breakpoint(changed)))?;
+fn a_response_without_a_body_is_told(rt: HostRuntime) -> Result<(), Fail> {
+    let told = response(
+        rt.alloc(),
+        2,
+        "disconnect",
+        Outcome::Success(Shape::Nothing),
+    )?;
     let wanted =
-        "{\"body\":{\"breakpoint\":{\"id\":1,\"line\":10,\"verified\":true},\"reason\":\"changed\"},\
-        \"event\":\"breakpoint\",\"seq\":5,\"type\":\"event\"}";
-    assert!(rt; text.as_slice() == wanted.as_bytes(), "{wanted}");
-    Ok(())
+        r#"{"command":"disconnect","request_seq":2,"seq":9,"success":true,"type":"response"}"#;
+    is_told(&rt, 9, told, wanted)
 }
 
 #[test]
-fn a_change_of_a_thread_is_told(rt: HostRuntime) -> Result<(), Fail> {
-    let table = [
-        (
-            true,
-            "{\"body\":{\"reason\":\"started\",\"threadId\":3},\"event\":\"thread\",\"seq\":5,\"type\":\"event\"}",
-        ),
-        (
-            false,
-            "{\"body\":{\"reason\":\"exited\",\"threadId\":3},\"event\":\"thread\",\"seq\":5,\"type\":\"event\"}",
-        ),
-    ];
-    for (started, wanted) in table {
-        let change = ThreadChange { started, id: 3 };
-        let text = text_of(rt.alloc(), 5, &Told::Event(Event::Thread(change)))?;
-        assert!(rt; text.as_slice() == wanted.as_bytes(), "{wanted}");
+fn capabilities_are_told(rt: HostRuntime) -> Result<(), Fail> {
+    let wanted =
+        "{\"exceptionBreakpointFilters\":[{\"filter\":\"caught\",\"label\":\"Caught exceptions\"},\
+        {\"filter\":\"uncaught\",\"label\":\"Uncaught exceptions\"}],\"supportTerminateDebuggee\":true,\
+        \"supportsConfigurationDoneRequest\":true,\"supportsEvaluateForHovers\":true,\
+        \"supportsExceptionInfoRequest\":true,\"supportsFunctionBreakpoints\":true,\
+        \"supportsSetVariable\":true}";
+    body_is_told(&rt, Shape::Capabilities, wanted)
+}
+
+#[test]
+fn a_continue_is_told(rt: HostRuntime) -> Result<(), Fail> {
+    body_is_told(&rt, Shape::Continued, r#"{"allThreadsContinued":true}"#)
+}
+
+#[test]
+fn threads_are_told(rt: HostRuntime) -> Result<(), Fail> {
+    let mut threads = List::new(rt.alloc());
+    for (id, name) in [(1, "main"), (2, "Signal \"Dispatcher\"")] {
+        let name = Text::from_str(rt.alloc(), name)?;
+        threads.push(Thread { id, name })?;
     }
-    Ok(())
+    let wanted = r#"{"threads":[{"id":1,"name":"main"},{"id":2,"name":"Signal \"Dispatcher\""}]}"#;
+    body_is_told(&rt, Shape::Threads(threads), wanted)
 }
 
 #[test]
-fn stops_are_told(rt: HostRuntime) -> Result<(), Fail> {
+fn no_threads_are_told(rt: HostRuntime) -> Result<(), Fail> {
+    body_is_told(
+        &rt,
+        Shape::Threads(List::new(rt.alloc())),
+        r#"{"threads":[]}"#,
+    )
+}
+
+fn source(alloc: Global, name: &str, path: &str) -> Result<Source, NoMemory> {
+    Ok(Source {
+        name: Text::from_str(alloc, name)?,
+        path: Text::from_str(alloc, path)?,
+    })
+}
+
+#[test]
+fn stack_frames_are_told(rt: HostRuntime) -> Result<(), Fail> {
     let alloc = rt.alloc();
     let table = [
         (
-            StopReason::Breakpoint(List::from_slice(alloc, &[1, 2])?),
-            1,
-            "{\"body\":{\"allThreadsStopped\":true,\"hitBreakpointIds\":[1,2],\"reason\":\"breakpoint\",\
-            \"threadId\":1},\"event\":\"stopped\",\"seq\":7,\"type\":\"event\"}",
+            5,
+            "Main.run",
+            12,
+            Some(source(alloc, "Main.java", "/p/Main.java")?),
         ),
+        (2147483647, "<init>", -1, None),
+        (0, "a \"b\"", -9223372036854775808, None),
         (
-            StopReason::FunctionBreakpoint(List::from_slice(alloc, &[3])?),
-            2,
-            "{\"body\":{\"allThreadsStopped\":true,\"hitBreakpointIds\":[3],\"reason\":\"function breakpoint\",\
-            \"threadId\":2},\"event\":\"stopped\",\"seq\":7,\"type\":\"event\"}",
-        ),
-        (
-            StopReason::FunctionBreakpoint(List::new(alloc)),
-            2,
-            "{\"body\":{\"allThreadsStopped\":true,\"hitBreakpointIds\":[],\"reason\":\"function breakpoint\",\
-            \"threadId\":2},\"event\":\"stopped\",\"seq\":7,\"type\":\"event\"}",
-        ),
-        (
-            StopReason::Pause,
-            4,
-            "{\"body\":{\"allThreadsStopped\":true,\"reason\":\"pause\",\"threadId\":4},\"event\":\"stopped\",\
-            \"seq\":7,\"type\":\"event\"}",
+            4294967295,
+            "",
+            9223372036854775807,
+            Some(source(alloc, "é", "")?),
         ),
     ];
-    for (reason, thread, wanted) in table {
-        let stopped = Stopped { reason, thread };
-        let text = text_of(alloc, 7, &Told::Event(Event::Stopped(stopped)))?;
-        assert!(rt; text.as_slice() == wanted.as_bytes(), "{wanted}");
+    let mut frames = List::new(alloc);
+    for (id, name, line, source) in table {
+        let name = Text::from_str(alloc, name)?;
+        frames.push(StackFrame {
+            id,
+            name,
+            line,
+            column: 1,
+            source,
+        })?;
     }
-    Ok(())
+    let wanted = "{\"stackFrames\":[{\"column\":1,\"id\":5,\"line\":12,\"name\":\"Main.run\",\
+        \"source\":{\"name\":\"Main.java\",\"path\":\"/p/Main.java\"}},\
+        {\"column\":1,\"id\":2147483647,\"line\":-1,\"name\":\"<init>\"},\
+        {\"column\":1,\"id\":0,\"line\":-9223372036854775808,\"name\":\"a \\\"b\\\"\"},\
+        {\"column\":1,\"id\":4294967295,\"line\":9223372036854775807,\"name\":\"\",\
+        \"source\":{\"name\":\"é\",\"path\":\"\"}}],\"totalFrames\":23}";
+    body_is_told(&rt, Shape::StackFrames { frames, total: 23 }, wanted)
+}
+
+#[test]
+fn no_stack_frames_are_told(rt: HostRuntime) -> Result<(), Fail> {
+    let shape = Shape::StackFrames {
+        frames: List::new(rt.alloc()),
+        total: 0,
+    };
+    body_is_told(&rt, shape, r#"{"stackFrames":[],"totalFrames":0}"#)
 }
 
 #[test]
 fn breakpoints_are_told(rt: HostRuntime) -> Result<(), Fail> {
-    let alloc = rt.alloc();
-    let mut breakpoints = List::new(alloc);
+    let mut breakpoints = List::new(rt.alloc());
     let table = [
         (1, 10, BreakpointStatus::Verified),
         (2, 11, BreakpointStatus::NoSourceRoot),
@@ -615,60 +627,141 @@ fn breakpoints_are_told(rt: HostRuntime) -> Result<(), Fail> {
     for (id, line, status) in table {
         breakpoints.push(Breakpoint { id, line, status })?;
     }
-    let outcome = Outcome::Success(Shape::Breakpoints(breakpoints));
-    let told = response(alloc, 5, "setBreakpoints", outcome)?;
-    let text = text_of(alloc, 4, &told)?;
-    let wanted = "{\"body\":{\"breakpoints\":[{\"id\":1,\"line\":10,\"verified\":true},\
+    let wanted = "{\"breakpoints\":[{\"id\":1,\"line\":10,\"verified\":true},\
         {\"id\":2,\"line\":11,\"message\":\"no source root\",\"verified\":false},\
         {\"id\":3,\"line\":12,\"message\":\"conditions are not supported\",\"verified\":false},\
         {\"id\":4,\"line\":13,\"message\":\"refused by the target\",\"verified\":false},\
-        {\"id\":5,\"line\":14,\"message\":\"not bound yet\",\"verified\":false}]},\
-        \"command\":\"setBreakpoints\",\"request_seq\":5,\"seq\":4,\"success\":true,\"type\":\"response\"}";
-    assert!(rt; text.as_slice() == wanted.as_bytes(), "{wanted}");
-    Ok(())
+        {\"id\":5,\"line\":14,\"message\":\"not bound yet\",\"verified\":false}]}";
+    body_is_told(&rt, Shape::Breakpoints(breakpoints), wanted)
+}
+
+// A failure is told by this code, this message and what follows the message.
+fn failure_is_told(
+    rt: &(impl Abort + AllocGlobal),
+    failure: Failure,
+    id: u8,
+    message: &str,
+    detail: &str,
+) -> Result<(), Fail> {
+    let wanted = format!(in rt.alloc();
+        "{{\"body\":{{\"error\":{{\"format\":\"{message}{detail}\",\"id\":{id}}}}},\"command\":\"c\",\
+        \"message\":\"{message}\",\"request_seq\":4,\"seq\":2,\"success\":false,\"type\":\"response\"}}"
+    )?;
+    let told = response(rt.alloc(), 4, "c", Outcome::Failure(failure))?;
+    is_told(rt, 2, told, wanted.as_str())
 }
 
 #[test]
 fn failures_are_told(rt: HostRuntime) -> Result<(), Fail> {
+    let table = [
+        (Failure::unsupported(), 1, "unsupported"),
+        (Failure::not_attached(), 3, "notAttached"),
+        (Failure::not_stopped(), 4, "notStopped"),
+        (Failure::unknown_thread(), 8, "unknownThread"),
+        (Failure::target_gone(), 10, "targetGone"),
+        (Failure::references_spent(), 15, "referencesSpent"),
+        (Failure::already_attached(), 16, "alreadyAttached"),
+    ];
+    for (failure, id, message) in table {
+        failure_is_told(&rt, failure, id, message, "")?;
+    }
+    Ok(())
+}
+
+#[test]
+fn details_of_failures_are_told(rt: HostRuntime) -> Result<(), Fail> {
+    let name = Text::from_str(rt.alloc(), "a \"b\"")?;
+    failure_is_told(
+        &rt,
+        Failure::bad_arguments(name),
+        2,
+        "badArguments",
+        r#" a \"b\""#,
+    )?;
+    failure_is_told(&rt, Failure::target_error(503), 9, "targetError", " 503")
+}
+
+// An event is told by this text.
+fn event_is_told(rt: &(impl Abort + AllocGlobal), event: Event, wanted: &str) -> Result<(), Fail> {
+    is_told(rt, 5, Told::Event(event), wanted)
+}
+
+#[test]
+fn events_without_a_body_are_told(rt: HostRuntime) -> Result<(), Fail> {
+    let terminated = r#"{"event":"terminated","seq":5,"type":"event"}"#;
+    let initialized = r#"{"event":"initialized","seq":5,"type":"event"}"#;
+    event_is_told(&rt, Event::Terminated, terminated)?;
+    event_is_told(&rt, Event::Initialized, initialized)
+}
+
+#[test]
+fn a_change_of_a_breakpoint_is_told(rt: HostRuntime) -> Result<(), Fail> {
+    let changed = Breakpoint {
+        id: 1,
+        line: 10,
+        status: BreakpointStatus::Verified,
+    };
+    let wanted =
+        "{\"body\":{\"breakpoint\":{\"id\":1,\"line\":10,\"verified\":true},\"reason\":\"changed\"},\
+        \"event\":\"breakpoint\",\"seq\":5,\"type\":\"event\"}";
+    event_is_told(&rt, Event::Breakpoint(changed), wanted)
+}
+
+#[test]
+fn a_change_of_a_thread_is_told(rt: HostRuntime) -> Result<(), Fail> {
+    let starts = ThreadChange {
+        started: true,
+        id: 3,
+    };
+    let ends = ThreadChange {
+        started: false,
+        id: 3,
+    };
+    let started =
+        r#"{"body":{"reason":"started","threadId":3},"event":"thread","seq":5,"type":"event"}"#;
+    let exited =
+        r#"{"body":{"reason":"exited","threadId":3},"event":"thread","seq":5,"type":"event"}"#;
+    event_is_told(&rt, Event::Thread(starts), started)?;
+    event_is_told(&rt, Event::Thread(ends), exited)
+}
+
+// A stop of thread 4 for this reason is told by this text, behind the word that all threads stand.
+fn stop_is_told(
+    rt: &(impl Abort + AllocGlobal),
+    reason: StopReason,
+    wanted: &str,
+) -> Result<(), Fail> {
+    let wanted = format!(in rt.alloc();
+        "{{\"body\":{{\"allThreadsStopped\":true,{wanted},\"threadId\":4}},\
+        \"event\":\"stopped\",\"seq\":5,\"type\":\"event\"}}"
+    )?;
+    event_is_told(
+        rt,
+        Event::Stopped(Stopped { reason, thread: 4 }),
+        wanted.as_str(),
+    )
+}
+
+#[test]
+fn stops_are_told(rt: HostRuntime) -> Result<(), Fail> {
     let alloc = rt.alloc();
-    let roots = Text::from_str(alloc, "sourceRoots")?;
     let table = [
         (
-            Failure::bad_arguments(roots),
-            "badArguments",
-            "badArguments sourceRoots",
-            2,
+            StopReason::Breakpoint(List::from_slice(alloc, &[1, 2])?),
+            r#""hitBreakpointIds":[1,2],"reason":"breakpoint""#,
         ),
         (
-            Failure::already_attached(),
-            "alreadyAttached",
-            "alreadyAttached",
-            16,
-        ),
-        (Failure::not_attached(), "notAttached", "notAttached", 3),
-        (Failure::target_gone(), "targetGone", "targetGone", 10),
-        (Failure::not_stopped(), "notStopped", "notStopped", 4),
-        (
-            Failure::unknown_thread(),
-            "unknownThread",
-            "unknownThread",
-            8,
+            StopReason::FunctionBreakpoint(List::from_slice(alloc, &[3])?),
+            r#""hitBreakpointIds":[3],"reason":"function breakpoint""#,
         ),
         (
-            Failure::target_error(503),
-            "targetError",
-            "targetError 503",
-            9,
+            StopReason::FunctionBreakpoint(List::new(alloc)),
+            r#""hitBreakpointIds":[],"reason":"function breakpoint""#,
         ),
+        (StopReason::Pause, r#""reason":"pause""#),
     ];
-    for (failure, message, format, id) in table {
-        let told = response(alloc, 4, "threads", Outcome::Failure(failure))?;
-        let text = text_of(alloc, 2, &told)?;
-        let wanted = format!(in alloc;
-            "{{\"body\":{{\"error\":{{\"format\":\"{format}\",\"id\":{id}}}}},\"command\":\"threads\",\
-            \"message\":\"{message}\",\"request_seq\":4,\"seq\":2,\"success\":false,\"type\":\"response\"}}"
-        )?;
-        assert!(rt; text.as_slice() == wanted.as_bytes(), "{format}");
+    for (reason, wanted) in table {
+        stop_is_told(&rt, reason, wanted)?;
     }
     Ok(())
 }

@@ -35,6 +35,12 @@ pub enum Shape {
     Breakpoints(List<Breakpoint>),
     /// The threads of the target, the body of `threads`. (DAP specification, Threads request)
     Threads(List<Thread>),
+    /// Frames of a thread from the top down, and how many it has in all, the body of `stackTrace`.
+    /// (DAP specification, StackTrace request)
+    StackFrames {
+        frames: List<StackFrame>,
+        total: u32,
+    },
     /// All threads go on, the body of `continue`. (DAP specification, Continue request)
     Continued,
 }
@@ -44,6 +50,24 @@ pub enum Shape {
 pub struct Thread {
     pub id: u64,
     pub name: Text,
+}
+
+/// A source: its name and its path. (DAP specification, Types, Source)
+#[derive(Debug, Drop)]
+pub struct Source {
+    pub name: Text,
+    pub path: Text,
+}
+
+/// A frame of a thread's stack: the number that the client knows it by, its name, its line and column in the client's
+/// counting, and its source, where one is known. (DAP specification, Types, StackFrame)
+#[derive(Debug, Drop)]
+pub struct StackFrame {
+    pub id: u32,
+    pub name: Text,
+    pub line: i64,
+    pub column: u32,
+    pub source: Option<Source>,
 }
 
 /// A breakpoint: the number that the client knows it by, its line in the client's counting, and how it stands.
@@ -133,7 +157,7 @@ impl Failure {
     ghost use Rattle.std.specs.Prelude.{◌≡◌};
     ghost use Rattle.dap_messages.specs.Telling.{unsupported, bad_arguments};
     ghost use Rattle.dap_messages.specs.Telling.{already_attached, not_attached, target_gone};
-    ghost use Rattle.dap_messages.specs.Telling.{not_stopped, unknown_thread, target_error};
+    ghost use Rattle.dap_messages.specs.Telling.{not_stopped, unknown_thread, target_error, references_spent};
 
     /// The adapter doesn't have this command: code 1, `unsupported`. (DAP specification, Types, Message)
     pub fn unsupported() -> Failure
@@ -216,6 +240,17 @@ impl Failure {
         Failure {
             code: 9,
             detail: Detail::Number(u64::from(error)),
+        }
+    }
+
+    /// No number is left for what the response would show: code 15, `referencesSpent`.
+    /// (DAP specification, Types, Message)
+    pub fn references_spent() -> Failure
+        ensures { result ≡ references_spent }
+    {
+        Failure {
+            code: 15,
+            detail: Detail::Plain,
         }
     }
 }

@@ -6,10 +6,11 @@ ghost use Rattle.dap_messages.specs.Telling.{answer_data, failure_data, response
 ghost use Rattle.dap_messages.specs.Telling.{breakpoint_data, breakpoints_data, reason_of, standing_data};
 ghost use Rattle.dap_messages.specs.Telling.{change_reason, thread_changed_data, thread_data, threads_data};
 ghost use Rattle.dap_messages.specs.Telling.{continued_data, hit_data, pause_data, stop_data, stopped_data};
+ghost use Rattle.dap_messages.specs.Telling.{frame_data, located_data, source_data, stack_frames_data};
 
 use crate::told::{
-    Breakpoint, BreakpointStatus, Detail, Event, Failure, Outcome, Response, Shape, StopReason,
-    Stopped, Thread, ThreadChange, Told,
+    Breakpoint, BreakpointStatus, Detail, Event, Failure, Outcome, Response, Shape, Source,
+    StackFrame, StopReason, Stopped, Thread, ThreadChange, Told,
 };
 use serde_json::{Value, json};
 use std::alloc::{AllocError, Global};
@@ -145,6 +146,7 @@ fn message_of(code: u8) -> &'static str
         8 => "unknownThread",
         9 => "targetError",
         10 => "targetGone",
+        15 => "referencesSpent",
         16 => "alreadyAttached",
         _ => "",
     }
@@ -160,6 +162,9 @@ fn shape_value(alloc: Global, shape: &Shape) -> Result<Option<Value>, AllocError
             Ok(Some(breakpoints_value(alloc, breakpoints.as_slice())?))
         }
         Shape::Threads(threads) => Ok(Some(threads_value(alloc, threads.as_slice())?)),
+        Shape::StackFrames { frames, total } => {
+            Ok(Some(stack_frames_value(alloc, frames.as_slice(), *total)?))
+        }
         Shape::Continued => Ok(Some(continued_value(alloc)?)),
     }
 }
@@ -238,6 +243,54 @@ fn thread_value(alloc: Global, thread: &Thread) -> Result<Value, AllocError>
     ensures { IfOk result (λ value. view value ≡ thread_data thread.now) }
 {
     json!(in alloc; {"id": thread.id, "name": thread.name.as_str()})
+}
+
+fn stack_frames_value(alloc: Global, frames: &[StackFrame], total: u32) -> Result<Value, AllocError>
+    ensures { IfOk result (λ value. view value ≡ stack_frames_data frames.now total) }
+{
+    let mut items = Vec::new(alloc);
+    for frame in frames {
+        items.push(frame_value(alloc, frame)?)?;
+    }
+    json!(in alloc; {"stackFrames": Value::Array(items), "totalFrames": total})
+}
+
+fn frame_value(alloc: Global, frame: &StackFrame) -> Result<Value, AllocError>
+    ensures { IfOk result (λ value. view value ≡ frame_data frame.now) }
+{
+    match &frame.source {
+        Some(source) => located_value(alloc, frame, source_value(alloc, source)?),
+        None => unlocated_value(alloc, frame),
+    }
+}
+
+fn located_value(alloc: Global, frame: &StackFrame, source: Value) -> Result<Value, AllocError>
+    ensures { IfOk result (λ value. view value ≡ located_data frame.now (Some (view source))) }
+{
+    json!(in alloc; {
+        "column": frame.column,
+        "id": frame.id,
+        "line": frame.line,
+        "name": frame.name.as_str(),
+        "source": source
+    })
+}
+
+fn unlocated_value(alloc: Global, frame: &StackFrame) -> Result<Value, AllocError>
+    ensures { IfOk result (λ value. view value ≡ located_data frame.now None) }
+{
+    json!(in alloc; {
+        "column": frame.column,
+        "id": frame.id,
+        "line": frame.line,
+        "name": frame.name.as_str()
+    })
+}
+
+fn source_value(alloc: Global, source: &Source) -> Result<Value, AllocError>
+    ensures { IfOk result (λ value. view value ≡ source_data source.now) }
+{
+    json!(in alloc; {"name": source.name.as_str(), "path": source.path.as_str()})
 }
 
 fn continued_value(alloc: Global) -> Result<Value, AllocError>
