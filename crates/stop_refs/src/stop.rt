@@ -1,4 +1,5 @@
 ghost use Rattle.std.specs.Prelude.{◌≡◌, ◌+◌, ◌<◌, ◌≤◌, ◌^◌, ◌↔◌, true, false, IsOk, IfOk, OnOk, OnErr, length};
+ghost use Rattle.std.specs.Prelude.{IfSome, None};
 ghost use Rattle.std.specs.Result.{result_map_both};
 ghost use Rattle.stop_refs.specs.Numbers.{from, begun, over, number_of, is_new, is_spent, with_thing, end, room};
 ghost use Rattle.stop_refs.specs.Numbers.{look, frame, container, thing_with, next_in};
@@ -67,6 +68,13 @@ impl Running {
         } else {
             RefFault::Unknown(self.next)
         }
+    }
+
+    /// How many stops there were.
+    pub fn stops(&self) -> u64
+        ensures { result ≡ length self.now.firsts }
+    {
+        self.stops
     }
 
     /// Begins the next stop, in which nothing was told yet. It takes no memory.
@@ -147,6 +155,22 @@ impl Stop {
         ensures { result ≡ room self.now }
     {
         END - self.next()
+    }
+
+    /// Whether a thing was not told in this stop.
+    pub fn is_new(&self, thing: &Thing) -> bool
+        ensures { result ≡ is_new thing.now self.now }
+    {
+        !self.things.contains(thing)
+    }
+
+    /// The number of a thing that was told in this stop; `None` exactly where it wasn't.
+    pub fn number_told(&self, thing: &Thing) -> Option<u32>
+        ensures told { IfSome result (λ n. n ≡ number_of thing.now self.now) }
+        ensures none { (result ≡ None) ↔ (is_new thing.now self.now ≡ true) }
+    {
+        let place = self.things.get_index_of(thing)?;
+        Some(self.first + place as u32)
     }
 
     /// The number of a thing: the one that it already has in this stop, or the next one. `Spent` comes where it is new
