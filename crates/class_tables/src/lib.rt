@@ -15,7 +15,7 @@ pub use laws::{
     a_line_begins_at_its_least_index, a_location_of_a_line_is_its_start_in_a_method,
     each_look_up_scans_what_was_learnt,
 };
-pub use lines::line_start;
+pub use lines::{entry_at, line_start};
 pub use signature::{class_path, package_in};
 pub use view::{ClassView, KeyView};
 

@@ -3,8 +3,9 @@ ghost use Rattle.class_tables.specs.Lines.{later, entry_at, lesser, line_start};
 
 use jdwp_values::Line;
 
-/// The entry of the greatest index not above this one, the last of ties.
-pub(crate) fn entry_at(index: u64, entries: &[Line]) -> Option<Line>
+/// The entry of the greatest index not above this one, the last of ties; `None` exactly where none is at or below it
+/// (JDWP, Method command set, LineTable, lineCodeIndex).
+pub fn entry_at(index: u64, entries: &[Line]) -> Option<Line>
     ensures { result ≡ entry_at index entries.now }
 {
     let mut found = None;

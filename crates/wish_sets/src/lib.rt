@@ -33,5 +33,6 @@ pub use laws::{
     changes_lead_to_what_is_wished, each_wish_is_wished_once, the_next_change_is_new,
     what_stands_is_tidy,
 };
+pub use names::{key_file, key_package};
 pub use wish::{Depth, StepWish, Wish};
 pub use wishes::Wishes;

@@ -41,15 +41,15 @@ pub(crate) fn after_last(bytes: &[u8], last: u8) -> &[u8]
     &bytes[end_of_last(bytes, last)..]
 }
 
-/// The package of a source, by its key.
-pub(crate) fn key_package(key: &Text) -> &[u8]
+/// The path of the package of a source, by its key (DAP specification, Types, Source, path).
+pub fn key_package(key: &Text) -> &[u8]
     ensures { result.now ≡ (key_parts key.now).package_path }
 {
     before_last(key.as_bytes(), b'/')
 }
 
-/// The file of a source, by its key.
-pub(crate) fn key_file(key: &Text) -> &[u8]
+/// The file of a source, by its key (DAP specification, Types, Source, path).
+pub fn key_file(key: &Text) -> &[u8]
     ensures { result.now ≡ (key_parts key.now).file }
 {
     after_last(key.as_bytes(), b'/')
