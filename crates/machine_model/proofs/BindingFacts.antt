@@ -1,7 +1,6 @@
--- Facts that are learnt stay known, and a class that is made known is bound by what is known of it.
+-- A fact that is learnt is known, and a class that is made known is bound by what is known of it.
 use Rattle.std.proofs.Common.{◌≡◌, ℕ, Bool, true, false, cond, List, [], ◌∷◌, Option, Some, None, refl}
 use Rattle.std.proofs.Common.{sym, ap, ◌∙◌, option_map, arith}
-use Rattle.std.specs.Prelude.{fold}
 use Rattle.std.specs.List.{AllByRecursion as All}
 use Rattle.class_tables.specs.Facts.{Known, MethodOf, same_class, same_method}
 use Rattle.class_tables.specs.Lookups.{Lookups, found_in}
@@ -12,16 +11,15 @@ use Rattle.class_tables.specs.declared.loaded.Loaded.{Loaded}
 use Rattle.jdwp_commands.specs.declared.question.Question.TheVariants as questions
 use Rattle.jdwp_values.specs.declared.id.ClassId.{ClassId}
 use Rattle.machine_model.specs.Binding.{IsBound}
-use Rattle.machine_model.specs.Classes.{class_plan, classes_in, is_keyed, keyed_plan, known_plan, package_plan}
-use Rattle.machine_model.specs.Classes.{prepared_plan, source_plan, watched_plan, with_listed}
-use Rattle.machine_model.specs.Facts.{fact_known, source_in}
+use Rattle.machine_model.specs.Classes.{class_plan, is_keyed, keyed_plan, known_plan, package_plan}
+use Rattle.machine_model.specs.Classes.{prepared_plan, source_plan, watched_plan}
+use Rattle.machine_model.specs.Facts.{source_in}
 use Rattle.machine_model.specs.Names.{Answer, Question, Want}
 use Rattle.machine_model.specs.Plans.{Sight, after, asking, beside, each, has, joined, need}
-use Rattle.machine_model.specs.Replying.{learnt}
+use Rattle.machine_model.specs.Replying.{knows_fact, learnt, with_heard}
 use Rattle.machine_model.specs.State.{is_some}
 use Rattle.machine_model.proofs.BindingPlans.{is_fact}
 use Rattle.machine_model.proofs.PlanIds.{after_like, need_chained, need_made}
-use Rattle.machine_model.proofs.StandingReplies.{only_loaded}
 use Rattle.wish_sets.specs.Places.{key_by}
 use Rattle.wish_sets.specs.Wanted.{Wanted, class_found, put_known, with_class, with_known}
 use Rattle.wish_sets.specs.Wished.{is_watched}
@@ -30,31 +28,6 @@ use Rattle.wish_sets.specs.declared.facts.KnownClass.{KnownClass}
 -- Tables --------------------------------------------------------------------------------------------------------------
 
 module _ {K V : Type 0} (same : K → K → Bool) where
-  -- what was known under a key stays known
-  put_keeps : (k key : K) (v : V) (entries : List (K × V)) → is_some (under same k entries) ≡ true
-      → is_some (under same k (put same key v entries)) ≡ true
-  put_keeps k key v [] h = cc
-  put_keeps k key v (entry ∷ entries) h =
-      by_put (same key entry.0) (λ rest. put_keeps k key v entries rest)
-    where
-      replaced : (mine : Bool) → is_some (cond mine (Some entry.1) (under same k entries)) ≡ true
-          → is_some (cond mine (Some v) (under same k entries)) ≡ true
-      replaced true h = refl
-      replaced false h = h
-
-      behind : (mine : Bool) → (is_some (under same k entries) ≡ true
-          → is_some (under same k (put same key v entries)) ≡ true)
-          → is_some (cond mine (Some entry.1) (under same k entries)) ≡ true
-          → is_some (cond mine (Some entry.1) (under same k (put same key v entries))) ≡ true
-      behind true again h = refl
-      behind false again h = again h
-
-      by_put : (is : Bool) → (is_some (under same k entries) ≡ true
-          → is_some (under same k (put same key v entries)) ≡ true)
-          → is_some (under same k (cond is ((entry.0, v) ∷ entries) (entry ∷ put same key v entries))) ≡ true
-      by_put true again = replaced (same k entry.0) h
-      by_put false again = behind (same k entry.0) again h
-
   -- what is put is found
   put_gives : (key : K) (v : V) (entries : List (K × V)) → same key key ≡ true
       → under same key (put same key v entries) ≡ Some v
@@ -80,7 +53,7 @@ module _ {K V : Type 0} (same : K → K → Bool) where
       by_put true e rest = rw (apart entry.0 e) refl
       by_put false e rest = ap (cond (same k entry.0) (Some entry.1)) rest
 
-is_mapped : {A B : Type 0} (f : A → B) (found : Option A) → is_some (option_map f found) ≡ is_some found
+pub is_mapped : {A B : Type 0} (f : A → B) (found : Option A) → is_some (option_map f found) ≡ is_some found
 is_mapped f None = refl
 is_mapped f (Some a) = refl
 
@@ -92,58 +65,25 @@ class_is c = grind arith
 method_is : (one : MethodOf) → same_method one one ≡ true
 method_is one = grind arith
 
-listed_sources : (classes : List _) (known : Known) → (fold with_listed known classes).sources ≡ known.sources
-listed_sources classes known = ap (λ (k : Known). k.sources) (only_loaded classes known)
-
-listed_methods : (classes : List _) (known : Known) → (fold with_listed known classes).methods ≡ known.methods
-listed_methods classes known = ap (λ (k : Known). k.methods) (only_loaded classes known)
-
-listed_lines : (classes : List _) (known : Known) → (fold with_listed known classes).lines ≡ known.lines
-listed_lines classes known = ap (λ (k : Known). k.lines) (only_loaded classes known)
-
-sources_grow : (question : Question) (heard : Option Answer) (known : Known) (c : ClassId)
-    → is_some (under same_class c known.sources) ≡ true
-    → is_some (under same_class c (learnt question heard known).sources) ≡ true
-sources_grow questions.AllClasses heard known c h = rw (listed_sources (classes_in heard) known) h
-sources_grow (questions.SourceFile other) heard known c h = put_keeps same_class c other _ known.sources h
-sources_grow _ heard known c h = h
-
-methods_grow : (question : Question) (heard : Option Answer) (known : Known) (c : ClassId)
-    → is_some (under same_class c known.methods) ≡ true
-    → is_some (under same_class c (learnt question heard known).methods) ≡ true
-methods_grow questions.AllClasses heard known c h = rw (listed_methods (classes_in heard) known) h
-methods_grow (questions.Methods other) heard known c h = put_keeps same_class c other _ known.methods h
-methods_grow _ heard known c h = h
-
-lines_grow : (question : Question) (heard : Option Answer) (known : Known) (one : MethodOf)
-    → is_some (under same_method one known.lines) ≡ true
-    → is_some (under same_method one (learnt question heard known).lines) ≡ true
-lines_grow questions.AllClasses heard known one h = rw (listed_lines (classes_in heard) known) h
-lines_grow (questions.LineTable other m) heard known one h = put_keeps same_method one (other, m) _ known.lines h
-lines_grow _ heard known one h = h
-
--- a fact that is known stays so
-pub fact_grows : (question : Question) (heard : Option Answer) (known : Known) (fact : Question)
-    → is_fact fact ≡ true → is_some (fact_known (found_in known) fact) ≡ true
-    → is_some (fact_known (found_in (learnt question heard known)) fact) ≡ true
-fact_grows question heard known (questions.SourceFile c) is h = is_mapped _ (under same_class c _)
-    ∙ sources_grow question heard known c (sym (is_mapped _ (under same_class c known.sources)) ∙ h)
-fact_grows question heard known (questions.Methods c) is h = is_mapped _ (under same_class c _)
-    ∙ methods_grow question heard known c (sym (is_mapped _ (under same_class c known.methods)) ∙ h)
-fact_grows question heard known (questions.LineTable c m) is h = is_mapped _ (under same_method (c, m) _)
-    ∙ lines_grow question heard known (c, m) (sym (is_mapped _ (under same_method (c, m) known.lines)) ∙ h)
-fact_grows question heard known _ is h = cc
-
--- and one that is replied is known
-pub fact_learnt : (question : Question) (heard : Option Answer) (known : Known) → is_fact question ≡ true
-    → is_some (fact_known (found_in (learnt question heard known)) question) ≡ true
-fact_learnt (questions.SourceFile c) heard known is = is_mapped _ (under same_class c _)
+-- a fact that is replied is known
+heard_known : (question : Question) (heard : Option Answer) (known : Known) → is_fact question ≡ true
+    → knows_fact question (with_heard question heard known) ≡ true
+heard_known (questions.SourceFile c) heard known is = is_mapped _ (under same_class c _)
     ∙ ap is_some (put_gives same_class c _ known.sources (class_is c))
-fact_learnt (questions.Methods c) heard known is = is_mapped _ (under same_class c _)
+heard_known (questions.Methods c) heard known is = is_mapped _ (under same_class c _)
     ∙ ap is_some (put_gives same_class c _ known.methods (class_is c))
-fact_learnt (questions.LineTable c m) heard known is = is_mapped _ (under same_method (c, m) _)
+heard_known (questions.LineTable c m) heard known is = is_mapped _ (under same_method (c, m) _)
     ∙ ap is_some (put_gives same_method (c, m) _ known.lines (method_is (c, m)))
-fact_learnt _ heard known is = cc
+heard_known _ heard known is = cc
+
+pub fact_learnt : (question : Question) (heard : Option Answer) (known : Known) → is_fact question ≡ true
+    → knows_fact question (learnt question heard known) ≡ true
+fact_learnt question heard known is = by_known (knows_fact question known) refl
+  where
+    by_known : (knows : Bool) → knows_fact question known ≡ knows
+        → knows_fact question (cond knows known (with_heard question heard known)) ≡ true
+    by_known true before = before
+    by_known false before = heard_known question heard known is
 
 -- Classes that are made known -----------------------------------------------------------------------------------------
 

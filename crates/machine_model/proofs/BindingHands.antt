@@ -4,7 +4,6 @@ use Rattle.std.proofs.Common.{ap, ◌∙◌, arith, ◌++◌}
 use Rattle.std.specs.List.{AllByRecursion as All}
 use Rattle.class_tables.specs.Facts.{Known}
 use Rattle.class_tables.specs.Lookups.{found_in}
-use Rattle.jdwp_commands.specs.declared.question.Question.TheVariants as questions
 use Rattle.jdwp_values.specs.declared.id.ClassId.{ClassId}
 use Rattle.machine_model.specs.Facts.{fact_known}
 use Rattle.machine_model.specs.Names.{Attached, Choice, Classes, Command, Decides, Failure, Fresh, Gone, Item, Leaves}
@@ -14,7 +13,8 @@ use Rattle.machine_model.specs.Plans.{asks_for, question_of}
 use Rattle.machine_model.specs.Replying.{filled, waits_for, is_waiting}
 use Rattle.machine_model.specs.Rows.{chosen, failure_of, news_of, parts_by, parts_of, row_of, told_in, wanting}
 use Rattle.machine_model.specs.State.{Hand, State, has_waiting, is_empty, is_none, is_some}
-use Rattle.machine_model.proofs.BindingPlans.{IsLearnt, is_fact, tells_classes}
+use Rattle.machine_model.proofs.BindingGrows.{Grows, one_learnt, still_learnt}
+use Rattle.machine_model.proofs.BindingPlans.{IsLearnt, is_fact, is_listing}
 use Rattle.machine_model.proofs.KeyLaws.{is_one}
 use Rattle.machine_model.proofs.Tables.{is_updates, of_decided, told_alike}
 use Rattle.machine_model.proofs.Testing.{IsTest}
@@ -33,7 +33,7 @@ notes_classes _ = false
 
 -- it replaces a list
 abbrev pub notes_lines : Part → Bool
-notes_lines (Part.Notes (Lines key entries)) = true
+notes_lines (Part.Notes (Lines key path entries)) = true
 notes_lines _ = false
 
 abbrev pub looks_first : List Part → Bool
@@ -133,22 +133,19 @@ begun_noted state (a_raw at body) = refl
 
 -- Questions -----------------------------------------------------------------------------------------------------------
 
-abbrev pub asks_classes : List Sent → Bool
-asks_classes [] = false
-asks_classes (sent ∷ asked) = tells_classes (question_of sent.want) || asks_classes asked
+-- a list of all classes was asked for, awaits its reply, or is to be asked for
+abbrev pub asks_listing : List Sent → Bool
+asks_listing [] = false
+asks_listing (sent ∷ asked) = is_listing (question_of sent.want) || asks_listing asked
 
-abbrev pub awaits_classes : List Sent → Bool
-awaits_classes [] = false
-awaits_classes (sent ∷ asked) =
-    cond (is_none sent.reply) (tells_classes (question_of sent.want)) false || awaits_classes asked
+abbrev pub awaits_listing : List Sent → Bool
+awaits_listing [] = false
+awaits_listing (sent ∷ asked) =
+    cond (is_none sent.reply) (is_listing (question_of sent.want)) false || awaits_listing asked
 
-abbrev pub queues_classes : List Want → Bool
-queues_classes [] = false
-queues_classes (want ∷ wants) = tells_classes (question_of want) || queues_classes wants
-
-abbrev pub is_listing : Question → Bool
-is_listing questions.AllClasses = true
-is_listing _ = false
+abbrev pub queues_listing : List Want → Bool
+queues_listing [] = false
+queues_listing (want ∷ wants) = is_listing (question_of want) || queues_listing wants
 
 -- all classes were listed by a reply
 abbrev pub was_listed : List Sent → Bool
@@ -156,34 +153,24 @@ was_listed [] = false
 was_listed (sent ∷ asked) =
     cond (is_some sent.reply) (is_listing (question_of sent.want)) false || was_listed asked
 
-pub none_awaits : (asked : List Sent) → has_waiting asked ≡ false → awaits_classes asked ≡ false
+pub none_awaits : (asked : List Sent) → has_waiting asked ≡ false → awaits_listing asked ≡ false
 none_awaits [] is = refl
 none_awaits (sent ∷ asked) is = grind (arith, is, none_awaits asked)
 
-pub none_queued : (wants : List Want) → is_empty wants ≡ true → queues_classes wants ≡ false
+pub none_queued : (wants : List Want) → is_empty wants ≡ true → queues_listing wants ≡ false
 none_queued [] is = refl
 none_queued (want ∷ wants) is = cc
 
--- what awaits its reply, or was listed, was asked
-pub listed_asks : (asked : List Sent) → was_listed asked ≡ true → asks_classes asked ≡ true
+-- what was listed was asked for
+pub listed_asks : (asked : List Sent) → was_listed asked ≡ true → asks_listing asked ≡ true
 listed_asks [] is = cc
-listed_asks (sent ∷ asked) is =
-    by_tests (is_some sent.reply) (is_listing (question_of sent.want)) (tells_classes (question_of sent.want))
-    (was_listed asked) (asks_classes asked) (listing_tells (question_of sent.want)) (listed_asks asked) is
-  where
-    listing_tells : (question : Question) → is_listing question ≡ true → tells_classes question ≡ true
-    listing_tells questions.AllClasses is = refl
-    listing_tells _ is = cc
+listed_asks (sent ∷ asked) is = grind (arith, is, listed_asks asked)
 
-    by_tests : (replied lists tells more asks : Bool) → (lists ≡ true → tells ≡ true) → (more ≡ true → asks ≡ true)
-        → (cond replied lists false || more) ≡ true → (tells || asks) ≡ true
-    by_tests replied lists tells more asks one other is = grind (arith, one, other, is)
-
--- a question that is waited for, of classes, is awaited
+-- a list that is waited for is awaited
 pub awaited_is : (asked : List Sent) (question : Question) → is_waiting question asked ≡ true
-    → tells_classes question ≡ true → awaits_classes asked ≡ true
-awaited_is [] question waits tells = cc
-awaited_is (sent ∷ asked) question waits tells =
+    → is_listing question ≡ true → awaits_listing asked ≡ true
+awaited_is [] question waits lists = cc
+awaited_is (sent ∷ asked) question waits lists =
     by_tests (is_none sent.reply) (asks_for sent question) refl waits (awaited_is asked question)
   where
     or_right : (a b : Bool) → b ≡ true → (a || b) ≡ true
@@ -192,26 +179,26 @@ awaited_is (sent ∷ asked) question waits tells =
 
     by_tests : (none asks : Bool) → asks_for sent question ≡ asks
         → (cond none asks false || is_waiting question asked) ≡ true
-        → (is_waiting question asked ≡ true → tells_classes question ≡ true → awaits_classes asked ≡ true)
-        → (cond none (tells_classes (question_of sent.want)) false || awaits_classes asked) ≡ true
+        → (is_waiting question asked ≡ true → is_listing question ≡ true → awaits_listing asked ≡ true)
+        → (cond none (is_listing (question_of sent.want)) false || awaits_listing asked) ≡ true
     by_tests true true key waits again =
-        rw (ap tells_classes (is_one (question_of sent.want) question key) ∙ tells) refl
-    by_tests true false key waits again = or_right (tells_classes (question_of sent.want)) _ (again waits tells)
-    by_tests false asks key waits again = again waits tells
+        rw (ap is_listing (is_one (question_of sent.want) question key) ∙ lists) refl
+    by_tests true false key waits again = or_right (is_listing (question_of sent.want)) _ (again waits lists)
+    by_tests false asks key waits again = again waits lists
 
 module _ (question : Question) (replied : Replied) where
-  pub asks_filled : (asked : List Sent) → asks_classes (filled question replied asked) ≡ asks_classes asked
+  pub asks_filled : (asked : List Sent) → asks_listing (filled question replied asked) ≡ asks_listing asked
   asks_filled [] = refl
   asks_filled (sent ∷ asked) = by_test (waits_for sent question) (asks_filled asked)
     where
-      by_test : (is : Bool) → asks_classes (filled question replied asked) ≡ asks_classes asked
-          → asks_classes (cond is (record sent { reply = Some replied } ∷ asked) (sent ∷ filled question replied asked))
-          ≡ (tells_classes (question_of sent.want) || asks_classes asked)
+      by_test : (is : Bool) → asks_listing (filled question replied asked) ≡ asks_listing asked
+          → asks_listing (cond is (record sent { reply = Some replied } ∷ asked) (sent ∷ filled question replied asked))
+          ≡ (is_listing (question_of sent.want) || asks_listing asked)
       by_test true again = refl
-      by_test false again = ap (λ b. tells_classes (question_of sent.want) || b) again
+      by_test false again = ap (λ b. is_listing (question_of sent.want) || b) again
 
-  pub awaits_filled : (asked : List Sent) → awaits_classes (filled question replied asked) ≡ true
-      → awaits_classes asked ≡ true
+  pub awaits_filled : (asked : List Sent) → awaits_listing (filled question replied asked) ≡ true
+      → awaits_listing asked ≡ true
   awaits_filled [] is = is
   awaits_filled (sent ∷ asked) is = by_test (waits_for sent question) (awaits_filled asked) is
     where
@@ -222,14 +209,14 @@ module _ (question : Question) (replied : Replied) where
       or_right true b is = refl
       or_right false b is = is
 
-      by_test : (is : Bool) → (awaits_classes (filled question replied asked) ≡ true → awaits_classes asked ≡ true)
-          → awaits_classes (cond is (record sent { reply = Some replied } ∷ asked) (sent ∷ filled question replied asked))
-          ≡ true
-          → (cond (is_none sent.reply) (tells_classes (question_of sent.want)) false || awaits_classes asked) ≡ true
+      by_test : (is : Bool) → (awaits_listing (filled question replied asked) ≡ true → awaits_listing asked ≡ true)
+          → awaits_listing (cond is (record sent { reply = Some replied } ∷ asked)
+          (sent ∷ filled question replied asked)) ≡ true
+          → (cond (is_none sent.reply) (is_listing (question_of sent.want)) false || awaits_listing asked) ≡ true
       by_test true again now =
-          or_right (cond (is_none sent.reply) (tells_classes (question_of sent.want)) false) _ now
+          or_right (cond (is_none sent.reply) (is_listing (question_of sent.want)) false) _ now
       by_test false again now =
-          either (cond (is_none sent.reply) (tells_classes (question_of sent.want)) false) _ _ now again
+          either (cond (is_none sent.reply) (is_listing (question_of sent.want)) false) _ _ now again
 
   pub listed_filled : (asked : List Sent) → is_listing question ≡ false
       → was_listed (filled question replied asked) ≡ was_listed asked
@@ -255,23 +242,13 @@ module _ (question : Question) (replied : Replied) where
           ap (λ b. cond (is_some sent.reply) (is_listing (question_of sent.want)) false || b) again
 
   -- each fact that was replied is known then
-  pub learnt_filled : (known now : Known) (asked : List Sent)
-      → ((fact : Question) → is_fact fact ≡ true → is_some (fact_known (found_in known) fact) ≡ true
-      → is_some (fact_known (found_in now) fact) ≡ true)
+  pub learnt_filled : (known now : Known) (asked : List Sent) → Grows known now
       → (is_fact question ≡ true → is_some (fact_known (found_in now) question) ≡ true)
       → All (IsLearnt known) asked → All (IsLearnt now) (filled question replied asked)
   learnt_filled known now [] grows itself h = tt
   learnt_filled known now (sent ∷ asked) grows itself h =
       by_tests (is_none sent.reply) (asks_for sent question) refl (learnt_filled known now asked grows itself h.1)
     where
-      still : IsLearnt now sent
-      still some fact = grows (question_of sent.want) fact (h.0 some fact)
-
-      all_still : (asked : List Sent) → All (IsLearnt known) asked → All (IsLearnt now) asked
-      all_still [] h = tt
-      all_still (one ∷ others) h =
-          (λ some fact. grows (question_of one.want) fact (h.0 some fact), all_still others h.1)
-
       replied_now : asks_for sent question ≡ true → IsLearnt now (record sent { reply = Some replied })
       replied_now key some fact =
           let one = is_one (question_of sent.want) question key in
@@ -281,6 +258,6 @@ module _ (question : Question) (replied : Replied) where
           → All (IsLearnt now) (filled question replied asked)
           → All (IsLearnt now) (cond (cond none asks false) (record sent { reply = Some replied } ∷ asked)
           (sent ∷ filled question replied asked))
-      by_tests true true key again = (replied_now key, all_still asked h.1)
-      by_tests true false key again = (still, again)
-      by_tests false asks key again = (still, again)
+      by_tests true true key again = (replied_now key, still_learnt known now grows asked h.1)
+      by_tests true false key again = (one_learnt known now grows sent h.0, again)
+      by_tests false asks key again = (one_learnt known now grows sent h.0, again)

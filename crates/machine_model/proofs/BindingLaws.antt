@@ -24,9 +24,9 @@ use Rattle.machine_model.proofs.Stepping.{IsAt, Moves, Skips, by_runs}
 use Rattle.machine_model.proofs.Tables.{is_updates}
 use Rattle.machine_model.proofs.Testing.{Passed, whole, tested}
 use Rattle.machine_model.proofs.BindingWatches.{none_wished, due_set}
-use Rattle.machine_model.proofs.BindingParts.{AreLike, Binding, IsBinding, Same, are_same, asks_on, clear_now}
-use Rattle.machine_model.proofs.BindingParts.{event_same, event_wishes, goes_by, is_other, itself, leaves_watches}
-use Rattle.machine_model.proofs.BindingParts.{queues_on, still_binding, still_bound, told_same}
+use Rattle.machine_model.proofs.BindingParts.{AreLike, Binding, IsBinding, Same, are_same, as_before, asks_on}
+use Rattle.machine_model.proofs.BindingParts.{clear_now, event_same, event_wishes, goes_by, is_other, itself}
+use Rattle.machine_model.proofs.BindingParts.{leaves_watches, queues_on, still_binding, still_bound, told_same}
 use Rattle.machine_model.proofs.BindingReplies.{answers_on}
 use Rattle.machine_model.proofs.BindingReplies.{replies_on, chosen_like}
 use Rattle.machine_model.proofs.BindingReplies.{notes_on, finds_on}
@@ -91,11 +91,8 @@ begins_on {state} item h = record {
     same_classes : (item : Item) → binds_ahead (parts_of state item) ≡ false → Same (taken item state) state
     same_classes (a_request request) none = itself state
     same_classes (a_composite at composite) none =
-        record {
-          unlisted = refl;
-          wanted = refl;
-          classes = by_phase state.phase (has_death composite.events) composite.policy refl refl none;
-        }
+        as_before (taken (a_composite at composite) state) state refl refl
+        (by_phase state.phase (has_death composite.events) composite.policy refl refl none)
       where
         by_phase : (phase : Phase) (dies : Bool) (policy : Policy) → has_death composite.events ≡ dies
             → composite.policy ≡ policy → binds_ahead (composite_parts phase dies policy at state.next_entry) ≡ false
@@ -132,11 +129,11 @@ binding_on m next said near p s h (Moves.tells {rest = rest} {event = event} fre
     passes_on (after_event event m.state) rest free near p at (event_same event m.state)
     (event_wishes event m.state) refl refl (are_same rest) h
 binding_on m next said near p s h (Moves.sends {rest = rest} {deed} free at is) here =
-    passes_on (after_deed deed m.state) rest free near p at (record { unlisted = refl; wanted = refl; classes = refl })
+    passes_on (after_deed deed m.state) rest free near p at (as_before (after_deed deed m.state) m.state refl refl refl)
     refl refl refl (are_same rest) h
 binding_on m next said near p s h (Moves.updates free at is away) here = in_front h at
 binding_on m next said near p s h (Moves.greets free at is away) here =
-    still_binding next.state (record { unlisted = refl; wanted = refl; classes = refl }) (λ needs w. w) h
+    still_binding next.state (as_before next.state m.state refl refl refl) (λ needs w. w) h
 binding_on m next said near p s h (Moves.notes {hand} {note} {rest} free at) here =
     notes_on note rest (clear_now m hand free near at.in_hand) (whole placed p at) (in_front h at)
 binding_on m next said near p s h (Moves.unfolds {hand} {choice} {rest} free at) here =
@@ -149,7 +146,7 @@ binding_on m next said near p s h (Moves.asks {hand} {want} {wants} free room is
     (asks_on (subst (λ queue. Binding m.state hand.parts queue hand.asked) are (taken_out m h is))))
 binding_on m next said near p s h (Moves.hears read is) here = h
 binding_on m next said near p s h (Moves.greeted read is) here =
-    still_binding next.state (record { unlisted = refl; wanted = refl; classes = refl }) (λ needs w. w) h
+    still_binding next.state (as_before next.state m.state refl refl refl) (λ needs w. w) h
 binding_on m next said near p s h (Moves.answers {question} {replied} {hand} is waits reply last) here =
     put_back (hand_replied (a_question question) replied) is
     (answers_on question replied (is_failed question replied hand.asked) waits (taken_out m h is))

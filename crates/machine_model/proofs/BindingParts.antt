@@ -6,7 +6,7 @@ use Rattle.class_tables.specs.Facts.{Known}
 use Rattle.class_tables.specs.Lookups.{found_in}
 use Rattle.jdwp_commands.specs.declared.question.Question.TheVariants as questions
 use Rattle.jdwp_values.specs.declared.id.ClassId.{ClassId}
-use Rattle.machine_model.specs.Binding.{AreAllBound, sight_alone}
+use Rattle.machine_model.specs.Binding.{AreAllBound, IsBound, sight_alone}
 use Rattle.machine_model.specs.Classes.{classes_plan, known_plan}
 use Rattle.machine_model.specs.Due.{lacked_by, newly_lacked, with_want, with_wants, is_listed}
 use Rattle.machine_model.specs.Due.{clear, load_of, asked_by, greeted_by, sized_by, way}
@@ -15,6 +15,7 @@ use Rattle.machine_model.specs.Names.{Event, Finding}
 use Rattle.machine_model.specs.Names.{Outcome, Part, Replied, Sent}
 use Rattle.machine_model.specs.Names.{Want, all_threads}
 use Rattle.machine_model.specs.Names.{class_facts, classes_found, Guard, Handshake, IdSizes}
+use Rattle.machine_model.specs.Names.{thread_frames}
 use Rattle.machine_model.specs.Outcomes.{result_of}
 use Rattle.machine_model.specs.Plans.{Need, fails, has, lacks, made_with, need, question_of, after}
 use Rattle.machine_model.specs.Plans.{asking, asks_for, Found, found_at, found_from, is_done, must_hear}
@@ -22,13 +23,16 @@ use Rattle.machine_model.specs.Replying.{is_waiting, learnt}
 use Rattle.machine_model.specs.Requests.{Wishes}
 use Rattle.machine_model.specs.State.{Hand, Machine, SizesRead, State, is_gone, is_some}
 use Rattle.machine_model.specs.Telling.{after_event, numbered_by}
-use Rattle.machine_model.proofs.BindingHands.{asks_classes, awaits_classes}
-use Rattle.machine_model.proofs.BindingHands.{binds_ahead, first_note, has_note, is_listing, is_placed}
+use Rattle.machine_model.proofs.BindingGrows.{Grows, found_still, grows_itself, still_learnt}
+use Rattle.machine_model.proofs.BindingHands.{asks_listing, awaits_listing}
+use Rattle.machine_model.proofs.BindingHands.{binds_ahead, first_note, has_note, is_placed}
 use Rattle.machine_model.proofs.BindingHands.{looks_ahead, looks_classes}
 use Rattle.machine_model.proofs.BindingHands.{looks_first, needs_watches, none_awaits, none_queued, notes_classes}
-use Rattle.machine_model.proofs.BindingHands.{notes_lines, placed, queues_classes, was_listed}
+use Rattle.machine_model.proofs.BindingHands.{notes_lines, placed, queues_listing, was_listed}
 use Rattle.machine_model.proofs.BindingPlans.{IsLearnt, does_fail, known_wants, need_alone, need_holds}
-use Rattle.machine_model.proofs.BindingPlans.{plan_lacks, tells_classes, threads_wants, wants_other}
+use Rattle.machine_model.proofs.BindingPlans.{frames_wants, is_listing, plan_lacks, threads_wants, wants_other}
+use Rattle.machine_model.specs.Frames.{frames_plan}
+use Rattle.machine_model.proofs.BindingSeen.{bound_still}
 use Rattle.machine_model.proofs.PlanIds.{need_made}
 use Rattle.machine_model.proofs.RequestSteps.{parts_left}
 use Rattle.machine_model.proofs.RestLaws.{is_free}
@@ -37,6 +41,7 @@ use Rattle.machine_model.proofs.Tables.{is_updates}
 use Rattle.machine_model.proofs.KeyLaws.{is_one}
 use Rattle.machine_model.proofs.BindingWatches.{WatchesSet}
 use Rattle.machine_model.proofs.BindingWatches.{or_false}
+use Rattle.wish_sets.specs.Wanted.{Wanted}
 
 -- The invariant -------------------------------------------------------------------------------------------------------
 
@@ -48,8 +53,8 @@ IsComplete state classes = (state.unlisted ≡ false)
 pub record Binding (state : State) (parts : List Part) (queue : List Want) (asked : List Sent) : Type 0 where
   pub watches : needs_watches parts ≡ true → WatchesSet state.wishes
   pub learnt : All (IsLearnt state.classes) asked
-  pub waits : (awaits_classes asked || queues_classes queue) ≡ true → looks_first parts ≡ true
-  pub ahead : asks_classes asked ≡ true → looks_ahead parts ≡ looks_first parts
+  pub waits : (awaits_listing asked || queues_listing queue) ≡ true → looks_first parts ≡ true
+  pub ahead : asks_listing asked ≡ true → looks_ahead parts ≡ looks_first parts
   pub listed : state.unlisted ≡ true → was_listed asked ≡ false
   pub noted : (classes : List ClassId) → first_note parts ≡ Some classes → IsComplete state classes
   pub bound : binds_ahead parts ≡ false → AreAllBound state
@@ -57,26 +62,48 @@ pub record Binding (state : State) (parts : List Part) (queue : List Want) (aske
 abbrev pub IsBinding : Machine → Type 0
 IsBinding m = Binding m.state (parts_left m.hand) (queue_in m.hand) (asked_in m.hand)
 
--- a state that is the same for classes
+-- a state that is the same for classes, but for facts that were learnt
 pub record Same (next state : State) : Type 0 where
   pub unlisted : next.unlisted ≡ state.unlisted
   pub wanted : next.wishes.wanted ≡ state.wishes.wanted
-  pub classes : next.classes ≡ state.classes
+  pub loaded : next.classes.loaded ≡ state.classes.loaded
+  pub grows : Grows state.classes next.classes
 
-pub still_bound : (next state : State) → Same next state → AreAllBound state → AreAllBound next
-still_bound next state same h = rw (same.unlisted, same.wanted, same.classes) h
+pub as_before : (next state : State) → next.unlisted ≡ state.unlisted → next.wishes.wanted ≡ state.wishes.wanted
+    → next.classes ≡ state.classes → Same next state
+as_before next state unlisted wanted classes = record {
+  unlisted = unlisted;
+  wanted = wanted;
+  loaded = ap (λ (known : Known). known.loaded) classes;
+  grows = subst (Grows state.classes) (sym classes) (grows_itself state.classes);
+}
 
 pub still_complete : (next state : State) (classes : List ClassId) → Same next state → IsComplete state classes
     → IsComplete next classes
-still_complete next state classes same h = rw (same.unlisted, same.wanted, same.classes) h
+still_complete next state classes same h = (
+  same.unlisted ∙ h.0,
+  ap (λ (wanted : Wanted). need (sight_alone next.classes) (known_plan wanted (found_in next.classes))) same.wanted
+      ∙ found_still state.classes next.classes same.grows same.loaded state.wishes.wanted classes h.1,
+)
+
+pub still_bound : (next state : State) → Same next state → AreAllBound state → AreAllBound next
+still_bound next state same h =
+    let complete = still_complete next state h.found same (h.listed, h.none_lacking) in record {
+      listed = complete.0;
+      found = h.found;
+      none_lacking = complete.1;
+      bound = subst (λ (wanted : Wanted). All (IsBound next.classes wanted) h.found) (sym same.wanted)
+          (bound_still state.classes next.classes same.grows same.loaded state.wishes.wanted h.found h.none_lacking
+          h.bound);
+    }
 
 -- nothing of the item in hand changes
 pub still_binding : {state : State} {parts : List Part} {queue : List Want} {asked : List Sent} (next : State)
     → Same next state → (needs_watches parts ≡ true → WatchesSet state.wishes → WatchesSet next.wishes)
     → Binding state parts queue asked → Binding next parts queue asked
-still_binding {state} next same sets h = record {
+still_binding {state} {asked = asked} next same sets h = record {
   watches = λ needs. sets needs (h.watches needs);
-  learnt = rw same.classes h.learnt;
+  learnt = still_learnt state.classes next.classes same.grows asked h.learnt;
   waits = h.waits;
   ahead = h.ahead;
   listed = λ is. h.listed (sym same.unlisted ∙ is);
@@ -86,10 +113,10 @@ still_binding {state} next same sets h = record {
 
 -- One part ------------------------------------------------------------------------------------------------------------
 
--- where a part is done nothing of classes is awaited or to be asked
+-- where a part is done no list of classes is awaited or to be asked for
 pub record IsClear (queue : List Want) (asked : List Sent) : Type 0 where
-  pub none_awaits : awaits_classes asked ≡ false
-  pub none_queued : queues_classes queue ≡ false
+  pub none_awaits : awaits_listing asked ≡ false
+  pub none_queued : queues_listing queue ≡ false
 
 pub clear_now : (m : Machine) (hand : Hand) → load_of m ≡ clear → is_gone m.state.phase ≡ false → m.hand ≡ Some hand
     → IsClear hand.queue hand.asked
@@ -97,8 +124,9 @@ clear_now m hand free near is = let f = is_free m hand free near is in
     record { none_awaits = none_awaits hand.asked f.silent; none_queued = none_queued hand.queue f.no_queue }
 
 pub quiet : {queue : List Want} {asked : List Sent} {A : Type 0} → IsClear queue asked
-    → (awaits_classes asked || queues_classes queue) ≡ true → A
-quiet {queue} {asked} c is = absurd (by_tests (awaits_classes asked) (queues_classes queue) c.none_awaits c.none_queued is)
+    → (awaits_listing asked || queues_listing queue) ≡ true → A
+quiet {queue} {asked} c is =
+    absurd (by_tests (awaits_listing asked) (queues_listing queue) c.none_awaits c.none_queued is)
   where
     by_tests : (awaits queues : Bool) → awaits ≡ false → queues ≡ false → ¬ ((awaits || queues) ≡ true)
     by_tests awaits queues a q is = grind (arith, a, q, is)
@@ -151,9 +179,9 @@ pub goes_by : {state : State} {queue : List Want} {asked : List Sent} (next : St
     → (needs_watches rest ≡ true → (needs_watches (part ∷ rest) ≡ true → WatchesSet state.wishes)
     → WatchesSet next.wishes)
     → Binding state (part ∷ rest) queue asked → Binding next now queue asked
-goes_by {state} next part rest now same c other placed like sets h = record {
+goes_by {state} {asked = asked} next part rest now same c other placed like sets h = record {
   watches = λ needs. sets (sym like.needs ∙ needs) h.watches;
-  learnt = rw same.classes h.learnt;
+  learnt = still_learnt state.classes next.classes same.grows asked h.learnt;
   waits = λ is. quiet c is;
   ahead = λ asks. let none = like.ahead ∙ sym (ahead_rest part rest other) ∙ h.ahead asks
       ∙ front_none part rest other in none ∙ sym (none_ahead now none);
@@ -173,16 +201,16 @@ leaves_watches state next part rest other no_update same needs h =
 -- Tables: what is the same for classes ---------------------------------------------------------------------------------
 
 pub told_same : (outcome : Outcome) (state : State) → Same (numbered_by outcome state) state
-told_same outcome state = record { unlisted = grind arith; wanted = grind arith; classes = grind arith }
+told_same outcome state = as_before (numbered_by outcome state) state (grind arith) (grind arith) (grind arith)
 
 pub event_same : (event : Event) (state : State) → Same (after_event event state) state
-event_same event state = record { unlisted = grind arith; wanted = grind arith; classes = grind arith }
+event_same event state = as_before (after_event event state) state (grind arith) (grind arith) (grind arith)
 
 pub event_wishes : (event : Event) (state : State) → (after_event event state).wishes ≡ state.wishes
 event_wishes event state = grind arith
 
 pub itself : (state : State) → Same state state
-itself state = record { unlisted = refl; wanted = refl; classes = refl }
+itself state = as_before state state refl refl refl
 
 -- The look-up of classes ----------------------------------------------------------------------------------------------
 
@@ -264,29 +292,32 @@ unlisted_waits state hand unlisted none =
 -- What is to be asked -------------------------------------------------------------------------------------------------
 
 pub queued_more : (asked : List Sent) (queue wants : List Want) → All (λ want. wants_other want ≡ true) wants
-    → queues_classes queue ≡ false → queues_classes (with_wants asked queue wants) ≡ false
+    → queues_listing queue ≡ false → queues_listing (with_wants asked queue wants) ≡ false
 queued_more asked queue [] h none = none
 queued_more asked queue (want ∷ wants) h none = queued_more asked (with_want asked queue want) wants h.1
     (by_test (is_waiting (question_of want) asked || is_listed (question_of want) queue))
   where
-    last_one : (queue : List Want) → queues_classes queue ≡ false → queues_classes (queue ++ want ∷ []) ≡ false
-    last_one [] none = rw (not_true (tells_classes (question_of want)) h.0) refl
+    last_one : (queue : List Want) → queues_listing queue ≡ false → queues_listing (queue ++ want ∷ []) ≡ false
+    last_one [] none = rw (not_true (is_listing (question_of want)) h.0) refl
       where
         not_true : (b : Bool) → not b ≡ true → b ≡ false
         not_true true is = cc
         not_true false is = refl
     last_one (first ∷ queue) none = grind (arith, none, last_one queue)
 
-    by_test : (there : Bool) → queues_classes (cond there queue (queue ++ want ∷ [])) ≡ false
+    by_test : (there : Bool) → queues_listing (cond there queue (queue ++ want ∷ [])) ≡ false
     by_test true = none
     by_test false = last_one queue none
 
--- only the look-up of classes asks for them
+-- only the look-up of classes asks for a list of them
 pub lacked_other : (state : State) (hand : Hand) (parts : List Part) → looks_first parts ≡ false
     → All (λ want. wants_other want ≡ true) (lacked_by state hand parts)
 lacked_other state hand [] none = tt
 lacked_other state hand (Part.Looks all_threads ∷ rest) none =
     plan_lacks wants_other (sight_of state hand) threads_plan threads_wants
+lacked_other state hand (Part.Looks (thread_frames thread start levels) ∷ rest) none =
+    plan_lacks wants_other (sight_of state hand) (frames_plan state thread start levels)
+    (frames_wants state thread start levels)
 lacked_other state hand (Part.Looks class_facts ∷ rest) none = cc
 lacked_other state hand (Part.Awaits guard ∷ rest) none = guards guard
   where
@@ -324,23 +355,23 @@ queues_on {state} hand h = record {
     or_left a b is = rw is refl
 
     by_first : (first : Bool) → looks_first hand.parts ≡ first
-        → (awaits_classes hand.asked || queues_classes (with_wants hand.asked [] (lacked_by state hand hand.parts)))
+        → (awaits_listing hand.asked || queues_listing (with_wants hand.asked [] (lacked_by state hand hand.parts)))
         ≡ true → first ≡ true
     by_first true front is = refl
     by_first false front is =
         let none = queued_more hand.asked [] (lacked_by state hand hand.parts)
         (lacked_other state hand hand.parts front) refl in
-        let waits = only_awaits (awaits_classes hand.asked) _ none is in
-        sym front ∙ h.waits (or_left (awaits_classes hand.asked) (queues_classes hand.queue) waits)
+        let waits = only_awaits (awaits_listing hand.asked) _ none is in
+        sym front ∙ h.waits (or_left (awaits_listing hand.asked) (queues_listing hand.queue) waits)
 
 -- a question goes
 pub last_asked : (asked : List Sent) (want : Want)
-    → (awaits_classes (asked ++ record { want = want; reply = None } ∷ [])
-    ≡ (awaits_classes asked || tells_classes (question_of want)))
-    × (asks_classes (asked ++ record { want = want; reply = None } ∷ [])
-    ≡ (asks_classes asked || tells_classes (question_of want)))
+    → (awaits_listing (asked ++ record { want = want; reply = None } ∷ [])
+    ≡ (awaits_listing asked || is_listing (question_of want)))
+    × (asks_listing (asked ++ record { want = want; reply = None } ∷ [])
+    ≡ (asks_listing asked || is_listing (question_of want)))
     × (was_listed (asked ++ record { want = want; reply = None } ∷ []) ≡ was_listed asked)
-last_asked [] want = (or_false (tells_classes (question_of want)), or_false (tells_classes (question_of want)), refl)
+last_asked [] want = (or_false (is_listing (question_of want)), or_false (is_listing (question_of want)), refl)
 last_asked (sent ∷ asked) want = let (awaits, asks, listed) = last_asked asked want in (
   grind (arith, awaits),
   grind (arith, asks),
@@ -358,28 +389,28 @@ pub asks_on : {state : State} {parts : List Part} {want : Want} {wants : List Wa
 asks_on {state} {parts} {want} {wants} {asked} h = record {
   watches = h.watches;
   learnt = learnt_last state.classes asked want h.learnt;
-  waits = λ is. h.waits (by_tests (awaits_classes asked) (tells_classes (question_of want)) (queues_classes wants)
-      (ap (λ b. b || queues_classes wants) (sym (last_asked asked want).0) ∙ is));
-  ahead = λ asks. by_ahead (asks_classes asked) refl (tells_classes (question_of want)) refl
+  waits = λ is. h.waits (by_tests (awaits_listing asked) (is_listing (question_of want)) (queues_listing wants)
+      (ap (λ b. b || queues_listing wants) (sym (last_asked asked want).0) ∙ is));
+  ahead = λ asks. by_ahead (asks_listing asked) refl (is_listing (question_of want)) refl
       (sym (last_asked asked want).1 ∙ asks);
   listed = λ is. (last_asked asked want).2 ∙ h.listed is;
   noted = h.noted;
   bound = h.bound;
 }
   where
-    by_tests : (awaits tells queues : Bool) → ((awaits || tells) || queues) ≡ true
-        → (awaits || (tells || queues)) ≡ true
-    by_tests awaits tells queues is = grind (arith, is)
+    by_tests : (awaits lists queues : Bool) → ((awaits || lists) || queues) ≡ true
+        → (awaits || (lists || queues)) ≡ true
+    by_tests awaits lists queues is = grind (arith, is)
 
     in_front : (parts : List Part) → looks_first parts ≡ true → looks_ahead parts ≡ looks_first parts
     in_front [] is = refl
     in_front (part ∷ parts) is = grind (arith, is)
 
-    by_ahead : (asks : Bool) → asks_classes asked ≡ asks → (tells : Bool) → tells_classes (question_of want) ≡ tells
-        → (asks || tells) ≡ true → looks_ahead parts ≡ looks_first parts
-    by_ahead true is tells told some = h.ahead is
+    by_ahead : (asks : Bool) → asks_listing asked ≡ asks → (lists : Bool) → is_listing (question_of want) ≡ lists
+        → (asks || lists) ≡ true → looks_ahead parts ≡ looks_first parts
+    by_ahead true is lists told some = h.ahead is
     by_ahead false is true told some =
-        in_front parts (h.waits (or_right (awaits_classes asked) _ (rw told refl)))
+        in_front parts (h.waits (or_right (awaits_listing asked) _ (rw told refl)))
       where
         or_right : (a b : Bool) → b ≡ true → (a || b) ≡ true
         or_right true b is = refl

@@ -1,5 +1,5 @@
 -- What the look-up of classes asks: facts of classes alone, which are heard alike from what is known and from replies.
-use Rattle.std.proofs.Common.{◌≡◌, ℕ, suc, Bool, true, false, cond, not, List, [], ◌∷◌, Option, Some, None}
+use Rattle.std.proofs.Common.{◌≡◌, ℕ, zero, suc, Bool, true, false, cond, not, List, [], ◌∷◌, Option, Some, None}
 use Rattle.std.proofs.Common.{refl, sym, ap, ◌∙◌}
 use Rattle.std.specs.List.{AllByRecursion as All}
 use Rattle.class_tables.specs.Facts.{Known}
@@ -14,29 +14,29 @@ use Rattle.machine_model.specs.Classes.{package_plan, prepared_plan, watched_pla
 use Rattle.machine_model.specs.Facts.{fact_known, methods_in, source_in}
 use Rattle.machine_model.specs.Lookups.{name_plan, names_plan, threads_in, threads_plan}
 use Rattle.machine_model.specs.Names.{Answer, Question, Replied, Sent, Want, an_answer, an_error}
+use Rattle.machine_model.specs.Names.{ThreadId, frames_found}
 use Rattle.machine_model.specs.Plans.{Found, Need, Plan, Sight, after, asking, asks_for, beside, chained, each}
 use Rattle.machine_model.specs.Plans.{fact_heard, fails, found_at, found_from, gives, has, heard_of, joined, lacking}
 use Rattle.machine_model.specs.Plans.{lacks, made_with, need, pairs, question_of, wants, must_by, must_hear, may_hear}
-use Rattle.machine_model.specs.State.{is_some}
+use Rattle.machine_model.specs.Plans.{both}
+use Rattle.machine_model.specs.State.{State, is_some}
 use Rattle.machine_model.proofs.IdRows.{all_joined}
 use Rattle.machine_model.proofs.KeyLaws.{is_one}
 use Rattle.wish_sets.specs.Places.{key_by}
 use Rattle.wish_sets.specs.Wanted.{Wanted}
 use Rattle.wish_sets.specs.Wished.{is_watched}
 use Rattle.machine_model.proofs.PlanIds.{after_like}
+use Rattle.machine_model.specs.Frames.{count_from, count_in, counted_plan, frame_plan, frame_shown, frames_from, frames_plan}
+use Rattle.machine_model.specs.Frames.{lines_plan as lines_of, methods_plan as methods_of, shown_plan, signature_plan as signature_of}
+use Rattle.machine_model.specs.Frames.{source_plan as source_of}
+use Rattle.jdwp_commands.specs.declared.listed.Frame.{Frame}
 
 -- Questions -----------------------------------------------------------------------------------------------------------
 
--- its reply changes what is known of classes
-abbrev pub tells_classes : Question → Bool
-tells_classes questions.AllClasses = true
-tells_classes (questions.SourceFile class) = true
-tells_classes (questions.Methods class) = true
-tells_classes (questions.Fields class) = true
-tells_classes (questions.Superclass class) = true
-tells_classes (questions.LineTable class method) = true
-tells_classes (questions.VariableTable class method) = true
-tells_classes _ = false
+-- it asks for a list of all classes
+abbrev pub is_listing : Question → Bool
+is_listing questions.AllClasses = true
+is_listing _ = false
 
 -- it asks for a fact that breakpoints are bound by
 abbrev pub is_fact : Question → Bool
@@ -50,9 +50,9 @@ abbrev pub wants_fact : Want → Bool
 wants_fact (Want.Fact question) = is_fact question
 wants_fact _ = false
 
--- a want whose reply changes nothing of classes
+-- a want of anything else
 abbrev pub wants_other : Want → Bool
-wants_other want = not (tells_classes (question_of want))
+wants_other want = not (is_listing (question_of want))
 
 -- Plans ---------------------------------------------------------------------------------------------------------------
 
@@ -122,12 +122,35 @@ known_wants wanted known = makes wants_fact joined (each (λ class. class_plan w
     (every wants_fact (λ class. class_plan wanted class (known.loaded class))
     (λ class. class_wants wanted class (known.loaded class)) known.order)
 
--- that of threads wants nothing of classes
+-- that of threads wants no list of classes
 pub threads_wants : AllWants wants_other threads_plan
 threads_wants = chains wants_other (asking threads_in (Want.Must questions.AllThreads)) names_plan
     (asks wants_other threads_in (Want.Must questions.AllThreads) refl)
     (λ threads. makes wants_other _ (each name_plan threads)
     (every wants_other name_plan (λ thread. asks wants_other _ (Want.May (questions.ThreadName thread)) refl) threads))
+
+-- nor does that of frames list classes
+frame_wants : (state : State) (thread : ThreadId) (frame : Frame) → AllWants wants_other (frame_plan state thread frame)
+unfolding AllWants
+frame_wants state thread frame = makes wants_other (frame_shown state thread frame)
+    (both (both (signature_of frame.at.class) (source_of frame.at.class))
+    (both (methods_of frame.at.class) (lines_of frame.at.class frame.at.method)))
+    (((refl, λ heard. tt), (refl, λ heard. tt), λ two. tt), ((refl, λ heard. tt), (refl, λ heard. tt), λ two. tt), λ two. tt)
+
+from_wants : (thread : ThreadId) (start count : ℕ) → AllWants wants_other (frames_from thread start count)
+unfolding AllWants
+from_wants thread start zero = tt
+from_wants thread start (suc count) = (refl, λ heard. tt)
+
+pub frames_wants : (state : State) (thread : ThreadId) (start levels : ℕ)
+    → AllWants wants_other (frames_plan state thread start levels)
+frames_wants state thread start levels = chains wants_other (asking count_in (Want.Must (questions.FrameCount thread)))
+    (counted_plan state thread start levels)
+    (asks wants_other count_in (Want.Must (questions.FrameCount thread)) refl)
+    (λ total. chains wants_other (frames_from thread start (count_from total start levels))
+    (shown_plan state thread total) (from_wants thread start (count_from total start levels))
+    (λ frames. makes wants_other (frames_found total) (each (frame_plan state thread) frames)
+    (every wants_other (frame_plan state thread) (frame_wants state thread) frames)))
 
 -- What is lacking -----------------------------------------------------------------------------------------------------
 

@@ -10,6 +10,7 @@ use Rattle.machine_model.specs.Lookups.{classes_of, finished, found_for}
 use Rattle.machine_model.specs.Names.{Choice, Classes, Clear, Configured, Decides, Does, Effect, EntryHeld, Finding}
 use Rattle.machine_model.specs.Names.{Leaves, Lines, Lookup, Note, Options, Part, Question, Replied, Roots, Sent, Set}
 use Rattle.machine_model.specs.Names.{TellsNews, Want, all_threads, an_effect, class_facts}
+use Rattle.machine_model.specs.Names.{thread_frames}
 use Rattle.machine_model.specs.Outcomes.{result_of}
 use Rattle.machine_model.specs.Plans.{Need, answer_in, need}
 use Rattle.machine_model.specs.Plans.{is_done}
@@ -18,14 +19,14 @@ use Rattle.machine_model.specs.Replying.{told_by, unless_failed}
 use Rattle.machine_model.specs.Requests.{Wishes, wishes_after}
 use Rattle.machine_model.specs.Rows.{chosen, news_of, noted}
 use Rattle.machine_model.specs.State.{Hand, State, is_some}
-use Rattle.machine_model.proofs.BindingFacts.{all_bound, fact_grows, fact_learnt, only_classes, same_known}
-use Rattle.machine_model.proofs.BindingHands.{asks_classes, asks_filled, awaited_is, awaits_classes, awaits_filled}
-use Rattle.machine_model.proofs.BindingHands.{binds_ahead, first_note, has_note, is_listing, is_placed}
+use Rattle.machine_model.proofs.BindingFacts.{all_bound, fact_learnt, only_classes, same_known}
+use Rattle.machine_model.proofs.BindingGrows.{Grows, grows_itself, learnt_grows, learnt_loaded}
+use Rattle.machine_model.proofs.BindingHands.{asks_listing, asks_filled, awaited_is, awaits_listing, awaits_filled}
+use Rattle.machine_model.proofs.BindingHands.{binds_ahead, first_note, has_note, is_placed}
 use Rattle.machine_model.proofs.BindingHands.{learnt_filled, listed_asks, listed_filled, looks_ahead}
 use Rattle.machine_model.proofs.BindingHands.{looks_first, needs_watches}
-use Rattle.machine_model.proofs.BindingHands.{queues_classes, was_listed}
-use Rattle.machine_model.proofs.BindingPlans.{is_fact}
-use Rattle.machine_model.proofs.BindingPlans.{tells_classes}
+use Rattle.machine_model.proofs.BindingHands.{queues_listing, was_listed}
+use Rattle.machine_model.proofs.BindingPlans.{is_fact, is_listing}
 use Rattle.machine_model.proofs.RequestLaws.{IsDue}
 use Rattle.machine_model.proofs.RequestSteps.{is_deed}
 use Rattle.machine_model.proofs.Tables.{decided_alike, starts_updates, told_alike}
@@ -35,7 +36,7 @@ use Rattle.machine_model.specs.Facts.{fact_known}
 use Rattle.wish_sets.specs.declared.entry.LineEntry.{LineEntry}
 use Rattle.machine_model.proofs.BindingWatches.{WatchesSet, due_unset, replied_set, known_set}
 use Rattle.machine_model.proofs.BindingWatches.{classes_alike}
-use Rattle.machine_model.proofs.BindingParts.{IsComplete, Binding, Same, still_bound, still_complete}
+use Rattle.machine_model.proofs.BindingParts.{IsComplete, Binding, Same, as_before, still_bound, still_complete}
 use Rattle.machine_model.proofs.BindingParts.{still_binding, IsClear, quiet}
 use Rattle.machine_model.proofs.BindingParts.{none_ahead, note_had, placed_note}
 use Rattle.machine_model.proofs.BindingParts.{AreLike, are_same, goes_by}
@@ -47,19 +48,15 @@ pub told_wishes : (question : Question) (replied : Replied) (state : State)
     → (told_by question replied state).wishes ≡ state.wishes
 told_wishes question replied state = grind arith
 
-pub other_reply : (question : Question) (replied : Replied) (state : State) → tells_classes question ≡ false
-    → Same (told_by question replied state) state
-other_reply question replied state is = record {
-  unlisted = grind (arith, is);
-  wanted = ap (λ (w : Wishes). w.wanted) (told_wishes question replied state);
-  classes = grind (arith, is);
-}
+told_grows : (question : Question) (replied : Replied) (state : State)
+    → Grows state.classes (told_by question replied state).classes
+told_grows questions.IdSizes replied state = grows_itself state.classes
+told_grows question replied state = learnt_grows question (answer_in replied) state.classes
 
-pub told_grows : (question : Question) (replied : Replied) (state : State) (fact : Question) → is_fact fact ≡ true
-    → is_some (fact_known (found_in state.classes) fact) ≡ true
-    → is_some (fact_known (found_in (told_by question replied state).classes) fact) ≡ true
-told_grows questions.IdSizes replied state fact is h = h
-told_grows question replied state fact is h = fact_grows question (answer_in replied) state.classes fact is h
+told_loaded : (question : Question) (replied : Replied) (state : State) → is_listing question ≡ false
+    → (told_by question replied state).classes.loaded ≡ state.classes.loaded
+told_loaded questions.IdSizes replied state is = refl
+told_loaded question replied state is = learnt_loaded question (answer_in replied) state.classes is
 
 pub told_learnt : (question : Question) (replied : Replied) (state : State) → is_fact question ≡ true
     → is_some (fact_known (found_in (told_by question replied state).classes) question) ≡ true
@@ -74,8 +71,18 @@ pub told_unlisted : (question : Question) (replied : Replied) (state : State) �
     → (told_by question replied state).unlisted ≡ state.unlisted
 told_unlisted question replied state is = grind (arith, is)
 
-pub fewer_queued : (failed : Bool) (queue : List Want) → queues_classes (unless_failed failed queue) ≡ true
-    → queues_classes queue ≡ true
+-- but for a list of all classes, a reply tells no more than facts
+pub other_reply : (question : Question) (replied : Replied) (state : State) → is_listing question ≡ false
+    → Same (told_by question replied state) state
+other_reply question replied state is = record {
+  unlisted = told_unlisted question replied state is;
+  wanted = ap (λ (w : Wishes). w.wanted) (told_wishes question replied state);
+  loaded = told_loaded question replied state is;
+  grows = told_grows question replied state;
+}
+
+pub fewer_queued : (failed : Bool) (queue : List Want) → queues_listing (unless_failed failed queue) ≡ true
+    → queues_listing queue ≡ true
 fewer_queued true queue is = cc
 fewer_queued false queue is = is
 
@@ -101,16 +108,17 @@ answers_on {state} {parts} {queue} {asked} question replied failed waits h = rec
   watches = λ needs. subst (λ (w : Wishes). WatchesSet w) (sym (told_wishes question replied state)) (h.watches needs);
   learnt = learnt_filled question replied state.classes (told_by question replied state).classes asked
       (told_grows question replied state) (told_learnt question replied state) h.learnt;
-  waits = λ is. h.waits (either_more _ _ (awaits_classes asked) (queues_classes queue)
+  waits = λ is. h.waits (either_more _ _ (awaits_listing asked) (queues_listing queue)
       (awaits_filled question replied asked) (fewer_queued failed queue) is);
   ahead = λ is. h.ahead (sym (asks_filled question replied asked) ∙ is);
   listed = λ is. by_listing (is_listing question) refl is;
-  noted = λ classes some. by_telling (tells_classes question) refl classes some;
-  bound = λ is. bound_by (tells_classes question) refl is;
+  noted = λ classes some. noted_by (is_listing question) refl classes some;
+  bound = λ is. bound_by (is_listing question) refl is;
 }
   where
-    front : tells_classes question ≡ true → looks_first parts ≡ true
-    front tells = h.waits (or_left (awaits_classes asked) (queues_classes queue) (awaited_is asked question waits tells))
+    front : is_listing question ≡ true → looks_first parts ≡ true
+    front lists =
+        h.waits (or_left (awaits_listing asked) (queues_listing queue) (awaited_is asked question waits lists))
 
     by_listing : (listing : Bool) → is_listing question ≡ listing → (told_by question replied state).unlisted ≡ true
         → was_listed (filled question replied asked) ≡ false
@@ -119,13 +127,13 @@ answers_on {state} {parts} {queue} {asked} question replied failed waits h = rec
     by_listing false is unlisted =
         listed_filled question replied asked is ∙ h.listed (sym (told_unlisted question replied state is) ∙ unlisted)
 
-    by_telling : (tells : Bool) → tells_classes question ≡ tells → (classes : List ClassId)
+    noted_by : (listing : Bool) → is_listing question ≡ listing → (classes : List ClassId)
         → first_note parts ≡ Some classes → IsComplete (told_by question replied state) classes
-    by_telling true is classes some = absurd (front_noted parts classes (front is) some)
-    by_telling false is classes some = still_complete (told_by question replied state) state classes
+    noted_by true is classes some = absurd (front_noted parts classes (front is) some)
+    noted_by false is classes some = still_complete (told_by question replied state) state classes
         (other_reply question replied state is) (h.noted classes some)
 
-    bound_by : (tells : Bool) → tells_classes question ≡ tells → binds_ahead parts ≡ false
+    bound_by : (listing : Bool) → is_listing question ≡ listing → binds_ahead parts ≡ false
         → AreAllBound (told_by question replied state)
     bound_by true is none = absurd (let no : true ≡ false = sym (front_binds parts (front is)) ∙ none in cc)
     bound_by false is none =
@@ -175,13 +183,13 @@ replies_on {state} {parts} {queue} {asked} effect replied due reply h = by_case 
         ⊎ ((path : List ℕ) × (effect ≡ Set (wishes.Watch path)))
         → Binding (done_by effect replied state) parts queue asked
     by_case (inl same) = still_binding (done_by effect replied state)
-        (record { unlisted = same; wanted = effect_wanted effect replied state.wishes; classes = refl })
+        (as_before (done_by effect replied state) state same (effect_wanted effect replied state.wishes) refl)
         (λ needs w. sets w) h
     by_case (inr (path, is)) =
         let starts = (due (ap is_deed is)).1 in
         let needs = needs_none path is (needs_watches parts) refl in
         let (ahead, first) = updates_first parts starts needs in
-        let none : asks_classes asked ≡ false = by_asks (asks_classes asked) refl ahead first in
+        let none : asks_listing asked ≡ false = by_asks (asks_listing asked) refl ahead first in
         record {
           watches = λ so. sets (h.watches so);
           learnt = h.learnt;
@@ -192,12 +200,12 @@ replies_on {state} {parts} {queue} {asked} effect replied due reply h = by_case 
           bound = λ none_ahead. absurd (let no : true ≡ false = sym (ahead_binds parts ahead) ∙ none_ahead in cc);
         }
       where
-        by_asks : (asks : Bool) → asks_classes asked ≡ asks → looks_ahead parts ≡ true → looks_first parts ≡ false
+        by_asks : (asks : Bool) → asks_listing asked ≡ asks → looks_ahead parts ≡ true → looks_first parts ≡ false
             → asks ≡ false
         by_asks true is ahead first = absurd (let no : true ≡ false = sym ahead ∙ h.ahead is ∙ first in cc)
         by_asks false is ahead first = refl
 
-        by_listed : (listed : Bool) → was_listed asked ≡ listed → asks_classes asked ≡ false → listed ≡ false
+        by_listed : (listed : Bool) → was_listed asked ≡ listed → asks_listing asked ≡ false → listed ≡ false
         by_listed true is none = absurd (let no : true ≡ false = sym (listed_asks asked is) ∙ none in cc)
         by_listed false is none = refl
 
@@ -222,10 +230,10 @@ chosen_like (Leaves exits) state hand rest =
     record { ahead = grind arith; needs = grind arith; notes = grind arith; binds = grind arith }
 
 -- behind a note of lines stands what binds them
-pub lines_behind : (key : Option (List ℕ)) (entries : List LineEntry) (rest : List Part)
-    → is_placed (Part.Notes (Lines key entries) ∷ rest) ≡ true
+pub lines_behind : (key : Option (List ℕ)) (path : List ℕ) (entries : List LineEntry) (rest : List Part)
+    → is_placed (Part.Notes (Lines key path entries) ∷ rest) ≡ true
     → (needs_watches rest ≡ false) × (binds_ahead rest ≡ true) × (has_note rest ≡ false)
-lines_behind key entries rest is = (grind (arith, is), grind (arith, is), grind (arith, is))
+lines_behind key path entries rest is = (grind (arith, is), grind (arith, is), grind (arith, is))
 
 pub looks_once : (rest : List Part) → is_placed (Part.Looks class_facts ∷ rest) ≡ true → looks_ahead rest ≡ false
 looks_once rest is = grind (arith, is)
@@ -233,11 +241,11 @@ looks_once rest is = grind (arith, is)
 pub none_noted : (parts : List Part) (classes : List ClassId) → has_note parts ≡ false → ¬ (first_note parts ≡ Some classes)
 none_noted parts classes none some = let no : true ≡ false = sym (note_had parts classes some) ∙ none in cc
 
-pub lines_on : {state : State} {queue : List Want} {asked : List Sent} (key : Option (List ℕ)) (entries : List LineEntry)
-    (rest : List Part) → IsClear queue asked → is_placed (Part.Notes (Lines key entries) ∷ rest) ≡ true
-    → Binding state (Part.Notes (Lines key entries) ∷ rest) queue asked
-    → Binding (noted (Lines key entries) state) rest queue asked
-lines_on key entries rest c is h = let (needs, binds, none) = lines_behind key entries rest is in record {
+pub lines_on : {state : State} {queue : List Want} {asked : List Sent} (key : Option (List ℕ))
+    (path : List ℕ) (entries : List LineEntry) (rest : List Part) → IsClear queue asked → is_placed (Part.Notes (Lines key path entries) ∷ rest) ≡ true
+    → Binding state (Part.Notes (Lines key path entries) ∷ rest) queue asked
+    → Binding (noted (Lines key path entries) state) rest queue asked
+lines_on key path entries rest c is h = let (needs, binds, none) = lines_behind key path entries rest is in record {
   watches = λ so. absurd (let no : false ≡ true = sym needs ∙ so in cc);
   learnt = h.learnt;
   waits = λ so. quiet c so;
@@ -277,21 +285,21 @@ pub notes_on : {state : State} {queue : List Want} {asked : List Sent} (note : N
     → Binding state (Part.Notes note ∷ rest) queue asked → Binding (noted note state) rest queue asked
 notes_on {state} (Options options) rest c is h =
     goes_by (noted (Options options) state) (Part.Notes (Options options)) rest rest
-    (record { unlisted = refl; wanted = refl; classes = refl }) c refl is (are_same rest)
+    (as_before (noted (Options options) state) state refl refl refl) c refl is (are_same rest)
     (λ needs w. w needs) h
 notes_on {state} (Roots roots) rest c is h =
     goes_by (noted (Roots roots) state) (Part.Notes (Roots roots)) rest rest
-    (record { unlisted = refl; wanted = refl; classes = refl }) c refl is (are_same rest)
+    (as_before (noted (Roots roots) state) state refl refl refl) c refl is (are_same rest)
     (λ needs w. w needs) h
 notes_on {state} EntryHeld rest c is h =
     goes_by (noted EntryHeld state) (Part.Notes EntryHeld) rest rest
-    (record { unlisted = refl; wanted = refl; classes = refl }) c refl is (are_same rest)
+    (as_before (noted EntryHeld state) state refl refl refl) c refl is (are_same rest)
     (λ needs w. w needs) h
 notes_on {state} Configured rest c is h =
     goes_by (noted Configured state) (Part.Notes Configured) rest rest
-    (record { unlisted = refl; wanted = refl; classes = refl }) c refl is (are_same rest)
+    (as_before (noted Configured state) state refl refl refl) c refl is (are_same rest)
     (λ needs w. w needs) h
-notes_on (Lines key entries) rest c is h = lines_on key entries rest c is h
+notes_on (Lines key path entries) rest c is h = lines_on key path entries rest c is h
 notes_on (Classes classes) rest c is h = classes_on classes rest c is h
 
 -- a look-up that is done
@@ -302,6 +310,10 @@ pub finds_on : {state : State} (hand : Hand) (lookup : Lookup) (found : Need Fin
     → Binding state (finished lookup (result_of found) state ++ rest) hand.queue hand.asked
 finds_on {state} hand all_threads found rest c is needs done h =
     goes_by state (Part.Looks all_threads) rest (finished all_threads (result_of found) state ++ rest) (itself state) c
+    refl is (record { ahead = refl; needs = refl; notes = refl; binds = refl }) (λ so w. w so) h
+finds_on {state} hand (thread_frames thread start levels) found rest c is needs done h =
+    goes_by state (Part.Looks (thread_frames thread start levels)) rest
+    (finished (thread_frames thread start levels) (result_of found) state ++ rest) (itself state) c
     refl is (record { ahead = refl; needs = refl; notes = refl; binds = refl }) (λ so w. w so) h
 finds_on {state} hand class_facts found rest c is needs done h = record {
   watches = λ so. h.watches refl;

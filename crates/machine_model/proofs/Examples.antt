@@ -1,6 +1,7 @@
 -- Worked examples, checked by computation.
 use Rattle.std.proofs.Common.{◌≡◌, ℕ, zero, suc, Bool, true, false, List, [], ◌∷◌, ◌++◌, Option, Some, None, refl, map}
 use Rattle.std.proofs.Common.{take, drop, arith}
+use Rattle.class_tables.specs.Facts.{nothing}
 use Rattle.dap_messages.specs.Telling.{target_gone}
 use Rattle.dap_messages.specs.declared.told.Event.TheVariants as events
 use Rattle.dap_messages.specs.declared.told.Outcome.TheVariants as outcomes
@@ -14,7 +15,7 @@ use Rattle.machine_model.specs.Names.{Act, Answer, Attach, Attached, Command, Di
 use Rattle.machine_model.specs.Names.{Exit, Gone, Question, Request, Set, TargetCommand, ThreadId, Threads}
 use Rattle.machine_model.specs.Names.{Want, a_question, an_answer, an_effect, an_error, an_event}
 use Rattle.machine_model.specs.Plans.{chained, each, made_with, need}
-use Rattle.machine_model.specs.Replying.{IsReply, answered, ended, pending_of}
+use Rattle.machine_model.specs.Replying.{IsReply, answered, ended, learnt, pending_of}
 use Rattle.machine_model.specs.Runs.{Allows, Message, greeting_heard, heard, said}
 use Rattle.machine_model.specs.State.{Hand, Machine, fresh}
 use Rattle.machine_model.specs.Telling.{response_to}
@@ -249,3 +250,17 @@ leaves_gone : (said_on 6 (ended false attached) ≡ Message.tells (an_event even
     × ((due false (drive 6 (heard gone_now (leave false)))).act ≡ Act.Over Done)
 unfolding due wanted load_of newly_lacked next_change wished
 leaves_gone = (refl, refl, refl)
+
+-- Facts of classes ----------------------------------------------------------------------------------------------------
+
+abbrev its_source : Question
+its_source = questions.SourceFile (record { 0 = 16 })
+
+abbrev source_read : Option Answer
+source_read = Some (answers.SourceFile (65 ∷ []))
+
+-- of two replies to a question for a fact the first counts, also where it is a refusal
+first_counts : (learnt its_source None (learnt its_source source_read nothing) ≡ learnt its_source source_read nothing)
+    × (learnt its_source source_read (learnt its_source None nothing) ≡ learnt its_source None nothing)
+    × ((learnt its_source source_read nothing).sources ≡ (record { 0 = 16 }, Some (65 ∷ [])) ∷ [])
+first_counts = (refl, refl, refl)

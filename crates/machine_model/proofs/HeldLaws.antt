@@ -14,6 +14,7 @@ use Rattle.machine_model.specs.Names.{Exit, Finding, Fresh, Gone, Hit, Item, Lea
 use Rattle.machine_model.specs.Names.{Resume, Set, StopCause, Stopping, Suspend, Suspension, TargetCommand, TellsNews}
 use Rattle.machine_model.specs.Names.{Want, a_composite, a_question, a_raw, a_request, a_stop, all_threads, an_effect}
 use Rattle.machine_model.specs.Names.{by_client, class_facts, of_composite, of_entry, of_stop, target_end}
+use Rattle.machine_model.specs.Names.{thread_frames}
 use Rattle.machine_model.specs.Pending.{bit}
 use Rattle.machine_model.specs.Plans.{Result}
 use Rattle.machine_model.specs.Replying.{given_up, hand_replied}
@@ -97,6 +98,7 @@ given_owes (Some hand) = gone_owes false (has_response hand.parts) hand.item
 pub found_owes : (stopped : Bool) (lookup : Lookup) (result : Result Finding) (state : State) (rest : List Part)
     → owed_in stopped (finished lookup result state ++ rest) ≡ owed_in stopped rest
 found_owes stopped all_threads result state rest = refl
+found_owes stopped (thread_frames thread start levels) result state rest = refl
 found_owes stopped class_facts result state rest = refl
 
 -- what is decided on a composite's suspension is one of three: a stop holds it, the entry does, or it is undone

@@ -18,6 +18,7 @@ use Rattle.machine_model.specs.Names.{Stopping, Suspend, Suspension, TargetComma
 use Rattle.machine_model.specs.Names.{Want}
 use Rattle.machine_model.specs.Names.{a_composite, a_question, a_raw, a_request, a_stop, all_threads, an_effect, by_client}
 use Rattle.machine_model.specs.Names.{class_facts, of_composite, of_entry, of_stop, some_news, target_end}
+use Rattle.machine_model.specs.Names.{thread_frames}
 use Rattle.machine_model.specs.Outcomes.{result_of}
 use Rattle.machine_model.specs.Plans.{Result}
 use Rattle.machine_model.specs.Replying.{given_up, hand_replied, replied_to}
@@ -143,6 +144,7 @@ found_may : (phase : Phase) (stopped entry : Bool) (lookup : Lookup) (result : R
     (rest : List Part)
     → may_all phase stopped entry (finished lookup result state ++ rest) ≡ may_all phase stopped entry rest
 found_may phase stopped entry all_threads result state rest = refl
+found_may phase stopped entry (thread_frames thread start levels) result state rest = refl
 found_may phase stopped entry class_facts result state rest = refl
 
 -- a stop that a composite tells is a hit
@@ -303,7 +305,7 @@ note_may_all EntryHeld state rest is = is
 note_may_all Configured state rest is = is
 note_may_all (Options options) state rest is = is
 note_may_all (Roots roots) state rest is = is
-note_may_all (Lines key entries) state rest is = is
+note_may_all (Lines key path entries) state rest is = is
 note_may_all (Classes classes) state rest is = is
 
 replied_may : (state : State) (command : TargetCommand) (replied : Replied) (hand : Option Hand)
@@ -424,7 +426,7 @@ lost_on m next said f h (Moves.notes {note = EntryHeld} free at) =
 lost_on m next said f h (Moves.notes {note = Configured} free at) = h
 lost_on m next said f h (Moves.notes {note = Options options} free at) = h
 lost_on m next said f h (Moves.notes {note = Roots roots} free at) = h
-lost_on m next said f h (Moves.notes {note = Lines key entries} free at) = h
+lost_on m next said f h (Moves.notes {note = Lines key path entries} free at) = h
 lost_on m next said f h (Moves.notes {note = Classes classes} free at) = h
 lost_on m next said f h (Moves.answers {question} {replied} is waits reply stays) =
     rw (

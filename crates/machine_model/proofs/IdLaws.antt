@@ -10,18 +10,21 @@ use Rattle.jdwp_commands.specs.Commands.{told_question}
 use Rattle.jdwp_commands.specs.declared.asked.Asked.TheVariants as commands
 use Rattle.machine_model.specs.Ids.{HasReadIds, Id, IsNull, WasRead, class, ids_asked, ids_given, ids_of_composite}
 use Rattle.machine_model.specs.Ids.{ids_read}
+use Rattle.machine_model.specs.Ids.{object}
 use Rattle.machine_model.specs.Names.{Classes, Clear, Deed, Dispose, Does, Effect, Exit, Item, Lines, Part, Question}
 use Rattle.machine_model.specs.Names.{Resume, Sent, Set, Success, Suspend, TargetCommand, Want, a_composite}
 use Rattle.machine_model.specs.Names.{a_question, a_raw, a_request, an_effect, target_end, thread_list}
+use Rattle.machine_model.specs.Names.{Initialized, Terminated, a_stop, all_threads, class_facts, entry_verified, some_news, thread_changed, thread_frames}
 use Rattle.machine_model.specs.Plans.{question_of}
 use Rattle.machine_model.specs.Requests.{Wishes, effect_due, effect_of}
 use Rattle.machine_model.specs.Runs.{Message, Run}
-use Rattle.machine_model.specs.State.{State, Machine, is_empty, is_gone, is_some, fresh, is_attached}
+use Rattle.machine_model.specs.State.{Hand, State, Machine, is_empty, is_gone, is_some, fresh, is_attached}
 use Rattle.wish_sets.specs.Wished.{wished}
 use Rattle.wish_sets.specs.Wishes.{EventRequest, clears, is_missing, is_surplus, next_change, sets}
 use Rattle.wish_sets.specs.declared.wish.Wish.{Wish}
 use Rattle.machine_model.proofs.IdRows.{all_weak, plain_fits}
-use Rattle.machine_model.proofs.ItemIds.{ItemStands, Waits, waiting_on}
+use Rattle.machine_model.proofs.ItemIds.{HandStands, Waits, waiting_on}
+use Rattle.machine_model.proofs.ThreadIds.{ItemStands, TellStands}
 use Rattle.machine_model.proofs.PlanIds.{IsAskable, IsAsked, IsReplied, IsWanted, OfNamed, OfThread, OnSome, is_sizes}
 use Rattle.machine_model.proofs.PlanIds.{OfClass}
 use Rattle.machine_model.proofs.Standing.{IsKept, Near, PartStands, asked_in, at_front, ids_said, left_in, queue_in}
@@ -41,7 +44,10 @@ module _ (P Q : Id → Type 0) (k : (id : Id) → P id → Q id) where
   weak_part : (part : Part) → PartStands P part → PartStands Q part
   weak_part (Part.Responds (Success (thread_list named))) h =
       all_weak (OfNamed P) (OfNamed Q) (λ one. k _) named h
-  weak_part (Part.Notes (Lines key entries)) h = h
+  weak_part (Part.Notes (Lines key path entries)) h = h
+  weak_part (Part.Looks all_threads) h = tt
+  weak_part (Part.Looks (thread_frames thread start levels)) h = k (object thread.0) h
+  weak_part (Part.Looks class_facts) h = tt
   weak_part (Part.Notes (Classes classes)) h = all_weak (OfClass P) (OfClass Q) (λ one. k _) classes h
   weak_part _ h = tt
 
@@ -94,7 +100,11 @@ pub record Standing (P : Id → Type 0) (messages : List Message) (m : Machine) 
   pub kept : IsKept P messages m
 
 weak_waits : (P Q : Id → Type 0) → ((id : Id) → P id → Q id) → (m : Machine) → Waits P m → Waits Q m
-weak_waits P Q k m w near = all_weak (ItemStands P) (ItemStands Q) each m.waiting (w near)
+weak_waits P Q k m w near = record {
+  waiting = all_weak (ItemStands P) (ItemStands Q) each m.waiting (w near).waiting;
+  held = by_hand m.hand (w near).held;
+  threads = all_weak (OfThread P) (OfThread Q) (λ thread. k (object thread.0)) m.state.threads (w near).threads;
+}
   where
     each : (item : Item) → ItemStands P item → ItemStands Q item
     each (a_request request) h = tt
@@ -102,11 +112,30 @@ weak_waits P Q k m w near = all_weak (ItemStands P) (ItemStands Q) each m.waitin
     each (a_raw at body) h = tt
     each target_end h = tt
 
+    tells : (part : Part) → TellStands P part → TellStands Q part
+    tells (Part.Tells (some_news (thread_changed started thread))) h = k (object thread.0) h
+    tells (Part.Tells (a_stop stopping)) h = k (object stopping.thread.0) h
+    tells (Part.Tells (some_news (entry_verified entry))) h = tt
+    tells (Part.Tells Initialized) h = tt
+    tells (Part.Tells Terminated) h = tt
+    tells (Part.Responds outcome) h = tt
+    tells (Part.Sends deed) h = tt
+    tells (Part.Looks lookup) h = tt
+    tells (Part.Awaits guard) h = tt
+    tells Part.Updates h = tt
+    tells (Part.Notes note) h = tt
+    tells (Part.Unfolds choice) h = tt
+    tells (Part.Ends finish) h = tt
+
+    by_hand : (hand : Option Hand) → HandStands P hand → HandStands Q hand
+    by_hand None h = tt
+    by_hand (Some hand) h = (each hand.item h.0, all_weak (TellStands P) (TellStands Q) tells hand.parts h.1)
+
 stands_next : {P : Id → Type 0} (messages : List Message) (m next : Machine) (said : Option Message) → P (class 0)
     → Standing P messages m → Moves m said next → (is_gone next.state.phase ≡ false → All P (ids_said said))
     → Standing P (with_said messages said) next
 stands_next {P} messages m next said null s move brought = record {
-  waits = waiting_on P m next said s.waits move brought;
+  waits = waiting_on P messages m next said s.waits s.kept move brought;
   kept = kept_on messages m next said null s.waits s.kept move brought;
 }
 
@@ -141,7 +170,7 @@ pub always_kept : {P : List Message → Id → Type 0} → IsIdTest P → {messa
     → Run messages m → IsKept (P messages) messages m
 always_kept {P} t r =
     (by_moves {Holds = λ (messages : List Message) (m : Machine). Standing (P messages) messages m} (record {
-      starts = record { waits = λ near. tt; kept = none_yet (P []) };
+      starts = record { waits = λ near. record { waiting = tt; held = tt; threads = tt }; kept = none_yet (P []) };
       moves = λ messages m next said s move. kept_next t messages m next said s move;
     }) r).kept
 
@@ -265,7 +294,13 @@ pub all_sent : {P : List Message → Id → Type 0} {Good : List Message → Tar
     → is_gone m.state.phase ≡ false → MaySend (P messages) (is_some m.state.sizes) command → Good messages command)
     → {messages : List Message} {m : Machine} → Run messages m → Sends P Good messages m
 all_sent {P} {Good} t good r = by_moves {Holds = Sends P Good} (record {
-  starts = record { stands = record { waits = λ near. tt; kept = none_yet (P []) }; sent = none_sent };
+  starts = record {
+    stands = record {
+      waits = λ near. record { waiting = tt; held = tt; threads = tt };
+      kept = none_yet (P []);
+    };
+    sent = none_sent;
+  };
   moves = λ messages m next said h move. record {
     stands = kept_next t messages m next said h.stands move;
     sent = more messages m next said h move;

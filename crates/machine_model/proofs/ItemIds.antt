@@ -1,5 +1,6 @@
 -- The ids in composites that wait for their turn were read, and so those of the classes that are learnt then.
-use Rattle.std.proofs.Common.{◌≡◌, Bool, true, false, cond, List, [], ◌∷◌, ◌++◌, Option, Some, None, refl, subst}
+use Rattle.std.proofs.Common.{◌≡◌, Bool, true, false, cond, List, [], ◌∷◌, ◌++◌, Option, Some, None, refl, subst, sym}
+use Rattle.std.proofs.Common.{option_map}
 use Rattle.std.specs.List.{AllByRecursion as All, flat_map}
 use Rattle.class_tables.specs.Facts.{Known}
 use Rattle.jdwp_commands.specs.declared.listed.LoadedClass.{LoadedClass}
@@ -8,26 +9,36 @@ use Rattle.jdwp_events.specs.declared.event.Event.TheVariants as happened
 use Rattle.jdwp_events.specs.declared.kind.Policy.{Policy}
 use Rattle.jdwp_events.specs.declared.kind.Policy.TheVariants.{NoThread, EventThread, All as AllThreads}
 use Rattle.machine_model.specs.Composites.{has_death, learnt_by, learnt_in, prepared_by, prepared_in, prepared_under}
-use Rattle.machine_model.specs.Due.{Picked, passed_by, pick}
+use Rattle.machine_model.specs.Due.{Picked, asked_hand, passed_by, pick}
 use Rattle.machine_model.specs.Ids.{Id, class, ids_of_composite, ids_of_event}
 use Rattle.machine_model.specs.Names.{Attached, Fresh, Gone, Item, Phase, a_composite, a_raw, a_request}
-use Rattle.machine_model.specs.Names.{target_end}
+use Rattle.machine_model.specs.Names.{Part, Replied, TargetCommand, ThreadId, Want, a_question, an_effect, target_end}
 use Rattle.machine_model.specs.Runs.{Message}
-use Rattle.machine_model.specs.State.{Machine, is_gone, is_raw}
+use Rattle.machine_model.specs.Outcomes.{result_of}
+use Rattle.machine_model.specs.Replying.{hand_replied}
+use Rattle.machine_model.specs.State.{Hand, Machine, is_gone, is_raw}
 use Rattle.machine_model.proofs.IdRows.{all_back, all_front, all_joined}
-use Rattle.machine_model.proofs.PlanIds.{AreKnown}
+use Rattle.machine_model.proofs.PlanIds.{AreKnown, OfThread}
 use Rattle.machine_model.proofs.RequestSteps.{near_before}
-use Rattle.machine_model.proofs.Standing.{ids_said}
+use Rattle.machine_model.proofs.Standing.{IsKept, at_front, ids_said}
 use Rattle.machine_model.proofs.StandingReplies.{loaded_known}
-use Rattle.machine_model.proofs.Stepping.{Moves}
+use Rattle.machine_model.proofs.Stepping.{IsAt, Moves}
+use Rattle.machine_model.proofs.ThreadIds.{ItemStands, TellStands, begun_tells, chosen_tells, event_threads, found_tells}
+use Rattle.machine_model.proofs.ThreadIds.{noted_threads, replied_threads, responded_threads, taken_threads}
 
-abbrev pub ItemStands : (Id → Type 0) → Item → Type 0
-ItemStands P (a_composite at composite) = All P (ids_of_composite composite)
-ItemStands P _ = Unit {0}
+-- the ids of the item in hand pass, and of the threads that it tells
+abbrev pub HandStands : (Id → Type 0) → Option Hand → Type 0
+HandStands P None = Unit {0}
+HandStands P (Some hand) = ItemStands P hand.item × All (TellStands P) hand.parts
 
--- while the target isn't gone, the ids in what waits pass
+-- while the target isn't gone, the ids in what waits and what is in hand pass, and those of threads that were told
+pub record AreItems (P : Id → Type 0) (m : Machine) : Type 0 where
+  pub waiting : All (ItemStands P) m.waiting
+  pub held : HandStands P m.hand
+  pub threads : All (OfThread P) m.state.threads
+
 abbrev pub Waits : (Id → Type 0) → Machine → Type 0
-Waits P m = is_gone m.state.phase ≡ false → All (ItemStands P) m.waiting
+Waits P m = is_gone m.state.phase ≡ false → AreItems P m
 
 -- What is learnt ------------------------------------------------------------------------------------------------------
 
@@ -123,7 +134,80 @@ waits_on P m next said h here (Moves.reads {at} {body} {composite} before after 
 waits_on P m next said h here (Moves.loses late away why) brought = cc
 waits_on P m next said h here _ brought = h
 
-pub waiting_on : (P : Id → Type 0) (m next : Machine) (said : Option Message) → Waits P m → Moves m said next
-    → (is_gone next.state.phase ≡ false → All P (ids_said said)) → Waits P next
-waiting_on P m next said h moved brought here =
-    waits_on P m next said (h (near_before m next said moved here)) here moved (brought here)
+-- What is in hand ----------------------------------------------------------------------------------------------------
+
+in_front : {P : Id → Type 0} {m : Machine} {hand : Hand} {part : Part} {rest : List Part} → AreItems P m
+    → IsAt m hand part rest → ItemStands P hand.item × TellStands P part × All (TellStands P) rest
+in_front {P} {m} {hand} h at =
+    let held = subst (λ (held : Option Hand). HandStands P held) at.in_hand h.held in
+    let tells = subst (λ (parts : List Part). All (TellStands P) parts) at.parts held.1 in
+    (held.0, tells.0, tells.1)
+
+replied_held : (P : Id → Type 0) (command : TargetCommand) (replied : Replied) (hand : Option Hand)
+    → HandStands P hand → HandStands P (option_map (hand_replied command replied) hand)
+replied_held P command replied None h = tt
+replied_held P (a_question question) replied (Some hand) h = h
+replied_held P (an_effect effect) replied (Some hand) h = h
+
+asked_held : (P : Id → Type 0) (want : Want) (hand : Option Hand) → HandStands P hand
+    → HandStands P (option_map (asked_hand want) hand)
+asked_held P want None h = tt
+asked_held P want (Some hand) h = h
+
+held_on : (P : Id → Type 0) (messages : List Message) (m next : Machine) (said : Option Message) → AreItems P m
+    → IsKept P messages m → is_gone next.state.phase ≡ false → Moves m said next → HandStands P next.hand
+    × All (OfThread P) next.state.threads
+held_on P messages m next said h k here (Moves.begins picked free none is) = (
+  (
+    (picked_stand P (is_gone m.state.phase) m.waiting picked is h.waiting).0,
+    begun_tells P m.state picked.item h.threads,
+  ),
+  taken_threads P picked.item m.state h.threads,
+)
+held_on P messages m next said h k here (Moves.drops free is none) = (tt, h.threads)
+held_on P messages m next said h k here (Moves.responds {outcome = outcome} free at is) =
+    let f = in_front h at in
+    let stands = ((at_front k at).near (near_before m next said (Moves.responds free at is) here)).parts.0 in
+    ((f.0, f.2), responded_threads P outcome m.state stands h.threads)
+held_on P messages m next said h k here (Moves.finds {hand} {rest} {lookup} found free at is done) =
+    let f = in_front h at in
+    ((f.0, found_tells P lookup (result_of found) m.state rest f.2), h.threads)
+held_on P messages m next said h k here (Moves.passes_over free at why) =
+    let f = in_front h at in ((f.0, f.2), h.threads)
+held_on P messages m next said h k here (Moves.tells {event = event} free at) =
+    let f = in_front h at in ((f.0, f.2), event_threads P event m.state f.1 h.threads)
+held_on P messages m next said h k here (Moves.sends free at is) =
+    let f = in_front h at in ((f.0, f.2), h.threads)
+held_on P messages m next said h k here (Moves.updates free at is near) =
+    let f = in_front h at in ((f.0, (tt, f.2)), h.threads)
+held_on P messages m next said h k here (Moves.greets free at is near) = (h.held, h.threads)
+held_on P messages m next said h k here (Moves.notes {note = note} free at) =
+    let f = in_front h at in
+    ((f.0, f.2), subst (λ (threads : List ThreadId). All (OfThread P) threads) (sym (noted_threads note m.state)) h.threads)
+held_on P messages m next said h k here (Moves.unfolds {hand} {choice} {rest} free at) =
+    let f = in_front h at in
+    ((f.0, chosen_tells P choice m.state hand rest f.0 f.2), h.threads)
+held_on P messages m next said h k here (Moves.queues free is) =
+    (subst (λ (held : Option Hand). HandStands P held) is h.held, h.threads)
+held_on P messages m next said h k here (Moves.asks {want = want} free room is are) =
+    (asked_held P want m.hand h.held, h.threads)
+held_on P messages m next said h k here (Moves.answers {question} {replied} is waits reply last) = (
+  replied_held P (a_question question) replied m.hand h.held,
+  subst (λ (threads : List ThreadId). All (OfThread P) threads)
+      (sym (replied_threads (a_question question) replied m.state)) h.threads,
+)
+held_on P messages m next said h k here (Moves.replies {effect} {replied} is flying reply last) =
+    (replied_held P (an_effect effect) replied m.hand h.held, h.threads)
+held_on P messages m next said h k here (Moves.loses late away why) = cc
+held_on P messages m next said h k here _ = (h.held, h.threads)
+
+pub waiting_on : (P : Id → Type 0) (messages : List Message) (m next : Machine) (said : Option Message) → Waits P m
+    → IsKept P messages m → Moves m said next → (is_gone next.state.phase ≡ false → All P (ids_said said))
+    → Waits P next
+waiting_on P messages m next said h k moved brought here =
+    let items = h (near_before m next said moved here) in
+    let held = held_on P messages m next said items k here moved in record {
+      waiting = waits_on P m next said items.waiting here moved (brought here);
+      held = held.0;
+      threads = held.1;
+    }

@@ -5,7 +5,7 @@ use Rattle.std.proofs.lemmas.Grind.{flat_map-append}
 use Rattle.jdwp_commands.specs.declared.question.Question.TheVariants as questions
 use Rattle.machine_model.specs.Knowing.{AreInOrder, AreSaid, IsKnown, View, breakpoints_in, class_said, closes}
 use Rattle.machine_model.specs.Knowing.{come_view, composite_in, dies, gone_view, has_last, held_in, held_with}
-use Rattle.machine_model.specs.Knowing.{is_farewell, is_fresh, learnt_view, may_be, may_tell, numbers_by}
+use Rattle.machine_model.specs.Knowing.{is_farewell, is_fresh, learnt_view, may_be, may_tell, newly_said, numbers_by}
 use Rattle.machine_model.specs.Knowing.{numbers_in_event, numbers_in_outcome, owed_by, owed_in, replied_view, says}
 use Rattle.machine_model.specs.Knowing.{says_dead, sizes_said, thread_numbers, told_view, turned_view, view_of}
 use Rattle.machine_model.specs.Knowing.{waiting_composites, watch_set, with_facts}
@@ -18,8 +18,10 @@ use Rattle.machine_model.specs.Names.{Question, Replied, Roots, Set, Success, Ta
 use Rattle.machine_model.specs.Names.{a_composite, a_question, a_raw, a_request, a_stop, an_answer, an_effect}
 use Rattle.machine_model.specs.Names.{an_event, breakpoint_list, entry_verified, some_news, target_end, thread_changed}
 use Rattle.machine_model.specs.Names.{thread_list}
+use Rattle.machine_model.specs.Names.{frame_list}
 use Rattle.machine_model.specs.Replying.{IsReply, ended_with, hand_replied, is_end, replied_to, sizes_in, unlisted_by}
-use Rattle.machine_model.specs.Replying.{wire}
+use Rattle.machine_model.specs.Replying.{knows_fact, learnt, still_unlisted, wire}
+use Rattle.machine_model.proofs.BindingFacts.{is_mapped}
 use Rattle.machine_model.specs.Rows.{chosen, end_parts, failure_of, noted, request_parts, wanting}
 use Rattle.machine_model.specs.Runs.{Message, Run, is_disconnect}
 use Rattle.machine_model.specs.State.{Hand, Machine, SizesRead, State, is_gone, knowing, left}
@@ -34,7 +36,8 @@ use Rattle.machine_model.proofs.Stepping.{IsAt, Loses, Moves, by_runs, with_said
 use Rattle.machine_model.proofs.Testing.{Passed, tested, whole}
 use Rattle.machine_model.specs.Classes.{classes_in, with_listed}
 use Rattle.machine_model.specs.Plans.{answer_in}
-use Rattle.class_tables.specs.Facts.{Known}
+use Rattle.class_tables.specs.Facts.{Fact, Known, same_class, same_method, with_fact}
+use Rattle.class_tables.specs.Tables.{under}
 use Rattle.jdwp_commands.specs.declared.listed.LoadedClass.{LoadedClass}
 use Rattle.jdwp_events.specs.declared.kind.Policy.TheVariants.{All, EventThread, NoThread}
 use Rattle.jdwp_events.specs.declared.kind.Policy.{Policy}
@@ -86,6 +89,34 @@ listed_is : (known : Known) (classes : List LoadedClass)
 listed_is known [] = refl
 listed_is known (class ∷ classes) = listed_is (with_listed known class) classes
 
+-- of a fact the first reply is learnt
+facts_are : (question : Question) (heard : Option Answer) (known : Known)
+    → learnt question heard known ≡ with_facts (newly_said question heard known) known
+facts_are question heard known = by_question question
+  where
+    once : (knows said : Bool) → knows ≡ said → (fact : Fact)
+        → cond knows known (with_fact fact known) ≡ with_facts (cond said [] (fact ∷ [])) known
+    once true true same fact = refl
+    once true false same fact = cc
+    once false true same fact = cc
+    once false false same fact = refl
+
+    either : (knows : Bool) → cond knows known known ≡ known
+    either true = refl
+    either false = refl
+
+    by_question : (question : Question)
+        → learnt question heard known ≡ with_facts (newly_said question heard known) known
+    by_question questions.AllClasses = listed_is known (classes_in heard)
+    by_question (questions.Signature c) = either (knows_fact (questions.Signature c) known)
+    by_question (questions.SourceFile c) = once _ _ (is_mapped _ (under same_class c known.sources)) _
+    by_question (questions.Methods c) = once _ _ (is_mapped _ (under same_class c known.methods)) _
+    by_question (questions.Fields c) = once _ _ (is_mapped _ (under same_class c known.fields)) _
+    by_question (questions.Superclass c) = once _ _ (is_mapped _ (under same_class c known.supers)) _
+    by_question (questions.LineTable c m) = once _ _ (is_mapped _ (under same_method (c, m) known.lines)) _
+    by_question (questions.VariableTable c m) = once _ _ (is_mapped _ (under same_method (c, m) known.variables)) _
+    by_question _ = refl
+
 -- what a question's reply makes known
 learnt_is : (m : Machine) (question : Question) (replied : Replied)
     → IsReply m.state.sizes (a_question question) replied
@@ -93,13 +124,12 @@ learnt_is : (m : Machine) (question : Question) (replied : Replied)
     → record (view_of (record m { state = replied_to (a_question question) replied m.state })) {
       held = held_in m.state m.hand;
     } ≡ learnt_view (a_question question) replied (view_of m)
-learnt_is m questions.AllClasses replied reply here =
-    ap (λ (known : Known). record (view_of m) { classes = known; unlisted = false })
-    (listed_is m.state.classes (classes_in (answer_in replied)))
 learnt_is m questions.IdSizes replied reply here =
     ap (λ (sizes : Option SizesRead). record (view_of m) { sizes = sizes })
     (sizes_are m.state.sizes m.state.sizes replied reply here)
-learnt_is m question replied reply here = refl
+learnt_is m question replied reply here =
+    ap (λ (known : Known). record (view_of m) { classes = known; unlisted = still_unlisted question m.state.unlisted })
+    (facts_are question (answer_in replied) m.state.classes)
 
 -- and what an effect's does
 watch_is : (effect : Effect) (replied : Replied) (unlisted : Bool)
@@ -119,6 +149,7 @@ response_view (Success Nothing) m = refl
 response_view (Success Capabilities) m = refl
 response_view (Success (breakpoint_list rooted listed)) m = refl
 response_view (Success Continued) m = refl
+response_view (Success (frame_list total frames)) m = refl
 response_view (Success (thread_list named)) m = refl
 response_view (Failed failure) m = refl
 
@@ -136,8 +167,8 @@ note_view m next hand (Options options) rest h at =
 note_view m next hand (Roots roots) rest h at =
     held_as m (left (knowing m (noted (Roots roots) m.state)) hand rest)
     (sym (held_front at)) (sym (dies_front at)) refl
-note_view m next hand (Lines key entries) rest h at =
-    held_as m (left (knowing m (noted (Lines key entries) m.state)) hand rest)
+note_view m next hand (Lines key path entries) rest h at =
+    held_as m (left (knowing m (noted (Lines key path entries) m.state)) hand rest)
     (sym (held_front at)) (sym (dies_front at)) refl
 note_view m next hand (Classes classes) rest h at =
     held_as m (left (knowing m (noted (Classes classes) m.state)) hand rest)
@@ -532,6 +563,7 @@ outcome_numbers numbers (Failed failure) state = no_numbers numbers state.thread
 outcome_numbers numbers (Success Nothing) state = no_numbers numbers state.threads
 outcome_numbers numbers (Success Capabilities) state = no_numbers numbers state.threads
 outcome_numbers numbers (Success Continued) state = no_numbers numbers state.threads
+outcome_numbers numbers (Success (frame_list total frames)) state = no_numbers numbers state.threads
 outcome_numbers numbers (Success (breakpoint_list rooted listed)) state = no_numbers numbers state.threads
 outcome_numbers numbers (Success (thread_list named)) state = record {
   distinct = distinct_with state.threads named;
@@ -561,7 +593,7 @@ note_numbers numbers (Options options) state = no_numbers numbers state.threads
 note_numbers numbers EntryHeld state = no_numbers numbers state.threads
 note_numbers numbers Configured state = no_numbers numbers state.threads
 note_numbers numbers (Roots roots) state = no_numbers numbers state.threads
-note_numbers numbers (Lines key entries) state = no_numbers numbers state.threads
+note_numbers numbers (Lines key path entries) state = no_numbers numbers state.threads
 note_numbers numbers (Classes classes) state = no_numbers numbers state.threads
 
 same_threads : (command : TargetCommand) (replied : Replied) (state : State)

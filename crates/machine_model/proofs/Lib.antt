@@ -1,16 +1,20 @@
 pub mod AskedLaws
 pub mod BindingFacts
+pub mod BindingGrows
 pub mod BindingHands
 pub mod BindingLaws
 pub mod BindingParts
 pub mod BindingPlans
 pub mod BindingReplies
+pub mod BindingSeen
 pub mod BindingWatches
 pub mod BreakpointExamples
 pub mod CommandLemmas
 pub mod EarlyItems
 pub mod EventLaws
 mod Examples
+mod FrameExamples
+pub mod FrameLaws
 pub mod HandshakeLaws
 pub mod HeldLaws
 pub mod HoldingParts
@@ -54,6 +58,7 @@ pub mod Tables
 pub mod Testing
 pub mod ToldLaws
 pub mod ToldParts
+pub mod ThreadIds
 pub mod TurnLaws
 pub mod VerifiedLaws
 pub mod WaitingLaws

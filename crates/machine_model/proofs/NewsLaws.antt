@@ -25,6 +25,7 @@ use Rattle.machine_model.specs.Names.{Fresh, Gone, Initialized, Item, Leaves, Lo
 use Rattle.machine_model.specs.Names.{Replied, Set, TellsNews, Terminated, a_composite, a_question, a_raw, a_request}
 use Rattle.machine_model.specs.Names.{a_stop, all_threads, an_effect, an_event, class_facts, entry_verified, some_news}
 use Rattle.machine_model.specs.Names.{target_end, thread_changed}
+use Rattle.machine_model.specs.Names.{thread_frames}
 use Rattle.machine_model.specs.Outcomes.{result_of}
 use Rattle.machine_model.specs.Plans.{Result}
 use Rattle.machine_model.specs.Replying.{given_up, told_by}
@@ -90,6 +91,7 @@ begun_untold state (a_raw at body) = refl
 found_same : (lookup : Lookup) (result : Result Finding) (state : State) (rest : List Part)
     → has_told (finished lookup result state ++ rest) ≡ has_told rest
 found_same all_threads result state rest = refl
+found_same (thread_frames thread start levels) result state rest = refl
 found_same class_facts result state rest = refl
 
 given_untold : (ids : List ℕ) (w : Wishes) (hand : Option Hand) → AreNews ids w (parts_left (option_map given_up hand))

@@ -357,7 +357,7 @@ noted_same : (note : Note) (state : State) (rest : List Part) → stand_last (Pa
 noted_same (Roots roots) state rest last = refl
 noted_same EntryHeld state rest last = refl
 noted_same Configured state rest last = refl
-noted_same (Lines key entries) state rest last = refl
+noted_same (Lines key path entries) state rest last = refl
 noted_same (Classes classes) state rest last = refl
 noted_same (Options options) state rest last = by_bool (has_response rest) last
   where

@@ -1,6 +1,6 @@
 -- What a look-up lacks is asked with ids that its sight has: once over plans, and by row what its plan says.
 use Rattle.std.proofs.Common.{◌≡◌, ℕ, suc, Bool, true, false, cond, not, List, [], ◌∷◌, Option, Some, None, refl}
-use Rattle.std.proofs.Common.{sym, subst, ◌∙◌, option_map}
+use Rattle.std.proofs.Common.{sym, subst, ◌∙◌, option_map, zero, pos}
 use Rattle.std.specs.List.{AllByRecursion as All, flat_map}
 use Rattle.class_tables.specs.Facts.{Known, same_class}
 use Rattle.class_tables.specs.Lookups.{found_in}
@@ -13,14 +13,19 @@ use Rattle.jdwp_values.specs.Classes.{field_row, method_row}
 use Rattle.jdwp_values.specs.declared.class.Field.{Field}
 use Rattle.jdwp_values.specs.declared.class.Method.{Method}
 use Rattle.jdwp_values.specs.declared.id.ClassId.{ClassId}
-use Rattle.machine_model.specs.Facts.{fact_known, fact_of, methods_in, source_in}
+use Rattle.jdwp_commands.specs.declared.listed.Frame.{Frame}
+use Rattle.machine_model.specs.Facts.{fact_known, fact_of, lines_in, methods_in, signature_in, source_in}
+use Rattle.machine_model.specs.Frames.{count_from, count_in, counted_plan, frame_plan, frame_shown, frames_from}
+use Rattle.machine_model.specs.Frames.{frames_in, frames_plan, lines_plan as lines_of, methods_plan as methods_of}
+use Rattle.machine_model.specs.Frames.{shown_plan, signature_plan as signature_of, source_plan as source_of}
 use Rattle.machine_model.specs.Ids.{Id, class, ids_answered, ids_asked, ids_of, ids_replied, method, object}
 use Rattle.machine_model.specs.Keys.{same_question}
 use Rattle.machine_model.specs.Lookups.{name_plan, named_by, names_plan, plan, threads_in, threads_plan}
 use Rattle.machine_model.specs.Names.{Answer, Finding, Lookup, NamedThread, Question, Replied, Sent, ThreadId, Want}
 use Rattle.machine_model.specs.Names.{all_threads, an_answer, an_error, threads_found, classes_found, class_facts}
+use Rattle.machine_model.specs.Names.{frames_found, thread_frames}
 use Rattle.machine_model.specs.Plans.{Found, Need, Plan, Sight, after, answer_in, asking, asks_for, beside, chained}
-use Rattle.machine_model.specs.Plans.{each, fact_heard, fails, found_at, found_from, gives, has, heard_of, lacks}
+use Rattle.machine_model.specs.Plans.{both, each, fact_heard, fails, found_at, found_from, gives, has, heard_of, lacks}
 use Rattle.machine_model.specs.Plans.{made_with, may_hear, must_hear, need, pairs, question_of, wants, joined}
 use Rattle.machine_model.specs.State.{State}
 use Rattle.machine_model.proofs.IdRows.{all_joined, are_plain, none_in}
@@ -257,6 +262,16 @@ OfNamed P named = P (object named.thread.0)
 abbrev pub IsGood : (Id → Type 0) → Finding → Type 0
 IsGood P (threads_found named) = All (OfNamed P) named
 IsGood P (classes_found classes) = All (OfClass P) classes
+IsGood P (frames_found total frames) = Unit {0}
+
+-- what a look-up is of
+abbrev pub OfLookup : (Id → Type 0) → Lookup → Type 0
+OfLookup P all_threads = Unit {0}
+OfLookup P (thread_frames thread start levels) = OfThread P thread
+OfLookup P class_facts = Unit {0}
+
+abbrev OfFrame : (Id → Type 0) → Frame → Type 0
+OfFrame P frame = P (class frame.at.class.0) × P (method frame.at.method.0)
 
 module _ (P : Id → Type 0) (null : P (class 0)) (sight : Sight) (known : Known) (facts : AreKnown P known)
     (asked : All (IsAsked P true) sight.asked) (sees : sight.classes ≡ found_in known) where
@@ -417,10 +432,59 @@ module _ (P : Id → Type 0) (null : P (class 0)) (sight : Sight) (known : Known
       (keys_known known.loaded facts.loaded))
       classes_joined
 
+  -- frames are asked of a thread that was read, and their classes and methods are those in the answer
+  frames_heard : (heard : Option Answer) → IsHeard P heard → All (OfFrame P) (frames_in heard)
+  frames_heard (Some (answers.Frames [])) k = tt
+  frames_heard (Some (answers.Frames (frame ∷ frames))) k =
+      ((k.1.0, k.1.1.0), frames_heard (Some (answers.Frames frames)) k.1.1.1)
+  frames_heard _ k = tt
+
+  frame_row : (state : State) (thread : ThreadId) (frame : Frame) → OfFrame P frame
+      → Row Any (frame_plan state thread frame)
+  unfolding need
+  frame_row state thread frame k = makes Any Any (frame_shown state thread frame)
+      (both (both (signature_of frame.at.class) (source_of frame.at.class))
+      (both (methods_of frame.at.class) (lines_of frame.at.class frame.at.method)))
+      (joins Any Any Any (both (signature_of frame.at.class) (source_of frame.at.class))
+      (both (methods_of frame.at.class) (lines_of frame.at.class frame.at.method)) gives
+      (joins Any Any Any (signature_of frame.at.class) (source_of frame.at.class) gives
+      (asks Any signature_in (Want.Fact (questions.Signature frame.at.class))
+      (record { ids = (k.0, tt); plain = refl; first = refl }) (λ heard any. tt))
+      (asks Any source_in (Want.Fact (questions.SourceFile frame.at.class))
+      (record { ids = (k.0, tt); plain = refl; first = refl }) (λ heard any. tt)) (λ two good. tt))
+      (joins Any Any Any (methods_of frame.at.class) (lines_of frame.at.class frame.at.method) gives
+      (asks Any methods_in (Want.Fact (questions.Methods frame.at.class))
+      (record { ids = (k.0, tt); plain = refl; first = refl }) (λ heard any. tt))
+      (asks Any lines_in (Want.Fact (questions.LineTable frame.at.class frame.at.method))
+      (record { ids = (k.0, (k.1, tt)); plain = refl; first = refl }) (λ heard any. tt)) (λ two good. tt))
+      (λ two good. tt)) (λ facts any. tt)
+
+  from_row : (thread : ThreadId) → OfThread P thread → (start count : ℕ)
+      → Row (All (OfFrame P)) (frames_from thread start count)
+  unfolding need
+  from_row thread k start zero = tt
+  from_row thread k start (suc count) = asks (All (OfFrame P)) frames_in
+      (Want.Must (questions.Frames thread (pos start) (pos (suc count))))
+      (record { ids = (k, tt); plain = refl; first = refl }) frames_heard
+
+  frames_row : (state : State) (thread : ThreadId) → OfThread P thread → (start levels : ℕ)
+      → Row (IsGood P) (frames_plan state thread start levels)
+  frames_row state thread k start levels = chains Any (IsGood P)
+      (asking count_in (Want.Must (questions.FrameCount thread))) (counted_plan state thread start levels)
+      (asks Any count_in (Want.Must (questions.FrameCount thread))
+      (record { ids = (k, tt); plain = refl; first = refl }) (λ heard any. tt))
+      (λ total any. chains (All (OfFrame P)) (IsGood P) (frames_from thread start (count_from total start levels))
+      (shown_plan state thread total) (from_row thread k start (count_from total start levels))
+      (λ frames h. makes (All Any) (IsGood P) (frames_found total) (each (frame_plan state thread) frames)
+      (every (OfFrame P) Any (frame_plan state thread) (λ frame. frame_row state thread frame) frames h)
+      (λ shown any. tt)))
+
   -- all rows
-  pub rows_stand : (lookup : Lookup) (state : State) → state.classes ≡ known → Row (IsGood P) (plan lookup state)
-  rows_stand all_threads state same = threads_row
-  rows_stand class_facts state same =
+  pub rows_stand : (lookup : Lookup) (state : State) → state.classes ≡ known → OfLookup P lookup
+      → Row (IsGood P) (plan lookup state)
+  rows_stand all_threads state same of = threads_row
+  rows_stand (thread_frames thread start levels) state same of = frames_row state thread of start levels
+  rows_stand class_facts state same of =
       subst (λ (k : Known). Row (IsGood P) (made_with classes_found
       (classes_plan state.unlisted state.wishes.wanted (found_in k)))) (sym same)
       (makes (All (OfClass P)) (IsGood P) classes_found

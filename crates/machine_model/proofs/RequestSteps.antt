@@ -109,8 +109,8 @@ noted_by (Options options) state = Noted.leaves_all refl
 noted_by (Roots roots) state = Noted.leaves_all refl
 noted_by EntryHeld state = Noted.leaves_all refl
 noted_by Configured state = Noted.leaves_all refl
-noted_by (Lines None entries) state = Noted.leaves_all refl
-noted_by (Lines (Some key) entries) state = Noted.rewishes (with_lines key entries state.wishes.wanted) refl refl
+noted_by (Lines None path entries) state = Noted.leaves_all refl
+noted_by (Lines (Some key) path entries) state = Noted.rewishes (with_lines key entries state.wishes.wanted) refl refl
 noted_by (Classes classes) state =
     Noted.rewishes (with_known (found_in state.classes) classes state.wishes.wanted) refl refl
 

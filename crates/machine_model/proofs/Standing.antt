@@ -14,6 +14,7 @@ use Rattle.machine_model.specs.Runs.{Message}
 use Rattle.machine_model.specs.Spelling.{all_sizes, first_sizes, sizes_by, sizes_replied}
 use Rattle.machine_model.specs.State.{State, Hand, Machine, SizesRead, is_attached, is_gone, is_some}
 use Rattle.machine_model.proofs.PlanIds.{AreKnown, IsAsked, IsWanted, OfNamed, OfThread, is_sizes, OfClass}
+use Rattle.machine_model.proofs.PlanIds.{OfLookup}
 use Rattle.machine_model.proofs.Stepping.{IsAt, with_said}
 use Rattle.machine_model.proofs.WishIds.{AreWished, IsShortKey}
 
@@ -34,7 +35,8 @@ asked_in (Some hand) = hand.asked
 -- what a part has of ids passes
 abbrev pub PartStands : (Id → Type 0) → Part → Type 0
 PartStands P (Part.Responds (Success (thread_list named))) = All (OfNamed P) named
-PartStands P (Part.Notes (Lines key entries)) = IsShortKey key
+PartStands P (Part.Notes (Lines key path entries)) = IsShortKey key
+PartStands P (Part.Looks lookup) = OfLookup P lookup
 PartStands P (Part.Notes (Classes classes)) = All (OfClass P) classes
 PartStands P _ = Unit {0}
 

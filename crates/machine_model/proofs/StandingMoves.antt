@@ -14,16 +14,23 @@ use Rattle.machine_model.specs.Names.{Pause, Phase, Replied, Roots, Sent, SetBre
 use Rattle.machine_model.specs.Names.{TellsNews, Terminated, ThreadId, Threads, Unsupported, Want, a_composite, a_raw}
 use Rattle.machine_model.specs.Names.{a_request, a_stop, all_threads, breakpoint_list, class_facts, classes_found}
 use Rattle.machine_model.specs.Names.{some_news, target_end, thread_list, threads_found}
+use Rattle.machine_model.specs.Names.{ShownFrame, frame_list, frames_found, thread_frames}
+use Rattle.machine_model.specs.Names.{StackTrace}
+use Rattle.machine_model.specs.Lookups.{frames_outcome}
+use Rattle.machine_model.specs.Frames.{has_room}
+use Rattle.dap_messages.specs.Telling.{references_spent}
 use Rattle.machine_model.specs.Plans.{Need, fails, has, lacks}
 use Rattle.machine_model.specs.Replying.{done_by}
 use Rattle.machine_model.proofs.Testing.{same_numbered}
 use Rattle.machine_model.specs.Rows.{chosen, configured_parts, continue_parts, failure_of, leaves, news_of, noted}
 use Rattle.machine_model.specs.Rows.{parts_by, parts_of, pause_parts, request_parts, row_of, thread_with, told_in}
 use Rattle.machine_model.specs.Rows.{wanting}
+use Rattle.machine_model.specs.Rows.{stack_parts}
 use Rattle.machine_model.specs.Runs.{Message}
 use Rattle.machine_model.specs.State.{Hand, Machine, State, is_attached, is_gone, is_some, left}
 use Rattle.machine_model.specs.Telling.{after_event, is_among, numbered_by, with_thread, with_threads}
 use Rattle.machine_model.proofs.IdRows.{all_joined}
+use Rattle.machine_model.proofs.PlanIds.{OfLookup, OnSome}
 use Rattle.machine_model.proofs.PlanIds.{IsAsked, IsGood, NeedStands, OfNamed, OfThread, rows_stand, AreKnown}
 use Rattle.machine_model.proofs.Stepping.{IsAt, Skips}
 use Rattle.machine_model.specs.Outcomes.{result_of}
@@ -31,7 +38,7 @@ use Rattle.machine_model.proofs.Standing.{IsKept, Kept, Near, PartStands, Same, 
 use Rattle.machine_model.proofs.Standing.{awaits_sizes, needs_sizes, stays}
 use Rattle.machine_model.proofs.Tables.{decided_alike, of_decided, told_alike}
 use Rattle.machine_model.specs.Breakpoints.{behind_roots, key_of, longest_key, short_key, slashed}
-use Rattle.std.specs.Prelude.{ℕ, nat_le, length}
+use Rattle.std.specs.Prelude.{ℕ, zero, suc, ◌-◌, ◌==◌, nat_le, length, slice_get}
 use Rattle.machine_model.proofs.WishIds.{AreWished, IsShortKey, classes_stand, lines_stand}
 use Rattle.machine_model.specs.Composites.{composite_parts, has_death}
 
@@ -72,8 +79,8 @@ note_wished P (Options options) state k facts h = h
 note_wished P (Roots roots) state k facts h = h
 note_wished P EntryHeld state k facts h = h
 note_wished P Configured state k facts h = h
-note_wished P (Lines None entries) state k facts h = h
-note_wished P (Lines (Some key) entries) state k facts h = lines_stand P key entries state.wishes.wanted k h
+note_wished P (Lines None path entries) state k facts h = h
+note_wished P (Lines (Some key) path entries) state k facts h = lines_stand P key entries state.wishes.wanted k h
 note_wished P (Classes classes) state k facts h =
     classes_stand P state.classes classes state.wishes.wanted k facts h
 
@@ -102,46 +109,70 @@ key_is_short roots path = by_key (behind_roots roots (slashed path))
     by_key None = tt
     by_key (Some key) = by_test key (nat_le (length key) longest_key) refl
 
-row_parts : (P : Id → Type 0) (command : Command) (state : State) → All (PartStands P) (row_of command state)
-row_parts P (Initialize arguments) state = (tt, (tt, tt))
-row_parts P (Attach arguments) state = (tt, (tt, (tt, (tt, (tt, (tt, tt))))))
-row_parts P ConfigurationDone state = by_entry state.entry
+-- a thread that was told was read
+pub told_thread : (P : Id → Type 0) (threads : List ThreadId) (number : ℕ) → All (OfThread P) threads
+    → OnSome (OfThread P) (thread_with threads number)
+told_thread P threads number h = by_zero (number == 0)
+  where
+    at : (threads : List ThreadId) (place : ℕ) → All (OfThread P) threads
+        → OnSome (OfThread P) (slice_get threads place)
+    at [] place h = tt
+    at (thread ∷ threads) zero h = h.0
+    at (thread ∷ threads) (suc place) h = at threads place h.1
+
+    by_zero : (is : Bool) → OnSome (OfThread P) (cond is None (slice_get threads (number - 1)))
+    by_zero true = tt
+    by_zero false = at threads (number - 1) h
+
+row_parts : (P : Id → Type 0) (command : Command) (state : State) → All (OfThread P) state.threads
+    → All (PartStands P) (row_of command state)
+row_parts P (Initialize arguments) state told = (tt, (tt, tt))
+row_parts P (Attach arguments) state told = (tt, (tt, (tt, (tt, (tt, (tt, tt))))))
+row_parts P ConfigurationDone state told = by_entry state.entry
   where
     by_entry : (entry : Bool) → All (PartStands P) (configured_parts entry)
     by_entry true = (tt, (tt, (tt, tt)))
     by_entry false = (tt, (tt, tt))
-row_parts P (SetBreakpoints arguments) state =
+row_parts P (SetBreakpoints arguments) state told =
     (key_is_short state.roots arguments.path, (tt, (tt, (tt, (tt, (tt, tt))))))
-row_parts P Threads state = (tt, tt)
-row_parts P (Continue arguments) state = by_thread (thread_with state.threads arguments.thread_id)
+row_parts P Threads state told = (tt, tt)
+row_parts P (Continue arguments) state told = by_thread (thread_with state.threads arguments.thread_id)
   where
     by_thread : (thread : Option ThreadId) → All (PartStands P) (continue_parts thread)
     by_thread None = (tt, tt)
     by_thread (Some thread) = (tt, (tt, tt))
-row_parts P (Pause arguments) state = by_stop state.stopped (thread_with state.threads arguments.thread_id)
+row_parts P (Pause arguments) state told = by_stop state.stopped (thread_with state.threads arguments.thread_id)
   where
     by_stop : (stopped : Bool) (thread : Option ThreadId) → All (PartStands P) (pause_parts stopped thread)
     by_stop stopped None = (tt, tt)
     by_stop true (Some thread) = (tt, tt)
     by_stop false (Some thread) = (tt, (tt, (tt, tt)))
-row_parts P (Disconnect arguments) state = (tt, (tt, (tt, tt)))
-row_parts P Unsupported state = (tt, tt)
-row_parts P (BadArguments name) state = (tt, tt)
+row_parts P (StackTrace arguments) state told = by_thread (thread_with state.threads arguments.thread_id)
+    (told_thread P state.threads arguments.thread_id told)
+  where
+    by_thread : (thread : Option ThreadId) → OnSome (OfThread P) thread
+        → All (PartStands P) (stack_parts thread arguments)
+    by_thread None k = (tt, tt)
+    by_thread (Some thread) k = (k, tt)
+row_parts P (Disconnect arguments) state told = (tt, (tt, (tt, tt)))
+row_parts P Unsupported state told = (tt, tt)
+row_parts P (BadArguments name) state told = (tt, tt)
 
 unless_fails : (P : Id → Type 0) (failure : Option Failure) (row : List Part) → All (PartStands P) row
     → All (PartStands P) (parts_by failure row)
 unless_fails P (Some failure) row h = (tt, tt)
 unless_fails P None row h = h
 
-pub begun_parts : (P : Id → Type 0) (state : State) (item : Item) → All (PartStands P) (parts_of state item)
-begun_parts P state (a_request request) = unless_fails P (failure_of (wanting request.command) state)
-    (row_of request.command state) (row_parts P request.command state)
-begun_parts P state target_end = by_end state.terminated
+pub begun_parts : (P : Id → Type 0) (state : State) (item : Item) → All (OfThread P) state.threads
+    → All (PartStands P) (parts_of state item)
+begun_parts P state (a_request request) told = unless_fails P (failure_of (wanting request.command) state)
+    (row_of request.command state) (row_parts P request.command state told)
+begun_parts P state target_end told = by_end state.terminated
   where
-    by_end : (told : Bool) → All (PartStands P) (parts_of (record state { terminated = told }) target_end)
+    by_end : (ended : Bool) → All (PartStands P) (parts_of (record state { terminated = ended }) target_end)
     by_end true = tt
     by_end false = (tt, tt)
-begun_parts P state (a_composite at composite) =
+begun_parts P state (a_composite at composite) told =
     by_phase state.phase (has_death composite.events) composite.policy
   where
     by_phase : (phase : Phase) (dies : Bool) (policy : Policy)
@@ -154,7 +185,7 @@ begun_parts P state (a_composite at composite) =
     by_phase Attached false EventThread = (tt, tt)
     by_phase Attached false AllThreads = (tt, (tt, (tt, (tt, tt))))
     by_phase Gone dies policy = tt
-begun_parts P state (a_raw at body) = tt
+begun_parts P state (a_raw at body) told = tt
 
 pub chosen_order : (choice : Choice) (state : State) (hand : Hand) (sized attached : Bool) (rest : List Part)
     → in_order sized attached rest ≡ true → in_order sized attached (chosen choice state hand ++ rest) ≡ true
@@ -189,12 +220,27 @@ found_parts : (P : Id → Type 0) (lookup : Lookup) (found : Need Finding) (stat
     → All (PartStands P) (finished lookup (result_of found) state)
 found_parts P all_threads (has (threads_found named)) state h = (h, tt)
 found_parts P all_threads (has (classes_found classes)) state h = (tt, tt)
+found_parts P all_threads (has (frames_found total frames)) state h = (tt, tt)
 found_parts P class_facts (has (threads_found named)) state h = (tt, tt)
 found_parts P class_facts (has (classes_found classes)) state h = (h, tt)
+found_parts P class_facts (has (frames_found total frames)) state h = (tt, tt)
 found_parts P class_facts (fails fault) state h = (tt, tt)
 found_parts P class_facts (lacks want others) state h = (tt, tt)
 found_parts P all_threads (fails fault) state h = (tt, tt)
 found_parts P all_threads (lacks want others) state h = (tt, tt)
+found_parts P (thread_frames thread start levels) found state h = (by_found found, tt)
+  where
+    by_room : (room : Bool) (total : ℕ) (frames : List ShownFrame) → PartStands P (Part.Responds
+        (cond room (Success (frame_list total frames)) (Failed references_spent)))
+    by_room true total frames = tt
+    by_room false total frames = tt
+
+    by_found : (found : Need Finding) → PartStands P (Part.Responds (frames_outcome (result_of found) state.numbers))
+    by_found (has (frames_found total frames)) = by_room (has_room frames state.numbers) total frames
+    by_found (has (threads_found named)) = tt
+    by_found (has (classes_found classes)) = tt
+    by_found (fails fault) = tt
+    by_found (lacks want others) = tt
 
 -- Parts that need the sizes -------------------------------------------------------------------------------------------
 
@@ -228,11 +274,11 @@ event_order state Terminated rest near h = cc
 -- a look-up that stands in front, where the sizes are known
 pub looks_stand : {P : Id → Type 0} {state : State} {left : List Part} {queue : List Want} (hand : Hand)
     (lookup : Lookup)
-    → P (class 0) → Near P state left queue hand.asked → is_some state.sizes ≡ true
+    → P (class 0) → Near P state left queue hand.asked → is_some state.sizes ≡ true → OfLookup P lookup
     → NeedStands P (IsGood P) (found_for lookup state hand)
-looks_stand {P} {state} hand lookup null n sized =
+looks_stand {P} {state} hand lookup null n sized of =
     rows_stand P null (sight_of state hand) state.classes n.classes
-    (subst (λ sized. All (IsAsked P sized) hand.asked) sized n.replies) refl lookup state refl
+    (subst (λ sized. All (IsAsked P sized) hand.asked) sized n.replies) refl lookup state refl of
 
 pub found_kept : {P : Id
     → Type 0} {messages : List Message} {m : Machine} {hand : Hand} {rest : List Part} {lookup : Lookup}
@@ -247,7 +293,7 @@ found_kept {P} {m = m} {hand} {rest} {lookup} found null k at is =
       order = in_any_order _ _ (finished lookup (result_of found) m.state ++ rest) sized;
       parts = all_joined (PartStands P) (finished lookup (result_of found) m.state) rest
           (found_parts P lookup found m.state
-          (subst (λ found. NeedStands P (IsGood P) found) is (looks_stand hand lookup null n sized))) n.parts.1;
+          (subst (λ found. NeedStands P (IsGood P) found) is (looks_stand hand lookup null n sized n.parts.0))) n.parts.1;
     })
 
 pub dropped_kept : {P : Id → Type 0} {messages : List Message} {state : State} {left : List Part} {queue : List Want}

@@ -20,8 +20,9 @@ use Rattle.machine_model.specs.Names.{Answer, Guard, Handshake, IdSizes, Part, P
 use Rattle.machine_model.specs.Names.{TargetCommand, Want, a_question, an_answer, an_effect}
 use Rattle.machine_model.specs.Plans.{Need, answer_in, asks_for, fails, has, lacking, lacks, question_of}
 use Rattle.machine_model.specs.Replying.{wire, replied_machine, is_failed, IsReply, ended_with, filled, given_up}
-use Rattle.machine_model.specs.Replying.{hand_replied, is_waiting, learnt, pending_in, shows_end, sizes_in, told_by}
-use Rattle.machine_model.specs.Replying.{unanswered, unless_failed, unanswered_effect, waits_for, still_unlisted}
+use Rattle.machine_model.specs.Replying.{hand_replied, is_waiting, knows_fact, learnt, pending_in, shows_end, sizes_in}
+use Rattle.machine_model.specs.Replying.{told_by, unanswered, unless_failed, unanswered_effect, waits_for}
+use Rattle.machine_model.specs.Replying.{still_unlisted, with_heard}
 use Rattle.machine_model.specs.Runs.{Message}
 use Rattle.machine_model.specs.Spelling.{listed, all_sizes, first_sizes, sizes_by, sizes_replied}
 use Rattle.machine_model.specs.State.{Hand, Machine, SizesRead, State, is_attached, is_gone, is_none, is_some}
@@ -120,7 +121,7 @@ lacked_all hand [] null n = tt
 lacked_all {P} {state} hand (Part.Looks lookup ∷ rest) null n =
     let sized = sized_by (is_some state.sizes) (is_attached state.phase) (Part.Looks lookup) rest n.order refl refl in
     subst (λ sized. All (IsWanted P sized) (lacking (found_for lookup state hand))) (sym sized)
-    (lacking_all P (IsGood P) (found_for lookup state hand) (looks_stand hand lookup null n sized))
+    (lacking_all P (IsGood P) (found_for lookup state hand) (looks_stand hand lookup null n sized n.parts.0))
 lacked_all {P} {state} hand (Part.Awaits guard ∷ rest) null n = guard_all P guard state
 lacked_all hand (_ ∷ rest) null n = tt
 
@@ -314,9 +315,9 @@ loaded_known P classes known r h = subst (AreKnown P) (sym (only_loaded classes 
         (put_key (λ (c : ClassId). P (class c.0)) same_class c.class _ known.loaded r.0 h)
 
 -- the facts of classes that an answer tells
-learnt_known : (P : Id → Type 0) → P (class 0) → (question : Question) (heard : Option Answer) (known : Known)
-    → IsHeard P heard → AreKnown P known → AreKnown P (learnt question heard known)
-learnt_known P null questions.AllClasses heard known r h =
+heard_known : (P : Id → Type 0) → P (class 0) → (question : Question) (heard : Option Answer) (known : Known)
+    → IsHeard P heard → AreKnown P known → AreKnown P (with_heard question heard known)
+heard_known P null questions.AllClasses heard known r h =
     loaded_known P (classes_in heard) known (by_heard heard r) h
   where
     by_heard : (heard : Option Answer) → IsHeard P heard → All (λ (c : LoadedClass). P (class c.class.0))
@@ -324,7 +325,7 @@ learnt_known P null questions.AllClasses heard known r h =
     by_heard (Some (answers.AllClasses [])) r = tt
     by_heard (Some (answers.AllClasses (c ∷ classes))) r = (r.0, by_heard (Some (answers.AllClasses classes)) r.1)
     by_heard _ r = tt
-learnt_known P null (questions.Methods c) heard known r h = record {
+heard_known P null (questions.Methods c) heard known r h = record {
   loaded = h.loaded;
   methods = put_all (λ (found : List Method). All P (flat_map (ids_of method_row) found)) same_class c
       (methods_in heard)
@@ -336,7 +337,7 @@ learnt_known P null (questions.Methods c) heard known r h = record {
     by_heard : (heard : Option Answer) → IsHeard P heard → All P (flat_map (ids_of method_row) (methods_in heard))
     by_heard (Some (answers.Methods found)) r = all_front P (flat_map (ids_of method_row) found) [] r
     by_heard _ r = tt
-learnt_known P null (questions.Fields c) heard known r h = record {
+heard_known P null (questions.Fields c) heard known r h = record {
   loaded = h.loaded;
   methods = h.methods;
   fields = put_all (λ (found : List Field). All P (flat_map (ids_of field_row) found)) same_class c (fields_in heard)
@@ -347,7 +348,7 @@ learnt_known P null (questions.Fields c) heard known r h = record {
     by_heard : (heard : Option Answer) → IsHeard P heard → All P (flat_map (ids_of field_row) (fields_in heard))
     by_heard (Some (answers.Fields found)) r = all_front P (flat_map (ids_of field_row) found) [] r
     by_heard _ r = tt
-learnt_known P null (questions.Superclass c) heard known r h = record {
+heard_known P null (questions.Superclass c) heard known r h = record {
   loaded = h.loaded;
   methods = h.methods;
   fields = h.fields;
@@ -359,13 +360,21 @@ learnt_known P null (questions.Superclass c) heard known r h = record {
     by_heard : (heard : Option Answer) → IsHeard P heard → P (class (above_in heard).0)
     by_heard (Some (answers.Superclass above)) r = r.0
     by_heard _ r = null
-learnt_known P null (questions.SourceFile c) heard known r h =
+heard_known P null (questions.SourceFile c) heard known r h =
     record { loaded = h.loaded; methods = h.methods; fields = h.fields; supers = h.supers }
-learnt_known P null (questions.LineTable c method) heard known r h =
+heard_known P null (questions.LineTable c method) heard known r h =
     record { loaded = h.loaded; methods = h.methods; fields = h.fields; supers = h.supers }
-learnt_known P null (questions.VariableTable c method) heard known r h =
+heard_known P null (questions.VariableTable c method) heard known r h =
     record { loaded = h.loaded; methods = h.methods; fields = h.fields; supers = h.supers }
-learnt_known P null _ heard known r h = h
+heard_known P null _ heard known r h = h
+
+learnt_known : (P : Id → Type 0) → P (class 0) → (question : Question) (heard : Option Answer) (known : Known)
+    → IsHeard P heard → AreKnown P known → AreKnown P (learnt question heard known)
+learnt_known P null question heard known r h = by_known (knows_fact question known)
+  where
+    by_known : (knows : Bool) → AreKnown P (cond knows known (with_heard question heard known))
+    by_known true = h
+    by_known false = heard_known P null question heard known r h
 
 told_learns : (question : Question) (replied : Replied) (state : State) → is_sizes question ≡ false
     → told_by question replied state ≡ record state {

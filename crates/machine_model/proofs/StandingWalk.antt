@@ -30,10 +30,10 @@ kept_on {P} messages m next said null w k (Moves.begins picked free none is) bro
       none_late = b.none_late;
       near = λ near. let n = b.near near in record {
         classes = taken_stand P m.state.phase picked.item m.state.classes
-            (picked_stand P (is_gone m.state.phase) m.waiting picked is (w near)).0 n.classes;
+            (picked_stand P (is_gone m.state.phase) m.waiting picked is (w near).waiting).0 n.classes;
         wanted = n.wanted;
         order = begun_order m.state (is_some m.state.sizes) picked.item n.order;
-        parts = begun_parts P m.state picked.item;
+        parts = begun_parts P m.state picked.item (w near).threads;
         wants = tt;
         replies = tt;
       };

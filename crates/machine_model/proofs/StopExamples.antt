@@ -30,10 +30,10 @@ use Rattle.wish_sets.specs.Wishes.{next_change}
 
 -- Words ---------------------------------------------------------------------------------------------------------------
 
-abbrev happens : List ATargetEvent → Machine → Machine
+abbrev pub happens : List ATargetEvent → Machine → Machine
 happens happened m = with_item m (a_composite 90 (record { policy = All; events = happened }))
 
-abbrev one : ThreadId
+abbrev pub one : ThreadId
 one = record { 0 = 1 }
 
 abbrev two : ThreadId
@@ -46,10 +46,10 @@ abbrev does : Deed → Message
 does deed = changes (Does deed)
 
 -- a deed was done
-abbrev done : Deed → Answer → Machine → Machine
+abbrev pub done : Deed → Answer → Machine → Machine
 done deed answer m = answered m (an_effect (Does deed)) (an_answer answer)
 
-abbrev fails : Request → Failure → Message
+abbrev pub fails : Request → Failure → Message
 fails asked failure = responds asked (outcomes.Failure failure)
 
 -- Hits ----------------------------------------------------------------------------------------------------------------
@@ -57,7 +57,7 @@ fails asked failure = responds asked (outcomes.Failure failure)
 abbrev running : Machine
 running = drive 8 bound
 
-abbrev first_hit : Machine
+abbrev pub first_hit : Machine
 first_hit = happens (happened.Breakpoint 4 one (at 5) ∷ []) running
 
 -- the first hit begins a stop, and its suspension is kept
@@ -66,7 +66,7 @@ unfolding due wanted load_of newly_lacked next_change wished need chained made_w
     lossy_after is_utf8
 stops = refl
 
-abbrev stopped : Machine
+abbrev pub stopped : Machine
 stopped = drive 8 first_hit
 
 -- that of a second hit is undone
@@ -96,7 +96,7 @@ elsewhere = refl
 
 -- Requests ------------------------------------------------------------------------------------------------------------
 
-abbrev continues : ℕ → Request
+abbrev pub continues : ℕ → Request
 continues thread = request 8 (Continue (record { thread_id = thread }))
 
 abbrev pauses : ℕ → Request
@@ -107,7 +107,7 @@ unfolding due wanted load_of newly_lacked next_change wished need chained made_w
     lossy_after is_utf8
 resumes_stop = refl
 
-abbrev resumed : Machine
+abbrev pub resumed : Machine
 resumed = done (Resume of_stop) answers.Resume (drive 8 (heard stopped (continues 1)))
 
 tells_continued : said_on 8 resumed ≡ responds (continues 1) (outcomes.Success shapes.Continued) ∷ []

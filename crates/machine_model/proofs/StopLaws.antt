@@ -23,6 +23,8 @@ use Rattle.machine_model.specs.Names.{Stopping, TargetCommand, TellsNews, Termin
 use Rattle.machine_model.specs.Names.{Want, a_composite, a_question, a_raw, a_request, a_stop, all_threads, an_effect}
 use Rattle.machine_model.specs.Names.{an_event, by_client, class_facts, entry_verified, of_composite, some_news}
 use Rattle.machine_model.specs.Names.{target_end, thread_changed}
+use Rattle.machine_model.specs.Names.{thread_frames}
+use Rattle.machine_model.specs.Names.{StackTrace}
 use Rattle.machine_model.specs.Outcomes.{result_of}
 use Rattle.machine_model.specs.Plans.{Result}
 use Rattle.machine_model.specs.Replying.{given_up, hand_replied}
@@ -30,6 +32,7 @@ use Rattle.machine_model.specs.Requests.{Wishes, wishes_after}
 use Rattle.machine_model.specs.Rows.{chosen, configured_parts, continue_parts, end_parts, failure_of, gone_parts, gone_row}
 use Rattle.machine_model.specs.Rows.{gone_tail, has_response, leaves, news_of, noted, parts_by, parts_of, pause_parts}
 use Rattle.machine_model.specs.Rows.{request_parts, row_of, thread_with, told_in, wanting}
+use Rattle.machine_model.specs.Rows.{stack_parts}
 use Rattle.machine_model.specs.Runs.{Allows, Message, Run, said}
 use Rattle.machine_model.specs.State.{Hand, Machine, State, is_attached, is_gone, knowing, left}
 use Rattle.machine_model.specs.Stopping.{HasHit, IsStop, IsToldAs}
@@ -209,6 +212,7 @@ begun_none state (a_raw at body) = refl
 found_none : (lookup : Lookup) (result : Result Finding) (state : State) (rest : List Part)
     → has_hit (finished lookup result state ++ rest) ≡ has_hit rest
 found_none all_threads result state rest = refl
+found_none (thread_frames thread start levels) result state rest = refl
 found_none class_facts result state rest = refl
 
 behind_none : (part : Part) (rest : List Part) → hit_first (part ∷ rest) ≡ true → has_hit rest ≡ false
@@ -312,6 +316,11 @@ row_tells w item (Pause arguments) state is =
     by_stop stopped None is = (tt, tt)
     by_stop true (Some thread) is = (tt, tt)
     by_stop false (Some thread) is = (tt, (tt, (is, tt)))
+row_tells w item (StackTrace arguments) state is = by_thread (thread_with state.threads arguments.thread_id)
+  where
+    by_thread : (thread : Option ThreadId) → All (PartTells w item) (stack_parts thread arguments)
+    by_thread None = (tt, tt)
+    by_thread (Some thread) = (tt, tt)
 row_tells w item (Disconnect arguments) state is = (tt, (tt, (tt, tt)))
 row_tells w item Unsupported state is = (tt, tt)
 row_tells w item (BadArguments name) state is = (tt, tt)
@@ -348,6 +357,7 @@ begun_tells w state (a_raw at body) = tt
 found_tells : (w : Wishes) (item : Item) (lookup : Lookup) (result : Result Finding) (state : State) (rest : List Part)
     → All (PartTells w item) rest → All (PartTells w item) (finished lookup result state ++ rest)
 found_tells w item all_threads result state rest h = (tt, h)
+found_tells w item (thread_frames thread start levels) result state rest h = (tt, h)
 found_tells w item class_facts result state rest h = (tt, h)
 
 stop_of : (w : Wishes) (item : Item) (stopping : Stopping) → HasHit w (events_in item) stopping
@@ -398,6 +408,7 @@ given_tells w (Some hand) = by_item (has_response hand.parts) hand.item
     by_row item Threads = (tt, tt)
     by_row item (Continue arguments) = (tt, tt)
     by_row item (Pause arguments) = (tt, tt)
+    by_row item (StackTrace arguments) = (tt, tt)
     by_row item Unsupported = (tt, tt)
     by_row item (BadArguments name) = (tt, tt)
 
@@ -410,6 +421,7 @@ given_tells w (Some hand) = by_item (has_response hand.parts) hand.item
     by_tail item Threads = tt
     by_tail item (Continue arguments) = tt
     by_tail item (Pause arguments) = tt
+    by_tail item (StackTrace arguments) = tt
     by_tail item Unsupported = tt
     by_tail item (BadArguments name) = tt
 
@@ -551,6 +563,7 @@ asked_stop m hand stop is reason stopped (a_request request) item pauses = by_co
     by_command (SetBreakpoints arguments) same pauses = cc
     by_command Threads same pauses = cc
     by_command (Continue arguments) same pauses = cc
+    by_command (StackTrace arguments) same pauses = cc
     by_command (Disconnect arguments) same pauses = cc
     by_command Unsupported same pauses = cc
     by_command (BadArguments name) same pauses = cc

@@ -47,7 +47,7 @@ attaches _ = false
 
 -- it changes what is wanted, or becomes what does
 abbrev pub rewants : Part → Bool
-rewants (Part.Notes (Lines key entries)) = true
+rewants (Part.Notes (Lines key path entries)) = true
 rewants (Part.Notes (Classes classes)) = true
 rewants (Part.Looks class_facts) = true
 rewants _ = false

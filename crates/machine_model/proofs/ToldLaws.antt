@@ -15,10 +15,15 @@ use Rattle.machine_model.specs.Names.{Resume, Set, Success, TargetCommand, Tells
 use Rattle.machine_model.specs.Names.{a_question, a_raw, a_request, a_stop, all_threads, an_answer, an_effect}
 use Rattle.machine_model.specs.Names.{an_error, breakpoint_list, class_facts, entry_verified, of_composite, some_news}
 use Rattle.machine_model.specs.Names.{target_end, thread_changed, thread_list}
+use Rattle.machine_model.specs.Names.{ShownFrame, frame_list, frames_found, classes_found, threads_found, thread_frames}
+use Rattle.machine_model.specs.Lookups.{frames_outcome}
+use Rattle.machine_model.specs.Frames.{has_room}
+use Rattle.dap_messages.specs.Telling.{references_spent}
 use Rattle.machine_model.specs.Due.{asked_hand}
 use Rattle.machine_model.specs.Knowing.{is_fresh}
 use Rattle.machine_model.specs.Outcomes.{result_of}
 use Rattle.machine_model.specs.Plans.{Result}
+use Rattle.machine_model.specs.Plans.{gave, refused}
 use Rattle.machine_model.specs.Replying.{hand_replied, told_by}
 use Rattle.machine_model.specs.Requests.{Wishes, request_in as request_id, set_to, wishes_after}
 use Rattle.machine_model.specs.Rest.{IsAtRest, request_in}
@@ -266,6 +271,8 @@ module _ (id : ℕ) where
       skips id state.phase (Part.Responds (Success Capabilities)) rest c c.noted (λ fresh. fresh) refl
   responded_covers (Success Continued) state rest c =
       skips id state.phase (Part.Responds (Success Continued)) rest c c.noted (λ fresh. fresh) refl
+  responded_covers (Success (frame_list total frames)) state rest c =
+      skips id state.phase (Part.Responds (Success (frame_list total frames))) rest c c.noted (λ fresh. fresh) refl
   responded_covers (Success (thread_list named)) state rest c =
       skips id state.phase (Part.Responds (Success (thread_list named))) rest c c.noted (λ fresh. fresh) refl
   responded_covers (Failed failure) state rest c =
@@ -328,6 +335,26 @@ module _ (id : ℕ) where
     where
       none : (result : Result Finding) → tells_it id asked (Part.Responds (threads_outcome result)) ≡ false
       none result = grind arith
+  found_covers {asked} {ids = ids} (thread_frames thread start levels) result state rest c = record {
+    functions = c.functions;
+    early = c.early;
+    below = c.below;
+    noted = c.noted;
+    covered = c.covered;
+    told = λ is placed. ap (λ b. has_id ids id || (b || will_tell id asked rest)) (none result) ∙ c.told is placed;
+  }
+    where
+      by_room : (room : Bool) (total : ℕ) (frames : List ShownFrame) → tells_it id asked (Part.Responds
+          (cond room (Success (frame_list total frames)) (Failed references_spent))) ≡ false
+      by_room true total frames = refl
+      by_room false total frames = refl
+
+      none : (result : Result Finding)
+          → tells_it id asked (Part.Responds (frames_outcome result state.numbers)) ≡ false
+      none (gave (frames_found total frames)) = by_room (has_room frames state.numbers) total frames
+      none (gave (threads_found named)) = refl
+      none (gave (classes_found classes)) = refl
+      none (refused code) = refl
   found_covers class_facts result state rest c = record {
     functions = c.functions;
     early = c.early;

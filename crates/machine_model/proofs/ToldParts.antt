@@ -11,10 +11,12 @@ use Rattle.machine_model.specs.Names.{Disconnect, EntryHeld, Failure, Initialize
 use Rattle.machine_model.specs.Names.{Options, Part, Pause, Phase, Roots, SetBreakpoints, Success, TellsNews, ThreadId}
 use Rattle.machine_model.specs.Names.{Threads, Unsupported, a_composite, a_raw, a_request, breakpoint_list}
 use Rattle.machine_model.specs.Names.{class_facts, entry_verified, some_news, target_end}
+use Rattle.machine_model.specs.Names.{StackTrace}
 use Rattle.machine_model.specs.Knowing.{is_fresh}
 use Rattle.machine_model.specs.Requests.{Wishes}
 use Rattle.machine_model.specs.Rows.{breakpoint_parts, configured_parts, continue_parts, end_parts, failure_of}
 use Rattle.machine_model.specs.Rows.{if_attached, noted, parts_by, parts_of, pause_parts, row_of, thread_with, wanting}
+use Rattle.machine_model.specs.Rows.{stack_parts}
 use Rattle.machine_model.specs.State.{State}
 use Rattle.class_tables.specs.Lookups.{Lookups, found_in}
 use Rattle.class_tables.specs.Tables.{put}
@@ -28,12 +30,12 @@ use Rattle.machine_model.proofs.VerifiedLaws.{both, is_it, is_listed, is_placed,
 abbrev pub changes : Part → Bool
 changes Part.Updates = true
 changes (Part.Looks class_facts) = true
-changes (Part.Notes (Lines key entries)) = true
+changes (Part.Notes (Lines key path entries)) = true
 changes (Part.Notes (Classes classes)) = true
 changes _ = false
 
 abbrev pub is_lines : Part → Bool
-is_lines (Part.Notes (Lines key entries)) = true
+is_lines (Part.Notes (Lines key path entries)) = true
 is_lines _ = false
 
 abbrev pub has_lines : List Part → Bool
@@ -79,7 +81,7 @@ module _ (id : ℕ) where
   -- a list that is to be written down stands in front; its breakpoints get the next ids, and are told behind it
   abbrev pub AreNoted : Bool → Phase → ℕ → List Part → Type 0
   AreNoted asked phase next [] = Unit {0}
-  AreNoted asked phase next (Part.Notes (Lines (Some key) entries) ∷ rest) =
+  AreNoted asked phase next (Part.Notes (Lines (Some key) path entries) ∷ rest) =
       (has_lines rest ≡ false) × (is_fresh phase ≡ false) × (list_any (is_it id) entries ≡ true
       → (nat_lt id (next + length entries) ≡ true) × (will_tell asked rest ≡ true) × (covers asked rest ≡ true))
   AreNoted asked phase next (_ ∷ rest) = has_lines rest ≡ false
@@ -87,7 +89,7 @@ module _ (id : ℕ) where
   pub none_noted : (asked : Bool) (phase : Phase) (next : ℕ) (parts : List Part) → has_lines parts ≡ false
       → AreNoted asked phase next parts
   none_noted asked phase next [] is = tt
-  none_noted asked phase next (Part.Notes (Lines key entries) ∷ rest) is = cc
+  none_noted asked phase next (Part.Notes (Lines key path entries) ∷ rest) is = cc
   none_noted asked phase next (_ ∷ rest) is = is
 
   -- Of the breakpoint: where it is verified, the client was told, or what is left tells it; and what is left tells it
@@ -199,8 +201,8 @@ module _ (id : ℕ) where
       tells shown less is = grind (arith, is)
 
       by_key : (key : Option (List ℕ)) → is_fresh state.phase ≡ false
-          → AreNoted true state.phase state.next_entry (breakpoint_parts state.options.lines_from_one key listed
-          state.next_entry)
+          → AreNoted true state.phase state.next_entry (breakpoint_parts state.options.lines_from_one key
+          arguments.path listed state.next_entry)
       by_key None near = refl
       by_key (Some key) near = (
         refl,
@@ -226,6 +228,11 @@ module _ (id : ℕ) where
       by_stop stopped None = refl
       by_stop true (Some thread) = refl
       by_stop false (Some thread) = refl
+  row_noted None (StackTrace arguments) state same = by_thread (thread_with state.threads arguments.thread_id)
+    where
+      by_thread : (thread : Option ThreadId) → AreNoted true state.phase state.next_entry (stack_parts thread arguments)
+      by_thread None = refl
+      by_thread (Some thread) = refl
   row_noted None (Disconnect arguments) state same = refl
   row_noted None Unsupported state same = refl
   row_noted None (BadArguments name) state same = refl
@@ -311,22 +318,22 @@ module _ (id : ℕ) where
       skips state.phase (Part.Notes EntryHeld) rest c c.noted (λ fresh. fresh) refl
   noted_covers Configured state rest c =
       skips state.phase (Part.Notes Configured) rest c c.noted (λ fresh. fresh) refl
-  noted_covers {asked} (Lines None entries) state rest c = record {
+  noted_covers {asked} (Lines None path entries) state rest c = record {
     functions = c.functions;
     early = c.early;
     below = λ is. later state.next_entry (length entries) (c.below is);
     noted = none_noted asked state.phase (state.next_entry + length entries) rest c.noted;
-    covered = λ is. covers_rest asked (Part.Notes (Lines None entries)) rest (c.covered is);
+    covered = λ is. covers_rest asked (Part.Notes (Lines None path entries)) rest (c.covered is);
     told = c.told;
   }
-  noted_covers {asked} (Lines (Some key) entries) state rest c = record {
+  noted_covers {asked} (Lines (Some key) path entries) state rest c = record {
     functions = c.functions;
     early = λ is. let no = c.noted.1 in cc;
     below = λ is. by_list (nat_lt id (state.next_entry + length entries)) is (λ new. (c.noted.2 new).0)
         (λ old. later state.next_entry (length entries) (c.below old));
     noted = none_noted asked state.phase (state.next_entry + length entries) rest c.noted.0;
     covered = λ is. by_list (covers asked rest) is (λ new. (c.noted.2 new).2)
-        (λ old. covers_rest asked (Part.Notes (Lines (Some key) entries)) rest (c.covered old));
+        (λ old. covers_rest asked (Part.Notes (Lines (Some key) path entries)) rest (c.covered old));
     told = λ is placed. or_right (has_id state.bound id) (will_tell asked rest) (by_list (will_tell asked rest) is
         (λ new. (c.noted.2 new).1) (λ old. (both (will_tell asked rest) (covers asked rest) (c.covered old)).0));
   }

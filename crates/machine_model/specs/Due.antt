@@ -13,8 +13,9 @@ use Rattle.machine_model.specs.Replying.{is_waiting, pending_of}
 use Rattle.machine_model.specs.Requests.{effect_due}
 use Rattle.machine_model.specs.Rows.{chosen, noted, parts_of, taken}
 use Rattle.machine_model.specs.State.{Hand, Machine, SizesRead, State, has_raw, has_waiting, in_hand, is_flying}
-use Rattle.machine_model.specs.State.{is_gone, is_empty, is_raw, is_some, knowing, left}
+use Rattle.machine_model.specs.State.{is_gone, is_empty, is_raw, is_some, knowing, left, numbers_over}
 use Rattle.machine_model.specs.Telling.{after_event, event_told, numbered_by, outcome_told, response_to}
+use Rattle.stop_refs.specs.Numbers.{InHand}
 
 -- an act and the machine behind it
 pub record Due : Type 0 where
@@ -112,9 +113,23 @@ entry_by (Resume suspension) entry = still_held suspension entry
 entry_by Dispose entry = entry
 entry_by Exit entry = entry
 
+abbrev pub still_numbered : Suspension → Bool → InHand → InHand
+still_numbered of_composite stopped numbers = numbers
+still_numbered of_entry stopped numbers = numbers
+still_numbered of_stop stopped numbers = numbers_over stopped numbers
+
+abbrev pub numbers_by : Deed → Bool → InHand → InHand
+numbers_by Suspend stopped numbers = numbers
+numbers_by (Resume suspension) stopped numbers = still_numbered suspension stopped numbers
+numbers_by Dispose stopped numbers = numbers
+numbers_by Exit stopped numbers = numbers
+
 abbrev pub after_deed : Deed → State → State
-after_deed deed state =
-    record state { stopped = stopped_by deed state.stopped; entry = entry_by deed state.entry }
+after_deed deed state = record state {
+  stopped = stopped_by deed state.stopped;
+  numbers = numbers_by deed state.stopped state.numbers;
+  entry = entry_by deed state.entry;
+}
 
 -- the response to the item in hand, where it is a request; else the part is passed over
 abbrev pub responded : Item → Outcome → Machine → Hand → List Part → Due

@@ -3,7 +3,8 @@ use Rattle.std.specs.Prelude.{ℕ, ◌≡◌, ◌≤◌, ◌<◌, ◌+◌, ◌==
 use Rattle.std.specs.Prelude.{map, Option, None, Some, ◌||◌, nat_lt}
 use Rattle.std.specs.List.{flat_map}
 use Rattle.class_tables.specs.Facts.{Fact, Known, has_fields, has_lines, has_methods, has_source, has_variables}
-use Rattle.class_tables.specs.Facts.{is_below, is_loaded, nothing, with_fact}
+use Rattle.class_tables.specs.Facts.{is_below, is_loaded, nothing, same_class, same_method, with_fact}
+use Rattle.class_tables.specs.Tables.{under}
 use Rattle.dap_messages.specs.declared.told.Breakpoint.{Breakpoint}
 use Rattle.dap_messages.specs.declared.told.Event.{Event as EventTold}
 use Rattle.dap_messages.specs.declared.told.Event.TheVariants as events
@@ -31,7 +32,7 @@ use Rattle.machine_model.specs.Names.{an_event, by_client, of_composite, of_entr
 use Rattle.machine_model.specs.Pending.{bit}
 use Rattle.machine_model.specs.Plans.{answer_in}
 use Rattle.machine_model.specs.Runs.{Message, Run}
-use Rattle.machine_model.specs.State.{Hand, Machine, SizesRead, State, is_gone}
+use Rattle.machine_model.specs.State.{Hand, Machine, SizesRead, State, is_gone, is_some}
 use Rattle.suspend_ledger.specs.Suspensions.{composite as composite_came, resumed, suspended, with_happening}
 use Rattle.wish_sets.specs.declared.wish.Wish.{Wish}
 use Rattle.wish_sets.specs.declared.wish.Wish.TheVariants as wishes
@@ -114,6 +115,20 @@ abbrev pub with_facts : List Fact → Known → Known
 with_facts [] known = known
 with_facts (fact ∷ facts) known = with_facts facts (with_fact fact known)
 
+-- the fact that is asked for was said, or that there is none
+abbrev pub was_said : Question → Known → Bool
+was_said (questions.SourceFile class) known = is_some (under same_class class known.sources)
+was_said (questions.Methods class) known = is_some (under same_class class known.methods)
+was_said (questions.Fields class) known = is_some (under same_class class known.fields)
+was_said (questions.Superclass class) known = is_some (under same_class class known.supers)
+was_said (questions.LineTable class method) known = is_some (under same_method (class, method) known.lines)
+was_said (questions.VariableTable class method) known = is_some (under same_method (class, method) known.variables)
+was_said _ known = false
+
+-- of what is said of a fact the first counts
+abbrev pub newly_said : Question → Option Answer → Known → List Fact
+newly_said question heard known = cond (was_said question known) [] (facts_said question heard)
+
 -- all classes were listed
 abbrev pub lists_all : Question → Bool
 lists_all questions.AllClasses = true
@@ -137,7 +152,7 @@ watch_set (Does deed) replied unlisted = unlisted
 abbrev pub learnt_view : TargetCommand → Replied → View → View
 learnt_view (a_question questions.IdSizes) replied view = record view { sizes = sizes_said replied view.sizes }
 learnt_view (a_question question) replied view = record view {
-  classes = with_facts (facts_said question (answer_in replied)) view.classes;
+  classes = with_facts (newly_said question (answer_in replied) view.classes) view.classes;
   unlisted = cond (lists_all question) false view.unlisted;
 }
 learnt_view (an_effect effect) replied view =
@@ -440,6 +455,7 @@ numbers_in_shape shapes.Capabilities = []
 numbers_in_shape (shapes.Breakpoints breakpoints) = []
 numbers_in_shape (shapes.Threads threads) = map thread_number threads
 numbers_in_shape shapes.Continued = []
+numbers_in_shape (shapes.StackFrames frames total) = []
 
 abbrev pub numbers_in_outcome : OutcomeTold → List ℕ
 numbers_in_outcome (outcomes.Success shape) = numbers_in_shape shape

@@ -8,6 +8,8 @@ pub mod Due
 pub mod EventRequests
 pub mod Events
 pub mod Facts
+pub mod FrameNumbers
+pub mod Frames
 pub mod Ids
 pub mod Keys
 pub mod Knowing

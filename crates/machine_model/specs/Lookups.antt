@@ -1,16 +1,18 @@
 -- What each look-up asks of the target, and what its result becomes.
 use Rattle.std.specs.Prelude.{ℕ, ◌==◌, ◌∷◌, Bool, true, false, cond, List, [], Option, Some}
 use Rattle.class_tables.specs.Lookups.{found_in}
-use Rattle.dap_messages.specs.Telling.{target_error, unknown_thread}
+use Rattle.dap_messages.specs.Telling.{references_spent, target_error, unknown_thread}
 use Rattle.jdwp_commands.specs.declared.answer.Answer.TheVariants as answers
 use Rattle.jdwp_commands.specs.declared.question.Question.TheVariants as questions
 use Rattle.machine_model.specs.Classes.{classes_plan}
+use Rattle.machine_model.specs.Frames.{frames_plan, has_room}
 use Rattle.machine_model.specs.Names.{Answer, Classes, ClassId, Failed, Failure, Finding, Lookup, NamedThread, Nothing}
 use Rattle.machine_model.specs.Names.{Outcome, Part, Success, ThreadId, Want, all_threads, class_facts, classes_found}
-use Rattle.machine_model.specs.Names.{thread_list, threads_found}
+use Rattle.machine_model.specs.Names.{frame_list, frames_found, thread_frames, thread_list, threads_found}
 use Rattle.machine_model.specs.Plans.{Need, Plan, Result, Sight, asking, chained, each, gave, joined, made_with}
 use Rattle.machine_model.specs.Plans.{need, refused}
 use Rattle.machine_model.specs.State.{Hand, State}
+use Rattle.stop_refs.specs.Numbers.{InHand}
 
 -- what an item sees: the facts that were learnt, and what was asked for it
 abbrev pub sight_of : State → Hand → Sight
@@ -42,6 +44,7 @@ threads_plan = chained (asking threads_in (Want.Must questions.AllThreads)) name
 -- the plan of a look-up
 abbrev pub plan : Lookup → State → Plan Finding
 plan all_threads state = threads_plan
+plan (thread_frames thread start levels) state = frames_plan state thread start levels
 plan class_facts state =
     made_with classes_found (classes_plan state.unlisted state.wishes.wanted (found_in state.classes))
 
@@ -57,6 +60,7 @@ refusal code = cond (code == 10) unknown_thread (target_error code)
 abbrev pub threads_shown : Finding → Outcome
 threads_shown (threads_found named) = Success (thread_list named)
 threads_shown (classes_found classes) = Success Nothing
+threads_shown (frames_found total frames) = Success Nothing
 
 abbrev pub threads_outcome : Result Finding → Outcome
 threads_outcome (gave finding) = threads_shown finding
@@ -66,14 +70,30 @@ threads_outcome (refused code) = Failed (refusal code)
 abbrev pub classes_of : Result Finding → List ClassId
 classes_of (gave (threads_found named)) = []
 classes_of (gave (classes_found classes)) = classes
+classes_of (gave (frames_found total frames)) = []
 classes_of (refused code) = []
+
+-- The response that shows frames; where too few numbers are left it fails (DAP specification, StackTrace request; Types,
+-- StackFrame, id).
+abbrev pub frames_shown : Finding → InHand → Outcome
+frames_shown (threads_found named) numbers = Success Nothing
+frames_shown (classes_found classes) numbers = Success Nothing
+frames_shown (frames_found total frames) numbers =
+    cond (has_room frames numbers) (Success (frame_list total frames)) (Failed references_spent)
+
+abbrev pub frames_outcome : Result Finding → InHand → Outcome
+frames_outcome (gave finding) numbers = frames_shown finding numbers
+frames_outcome (refused code) numbers = Failed (refusal code)
 
 -- the parts that a result becomes
 abbrev pub finished : Lookup → Result Finding → State → List Part
 finished all_threads result state = Part.Responds (threads_outcome result) ∷ []
+finished (thread_frames thread start levels) result state =
+    Part.Responds (frames_outcome result state.numbers) ∷ []
 finished class_facts result state = Part.Notes (Classes (classes_of result)) ∷ []
 
 -- whether they bring the response
 abbrev pub lookup_responds : Lookup → Bool
 lookup_responds all_threads = true
+lookup_responds (thread_frames thread start levels) = true
 lookup_responds class_facts = false

@@ -34,7 +34,7 @@ pub data AreOptions : List Message → List Request → ClientOptions → Type 0
 abbrev pub note_options : Note → ClientOptions → ClientOptions
 note_options (Options noted) options = noted
 note_options (Roots roots) options = options
-note_options (Lines key entries) options = options
+note_options (Lines key path entries) options = options
 note_options (Classes classes) options = options
 note_options EntryHeld options = options
 note_options Configured options = options

@@ -39,6 +39,10 @@ unfoldable pub each : {A B : Type 0} → (A → Plan B) → List A → Plan (Lis
 each f [] = gives []
 each f (a ∷ others) = pairs (f a) (each f others) (λ two. gives (two.0 ∷ two.1))
 
+-- two plans side by side, and what both give
+abbrev pub both : {A B : Type 0} → Plan A → Plan B → Plan (A × B)
+both p q = pairs p q gives
+
 -- lists behind one another
 abbrev pub joined : {A : Type 0} → List (List A) → List A
 joined [] = []

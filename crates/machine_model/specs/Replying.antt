@@ -4,6 +4,7 @@ use Rattle.std.specs.Prelude.{Option, None, Some, option_map, fold, pos}
 use Rattle.std.specs.List.{flat_map}
 use Rattle.class_tables.specs.Facts.{Known, has_fields, has_lines, has_methods, has_source, has_variables, is_below}
 use Rattle.class_tables.specs.Facts.{with_fact}
+use Rattle.class_tables.specs.Lookups.{found_in}
 use Rattle.jdwp_commands.specs.Answers.{IsAnswerTo}
 use Rattle.jdwp_commands.specs.declared.answer.Answer.TheVariants as answers
 use Rattle.jdwp_commands.specs.declared.asked.Asked.{Asked}
@@ -14,14 +15,14 @@ use Rattle.jdwp_commands.specs.declared.question.Question.TheVariants as questio
 use Rattle.jdwp_values.specs.Sizes.{is_no_size}
 use Rattle.jdwp_values.specs.declared.sizes.IdSizes.{IdSizes}
 use Rattle.machine_model.specs.Classes.{classes_in, with_listed}
-use Rattle.machine_model.specs.Facts.{above_in, fields_in, lines_in, methods_in, source_in, variables_in}
+use Rattle.machine_model.specs.Facts.{above_in, fact_known, fields_in, lines_in, methods_in, source_in, variables_in}
 use Rattle.machine_model.specs.Names.{Answer, Clear, Deed, Dispose, Does, Doing, Effect, Exit, Gone, Phase, Question}
 use Rattle.machine_model.specs.Names.{Replied, Resume, Sent, Set, Suspend, TargetCommand, Want, a_question, an_answer}
 use Rattle.machine_model.specs.Names.{an_effect, an_error, target_end}
 use Rattle.machine_model.specs.Plans.{answer_in, asks_for, question_of}
 use Rattle.machine_model.specs.Requests.{clear_of, request_in, set_of, wishes_after}
 use Rattle.machine_model.specs.Rows.{gone_parts, has_response}
-use Rattle.machine_model.specs.State.{Hand, Machine, SizesRead, State, is_gone, is_none, lost}
+use Rattle.machine_model.specs.State.{Hand, Machine, SizesRead, State, is_gone, is_none, is_some, lost}
 use Rattle.wish_sets.specs.declared.wish.Wish.{Wish}
 use Rattle.wish_sets.specs.declared.wish.Wish.TheVariants as wish
 
@@ -109,16 +110,24 @@ sizes_in (an_answer (answers.IdSizes field method object class frame)) =
 sizes_in _ = None
 
 -- the facts of classes that an answer tells; where the target refuses it, the fact is absent
-abbrev pub learnt : Question → Option Answer → Known → Known
-learnt questions.AllClasses heard known = fold with_listed known (classes_in heard)
-learnt (questions.SourceFile class) heard known = with_fact (has_source class (source_in heard)) known
-learnt (questions.Methods class) heard known = with_fact (has_methods class (methods_in heard)) known
-learnt (questions.Fields class) heard known = with_fact (has_fields class (fields_in heard)) known
-learnt (questions.Superclass class) heard known = with_fact (is_below class (above_in heard)) known
-learnt (questions.LineTable class method) heard known = with_fact (has_lines class method (lines_in heard)) known
-learnt (questions.VariableTable class method) heard known =
+abbrev pub with_heard : Question → Option Answer → Known → Known
+with_heard questions.AllClasses heard known = fold with_listed known (classes_in heard)
+with_heard (questions.SourceFile class) heard known = with_fact (has_source class (source_in heard)) known
+with_heard (questions.Methods class) heard known = with_fact (has_methods class (methods_in heard)) known
+with_heard (questions.Fields class) heard known = with_fact (has_fields class (fields_in heard)) known
+with_heard (questions.Superclass class) heard known = with_fact (is_below class (above_in heard)) known
+with_heard (questions.LineTable class method) heard known = with_fact (has_lines class method (lines_in heard)) known
+with_heard (questions.VariableTable class method) heard known =
     with_fact (has_variables class method (variables_in heard)) known
-learnt _ heard known = known
+with_heard _ heard known = known
+
+-- the fact that is asked for is known
+abbrev pub knows_fact : Question → Known → Bool
+knows_fact question known = is_some (fact_known (found_in known) question)
+
+-- a fact is learnt once: its first reply counts
+abbrev pub learnt : Question → Option Answer → Known → Known
+learnt question heard known = cond (knows_fact question known) known (with_heard question heard known)
 
 -- once they are listed, all classes aren't to be listed any more
 abbrev pub still_unlisted : Question → Bool → Bool

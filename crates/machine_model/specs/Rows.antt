@@ -5,17 +5,20 @@ use Rattle.class_tables.specs.Lookups.{found_in}
 use Rattle.dap_messages.specs.Telling.{already_attached, bad_arguments, not_attached, not_stopped, target_gone}
 use Rattle.dap_messages.specs.Telling.{unknown_thread, unsupported}
 use Rattle.dap_messages.specs.declared.requests.InitializeArguments.{InitializeArguments}
+use Rattle.dap_messages.specs.declared.requests.StackTraceArguments.{StackTraceArguments}
 use Rattle.machine_model.specs.Breakpoints.{entry_of, key_of, lines_wished, newly_verified, numbered_from}
 use Rattle.machine_model.specs.Composites.{changes_in, composite_parts, has_death, learnt_by}
+use Rattle.machine_model.specs.Frames.{with_path}
 use Rattle.machine_model.specs.Lookups.{lookup_responds}
 use Rattle.machine_model.specs.Names.{Attach, Attached, BadArguments, Capabilities, Choice, Classes, ClientOptions}
 use Rattle.machine_model.specs.Names.{Command, ConfigurationDone, Configured, Continue, Continued, Decides, Deed}
 use Rattle.machine_model.specs.Names.{Disconnect, Dispose, Done, EntryHeld, Exit, Failed, Failure, Fresh, Gone}
 use Rattle.machine_model.specs.Names.{Handshake, IdSizes, Initialize, Initialized, Item, Leaves, Lines}
 use Rattle.machine_model.specs.Names.{ListedBreakpoint, News, Note, Nothing, Options, Part, Pause, Phase, Resume, Roots}
-use Rattle.machine_model.specs.Names.{SetBreakpoints, Success, Suspend, TellsNews, Terminated, ThreadId, Threads}
-use Rattle.machine_model.specs.Names.{Unsupported, a_composite, a_raw, a_request, a_stop, all_threads, breakpoint_list}
+use Rattle.machine_model.specs.Names.{SetBreakpoints, StackTrace, Success, Suspend, TellsNews, Terminated, ThreadId}
+use Rattle.machine_model.specs.Names.{Threads, Unsupported, a_composite, a_raw, a_request, a_stop, all_threads, breakpoint_list}
 use Rattle.machine_model.specs.Names.{by_client, class_facts, entry_verified, of_entry, of_stop, some_news, target_end}
+use Rattle.machine_model.specs.Names.{thread_frames}
 use Rattle.machine_model.specs.State.{Hand, State, is_some}
 use Rattle.machine_model.specs.Stops.{decided}
 use Rattle.wish_sets.specs.Wanted.{with_known}
@@ -33,9 +36,9 @@ options_of arguments = record {
 
 -- Breakpoints are written down, and what isn't wished any more is cleared; classes are asked for what has to be known of
 -- them; what is wished then is set; and the client is told of older breakpoints that are verified by it.
-abbrev pub breakpoint_parts : Bool → Option (List ℕ) → List ListedBreakpoint → ℕ → List Part
-breakpoint_parts from_one key listed below =
-    Part.Notes (Lines key (map (entry_of from_one) listed)) ∷ Part.Updates ∷ Part.Looks class_facts ∷ Part.Updates
+abbrev pub breakpoint_parts : Bool → Option (List ℕ) → List ℕ → List ListedBreakpoint → ℕ → List Part
+breakpoint_parts from_one key path listed below =
+    Part.Notes (Lines key path (map (entry_of from_one) listed)) ∷ Part.Updates ∷ Part.Looks class_facts ∷ Part.Updates
     ∷ Part.Unfolds (TellsNews below) ∷ Part.Responds (Success (breakpoint_list (is_some key) listed)) ∷ []
 
 -- The client has configured all: the target's entry is held no longer (DAP specification, ConfigurationDone request;
@@ -66,6 +69,12 @@ abbrev pub pause_parts : Bool → Option ThreadId → List Part
 pause_parts stopped None = Part.Responds (Failed unknown_thread) ∷ []
 pause_parts stopped (Some thread) = paused_parts stopped thread
 
+-- the frames of a thread (DAP specification, StackTrace request)
+abbrev pub stack_parts : Option ThreadId → StackTraceArguments → List Part
+stack_parts None arguments = Part.Responds (Failed unknown_thread) ∷ []
+stack_parts (Some thread) arguments =
+    Part.Looks (thread_frames thread arguments.start_frame arguments.levels) ∷ []
+
 -- the table of requests
 abbrev pub row_of : Command → State → List Part
 row_of (Initialize arguments) state =
@@ -75,11 +84,12 @@ row_of (Attach arguments) state =
     ∷ Part.Responds (Success Nothing) ∷ Part.Tells Initialized ∷ []
 row_of ConfigurationDone state = configured_parts state.entry
 row_of (SetBreakpoints arguments) state =
-    breakpoint_parts state.options.lines_from_one (key_of state.roots arguments.path)
+    breakpoint_parts state.options.lines_from_one (key_of state.roots arguments.path) arguments.path
     (numbered_from state.next_entry arguments.breakpoints) state.next_entry
 row_of Threads state = Part.Looks all_threads ∷ []
 row_of (Continue arguments) state = continue_parts (thread_with state.threads arguments.thread_id)
 row_of (Pause arguments) state = pause_parts state.stopped (thread_with state.threads arguments.thread_id)
+row_of (StackTrace arguments) state = stack_parts (thread_with state.threads arguments.thread_id) arguments
 row_of (Disconnect arguments) state =
     Part.Unfolds (Leaves arguments.terminate_debuggee) ∷ Part.Responds (Success Nothing) ∷ Part.Ends Done ∷ []
 row_of Unsupported state = Part.Responds (Failed unsupported) ∷ []
@@ -101,6 +111,7 @@ wanting (SetBreakpoints arguments) = wants_target
 wanting Threads = wants_target
 wanting (Continue arguments) = wants_stop
 wanting (Pause arguments) = wants_target
+wanting (StackTrace arguments) = wants_stop
 wanting (Disconnect arguments) = wants_nothing
 wanting Unsupported = wants_nothing
 wanting (BadArguments name) = wants_nothing
@@ -186,7 +197,8 @@ choice_responds (Leaves exits) = false
 abbrev pub noted : Note → State → State
 noted (Options options) state = record state { options = options }
 noted (Roots roots) state = record state { roots = roots }
-noted (Lines key entries) state = record state {
+noted (Lines key path entries) state = record state {
+  paths = with_path key path state.paths;
   next_entry = state.next_entry + length entries;
   wishes = lines_wished key entries state.wishes;
 }

@@ -4,6 +4,7 @@ use Rattle.class_tables.specs.Facts.{Known, nothing}
 use Rattle.machine_model.specs.Names.{Attached, ClientOptions, Doing, Fresh, Gone, Item, Part, Phase, Sent}
 use Rattle.machine_model.specs.Names.{TargetCommand, ThreadId, Want, a_composite, a_raw, a_request, target_end}
 use Rattle.machine_model.specs.Requests.{Wishes, new_wishes}
+use Rattle.stop_refs.specs.Numbers.{InHand, begun as begun_stop, from, over}
 
 -- How many bytes an id of each kind takes, as the target said (JDWP, VirtualMachine command set, IDSizes).
 pub record SizesRead : Type 0 where
@@ -14,11 +15,12 @@ pub record SizesRead : Type 0 where
   pub frame : ℕ
 
 -- What is known: how the client wants to be served; where the session stands with its target, and which sides of the
--- handshake went out and came; the sizes of ids; the folders that sources stand in; the id that the next breakpoint
--- gets; which event requests are wished and which stand; whether a watch was set since all classes were listed; the
--- facts of classes; the threads that were told, in the order of their numbers; the ids of the breakpoints that were told
--- to be verified; whether a stop is in hand, whether the target's entry is held, and whether the client has configured
--- all; and whether it was told that nothing more comes of the target.
+-- handshake went out and came; the sizes of ids; the folders that sources stand in, and the path under which the client
+-- listed breakpoints of a source last, by its key; the id that the next breakpoint gets; which event requests are wished
+-- and which stand; whether a watch was set since all classes were listed; the facts of classes; the threads that were
+-- told, in the order of their numbers; the ids of the breakpoints that were told to be verified; whether a stop is in
+-- hand, and the numbers of what was told in it, none while the target runs; whether the target's entry is held, and
+-- whether the client has configured all; and whether it was told that nothing more comes of the target.
 pub record State : Type 0 where
   pub options : ClientOptions
   pub phase : Phase
@@ -26,6 +28,7 @@ pub record State : Type 0 where
   pub greeting_heard : Bool
   pub sizes : Option SizesRead
   pub roots : List (List ℕ)
+  pub paths : List (List ℕ × List ℕ)
   pub next_entry : ℕ
   pub wishes : Wishes
   pub unlisted : Bool
@@ -33,6 +36,7 @@ pub record State : Type 0 where
   pub threads : List ThreadId
   pub bound : List ℕ
   pub stopped : Bool
+  pub numbers : InHand
   pub entry : Bool
   pub configured : Bool
   pub terminated : Bool
@@ -69,6 +73,7 @@ nothing_known = record {
   greeting_heard = false;
   sizes = None;
   roots = [];
+  paths = [];
   next_entry = 1;
   wishes = new_wishes;
   unlisted = false;
@@ -76,6 +81,7 @@ nothing_known = record {
   threads = [];
   bound = [];
   stopped = false;
+  numbers = begun_stop (from 1);
   entry = false;
   configured = false;
   terminated = false;
@@ -88,9 +94,20 @@ fresh = record { state = nothing_known; waiting = []; hand = None; late = []; cl
 abbrev pub in_hand : Item → List Part → Hand
 in_hand item parts = record { item = item; parts = parts; queue = []; asked = []; effect = None }
 
+-- what was told in a stop has no number any more once it is over (DAP specification, Overview, Lifetime of Objects
+-- References)
+abbrev pub numbers_over : Bool → InHand → InHand
+numbers_over false numbers = numbers
+numbers_over true numbers = begun_stop (over numbers)
+
 -- the target is gone, and with it the stop in hand and the entry that was held
 abbrev pub lost : State → State
-lost state = record state { phase = Gone; stopped = false; entry = false }
+lost state = record state {
+  phase = Gone;
+  stopped = false;
+  numbers = numbers_over state.stopped state.numbers;
+  entry = false;
+}
 
 -- this is known now
 abbrev pub knowing : Machine → State → Machine

@@ -12,10 +12,11 @@ use Rattle.dap_messages.specs.declared.told.StopReason.TheVariants as reasons
 use Rattle.dap_messages.specs.declared.told.Thread.{Thread}
 use Rattle.jdwp_values.specs.Lossy.{lossy}
 use Rattle.machine_model.specs.Breakpoints.{breakpoint_told, verified_told, with_id, with_told}
+use Rattle.machine_model.specs.Frames.{frame_told, with_frames}
 use Rattle.machine_model.specs.Names.{Attached, Body, Capabilities, Continued, Event, Failed, Fresh, Gone, Hit}
 use Rattle.machine_model.specs.Names.{Initialized, NamedThread, News, Nothing, Outcome, Phase, Request, StopCause, Success}
 use Rattle.machine_model.specs.Names.{Terminated, ThreadId, Told, a_response, a_stop, breakpoint_list, by_client}
-use Rattle.machine_model.specs.Names.{entry_verified, some_news, thread_changed, thread_list}
+use Rattle.machine_model.specs.Names.{entry_verified, frame_list, some_news, thread_changed, thread_list}
 use Rattle.machine_model.specs.State.{State, lost}
 use Rattle.wish_sets.specs.Entries.{entries_at}
 use Rattle.wish_sets.specs.declared.entry.EntryAt.{EntryAt}
@@ -49,6 +50,7 @@ numbered Capabilities state = state
 numbered (breakpoint_list rooted listed) state =
     record state { bound = with_told state.bound (map (breakpoint_told rooted state.wishes) listed) }
 numbered Continued state = state
+numbered (frame_list total frames) state = record state { numbers = with_frames frames state.numbers }
 numbered (thread_list named) state = record state { threads = with_threads state.threads named }
 
 -- a thread as it is told, its name as text (DAP specification, Types, Thread)
@@ -62,6 +64,8 @@ body_told Capabilities state = shapes.Capabilities
 body_told (breakpoint_list rooted listed) state =
     shapes.Breakpoints (map (breakpoint_told rooted state.wishes) listed)
 body_told Continued state = shapes.Continued
+body_told (frame_list total frames) state =
+    shapes.StackFrames (map (frame_told state.options state.numbers) frames) total
 body_told (thread_list named) state = shapes.Threads (map (thread_told state.threads) named)
 
 abbrev pub numbered_by : Outcome → State → State

@@ -5,6 +5,7 @@ ghost use Rattle.machine_model.specs.Binding.{Binds};
 ghost use Rattle.machine_model.specs.BreakpointEvents.{TellsAll, TellsVerified};
 ghost use Rattle.machine_model.specs.EventRequests.{AsReplied, Once, Settles, Stands};
 ghost use Rattle.machine_model.specs.Events.{Events};
+ghost use Rattle.machine_model.specs.FrameNumbers.{NumbersFrames};
 ghost use Rattle.machine_model.specs.Ids.{Ids};
 ghost use Rattle.machine_model.specs.Knowing.{Knows};
 ghost use Rattle.machine_model.specs.Leaving.{Disconnects, Farewells, Greetings};
@@ -145,6 +146,13 @@ pub fn all_that_is_lacking_was_asked()
 /// are first told.
 pub fn what_is_known_is_what_messages_say()
     ensures { Knows }
+{}
+
+/// Frames are numbered 1, 2, 3 as they are first told in a stop. A number is told again in its stop alone: once the Resume
+/// that ends the stop is sent, no number below the next one is told any more (DAP specification, StackTrace request;
+/// Overview, Lifetime of Objects References).
+pub fn frames_are_numbered_as_they_are_told()
+    ensures { NumbersFrames }
 {}
 
 /// Until the target is gone, the client is served with the options that the last `initialize` which has its response

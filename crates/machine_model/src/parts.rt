@@ -1,8 +1,9 @@
 //! What an item does, part by part.
 
 use crate::options::ClientOptions;
-use dap_messages::Failure;
+use dap_messages::{Failure, Source};
 use jdwp_values::{ClassId, Location, ThreadId};
+use stop_refs::FrameThing;
 use wire_core::{Blob, List, Text};
 use wish_sets::LineEntry;
 
@@ -23,6 +24,22 @@ pub struct ListedBreakpoint {
     pub plain: bool,
 }
 
+/// Where a frame stands: in this source, at this line as the target counts lines (DAP specification, Types, StackFrame,
+/// source and line).
+#[derive(Debug, Drop)]
+pub struct Spot {
+    pub source: Source,
+    pub line: i32,
+}
+
+/// A frame, the name of its class and method, and where it stands, if that is known (DAP specification, Types, StackFrame).
+#[derive(Debug, Drop)]
+pub struct ShownFrame {
+    pub frame: FrameThing,
+    pub name: Text,
+    pub spot: Option<Spot>,
+}
+
 /// What a response that succeeds shows, by the target's ids; its numbers are given when it is told.
 #[derive(Debug, Drop)]
 pub enum Body {
@@ -35,6 +52,11 @@ pub enum Body {
         listed: List<ListedBreakpoint>,
     },
     Threads(List<NamedThread>),
+    /// Frames of a thread, and how many it has in all.
+    StackFrames {
+        total: u32,
+        frames: List<ShownFrame>,
+    },
     /// The whole target runs on.
     Continued,
 }
@@ -104,6 +126,12 @@ pub enum Deed {
 pub enum Lookup {
     /// All threads and their names, for the response to `threads` (DAP specification, Threads request).
     Threads,
+    /// Frames of a thread, from this one on, and so many at most, where 0 is all (DAP specification, StackTrace request).
+    Frames {
+        thread: ThreadId,
+        start: u32,
+        levels: u32,
+    },
     /// What has to be known of classes before breakpoints are bound in them: all classes, where a watch was set since
     /// they were listed; the source of each that is prepared and watched; and the methods and lines of those whose
     /// source is listed (JDWP, VirtualMachine command set, AllClasses; JDWP, ReferenceType command set, SourceFile and
@@ -115,6 +143,11 @@ pub enum Lookup {
 #[derive(Debug, Drop)]
 pub enum Finding {
     Threads(List<NamedThread>),
+    /// Frames of a thread, and how many it has in all.
+    Frames {
+        total: u32,
+        frames: List<ShownFrame>,
+    },
     /// The classes whose source is listed.
     Classes(List<ClassId>),
 }
@@ -135,10 +168,11 @@ pub enum Note {
     Options(ClientOptions),
     /// The folders that sources stand in (DAP specification, Attach request).
     Roots(List<Text>),
-    /// The breakpoints of a source, by its key; without a key they are numbered, and not kept (DAP specification,
-    /// SetBreakpoints request).
+    /// The breakpoints of a source, by its key, and the path under which the client listed them; without a key they are
+    /// numbered, and not kept (DAP specification, SetBreakpoints request).
     Lines {
         key: Option<Text>,
+        path: Text,
         entries: List<LineEntry>,
     },
     /// Breakpoints are bound by what is known of these classes now.

@@ -1,0 +1,270 @@
+-- Of each class that is found all facts are known, so that it stays bound whatever else is learnt.
+use Rattle.std.proofs.Common.{◌≡◌, Bool, true, false, List, [], ◌∷◌, Option, Some, None, refl, sym, ap, subst, ◌∙◌}
+use Rattle.std.proofs.Common.{option_map, ℕ}
+use Rattle.std.specs.Option.{option_flatten}
+use Rattle.std.specs.Prelude.{map}
+use Rattle.std.specs.List.{AllByRecursion as All}
+use Rattle.class_tables.specs.Facts.{Known, same_class, same_method}
+use Rattle.class_tables.specs.Lookups.{found_in}
+use Rattle.class_tables.specs.Signatures.{package_in}
+use Rattle.class_tables.specs.Tables.{under}
+use Rattle.class_tables.specs.declared.loaded.Loaded.{Loaded}
+use Rattle.jdwp_commands.specs.declared.answer.Answer.TheVariants as answers
+use Rattle.jdwp_commands.specs.declared.question.Question.TheVariants as questions
+use Rattle.jdwp_values.specs.declared.class.LineTable.{LineTable}
+use Rattle.jdwp_values.specs.declared.class.Method.{Method}
+use Rattle.jdwp_values.specs.declared.id.ClassId.{ClassId}
+use Rattle.machine_model.specs.Binding.{IsBound, sight_alone}
+use Rattle.machine_model.specs.Classes.{class_plan, is_keyed, keyed_plan, known_plan, lines_plan, methods_plan}
+use Rattle.machine_model.specs.Classes.{package_plan, prepared_plan, source_plan, watched_plan}
+use Rattle.machine_model.specs.Facts.{fact_known, methods_in, source_in}
+use Rattle.machine_model.specs.Names.{Answer, Question, Want}
+use Rattle.machine_model.specs.Plans.{Need, Plan, after, asking, beside, chained, each, fact_heard, fails, has}
+use Rattle.machine_model.specs.Plans.{joined, lacks, made_with, need}
+use Rattle.machine_model.specs.State.{is_some}
+use Rattle.machine_model.proofs.BindingFacts.{is_mapped}
+use Rattle.machine_model.proofs.BindingGrows.{Grows}
+use Rattle.machine_model.proofs.IdRows.{all_joined}
+use Rattle.machine_model.proofs.PlanIds.{need_chained, need_made}
+use Rattle.wish_sets.specs.Places.{key_by}
+use Rattle.wish_sets.specs.Wanted.{Wanted, class_found, facts_found, method_found, methods_found}
+use Rattle.wish_sets.specs.Wished.{is_watched}
+use Rattle.wish_sets.specs.declared.facts.KnownClass.{KnownClass}
+use Rattle.wish_sets.specs.declared.facts.KnownMethod.{KnownMethod}
+
+-- What is known of a class that is found ------------------------------------------------------------------------------
+
+abbrev HasLines : Known → ClassId → Method → Type 0
+HasLines known class one = is_some (under same_method (class, one.id) known.lines) ≡ true
+
+-- its source, its methods, and the lines of each of them
+record IsSeen (known : Known) (class : ClassId) : Type 0 where
+  methods : List Method
+  has_source : is_some (under same_class class known.sources) ≡ true
+  has_methods : under same_class class known.methods ≡ Some methods
+  has_lines : All (HasLines known class) methods
+
+-- what a value of a need is like
+abbrev Has : {A : Type 0} → (A → Type 0) → Need A → Type 0
+Has Good (has a) = Good a
+Has Good (fails fault) = Unit {0}
+Has Good (lacks want others) = Unit {0}
+
+after_has : {A B : Type 0} (Good : A → Type 0) (Best : B → Type 0) (n : Need A) (f : A → Need B) → Has Good n
+    → ((a : A) → Good a → Has Best (f a)) → Has Best (after n f)
+after_has Good Best (has a) f h k = k a h
+after_has Good Best (fails fault) f h k = tt
+after_has Good Best (lacks want others) f h k = tt
+
+beside_has : {A B : Type 0} (Good : A → Type 0) (Best : B → Type 0) (n : Need A) (k : Need B) → Has Good n → Has Best k
+    → Has (λ (two : A × B). Good two.0 × Best two.1) (beside n k)
+beside_has Good Best (has a) (has b) h i = (h, i)
+beside_has Good Best (has a) (fails fault) h i = tt
+beside_has Good Best (has a) (lacks want others) h i = tt
+beside_has Good Best (fails fault) (has b) h i = tt
+beside_has Good Best (fails fault) (fails other) h i = tt
+beside_has Good Best (fails fault) (lacks want others) h i = tt
+beside_has Good Best (lacks want others) (has b) h i = tt
+beside_has Good Best (lacks want others) (fails fault) h i = tt
+beside_has Good Best (lacks want others) (lacks other more) h i = tt
+
+abbrev Any : {A : Type 0} → A → Type 0
+Any a = Unit {0}
+
+and_any : {A : Type 0} (Good : A → Type 0) (n : Need A) → Has Good n → Has (λ (a : A). Unit {0} × Good a) n
+and_any Good (has a) h = (tt, h)
+and_any Good (fails fault) h = tt
+and_any Good (lacks want others) h = tt
+
+module _ (known : Known) where
+  abbrev Row : {A : Type 0} → (A → Type 0) → Plan A → Type 0
+  Row Good p = Has Good (need (sight_alone known) p)
+
+  -- a fact that is heard is known
+  asks_fact : {A : Type 0} (Good : A → Type 0) (read : Option Answer → A) (question : Question)
+      → ((heard : Option Answer) → fact_known (found_in known) question ≡ Some heard → Good (read heard))
+      → Row Good (asking read (Want.Fact question))
+  unfolding need
+  asks_fact Good read question k = by_known (fact_known (found_in known) question) refl
+    where
+      by_known : (heard : Option (Option Answer)) → fact_known (found_in known) question ≡ heard
+          → Has Good (after (fact_heard question heard None) (λ heard. has (read heard)))
+      by_known None is = tt
+      by_known (Some heard) is = k heard is
+
+  chains : {A B : Type 0} (Good : A → Type 0) (Best : B → Type 0) (p : Plan A) (f : A → Plan B) → Row Good p
+      → ((a : A) → Good a → Row Best (f a)) → Row Best (chained p f)
+  chains Good Best p f k l = subst (Has Best) (sym (need_chained (sight_alone known) p f))
+      (after_has Good Best (need (sight_alone known) p) _ k l)
+
+  makes : {A B : Type 0} (Good : A → Type 0) (Best : B → Type 0) (f : A → B) (p : Plan A) → Row Good p
+      → ((a : A) → Good a → Best (f a)) → Row Best (made_with f p)
+  makes Good Best f p k l = subst (Has Best) (sym (need_made (sight_alone known) f p))
+      (after_has Good Best (need (sight_alone known) p) _ k l)
+
+  -- each plan says something of what it is for, and of its value
+  every : {A B : Type 0} (Fine : A → Type 0) (Good : B → Type 0) (f : A → Plan B)
+      → ((a : A) → Row (λ (b : B). Fine a × Good b) (f a)) → (list : List A)
+      → Row (λ (those : List B). All Fine list × All Good those) (each f list)
+  unfolding need each
+  every Fine Good f k [] = (tt, tt)
+  every {A} {B} Fine Good f k (a ∷ others) =
+      after_has (λ (two : B × List B). (Fine a × Good two.0) × (All Fine others × All Good two.1))
+      (λ (those : List B). (Fine a × All Fine others) × All Good those)
+      (beside (need (sight_alone known) (f a)) (need (sight_alone known) (each f others)))
+      (λ two. has (two.0 ∷ two.1))
+      (beside_has (λ (b : B). Fine a × Good b) (λ (those : List B). All Fine others × All Good those)
+      (need (sight_alone known) (f a)) (need (sight_alone known) (each f others)) (k a) (every Fine Good f k others))
+      (λ two h. ((h.0.0, h.1.0), (h.0.1, h.1.1)))
+
+  lines_row : (class : ClassId) (one : Method)
+      → Row (λ (heard : Option Answer). HasLines known class one × Unit {0}) (lines_plan class one)
+  lines_row class one = asks_fact (λ (heard : Option Answer). HasLines known class one × Unit {0}) (λ heard. heard)
+      (questions.LineTable class one.id)
+      (λ heard is. (sym (is_mapped _ (under same_method (class, one.id) known.lines)) ∙ ap is_some is, tt))
+
+  methods_heard : (found : Option (List Method)) (heard : Option Answer)
+      → option_map (λ found. Some (answers.Methods found)) found ≡ Some heard → found ≡ Some (methods_in heard)
+  methods_heard None heard is = cc
+  methods_heard (Some methods) heard is =
+      let one : Some (answers.Methods methods) ≡ heard = cc in ap (λ heard. Some (methods_in heard)) one
+
+  keyed_row : (keyed : Bool) (class : ClassId) → is_some (under same_class class known.sources) ≡ true
+      → Row (All (IsSeen known)) (keyed_plan keyed class)
+  unfolding need
+  keyed_row false class source = tt
+  keyed_row true class source =
+      chains (λ (methods : List Method). under same_class class known.methods ≡ Some methods) (All (IsSeen known))
+      (asking methods_in (Want.Fact (questions.Methods class))) (methods_plan class)
+      (asks_fact (λ (methods : List Method). under same_class class known.methods ≡ Some methods) methods_in
+      (questions.Methods class) (λ heard is. methods_heard (under same_class class known.methods) heard is))
+      (λ methods is. makes (λ (those : List (Option Answer)). All (HasLines known class) methods × All Any those)
+      (All (IsSeen known)) (λ heard. class ∷ []) (each (lines_plan class) methods)
+      (every (HasLines known class) Any (lines_plan class) (lines_row class) methods)
+      (λ those h. (record { methods = methods; has_source = source; has_methods = is; has_lines = h.0 }, tt)))
+
+  source_row : (wanted : Wanted) (class : ClassId) (signature : List ℕ)
+      → Row (All (IsSeen known)) (source_plan wanted class signature)
+  source_row wanted class signature =
+      chains (λ (source : Option (List ℕ)). is_some (under same_class class known.sources) ≡ true) (All (IsSeen known))
+      (asking source_in (Want.Fact (questions.SourceFile class)))
+      (λ source. keyed_plan (is_keyed wanted (key_by signature source)) class)
+      (asks_fact (λ (source : Option (List ℕ)). is_some (under same_class class known.sources) ≡ true) source_in
+      (questions.SourceFile class)
+      (λ heard is. sym (is_mapped _ (under same_class class known.sources)) ∙ ap is_some is))
+      (λ source is. keyed_row (is_keyed wanted (key_by signature source)) class is)
+
+  class_row : (wanted : Wanted) (class : ClassId) (loaded : Option Loaded)
+      → Row (All (IsSeen known)) (class_plan wanted class loaded)
+  unfolding need
+  class_row wanted class None = tt
+  class_row wanted class (Some loaded) = by_prepared loaded.prepared
+    where
+      by_watched : (watched : Bool) → Row (All (IsSeen known)) (watched_plan watched wanted class loaded.signature)
+      by_watched false = tt
+      by_watched true = source_row wanted class loaded.signature
+
+      by_package : (path : Option (List ℕ))
+          → Row (All (IsSeen known)) (package_plan wanted class loaded.signature path)
+      by_package None = tt
+      by_package (Some path) = by_watched (is_watched wanted path)
+
+      by_prepared : (prepared : Bool)
+          → Row (All (IsSeen known)) (prepared_plan prepared wanted class loaded.signature)
+      by_prepared false = tt
+      by_prepared true = by_package (package_in loaded.signature)
+
+  seen_joined : (lists : List (List ClassId)) → All (All (IsSeen known)) lists → All (IsSeen known) (joined lists)
+  seen_joined [] h = tt
+  seen_joined (classes ∷ lists) h = all_joined (IsSeen known) classes (joined lists) h.0 (seen_joined lists h.1)
+
+  all_seen : (wanted : Wanted) (classes : List ClassId)
+      → need (sight_alone known) (known_plan wanted (found_in known)) ≡ has classes → All (IsSeen known) classes
+  all_seen wanted classes is = subst (Has (All (IsSeen known))) is
+      (makes (λ (lists : List (List ClassId)). All Any (found_in known).order × All (All (IsSeen known)) lists)
+      (All (IsSeen known)) joined
+      (each (λ class. class_plan wanted class ((found_in known).loaded class)) (found_in known).order)
+      (every Any (All (IsSeen known)) (λ class. class_plan wanted class ((found_in known).loaded class))
+      (λ class. and_any (All (IsSeen known))
+      (need (sight_alone known) (class_plan wanted class ((found_in known).loaded class)))
+      (class_row wanted class ((found_in known).loaded class))) (found_in known).order)
+      (λ lists h. seen_joined lists h.1))
+
+-- What is found of it -------------------------------------------------------------------------------------------------
+
+option_alike : {A B : Type 0} (f g : A → B) → ((a : A) → f a ≡ g a) → (found : Option A)
+    → option_map f found ≡ option_map g found
+option_alike f g like None = refl
+option_alike f g like (Some a) = ap Some (like a)
+
+module _ (known now : Known) (grows : Grows known now) where
+  same_lines : (class : ClassId) (one : Method) → HasLines known class one
+      → method_found (found_in now) class one ≡ method_found (found_in known) class one
+  same_lines class one some = by_lines (under same_method (class, one.id) known.lines) refl some
+    where
+      by_lines : (lines : Option (Option LineTable)) → under same_method (class, one.id) known.lines ≡ lines
+          → is_some lines ≡ true → method_found (found_in now) class one ≡ method_found (found_in known) class one
+      by_lines None is some = cc
+      by_lines (Some table) is some =
+          ap (λ (lines : Option (Option LineTable)).
+          record { id = one.id; name = one.name; lines = option_flatten lines })
+          (grows.lines (class, one.id) table is ∙ sym is)
+
+  same_methods : (class : ClassId) (methods : List Method) → All (HasLines known class) methods
+      → map (method_found (found_in now) class) methods ≡ map (method_found (found_in known) class) methods
+  same_methods class [] h = refl
+  same_methods class (one ∷ methods) h =
+      ap (λ (first : KnownMethod). first ∷ map (method_found (found_in now) class) methods) (same_lines class one h.0)
+      ∙ ap (λ (others : List KnownMethod). method_found (found_in known) class one ∷ others)
+      (same_methods class methods h.1)
+
+  same_source : (class : ClassId) → is_some (under same_class class known.sources) ≡ true
+      → under same_class class now.sources ≡ under same_class class known.sources
+  same_source class some = by_source (under same_class class known.sources) refl some
+    where
+      by_source : (source : Option (Option (List ℕ))) → under same_class class known.sources ≡ source
+          → is_some source ≡ true → under same_class class now.sources ≡ source
+      by_source None is some = cc
+      by_source (Some source) is some = grows.sources class source is
+
+  same_facts : (class : ClassId) → IsSeen known class → (loaded : Loaded)
+      → facts_found (found_in now) class loaded ≡ facts_found (found_in known) class loaded
+  same_facts class s loaded =
+      ap (λ (source : Option (Option (List ℕ))). as_found source (methods_found (found_in now) class
+      (under same_class class now.methods))) (same_source class s.has_source)
+      ∙ ap (as_found (under same_class class known.sources))
+      (ap (methods_found (found_in now) class) (grows.methods class s.methods s.has_methods)
+      ∙ same_methods class s.methods s.has_lines
+      ∙ sym (ap (methods_found (found_in known) class) s.has_methods))
+    where
+      as_found : Option (Option (List ℕ)) → List KnownMethod → KnownClass
+      as_found source methods = record {
+        tag = loaded.tag;
+        signature = loaded.signature;
+        prepared = loaded.prepared;
+        source = option_flatten source;
+        methods = methods;
+      }
+
+  -- a class that is bound stays so
+  one_bound : now.loaded ≡ known.loaded → (wanted : Wanted) (class : ClassId) → IsSeen known class
+      → IsBound known wanted class → IsBound now wanted class
+  one_bound loaded wanted class seen h facts is = h facts (sym same ∙ is)
+    where
+      same : class_found (found_in now) class ≡ class_found (found_in known) class
+      same = option_alike (facts_found (found_in now) class) (facts_found (found_in known) class)
+          (same_facts class seen) (under same_class class now.loaded)
+          ∙ ap (λ (entries : List (ClassId × Loaded)). option_map (facts_found (found_in known) class)
+          (under same_class class entries)) loaded
+
+  each_bound : now.loaded ≡ known.loaded → (wanted : Wanted) (classes : List ClassId) → All (IsSeen known) classes
+      → All (IsBound known wanted) classes → All (IsBound now wanted) classes
+  each_bound loaded wanted [] seen h = tt
+  each_bound loaded wanted (class ∷ classes) seen h =
+      (one_bound loaded wanted class seen.0 h.0, each_bound loaded wanted classes seen.1 h.1)
+
+  pub bound_still : now.loaded ≡ known.loaded → (wanted : Wanted) (classes : List ClassId)
+      → need (sight_alone known) (known_plan wanted (found_in known)) ≡ has classes
+      → All (IsBound known wanted) classes → All (IsBound now wanted) classes
+  bound_still loaded wanted classes found h =
+      each_bound loaded wanted classes (all_seen known wanted classes found) h

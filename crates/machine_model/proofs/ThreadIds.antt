@@ -1,0 +1,302 @@
+-- The ids of threads that are told were read: those in composites that are in hand, and those in answers.
+use Rattle.std.proofs.Common.{◌≡◌, ℕ, Bool, true, false, cond, List, [], ◌∷◌, ◌++◌, Option, Some, None, refl, sym}
+use Rattle.std.proofs.Common.{arith}
+use Rattle.std.specs.Prelude.{find, map, ◌==◌}
+use Rattle.std.specs.List.{AllByRecursion as All, flat_map}
+use Rattle.std.specs.Option.{option_or}
+use Rattle.jdwp_events.specs.declared.event.Event.{Event as ATargetEvent}
+use Rattle.jdwp_events.specs.declared.event.Event.TheVariants as happened
+use Rattle.jdwp_events.specs.declared.kind.Policy.{Policy}
+use Rattle.jdwp_events.specs.declared.kind.Policy.TheVariants.{NoThread, EventThread, All as AllThreads}
+use Rattle.machine_model.specs.Breakpoints.{newly_verified}
+use Rattle.machine_model.specs.Composites.{change_told, changes_in, composite_parts, has_death}
+use Rattle.machine_model.specs.Ids.{Id, ids_of_composite, ids_of_event, object}
+use Rattle.machine_model.specs.Names.{Attach, Attached, BadArguments, Choice, Command, ConfigurationDone, Continue}
+use Rattle.machine_model.specs.Names.{Decides, Disconnect, Event, Failed, Failure, Fresh, Gone, Initialize, Initialized}
+use Rattle.machine_model.specs.Names.{Item, Leaves, Lookup, NamedThread, News, Outcome, Part, Pause, Phase, Replied}
+use Rattle.machine_model.specs.Names.{SetBreakpoints, StackTrace, Stopping, Success, TargetCommand, TellsNews, Terminated}
+use Rattle.machine_model.specs.Names.{ThreadId, Threads, Unsupported, a_composite, a_raw, a_request, a_stop}
+use Rattle.machine_model.specs.Names.{breakpoint_list, class_facts, all_threads, thread_frames, Capabilities, Continued}
+use Rattle.machine_model.specs.Names.{Nothing, Note, Options, Roots, Lines, Classes, EntryHeld, Configured}
+use Rattle.machine_model.specs.Names.{entry_verified, frame_list, some_news, target_end, thread_changed, thread_list}
+use Rattle.machine_model.specs.Lookups.{finished}
+use Rattle.machine_model.specs.Names.{Finding, Hit}
+use Rattle.machine_model.specs.Plans.{Result}
+use Rattle.machine_model.specs.Replying.{given_up, replied_to}
+use Rattle.machine_model.specs.Rows.{chosen, configured_parts, continue_parts, each_told, end_parts, failure_of}
+use Rattle.machine_model.specs.Rows.{leaves, news_of, noted, parts_by, parts_of, pause_parts, row_of, stack_parts}
+use Rattle.machine_model.specs.Rows.{taken, thread_with, told_in, wanting, gone_parts, gone_row, gone_tail, has_response}
+use Rattle.machine_model.specs.State.{Hand, State, is_attached}
+use Rattle.machine_model.specs.Stops.{decided_by, events_in, holds_entry, first_of, hit_by, hits_in, is_at_line, is_live, stop_among}
+use Rattle.machine_model.specs.Telling.{after_event, is_among, numbered_by, with_thread, with_threads}
+use Rattle.machine_model.proofs.IdRows.{all_back, all_front, all_joined}
+use Rattle.machine_model.proofs.PlanIds.{OfNamed, OfThread, OnSome}
+use Rattle.machine_model.proofs.Standing.{PartStands}
+use Rattle.machine_model.proofs.StandingMoves.{told_thread}
+use Rattle.machine_model.proofs.Tables.{of_decided}
+use Rattle.wish_sets.specs.Wishes.{Wishes}
+
+-- What a part tells ---------------------------------------------------------------------------------------------------
+
+abbrev pub OfNews : (Id → Type 0) → News → Type 0
+OfNews P (entry_verified entry) = Unit {0}
+OfNews P (thread_changed started thread) = OfThread P thread
+
+abbrev OfEvent : (Id → Type 0) → Event → Type 0
+OfEvent P Initialized = Unit {0}
+OfEvent P (some_news news) = OfNews P news
+OfEvent P (a_stop stopping) = OfThread P stopping.thread
+OfEvent P Terminated = Unit {0}
+
+-- the thread that a part tells passes
+abbrev pub TellStands : (Id → Type 0) → Part → Type 0
+TellStands P (Part.Tells event) = OfEvent P event
+TellStands P _ = Unit {0}
+
+-- Threads that are told -----------------------------------------------------------------------------------------------
+
+one_more : (P : Id → Type 0) (threads : List ThreadId) (thread : ThreadId) → OfThread P thread
+    → All (OfThread P) threads → All (OfThread P) (with_thread threads thread)
+one_more P threads thread k h = by_test (is_among threads thread)
+  where
+    by_test : (is : Bool) → All (OfThread P) (cond is threads (threads ++ thread ∷ []))
+    by_test true = h
+    by_test false = all_joined (OfThread P) threads (thread ∷ []) h (k, tt)
+
+some_more : (P : Id → Type 0) (threads : List ThreadId) (named : List NamedThread) → All (OfNamed P) named
+    → All (OfThread P) threads → All (OfThread P) (with_threads threads named)
+some_more P threads [] k h = h
+some_more P threads (first ∷ others) k h =
+    some_more P (with_thread threads first.thread) others k.1 (one_more P threads first.thread k.0 h)
+
+-- behind a response
+pub responded_threads : (P : Id → Type 0) (outcome : Outcome) (state : State) → PartStands P (Part.Responds outcome)
+    → All (OfThread P) state.threads → All (OfThread P) (numbered_by outcome state).threads
+responded_threads P (Failed failure) state k h = h
+responded_threads P (Success Nothing) state k h = h
+responded_threads P (Success Capabilities) state k h = h
+responded_threads P (Success (breakpoint_list rooted listed)) state k h = h
+responded_threads P (Success (frame_list total frames)) state k h = h
+responded_threads P (Success Continued) state k h = h
+responded_threads P (Success (thread_list named)) state k h = some_more P state.threads named k h
+
+-- behind an event
+pub event_threads : (P : Id → Type 0) (event : Event) (state : State) → TellStands P (Part.Tells event)
+    → All (OfThread P) state.threads → All (OfThread P) (after_event event state).threads
+event_threads P Initialized state k h = h
+event_threads P (some_news (entry_verified entry)) state k h = h
+event_threads P (some_news (thread_changed started thread)) state k h = one_more P state.threads thread k h
+event_threads P (a_stop stopping) state k h = one_more P state.threads stopping.thread k h
+event_threads P Terminated state k h = h
+
+-- where an item is taken
+pub taken_threads : (P : Id → Type 0) (item : Item) (state : State) → All (OfThread P) state.threads
+    → All (OfThread P) (taken item state).threads
+taken_threads P (a_request request) state h = h
+taken_threads P (a_composite at composite) state h = h
+taken_threads P (a_raw at body) state h = h
+taken_threads P target_end state h = h
+
+-- behind a note, and a reply
+pub noted_threads : (note : Note) (state : State) → (noted note state).threads ≡ state.threads
+noted_threads note state = grind arith
+
+pub replied_threads : (command : TargetCommand) (replied : Replied) (state : State)
+    → (replied_to command replied state).threads ≡ state.threads
+replied_threads command replied state = grind arith
+
+-- Rows ----------------------------------------------------------------------------------------------------------------
+
+row_tells : (P : Id → Type 0) (command : Command) (state : State) → All (OfThread P) state.threads
+    → All (TellStands P) (row_of command state)
+row_tells P (Initialize arguments) state told = (tt, (tt, tt))
+row_tells P (Attach arguments) state told = (tt, (tt, (tt, (tt, (tt, (tt, tt))))))
+row_tells P ConfigurationDone state told = by_entry state.entry
+  where
+    by_entry : (entry : Bool) → All (TellStands P) (configured_parts entry)
+    by_entry true = (tt, (tt, (tt, tt)))
+    by_entry false = (tt, (tt, tt))
+row_tells P (SetBreakpoints arguments) state told = (tt, (tt, (tt, (tt, (tt, (tt, tt))))))
+row_tells P Threads state told = (tt, tt)
+row_tells P (Continue arguments) state told = by_thread (thread_with state.threads arguments.thread_id)
+  where
+    by_thread : (thread : Option ThreadId) → All (TellStands P) (continue_parts thread)
+    by_thread None = (tt, tt)
+    by_thread (Some thread) = (tt, (tt, tt))
+row_tells P (Pause arguments) state told = by_stop state.stopped (thread_with state.threads arguments.thread_id)
+    (told_thread P state.threads arguments.thread_id told)
+  where
+    by_stop : (stopped : Bool) (thread : Option ThreadId) → OnSome (OfThread P) thread
+        → All (TellStands P) (pause_parts stopped thread)
+    by_stop stopped None k = (tt, tt)
+    by_stop true (Some thread) k = (tt, tt)
+    by_stop false (Some thread) k = (tt, (tt, (k, tt)))
+row_tells P (StackTrace arguments) state told = by_thread (thread_with state.threads arguments.thread_id)
+  where
+    by_thread : (thread : Option ThreadId) → All (TellStands P) (stack_parts thread arguments)
+    by_thread None = (tt, tt)
+    by_thread (Some thread) = (tt, tt)
+row_tells P (Disconnect arguments) state told = (tt, (tt, (tt, tt)))
+row_tells P Unsupported state told = (tt, tt)
+row_tells P (BadArguments name) state told = (tt, tt)
+
+unless_fails : (P : Id → Type 0) (failure : Option Failure) (row : List Part) → All (TellStands P) row
+    → All (TellStands P) (parts_by failure row)
+unless_fails P (Some failure) row h = (tt, tt)
+unless_fails P None row h = h
+
+pub begun_tells : (P : Id → Type 0) (state : State) (item : Item) → All (OfThread P) state.threads
+    → All (TellStands P) (parts_of state item)
+begun_tells P state (a_request request) told = unless_fails P (failure_of (wanting request.command) state)
+    (row_of request.command state) (row_tells P request.command state told)
+begun_tells P state target_end told = by_end state.terminated
+  where
+    by_end : (ended : Bool) → All (TellStands P) (end_parts ended)
+    by_end true = tt
+    by_end false = (tt, tt)
+begun_tells P state (a_composite at composite) told =
+    by_phase state.phase (has_death composite.events) composite.policy
+  where
+    by_phase : (phase : Phase) (dies : Bool) (policy : Policy)
+        → All (TellStands P) (composite_parts phase dies policy at state.next_entry)
+    by_phase Fresh dies policy = tt
+    by_phase Attached true NoThread = (tt, tt)
+    by_phase Attached true EventThread = (tt, tt)
+    by_phase Attached true AllThreads = (tt, tt)
+    by_phase Attached false NoThread = (tt, (tt, (tt, tt)))
+    by_phase Attached false EventThread = (tt, tt)
+    by_phase Attached false AllThreads = (tt, (tt, (tt, (tt, tt))))
+    by_phase Gone dies policy = tt
+begun_tells P state (a_raw at body) told = tt
+
+pub found_tells : (P : Id → Type 0) (lookup : Lookup) (result : Result Finding) (state : State) (rest : List Part)
+    → All (TellStands P) rest → All (TellStands P) (finished lookup result state ++ rest)
+found_tells P all_threads result state rest h = (tt, h)
+found_tells P (thread_frames thread start levels) result state rest h = (tt, h)
+found_tells P class_facts result state rest h = (tt, h)
+
+-- What a composite tells ----------------------------------------------------------------------------------------------
+
+abbrev pub ItemStands : (Id → Type 0) → Item → Type 0
+ItemStands P (a_composite at composite) = All P (ids_of_composite composite)
+ItemStands P _ = Unit {0}
+
+events_stand : (P : Id → Type 0) (item : Item) → ItemStands P item → All P (flat_map ids_of_event (events_in item))
+events_stand P (a_request request) h = tt
+events_stand P (a_composite at composite) h = h
+events_stand P (a_raw at body) h = tt
+events_stand P target_end h = tt
+
+-- of each event what is told passes
+each_event : {A : Type 0} (P : Id → Type 0) (Good : A → Type 0) (f : ATargetEvent → List A)
+    → ((event : ATargetEvent) → All P (ids_of_event event) → All Good (f event)) → (events : List ATargetEvent)
+    → All P (flat_map ids_of_event events) → All Good (flat_map f events)
+each_event P Good f k [] h = tt
+each_event P Good f k (event ∷ events) h = all_joined Good (f event) (flat_map f events)
+    (k event (all_front P (ids_of_event event) (flat_map ids_of_event events) h))
+    (each_event P Good f k events (all_back P (ids_of_event event) (flat_map ids_of_event events) h))
+
+change_stands : (P : Id → Type 0) (event : ATargetEvent) → All P (ids_of_event event)
+    → All (OfNews P) (change_told event)
+change_stands P (happened.ThreadStart request thread) h = (h.0, tt)
+change_stands P (happened.ThreadDeath request thread) h = (h.0, tt)
+change_stands P _ h = tt
+
+changes_stand : (P : Id → Type 0) (item : Item) → ItemStands P item → All (OfNews P) (changes_in item)
+changes_stand P (a_request request) h = tt
+changes_stand P (a_composite at composite) h =
+    each_event P (OfNews P) change_told (change_stands P) composite.events h
+changes_stand P (a_raw at body) h = tt
+changes_stand P target_end h = tt
+
+abbrev OfStopping : (Id → Type 0) → Stopping → Type 0
+OfStopping P stopping = OfThread P stopping.thread
+
+hit_stands : (P : Id → Type 0) (wishes : Wishes) (event : ATargetEvent) → All P (ids_of_event event)
+    → All (OfStopping P) (hit_by wishes event)
+hit_stands P wishes (happened.Breakpoint request thread at) h = by_live (is_live wishes request)
+  where
+    by_live : (live : Bool) → All (OfStopping P) (cond live (record { cause = Hit at; thread = thread } ∷ []) [])
+    by_live true = (h.0, tt)
+    by_live false = tt
+hit_stands P wishes _ h = tt
+
+found_one : {A : Type 0} (Good : A → Type 0) (test : A → Bool) (list : List A) → All Good list
+    → OnSome Good (find test list)
+found_one Good test [] h = tt
+found_one {A} Good test (a ∷ others) h = by_test (test a) (found_one Good test others h.1)
+  where
+    by_test : (is : Bool) → OnSome Good (find test others) → OnSome Good (cond is (Some a) (find test others))
+    by_test true rest = h.0
+    by_test false rest = rest
+
+either_one : {A : Type 0} (Good : A → Type 0) (one other : Option A) → OnSome Good one → OnSome Good other
+    → OnSome Good (option_or one other)
+either_one Good None other h k = k
+either_one Good (Some a) other h k = h
+
+first_one : (P : Id → Type 0) (hits : List Stopping) → All (OfStopping P) hits → OnSome (OfStopping P) (first_of hits)
+first_one P [] h = tt
+first_one P (hit ∷ hits) h = h.0
+
+told_hit : (P : Id → Type 0) (wishes : Wishes) (events : List ATargetEvent) → All P (flat_map ids_of_event events)
+    → OnSome (OfStopping P) (stop_among wishes (hits_in wishes events))
+told_hit P wishes events h =
+    let hits = each_event P (OfStopping P) (hit_by wishes) (hit_stands P wishes) events h in
+    either_one (OfStopping P) (find (λ hit. is_at_line wishes hit.cause) (hits_in wishes events))
+    (first_of (hits_in wishes events)) (found_one (OfStopping P) _ (hits_in wishes events) hits)
+    (first_one P (hits_in wishes events) hits)
+
+-- Choices -------------------------------------------------------------------------------------------------------------
+
+verified_stand : (P : Id → Type 0) (entries : List _) (changes : List News) → All (OfNews P) changes
+    → All (OfNews P) (map entry_verified entries ++ changes)
+verified_stand P [] changes h = h
+verified_stand P (entry ∷ entries) changes h = (tt, verified_stand P entries changes h)
+
+pub chosen_tells : (P : Id → Type 0) (choice : Choice) (state : State) (hand : Hand) (rest : List Part)
+    → ItemStands P hand.item → All (TellStands P) rest → All (TellStands P) (chosen choice state hand ++ rest)
+chosen_tells P (TellsNews below) state hand rest item h = by_news state.phase (news_of below state hand.item)
+    (verified_stand P (newly_verified below state.bound state.wishes) (changes_in hand.item)
+    (changes_stand P hand.item item))
+  where
+    by_news : (phase : Phase) (news : List News) → All (OfNews P) news → All (TellStands P) (told_in phase news ++ rest)
+    by_news Fresh news k = h
+    by_news Gone news k = h
+    by_news Attached [] k = h
+    by_news Attached (one ∷ news) k = (k.0, by_news Attached news k.1)
+chosen_tells P (Leaves exits) state hand rest item h = by_phase state.phase
+  where
+    by_phase : (phase : Phase) → All (TellStands P) (leaves phase exits ++ rest)
+    by_phase Fresh = h
+    by_phase Attached = (tt, h)
+    by_phase Gone = h
+chosen_tells P Decides state hand rest item h =
+    by_stop (is_attached state.phase) state.stopped (holds_entry state (events_in hand.item))
+    (stop_among state.wishes (hits_in state.wishes (events_in hand.item)))
+    (told_hit P state.wishes (events_in hand.item) (events_stand P hand.item item))
+  where
+    by_stop : (attached stopped holds : Bool) (stop : Option Stopping) → OnSome (OfStopping P) stop
+        → All (TellStands P) (cond attached (decided_by stopped holds stop) [] ++ rest)
+    by_stop false stopped holds stop hit = h
+    by_stop true stopped true None hit = (tt, h)
+    by_stop true stopped false None hit = (tt, h)
+    by_stop true false holds (Some stopping) hit = (hit, h)
+    by_stop true true holds (Some stopping) hit = (hit, (tt, h))
+
+-- An item that is given up --------------------------------------------------------------------------------------------
+
+pub given_tells : (P : Id → Type 0) (responds : Bool) (item : Item) → All (TellStands P) (gone_parts responds item)
+given_tells P true (a_request request) = by_row request.command
+  where
+    by_row : (command : Command) → All (TellStands P) (gone_row command)
+    by_row (Disconnect arguments) = (tt, (tt, tt))
+    by_row _ = (tt, tt)
+given_tells P false (a_request request) = by_tail request.command
+  where
+    by_tail : (command : Command) → All (TellStands P) (gone_tail command)
+    by_tail (Disconnect arguments) = (tt, tt)
+    by_tail _ = tt
+given_tells P responds (a_composite at composite) = tt
+given_tells P responds (a_raw at body) = tt
+given_tells P responds target_end = tt
