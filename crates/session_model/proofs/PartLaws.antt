@@ -17,6 +17,7 @@ use Rattle.machine_model.specs.Rest.{request_in}
 use Rattle.machine_model.specs.Rows.{chosen, configured_parts, continue_parts, end_parts, failure_of, gone_parts}
 use Rattle.machine_model.specs.Rows.{has_response, is_response, news_of, parts_by, parts_of, pause_parts}
 use Rattle.machine_model.specs.Rows.{request_parts, row_of, thread_with, told_in, wanting}
+use Rattle.machine_model.specs.Rows.{stack_parts}
 use Rattle.machine_model.specs.Runs.{Message, is_disconnect}
 use Rattle.machine_model.specs.State.{Hand, Machine, State, is_empty, knowing, left}
 use Rattle.machine_model.specs.Telling.{numbered_by, outcome_told, response_to}
@@ -25,6 +26,8 @@ use Rattle.machine_model.proofs.Tables.{of_decided, told_alike}
 use Rattle.session_model.specs.Names.{Choice, Command, Decides, Finding, Item, Leaves, Lookup, Nothing, Outcome, Part}
 use Rattle.session_model.specs.Names.{Phase, Replied, Request, Success, TargetCommand, TellsNews, Want, a_composite}
 use Rattle.session_model.specs.Names.{a_question, a_raw, a_request, an_effect, finish_done, target_end}
+use Rattle.dap_messages.specs.declared.requests.Command.TheVariants.{StackTrace}
+use Rattle.dap_messages.specs.declared.requests.StackTraceArguments.{StackTraceArguments}
 
 -- Lists of parts ------------------------------------------------------------------------------------------------------
 
@@ -91,6 +94,11 @@ pause_on stopped None = refl
 pause_on true (Some thread) = refl
 pause_on false (Some thread) = refl
 
+stack_on : (arguments : StackTraceArguments) (thread : Option ThreadId)
+    → goes_on false (stack_parts thread arguments) ≡ true
+stack_on arguments None = refl
+stack_on arguments (Some thread) = refl
+
 row_on : (command : Command) (state : State) → goes_on (is_disconnect command) (row_of command state) ≡ true
 row_on (Initialize arguments) state = refl
 row_on (Attach arguments) state = refl
@@ -99,6 +107,7 @@ row_on (SetBreakpoints arguments) state = refl
 row_on Threads state = refl
 row_on (Continue arguments) state = continue_on (thread_with state.threads arguments.thread_id)
 row_on (Pause arguments) state = pause_on state.stopped (thread_with state.threads arguments.thread_id)
+row_on (StackTrace arguments) state = stack_on arguments (thread_with state.threads arguments.thread_id)
 row_on (Disconnect arguments) state = refl
 row_on Unsupported state = refl
 row_on (BadArguments name) state = refl
