@@ -4,6 +4,7 @@ pub mod BoundLaws
 pub mod ClassLaws
 pub mod DueLaws
 pub mod EffectLaws
+pub mod FrameLaws
 pub mod OpenLaws
 pub mod PlanLaws
 pub mod ReplyLaws

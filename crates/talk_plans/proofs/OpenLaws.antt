@@ -22,7 +22,7 @@ use Rattle.jdwp_values.proofs.PartLaws.{both}
 use Rattle.machine_model.specs.Classes.{is_keyed}
 use Rattle.machine_model.specs.Facts.{lines_in, methods_in, source_in}
 use Rattle.machine_model.specs.Plans.{Sight}
-use Rattle.machine_model.specs.Replying.{learnt}
+use Rattle.machine_model.specs.Replying.{knows_fact, learnt, with_heard}
 use Rattle.machine_model.specs.declared.acts.Sent.{Sent}
 use Rattle.talk_plans.specs.ClassPlanning.{all_found, all_lacking, class_need, keyed_need, lines_lacking, methods_need}
 use Rattle.talk_plans.specs.ClassPlanning.{signed_need, source_need, source_heard, methods_heard, watched_by}
@@ -376,7 +376,7 @@ module _ (P : Standing → Bool) (at_open : P Open ≡ true) (wanted : Wanted) (
   stays_out : (question : Question) (heard : Option Answer) (other : ClassId)
       → stays_open (found_in known) question ≡ true
       → P (class_standing wanted (found_in known) other) ≡ false
-      → P (class_standing wanted (found_in (learnt question heard known)) other) ≡ false
+      → P (class_standing wanted (found_in (with_heard question heard known)) other) ≡ false
   stays_out (questions.SourceFile class) heard other stays out =
       source_stays class (source_in heard) other stays out
   stays_out (questions.Methods class) heard other stays out =
@@ -388,18 +388,18 @@ module _ (P : Standing → Bool) (at_open : P Open ≡ true) (wanted : Wanted) (
 -- the classes that are known stay the same
 same_order : (known : Known) (question : Question) (heard : Option Answer)
     → stays_open (found_in known) question ≡ true
-    → (found_in (learnt question heard known)).order ≡ (found_in known).order
+    → (found_in (with_heard question heard known)).order ≡ (found_in known).order
 same_order known (questions.SourceFile class) heard stays = refl
 same_order known (questions.Methods class) heard stays = refl
 same_order known (questions.LineTable class method) heard stays = refl
 same_order known question heard stays = absurd cc
 
-pub stay_open : (wanted : Wanted) (known : Known) (question : Question) (heard : Option Answer)
+heard_open : (wanted : Wanted) (known : Known) (question : Question) (heard : Option Answer)
     (open_ones : OpenClasses) → stays_open (found_in known) question ≡ true
-    → AreOpen wanted (found_in known) open_ones → AreOpen wanted (found_in (learnt question heard known)) open_ones
-stay_open wanted known question heard open_ones stays are =
+    → AreOpen wanted (found_in known) open_ones → AreOpen wanted (found_in (with_heard question heard known)) open_ones
+heard_open wanted known question heard open_ones stays are =
     let same = same_order known question heard stays in
-    let later = found_in (learnt question heard known) in
+    let later = found_in (with_heard question heard known) in
     record {
       lacking = subst (λ (order : List ClassId).
           AreLeft (λ class. may_lack (class_standing wanted later class)) order open_ones.lacking) (sym same) (record {
@@ -416,6 +416,17 @@ stay_open wanted known question heard open_ones stays are =
                 stays_out may_be_found refl wanted known question heard class stays (are.found.needless class out);
           });
     }
+
+-- what is known isn't learnt again
+pub stay_open : (wanted : Wanted) (known : Known) (question : Question) (heard : Option Answer)
+    (open_ones : OpenClasses) → stays_open (found_in known) question ≡ true
+    → AreOpen wanted (found_in known) open_ones → AreOpen wanted (found_in (learnt question heard known)) open_ones
+stay_open wanted known question heard open_ones stays are = by_known (knows_fact question known)
+  where
+    by_known : (knows : Bool)
+        → AreOpen wanted (found_in (cond knows known (with_heard question heard known))) open_ones
+    by_known true = are
+    by_known false = heard_open wanted known question heard open_ones stays are
 
 -- where they were found out
 pub stay_found_out : (wanted : Wanted) (known later : Known) (question : Question) (heard : Option Answer)

@@ -1,6 +1,8 @@
 pub mod Asking
 pub mod ClassPlanning
+pub mod FramePlanning
 pub mod Laws
+pub mod Numbering
 pub mod OpenClasses
 pub mod Planning
 pub mod Replies

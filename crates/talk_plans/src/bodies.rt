@@ -7,6 +7,7 @@ ghost use Rattle.machine_model.specs.declared.parts.Event.TheVariants.{Stopped a
 
 use crate::bound::BoundIds;
 use crate::breakpoints::breakpoint_told;
+use crate::frame_numbers::frames_told;
 use crate::news::news_told;
 use crate::state::State;
 use crate::stops::has_line;
@@ -86,6 +87,13 @@ fn body_told(alloc: Global, body: &Body, state: &mut State) -> Result<Shape, NoM
             Ok(Shape::Breakpoints(told))
         }
         Body::Continued => Ok(Shape::Continued),
+        Body::StackFrames { total, frames } => {
+            let frames = frames_told(alloc, state.options, &mut state.numbers, frames.as_slice())?;
+            Ok(Shape::StackFrames {
+                frames,
+                total: *total,
+            })
+        }
         Body::Threads(named) => {
             add_threads(&mut state.threads, named.as_slice())?;
             Ok(Shape::Threads(threads_told(alloc, &state.threads, named.as_slice())?))

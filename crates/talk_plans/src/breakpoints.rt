@@ -36,8 +36,8 @@ fn slashed(alloc: Global, path: &str) -> Result<String, NoMemory>
     Ok(text)
 }
 
-// A folder without the `/` at its end, where it has one.
-fn trimmed(root: &[u8]) -> &[u8]
+/// A folder without the `/` at its end, where it has one.
+pub(crate) fn trimmed(root: &[u8]) -> &[u8]
     ensures { result.now ≡ trimmed root.now }
 {
     let (front, last) = root.split_at(root.len().saturating_sub(1));
@@ -186,17 +186,18 @@ fn breakpoint_parts(
     alloc: Global,
     from_one: bool,
     key: Option<Text>,
+    path: Text,
     listed: List<ListedBreakpoint>,
     below: u64,
 ) -> Result<VecDeque<Part>, NoMemory>
-    ensures { IfOk result (λ parts. parts.items ≡ breakpoint_parts from_one key listed below) }
+    ensures { IfOk result (λ parts. parts.items ≡ breakpoint_parts from_one key path listed below) }
 {
     let rooted = key.is_some();
     let entries = entries_of(alloc, from_one, listed.as_slice())?;
     Ok(VecDeque::from_array(
         alloc,
         [
-            Part::Notes(Note::Lines { key, entries }),
+            Part::Notes(Note::Lines { key, path, entries }),
             Part::Updates,
             Part::Looks(Lookup::Classes),
             Part::Updates,
@@ -216,14 +217,16 @@ pub(crate) fn breakpoints_row(
 ) -> Result<VecDeque<Part>, NoMemory>
     ensures { IfOk result (λ parts. parts.items
         ≡ breakpoint_parts state.now.options.lines_from_one (key_of state.now.roots arguments.now.path)
-        (numbered_from state.now.next_entry arguments.now.breakpoints) state.now.next_entry) }
+        arguments.now.path (numbered_from state.now.next_entry arguments.now.breakpoints) state.now.next_entry) }
 {
     let key = key_of(alloc, state.roots.as_slice(), arguments.path.as_str())?;
+    let path = Text::from_str(alloc, arguments.path.as_str())?;
     let listed = numbered_from(alloc, state.next_entry, arguments.breakpoints.as_slice())?;
     breakpoint_parts(
         alloc,
         state.options.lines_from_one,
         key,
+        path,
         listed,
         state.next_entry,
     )

@@ -22,17 +22,17 @@ use std::alloc::Global;
 use std::collections::VecDeque;
 use wire_core::{Blob, List, NoMemory};
 
-// The fact of a class is lacking.
-fn lack(wants: &mut VecDeque<Want>, question: Question) -> Result<(), NoMemory>
+/// The fact of a class is lacking.
+pub(crate) fn lack(wants: &mut VecDeque<Want>, question: Question) -> Result<(), NoMemory>
     ensures { OnOk result (wants.new.items ≡ wants.old.items ++ Fact question ∷ []) }
 {
     wants.push_back(Want::Fact(question))?;
     Ok(())
 }
 
-// The source of a class, where it was learnt or replied; it may be absent (JDWP, ReferenceType command set,
-// SourceFile).
-fn source_heard<'a>(
+/// The source of a class, where it was learnt or replied; it may be absent (JDWP, ReferenceType command set,
+/// SourceFile).
+pub(crate) fn source_heard<'a>(
     alloc: Global,
     state: &'a State,
     asked: &'a Asked,
@@ -51,8 +51,8 @@ fn source_heard<'a>(
     }
 }
 
-// The methods of a class, where they were learnt or replied (JDWP, ReferenceType command set, Methods).
-fn methods_heard<'a>(
+/// The methods of a class, where they were learnt or replied (JDWP, ReferenceType command set, Methods).
+pub(crate) fn methods_heard<'a>(
     alloc: Global,
     state: &'a State,
     asked: &'a Asked,
@@ -70,8 +70,8 @@ fn methods_heard<'a>(
     }
 }
 
-// The lines of a method are lacking where they were neither learnt nor replied (JDWP, Method command set, LineTable).
-fn add_lines(
+/// The lines of a method are lacking where they were neither learnt nor replied (JDWP, Method command set, LineTable).
+pub(crate) fn add_lines(
     alloc: Global,
     state: &State,
     asked: &Asked,

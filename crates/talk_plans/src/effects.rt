@@ -1,6 +1,6 @@
 //! The effects of event requests, what their replies make of what is known, and what the sending of a deed changes.
 ghost use Rattle.std.specs.Prelude.{◌≡◌, false, is_some, true, IfOk};
-ghost use Rattle.machine_model.specs.Due.{entry_by, still_held, still_stopped, stopped_by};
+ghost use Rattle.machine_model.specs.Due.{entry_by, still_held};
 ghost use Rattle.machine_model.specs.Requests.{effect_due, request_in, set_to, wishes_after};
 ghost use Rattle.machine_model.specs.Replying.{unlisted_by, watches};
 ghost use Rattle.talk_plans.specs.Talking.{IsNext};
@@ -32,29 +32,6 @@ pub(crate) fn effect_due(alloc: Global, wishes: &Wishes) -> Result<Option<Effect
             request,
         })),
         Some(Change::Set { place: _, wish }) => Ok(Some(Effect::Set(wish_copy(alloc, wish)?))),
-    }
-}
-
-fn still_stopped(suspension: Suspension, stopped: bool) -> bool
-    ensures { result ≡ still_stopped suspension stopped }
-{
-    match suspension {
-        Suspension::Composite => stopped,
-        Suspension::Entry => stopped,
-        Suspension::Stop => false,
-    }
-}
-
-/// Whether a stop is in hand once a deed is sent: it begins with the Suspend of a pause, and is over with its Resume
-/// (JDWP, VirtualMachine command set, Suspend and Resume).
-pub(crate) fn stopped_by(deed: Deed, stopped: bool) -> bool
-    ensures { result ≡ stopped_by deed stopped }
-{
-    match deed {
-        Deed::Suspend => true,
-        Deed::Resume(suspension) => still_stopped(suspension, stopped),
-        Deed::Dispose => stopped,
-        Deed::Exit => stopped,
     }
 }
 

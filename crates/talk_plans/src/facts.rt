@@ -3,8 +3,11 @@ ghost use Rattle.std.specs.Prelude.{◌≡◌, fold, option_copied, IfOk, OnOk};
 ghost use Rattle.machine_model.specs.Classes.{classes_in, has_prepared, with_listed};
 ghost use Rattle.machine_model.specs.Facts.{above_in, fields_in, lines_in, methods_in, source_in, variables_in};
 ghost use Rattle.machine_model.specs.Plans.{answer_in};
-ghost use Rattle.machine_model.specs.Replying.{learnt};
+ghost use Rattle.machine_model.specs.Replying.{knows_fact, learnt, with_heard};
 
+use crate::open_classes::{
+    known_methods, known_signature, known_source, knows_above, knows_fields,
+};
 use class_tables::Classes;
 use jdwp_commands::{Answer, LoadedClass, Question, Replied};
 use jdwp_values::{ClassId, Field, LineTable, Method, TypeTag, Variable};
@@ -85,6 +88,16 @@ fn above_in(replied: &Replied) -> ClassId
     match replied {
         Replied::Answer(Answer::Superclass(class)) => *class,
         _ => ClassId(0),
+    }
+}
+
+/// The lines of a method in a reply, where it has any (JDWP, Method command set, LineTable).
+pub(crate) fn line_table_in(replied: &Replied) -> Option<&LineTable>
+    ensures { option_copied result ≡ lines_in (answer_in replied.now) }
+{
+    match replied {
+        Replied::Answer(Answer::LineTable(table)) => Some(table),
+        _ => None,
     }
 }
 
@@ -186,8 +199,24 @@ fn learn_all(alloc: Global, classes: &mut Classes, listed: &[LoadedClass]) -> Re
     Ok(())
 }
 
-/// Learns the fact of a class that was asked for, or all classes that were listed; where the target refused it, the
-/// fact is absent.
+// Whether the fact of a class that is asked for was learnt.
+fn knows_fact(question: &Question, classes: &Classes) -> bool
+    ensures { result ≡ knows_fact question.now classes.now }
+{
+    match question {
+        Question::Signature(class) => known_signature(classes, *class).is_some(),
+        Question::SourceFile(class) => known_source(classes, *class).is_some(),
+        Question::Methods(class) => known_methods(classes, *class).is_some(),
+        Question::Fields(class) => knows_fields(classes, *class),
+        Question::Superclass(class) => knows_above(classes, *class),
+        Question::LineTable { class, method } => classes.lines(*class, *method).is_some(),
+        Question::VariableTable { class, method } => classes.variables(*class, *method).is_some(),
+        _ => false,
+    }
+}
+
+/// Learns the fact of a class that was asked for, unless it was learnt before, or all classes that were listed; where
+/// the target refused it, the fact is absent.
 pub(crate) fn learn(
     alloc: Global,
     question: &Question,
@@ -195,6 +224,21 @@ pub(crate) fn learn(
     classes: &mut Classes,
 ) -> Result<(), NoMemory>
     ensures { OnOk result (classes.new ≡ learnt question.now (answer_in replied.now) classes.old) }
+{
+    if knows_fact(question, classes) {
+        return Ok(());
+    }
+    learn_heard(alloc, question, replied, classes)
+}
+
+// Learns what was replied.
+fn learn_heard(
+    alloc: Global,
+    question: &Question,
+    replied: &Replied,
+    classes: &mut Classes,
+) -> Result<(), NoMemory>
+    ensures { OnOk result (classes.new ≡ with_heard question.now (answer_in replied.now) classes.old) }
 {
     match question {
         Question::AllClasses => learn_all(alloc, classes, classes_in(replied)),

@@ -47,6 +47,33 @@ pub(crate) fn known_methods(classes: &Classes, class: ClassId) -> Option<&[Metho
     Some(classes.class(class)?.methods?.as_slice())
 }
 
+/// The signature of a class, where it was learnt.
+pub(crate) fn known_signature(classes: &Classes, class: ClassId) -> Option<&Blob>
+    ensures { option_copied result ≡ option_map (λ loaded. loaded.signature) ((found_in classes.now).loaded class) }
+{
+    classes.class(class)?.signature
+}
+
+/// Whether the fields of a class were learnt.
+pub(crate) fn knows_fields(classes: &Classes, class: ClassId) -> bool
+    ensures { result ≡ is_some ((found_in classes.now).fields class) }
+{
+    match classes.class(class) {
+        None => false,
+        Some(view) => view.fields.is_some(),
+    }
+}
+
+/// Whether the class that a class extends was learnt.
+pub(crate) fn knows_above(classes: &Classes, class: ClassId) -> bool
+    ensures { result ≡ is_some ((found_in classes.now).above class) }
+{
+    match classes.class(class) {
+        None => false,
+        Some(view) => view.above.is_some(),
+    }
+}
+
 /// The signature of a class that is prepared, in a package that is watched.
 pub(crate) fn watched_signature<'a>(
     classes: &'a Classes,

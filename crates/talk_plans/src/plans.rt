@@ -13,6 +13,8 @@ ghost use Rattle.talk_plans.specs.Planning.{need_or, sight_in};
 
 use crate::asked::Asked;
 use crate::class_plans::{all_found, all_lacking};
+use crate::frame_numbers::frames_shown;
+use crate::frames::frames_need;
 use crate::question_key::QuestionKey;
 use crate::state::State;
 use dap_messages::Failure;
@@ -89,8 +91,8 @@ fn names_known(
     Ok(named)
 }
 
-// What lacks these, where there are any.
-fn lacks(mut wants: VecDeque<Want>) -> Option<Need>
+/// What lacks these, where there are any.
+pub(crate) fn lacks(mut wants: VecDeque<Want>) -> Option<Need>
     ensures { (found : AFinding) → lacks_or wants.items found ≡ need_or result found }
 {
     let first = wants.pop_front()?;
@@ -166,6 +168,7 @@ fn classes_need(alloc: Global, state: &State, asked: &Asked) -> Result<Need, NoM
 }
 
 /// What a look-up comes to by what was replied so far.
+#[tactic(auto, unfolding(crate::specs::FramePlanning::stack_in))]
 pub(crate) fn found_for(
     alloc: Global,
     lookup: Lookup,
@@ -176,12 +179,17 @@ pub(crate) fn found_for(
 {
     match lookup {
         Lookup::Threads => threads_need(alloc, state, asked),
+        Lookup::Frames {
+            thread,
+            start,
+            levels,
+        } => frames_need(alloc, state, asked, thread, start, levels),
         Lookup::Classes => classes_need(alloc, state, asked),
     }
 }
 
-// The failure of a request whose question or effect was refused with an error (JDWP, Error Constants, INVALID_THREAD).
-fn refusal(code: u16) -> Failure
+/// The failure of a request whose question or effect was refused with an error (JDWP, Error Constants, INVALID_THREAD).
+pub(crate) fn refusal(code: u16) -> Failure
     ensures { result ≡ refusal code }
 {
     if code == 10 {
@@ -196,6 +204,7 @@ fn threads_shown(finding: Finding) -> Outcome
 {
     match finding {
         Finding::Threads(named) => Outcome::Success(Body::Threads(named)),
+        Finding::Frames { .. } => Outcome::Success(Body::Nothing),
         Finding::Classes(_) => Outcome::Success(Body::Nothing),
     }
 }
@@ -206,6 +215,7 @@ fn classes_of(alloc: Global, finding: Finding) -> List<ClassId>
 {
     match finding {
         Finding::Threads(_) => List::new(alloc),
+        Finding::Frames { .. } => List::new(alloc),
         Finding::Classes(classes) => classes,
     }
 }
@@ -223,6 +233,10 @@ pub(crate) fn found_parts(
         Lookup::Threads => Ok(VecDeque::from_array(
             alloc,
             [Part::Responds(threads_shown(finding))],
+        )?),
+        Lookup::Frames { .. } => Ok(VecDeque::from_array(
+            alloc,
+            [Part::Responds(frames_shown(finding, &state.numbers)?)],
         )?),
         Lookup::Classes => Ok(VecDeque::from_array(
             alloc,
@@ -242,6 +256,10 @@ pub(crate) fn refused_parts(
 {
     match lookup {
         Lookup::Threads => Ok(VecDeque::from_array(
+            alloc,
+            [Part::Responds(Outcome::Failure(refusal(code)))],
+        )?),
+        Lookup::Frames { .. } => Ok(VecDeque::from_array(
             alloc,
             [Part::Responds(Outcome::Failure(refusal(code)))],
         )?),

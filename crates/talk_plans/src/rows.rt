@@ -14,7 +14,7 @@ use crate::breakpoints::breakpoints_row;
 use crate::composites::{composite_parts, has_death};
 use crate::copies::text_copies;
 use crate::news::told_news;
-use crate::run_rows::{configured_row, continue_row, pause_row};
+use crate::run_rows::{configured_row, continue_row, pause_row, stack_row};
 use crate::state::State;
 use crate::stops::decided;
 use dap_messages::{Command, Failure, InitializeArguments};
@@ -91,6 +91,7 @@ fn row_of(alloc: Global, command: &Command, state: &State) -> Result<VecDeque<Pa
         Command::Threads => Ok(VecDeque::from_array(alloc, [Part::Looks(Lookup::Threads)])?),
         Command::Continue(arguments) => continue_row(alloc, *arguments, state),
         Command::Pause(arguments) => pause_row(alloc, *arguments, state),
+        Command::StackTrace(arguments) => stack_row(alloc, *arguments, state),
         Command::Disconnect(arguments) => disconnect_row(alloc, arguments.terminate_debuggee),
         Command::Unsupported => failing(alloc, Failure::unsupported()),
         Command::BadArguments(name) => {
@@ -152,8 +153,9 @@ fn failure_of(command: &Command, state: &State) -> Option<Failure>
         Command::ConfigurationDone => if_attached(state.phase),
         Command::SetBreakpoints(_) => if_attached(state.phase),
         Command::Threads => if_attached(state.phase),
-        Command::Continue(_) => if_stopped(state.stopped, state.phase),
+        Command::Continue(_) => if_stopped(state.is_stopped(), state.phase),
         Command::Pause(_) => if_attached(state.phase),
+        Command::StackTrace(_) => if_stopped(state.is_stopped(), state.phase),
         Command::Disconnect(_) => None,
         Command::Unsupported => None,
         Command::BadArguments(_) => None,
@@ -245,6 +247,7 @@ fn lookup_responds(lookup: Lookup) -> bool
 {
     match lookup {
         Lookup::Threads => true,
+        Lookup::Frames { .. } => true,
         Lookup::Classes => false,
     }
 }

@@ -1,12 +1,15 @@
 //! What the requests do that let the target run on, or have it stand still.
 ghost use Rattle.std.specs.Prelude.{◌≡◌, IfOk};
-ghost use Rattle.machine_model.specs.Rows.{configured_parts, continue_parts, pause_parts, paused_parts, thread_with};
+ghost use Rattle.machine_model.specs.Rows.{configured_parts, continue_parts, pause_parts, paused_parts, stack_parts};
+ghost use Rattle.machine_model.specs.Rows.{thread_with};
 
 use crate::rows::failing;
 use crate::state::State;
-use dap_messages::{Failure, ThreadArguments};
+use dap_messages::{Failure, StackTraceArguments, ThreadArguments};
 use jdwp_values::ThreadId;
-use machine_model::{Body, Deed, Event, Note, Outcome, Part, StopCause, Stopping, Suspension};
+use machine_model::{
+    Body, Deed, Event, Lookup, Note, Outcome, Part, StopCause, Stopping, Suspension,
+};
 use std::alloc::Global;
 use std::collections::VecDeque;
 use wire_core::NoMemory;
@@ -107,7 +110,43 @@ pub(crate) fn pause_row(
 {
     pause_parts(
         alloc,
-        state.stopped,
+        state.is_stopped(),
         state.threads.with_number(arguments.thread_id),
+    )
+}
+
+fn stack_parts(
+    alloc: Global,
+    thread: Option<ThreadId>,
+    arguments: StackTraceArguments,
+) -> Result<VecDeque<Part>, NoMemory>
+    ensures { IfOk result (λ parts. parts.items ≡ stack_parts thread arguments) }
+{
+    match thread {
+        None => failing(alloc, Failure::unknown_thread()),
+        Some(thread) => {
+            let lookup = Lookup::Frames {
+                thread,
+                start: arguments.start_frame,
+                levels: arguments.levels,
+            };
+            Ok(VecDeque::from_array(alloc, [Part::Looks(lookup)])?)
+        }
+    }
+}
+
+/// The frames of a thread are looked up, where the thread is known (DAP specification, StackTrace request).
+pub(crate) fn stack_row(
+    alloc: Global,
+    arguments: StackTraceArguments,
+    state: &State,
+) -> Result<VecDeque<Part>, NoMemory>
+    ensures { IfOk result (λ parts. parts.items
+        ≡ stack_parts (thread_with state.now.threads arguments.thread_id) arguments) }
+{
+    stack_parts(
+        alloc,
+        state.threads.with_number(arguments.thread_id),
+        arguments,
     )
 }

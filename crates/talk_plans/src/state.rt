@@ -13,9 +13,11 @@ ghost use Rattle.machine_model.specs.declared.parts.Note.TheVariants.{Lines};
 
 use crate::bound::BoundIds;
 use crate::composites::{learn_in, tells_of_none};
-use crate::effects::{entry_by, settle, stopped_by, unlisted_by};
+use crate::effects::{entry_by, settle, unlisted_by};
 use crate::facts::learn;
+use crate::numbers::{Numbers, begin_stop, end_stop, has_stop, send, spend};
 use crate::open_classes::{OpenClasses, all_open, stays_open, trimmed};
+use crate::paths::Paths;
 use crate::sizes::{SizesRead, sizes_in};
 use crate::threads::ThreadNumbers;
 use class_tables::Classes;
@@ -24,17 +26,19 @@ use machine_model::{ClientOptions, Deed, Effect, Event, Item, News, Note, Phase}
 use std::alloc::Global;
 use std::marker::Model;
 use std::mem;
+use stop_refs::Running;
 use wire_core::{List, NoMemory, Text};
 use wish_sets::{LineEntry, Wishes};
 
 /// What a session knows: how the client wants to be served; where it stands with its target, which sides of the
-/// handshake went out and came, and the sizes of ids; the folders that sources stand in; the id that the next
-/// breakpoint gets; which event requests are wished and which stand; whether a watch was set since all classes were
-/// listed; the facts of classes; the threads that were told; the breakpoints that were told to be verified; whether a
-/// stop is in hand, whether the target's entry is held, and whether the client has configured all; whether it was told
-/// that nothing more comes of the target; and, where that was found out, which classes may lack something, of which
-/// contracts see nothing.
-#[derive(Debug, Drop)]
+/// handshake went out and came, and the sizes of ids; the folders that sources stand in, and the paths under which the
+/// client listed breakpoints of sources; the id that the next breakpoint gets; which event requests are wished and which
+/// stand; whether a watch was set since all classes were listed; the facts of classes; the threads that were told; the
+/// breakpoints that were told to be verified; whether a stop is in hand, and the numbers of what was told in it; whether
+/// the target's entry is held, and whether the client has configured all; whether it was told that nothing more comes of
+/// the target; and, where that was found out, which classes may lack something, of which contracts see nothing. It has
+/// to be spent by `finish`.
+#[derive(Debug)]
 pub struct State {
     pub(crate) options: ClientOptions,
     pub(crate) phase: Phase,
@@ -42,13 +46,14 @@ pub struct State {
     pub(crate) greeting_heard: bool,
     pub(crate) sizes: Option<SizesRead>,
     pub(crate) roots: List<Text>,
+    pub(crate) paths: Paths,
     pub(crate) next_entry: u64,
     pub(crate) wishes: Wishes,
     pub(crate) unlisted: bool,
     pub(crate) classes: Classes,
     pub(crate) threads: ThreadNumbers,
     pub(crate) bound: BoundIds,
-    pub(crate) stopped: bool,
+    pub(crate) numbers: Numbers,
     pub(crate) entry: bool,
     pub(crate) configured: bool,
     pub(crate) terminated: bool,
@@ -59,6 +64,7 @@ impl Model for State {
     ghost use Rattle.std.specs.Prelude.{IfSome, option_map};
     ghost use Rattle.class_tables.specs.Lookups.{found_in};
     ghost use Rattle.machine_model.specs.State.{State as AState};
+    ghost use Rattle.talk_plans.specs.Numbering.{has_stop, stop_of};
     ghost use Rattle.talk_plans.specs.OpenClasses.{AreOpen};
     ghost use Rattle.talk_plans.specs.Sizes.{sizes_seen};
 
@@ -71,13 +77,15 @@ impl Model for State {
       greeting_heard = s.greeting_heard;
       sizes = option_map sizes_seen s.sizes;
       roots = s.roots;
+      paths = s.paths;
       next_entry = s.next_entry;
       wishes = s.wishes;
       unlisted = s.unlisted;
       classes = s.classes;
       threads = s.threads;
       bound = s.bound;
-      stopped = s.stopped;
+      stopped = has_stop s.numbers;
+      numbers = stop_of s.numbers;
       entry = s.entry;
       configured = s.configured;
       terminated = s.terminated;
@@ -91,6 +99,7 @@ impl State {
     pub fn new(alloc: Global) -> Result<State, NoMemory>
         ensures { IfOk result (λ state. state ≡ nothing_known) }
     {
+        let wishes = Wishes::new(alloc)?;
         Ok(State {
             options: ClientOptions {
                 lines_from_one: true,
@@ -102,13 +111,14 @@ impl State {
             greeting_heard: false,
             sizes: None,
             roots: List::new(alloc),
+            paths: Paths::new(alloc),
             next_entry: 1,
-            wishes: Wishes::new(alloc)?,
+            wishes,
             unlisted: false,
             classes: Classes::new(alloc),
             threads: ThreadNumbers::new(alloc),
             bound: BoundIds::new(alloc),
-            stopped: false,
+            numbers: Numbers::Running(Running::new(alloc)),
             entry: false,
             configured: false,
             terminated: false,
@@ -135,6 +145,13 @@ impl State {
         ensures { result ≡ is_gone self.now.phase }
     {
         matches!(self.phase, Phase::Gone)
+    }
+
+    /// Whether a stop is in hand (DAP specification, Events, Stopped).
+    pub fn is_stopped(&self) -> bool
+        ensures { result ≡ self.now.stopped }
+    {
+        has_stop(&self.numbers)
     }
 
     /// The sizes of ids, once the target said them.
@@ -177,11 +194,11 @@ impl State {
 
     /// The target has ended, and with it the stop in hand and the entry that was held (JDWP, Event command set,
     /// Composite, VMDeath).
-    pub fn target_ended(&mut self)
+    pub fn target_ended(&mut self, alloc: Global)
         ensures { self.new ≡ lost self.old }
     {
         self.phase = Phase::Gone;
-        self.stopped = false;
+        end_stop(alloc, &mut self.numbers);
         self.entry = false;
     }
 
@@ -192,8 +209,33 @@ impl State {
         self.phase = phase;
     }
 
+    /// Gives up what is known.
+    pub fn finish(self) {
+        let State {
+            options: _,
+            phase: _,
+            greeting_sent: _,
+            greeting_heard: _,
+            sizes: _,
+            roots: _,
+            paths: _,
+            next_entry: _,
+            wishes: _,
+            unlisted: _,
+            classes: _,
+            threads: _,
+            bound: _,
+            numbers,
+            entry: _,
+            configured: _,
+            terminated: _,
+            left: _,
+        } = self;
+        spend(numbers);
+    }
+
     // What the telling of an event changes.
-    pub(crate) fn tell(&mut self, event: Event) -> Result<(), NoMemory>
+    pub(crate) fn tell(&mut self, alloc: Global, event: Event) -> Result<(), NoMemory>
         ensures { OnOk result (self.new ≡ after_event event self.old) }
     {
         match event {
@@ -204,23 +246,24 @@ impl State {
             Event::News(News::Verified(entry)) => self.bound.add(entry.id),
             Event::News(News::Thread { thread, .. }) => self.threads.add(thread),
             Event::Stopped(stopping) => {
-                self.stopped = true;
+                begin_stop(alloc, &mut self.numbers)?;
                 self.threads.add(stopping.thread)
             }
             Event::Terminated => {
                 self.terminated = true;
-                self.target_ended();
+                self.target_ended(alloc);
                 Ok(())
             }
         }
     }
 
     // What the sending of a deed changes.
-    pub(crate) fn sent(&mut self, deed: Deed)
-        ensures { self.new ≡ after_deed deed self.old }
+    pub(crate) fn sent(&mut self, alloc: Global, deed: Deed) -> Result<(), NoMemory>
+        ensures { OnOk result (self.new ≡ after_deed deed self.old) }
     {
-        self.stopped = stopped_by(deed, self.stopped);
+        send(alloc, deed, &mut self.numbers)?;
         self.entry = entry_by(deed, self.entry);
+        Ok(())
     }
 
     // What an item tells of classes is learnt as it is begun. Where it tells of none, what is left to be found out of them
@@ -257,7 +300,7 @@ impl State {
                 self.roots = roots;
                 Ok(())
             }
-            Note::Lines { key, entries } => self.list_lines(alloc, key, entries),
+            Note::Lines { key, path, entries } => self.list_lines(alloc, key, path, entries),
             Note::Classes(those) => {
                 self.left = None;
                 self.wishes
@@ -274,20 +317,22 @@ impl State {
         }
     }
 
-    // The breakpoints of a source are listed, each under an id of its own; without a key none is kept.
+    // The breakpoints of a source are listed under a path, each under an id of its own; without a key none is kept.
     fn list_lines(
         &mut self,
         alloc: Global,
         key: Option<Text>,
+        path: Text,
         entries: List<LineEntry>,
     ) -> Result<(), NoMemory>
-        ensures { OnOk result (self.new ≡ noted (Lines key entries) self.old) }
+        ensures { OnOk result (self.new ≡ noted (Lines key path entries) self.old) }
     {
         let Some(next) = self.next_entry.checked_add(entries.len() as u64) else {
             return Err(NoMemory);
         };
         if let Some(key) = key {
             self.left = None;
+            self.paths.put(alloc, &key, path)?;
             self.wishes.set_lines(alloc, key, entries)?;
         }
         self.next_entry = next;

@@ -201,7 +201,7 @@ fn decided_of(
 {
     let stop = stop_in(alloc, &state.wishes, events)?;
     let holds = holds_entry(state, events);
-    decided_by(alloc, state.stopped, holds, stop)
+    decided_by(alloc, state.is_stopped(), holds, stop)
 }
 
 /// What becomes of the suspension of the composite in hand, as long as the session is attached: a hit is told, the entry

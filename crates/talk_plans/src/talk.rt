@@ -8,6 +8,7 @@ ghost use Rattle.talk_plans.specs.Talking.{AreSized, StaysSized, asks, does, goe
 ghost use Rattle.talk_plans.specs.Planning.{need_of};
 ghost use Rattle.machine_model.specs.declared.parts.Part.TheVariants as parts;
 ghost use Rattle.machine_model.specs.declared.parts.Guard.TheVariants.{Handshake as handshake, IdSizes as id_sizes};
+ghost use Rattle.talk_plans.specs.declared.next.Next.{Next as ANext};
 
 use crate::asking::Asking;
 use crate::bodies::{event_told, outcome_told, response_to};
@@ -175,10 +176,10 @@ impl Talk {
         match part {
             Part::Responds(outcome) => self.responds(alloc, state, outcome),
             Part::Tells(event) => {
-                state.tell(event)?;
+                state.tell(alloc, event)?;
                 Ok(Next::Tell(Told::Event(event_told(alloc, event, state)?)))
             }
-            Part::Sends(deed) => self.sends(state, deed),
+            Part::Sends(deed) => self.sends(alloc, state, deed),
             Part::Looks(lookup) => self.looks(alloc, state, lookup),
             Part::Awaits(Guard::Handshake) => self.awaits_handshake(state),
             Part::Awaits(Guard::IdSizes) => self.awaits_sizes(state),
@@ -213,14 +214,14 @@ impl Talk {
                 let told = outcome_told(alloc, outcome, state)?;
                 Ok(Next::Tell(response_to(alloc, request, told)?))
             }
-            Item::Composite { .. } => Ok(Next::Go),
-            Item::Raw { .. } => Ok(Next::Go),
-            Item::TargetEnd => Ok(Next::Go),
+            Item::Composite { .. } => Ok(passed(outcome)),
+            Item::Raw { .. } => Ok(passed(outcome)),
+            Item::TargetEnd => Ok(passed(outcome)),
         }
     }
 
     // Nothing is sent to a target that is gone.
-    fn sends(&mut self, state: &mut State, deed: Deed) -> Result<Next, NoMemory>
+    fn sends(&mut self, alloc: Global, state: &mut State, deed: Deed) -> Result<Next, NoMemory>
         ensures due { IfOk result (λ next. (m : Machine)
             → step_of m next state.new self.new ≡ does m state.old self.old (parts.Sends deed)) }
         ensures same { OnOk result (StaysSized state.old self.old state.new self.new) }
@@ -229,7 +230,7 @@ impl Talk {
             self.parts.push_front(Part::Sends(deed))?;
             return Ok(Next::Wait);
         }
-        state.sent(deed);
+        state.sent(alloc, deed)?;
         self.effect = Some(Doing {
             effect: Effect::Does(deed),
             reply: None,
@@ -317,12 +318,20 @@ impl Talk {
     }
 }
 
+// An outcome is passed over that nobody waits for.
+fn passed(_outcome: Outcome) -> Next
+    ensures { result ≡ ANext.Go }
+{
+    Next::Go
+}
+
 // Before classes are gone through, it is found out which may lack something, once all are listed.
 fn look_ahead(alloc: Global, lookup: Lookup, state: &mut State) -> Result<(), NoMemory>
     ensures { OnOk result (state.new ≡ state.old) }
 {
     match lookup {
         Lookup::Threads => Ok(()),
+        Lookup::Frames { .. } => Ok(()),
         Lookup::Classes => {
             if state.unlisted {
                 return Ok(());
