@@ -12,6 +12,7 @@ use Rattle.std.specs.Prelude.{bytes_eq, filter, if◌then◌else◌}
 use Rattle.class_tables.specs.Lookups.{Lookups, found_in}
 use Rattle.class_tables.specs.Tables.{put}
 use Rattle.dap_messages.specs.declared.requests.SourceBreakpoint.{SourceBreakpoint}
+use Rattle.dap_messages.specs.declared.requests.StackTraceArguments.{StackTraceArguments}
 use Rattle.jdwp_values.specs.declared.id.ClassId.{ClassId}
 use Rattle.jdwp_events.specs.declared.kind.Policy.{Policy}
 use Rattle.machine_model.specs.Breakpoints.{entry_of, is_news, newly_verified, numbered_from}
@@ -24,7 +25,7 @@ use Rattle.machine_model.specs.Requests.{Wishes}
 use Rattle.machine_model.specs.declared.parts.News.{News}
 use Rattle.machine_model.specs.declared.parts.News.TheVariants.{Verified as entry_verified}
 use Rattle.machine_model.specs.Rows.{chosen, configured_parts, continue_parts, end_parts, failure_of, news_of, noted}
-use Rattle.machine_model.specs.Rows.{parts_by, parts_of, pause_parts, row_of, thread_with, told_in, wanting}
+use Rattle.machine_model.specs.Rows.{parts_by, parts_of, pause_parts, row_of, stack_parts, thread_with, told_in, wanting}
 use Rattle.machine_model.specs.Runs.{Message}
 use Rattle.machine_model.specs.State.{Hand, Machine, State, is_gone, is_raw, knowing, left}
 use Rattle.machine_model.specs.Telling.{after_event, numbered_by}
@@ -34,7 +35,7 @@ use Rattle.jdwp_values.specs.declared.id.ThreadId.{ThreadId}
 use Rattle.bridge_core.specs.Names.{Attached, Choice, Classes, Command, ConfigurationDone, Configured, Continue}
 use Rattle.bridge_core.specs.Names.{Decides, EntryHeld, Event, Failure, Finding, Fresh, Gone, Item, Leaves, Lines}
 use Rattle.bridge_core.specs.Names.{Lookup, Note, Options, Outcome, Part, Pause, Phase, Roots, SetBreakpoints}
-use Rattle.bridge_core.specs.Names.{TellsNews, a_composite, a_raw, a_request, target_end}
+use Rattle.bridge_core.specs.Names.{StackTrace, TellsNews, a_composite, a_raw, a_request, target_end}
 use Rattle.bridge_core.specs.Working.{lines_in, lines_in_part, lines_listed, lines_noted, news_in_hand, news_in_item}
 use Rattle.bridge_core.specs.Working.{news_left, news_waiting}
 use Rattle.bridge_core.proofs.OwnMoves.{is_own, not_lost}
@@ -124,8 +125,8 @@ pub noted_few : (note : Note) (state : State)
     ≤ lines_noted note + length (all_lines state.wishes.wanted)
 noted_few (Options options) state = omega arith
 noted_few (Roots roots) state = omega arith
-noted_few (Lines None entries) state = omega arith
-noted_few (Lines (Some key) entries) state = put_few key entries state.wishes.wanted.lists
+noted_few (Lines None path entries) state = omega arith
+noted_few (Lines (Some key) path entries) state = put_few key entries state.wishes.wanted.lists
 noted_few (Classes classes) state =
     let same = ap lines_under (known_lists (found_in state.classes) classes state.wishes.wanted) in
     omega (arith, same)
@@ -174,6 +175,11 @@ pause_lines stopped None = refl
 pause_lines true (Some thread) = refl
 pause_lines false (Some thread) = refl
 
+stack_lines : (thread : Option ThreadId) (arguments : StackTraceArguments)
+    → lines_in (stack_parts thread arguments) ≡ 0
+stack_lines None arguments = refl
+stack_lines (Some thread) arguments = refl
+
 row_lines : (command : Command) (state : State) → lines_in (row_of command state) ≡ lines_listed command
 row_lines (SetBreakpoints arguments) state =
     let listed = numbered_from state.next_entry arguments.breakpoints in
@@ -182,6 +188,8 @@ row_lines (SetBreakpoints arguments) state =
 row_lines ConfigurationDone state = configured_lines state.entry
 row_lines (Continue arguments) state = continue_lines (thread_with state.threads arguments.thread_id)
 row_lines (Pause arguments) state = pause_lines state.stopped (thread_with state.threads arguments.thread_id)
+row_lines (StackTrace arguments) state =
+    stack_lines (thread_with state.threads arguments.thread_id) arguments
 row_lines command state = grind arith
 
 parts_lines : (failure : Option Failure) (row : List Part) → lines_in (parts_by failure row) ≤ lines_in row

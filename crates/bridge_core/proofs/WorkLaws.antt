@@ -14,7 +14,7 @@ use Rattle.machine_model.specs.Lookups.{finished, found_for}
 use Rattle.bridge_core.specs.Names.{Act, Attach, Attached, BadArguments, Choice, Command, ConfigurationDone, Continue}
 use Rattle.bridge_core.specs.Names.{Decides, Disconnect, Does, Effect, Event, Failure, Finding, Fresh, Gone}
 use Rattle.bridge_core.specs.Names.{Initialize, Item, Leaves, Lookup, Note, Outcome, Part, Pause, Phase, Question}
-use Rattle.bridge_core.specs.Names.{SetBreakpoints, TargetCommand, TellsNews, Threads, Unsupported, Want}
+use Rattle.bridge_core.specs.Names.{SetBreakpoints, StackTrace, TargetCommand, TellsNews, Threads, Unsupported, Want}
 use Rattle.bridge_core.specs.Names.{a_composite, a_question, a_raw, a_request, an_effect, target_end}
 use Rattle.machine_model.specs.Outcomes.{result_of}
 use Rattle.machine_model.specs.Plans.{Need, Result, fails, has, lacks, question_of}
@@ -24,7 +24,8 @@ use Rattle.jdwp_values.specs.declared.id.ThreadId.{ThreadId}
 use Rattle.machine_model.specs.Composites.{changes_in, composite_parts, has_death}
 use Rattle.machine_model.specs.declared.parts.News.{News}
 use Rattle.machine_model.specs.Rows.{chosen, configured_parts, continue_parts, end_parts, failure_of, leaves, news_of}
-use Rattle.machine_model.specs.Rows.{noted, parts_by, parts_of, pause_parts, row_of, thread_with, told_in, wanting}
+use Rattle.machine_model.specs.Rows.{noted, parts_by, parts_of, pause_parts, row_of, stack_parts, thread_with}
+use Rattle.machine_model.specs.Rows.{told_in, wanting}
 use Rattle.machine_model.specs.Runs.{Allows, Message, Run, said}
 use Rattle.machine_model.specs.State.{Hand, Machine, State, has_waiting, is_empty, is_flying, is_gone, is_raw, knowing}
 use Rattle.machine_model.specs.State.{left}
@@ -38,6 +39,7 @@ use Rattle.machine_model.proofs.Tables.{of_decided}
 use Rattle.machine_model.proofs.TurnLaws.{Turns, turned, unsent}
 use Rattle.bridge_core.specs.Working.{choice_weight, hand_work, is_wait, is_work, lines_in, news_in_hand, news_left}
 use Rattle.bridge_core.specs.Working.{one_if, one_unless, waiting_work, weight, weights, work, work_of}
+use Rattle.dap_messages.specs.declared.requests.StackTraceArguments.{StackTraceArguments}
 use Rattle.jdwp_events.specs.declared.kind.Policy.{Policy}
 use Rattle.wish_sets.specs.Entries.{all_lines}
 use Rattle.bridge_core.proofs.LineLaws.{all_news_few, news_on}
@@ -192,6 +194,11 @@ pause_light most stopped None = omega arith
 pause_light most true (Some thread) = omega arith
 pause_light most false (Some thread) = omega arith
 
+stack_light : (most : ℕ) (thread : Option ThreadId) (arguments : StackTraceArguments)
+    → weights most (stack_parts thread arguments) < 60 + most
+stack_light most None arguments = omega arith
+stack_light most (Some thread) arguments = omega arith
+
 row_light : (most : ℕ) (command : Command) (state : State) → weights most (row_of command state) < 60 + most
 row_light most (Initialize arguments) state = omega arith
 row_light most (Attach arguments) state = omega arith
@@ -201,6 +208,8 @@ row_light most Threads state = omega arith
 row_light most (Continue arguments) state = continue_light most (thread_with state.threads arguments.thread_id)
 row_light most (Pause arguments) state =
     pause_light most state.stopped (thread_with state.threads arguments.thread_id)
+row_light most (StackTrace arguments) state =
+    stack_light most (thread_with state.threads arguments.thread_id) arguments
 row_light most (Disconnect arguments) state = omega arith
 row_light most Unsupported state = omega arith
 row_light most (BadArguments name) state = omega arith

@@ -32,7 +32,7 @@ is_work (Act.Over finish) = false
 
 -- how many breakpoints of sources a note lists
 abbrev pub lines_noted : Note → ℕ
-lines_noted (Lines key entries) = length entries
+lines_noted (Lines key path entries) = length entries
 lines_noted _ = 0
 
 abbrev pub lines_in_part : Part → ℕ

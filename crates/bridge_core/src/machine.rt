@@ -28,8 +28,8 @@ use std::marker::Model;
 use talk_plans::{Next, SizesRead, State, Talk};
 use wire_core::NoMemory;
 
-/// The translation machine. Contracts see it as the machine's own state.
-#[derive(Debug, Drop)]
+/// The translation machine, which has to be spent by `finish`. Contracts see it as the machine's own state.
+#[derive(Debug)]
 pub(crate) struct Machine {
     pub(crate) state: State,
     pub(crate) waiting: VecDeque<Item>,
@@ -64,6 +64,18 @@ impl Machine {
             late: VecDeque::new(alloc),
             closing: false,
         })
+    }
+
+    /// Gives the machine up.
+    pub(crate) fn finish(self) {
+        let Machine {
+            state,
+            waiting: _,
+            talk: _,
+            late: _,
+            closing: _,
+        } = self;
+        state.finish();
     }
 
     /// A request waits for its turn.
@@ -105,7 +117,7 @@ impl Machine {
     {
         give_up(alloc, &mut self.talk, &mut self.late)?;
         self.waiting.push_back(Item::TargetEnd)?;
-        self.state.target_ended();
+        self.state.target_ended(alloc);
         Ok(())
     }
 

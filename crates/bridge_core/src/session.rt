@@ -100,12 +100,13 @@ impl Core {
     /// Gives the session up.
     pub fn finish(self) {
         let Core {
-            machine: _,
+            machine,
             told: _,
             commands: _,
             limit: _,
             words: _,
         } = self;
+        machine.finish();
     }
 }
 
