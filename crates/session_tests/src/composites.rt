@@ -84,7 +84,7 @@ pub(crate) const LISTED: Stage<'static> = Stage {
 };
 
 // Its class is prepared, and all is asked of it.
-const PREPARES: Stage<'static> = Stage {
+pub(crate) const PREPARES: Stage<'static> = Stage {
     steps: &[
         Came::Bytes(Side::Target, PREPARED),
         Came::Bytes(Side::Target, SOURCE),

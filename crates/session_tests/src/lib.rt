@@ -9,11 +9,15 @@ mod composites;
 #[cfg(test)]
 mod courses;
 #[cfg(test)]
+mod frames;
+#[cfg(test)]
 mod keys;
 #[cfg(test)]
 mod listed_classes;
 #[cfg(test)]
 mod sessions;
+#[cfg(test)]
+mod stack_traces;
 #[cfg(test)]
 mod stops;
 #[cfg(test)]

@@ -40,12 +40,12 @@ const ENTERS: Stage<'static> = Stage {
 };
 
 // The class of the source is loaded (JDWP, VirtualMachine command set, AllClasses).
-const ONE_CLASS: &[u8] =
+pub(crate) const ONE_CLASS: &[u8] =
     b"\x00\x00\x00\x2e\x00\x00\x00\x05\x80\x00\x00\x00\x00\x00\x01\x01\x00\x00\x00\x00\x00\x00\x00\x10\x00\x00\x00\x0e\
     Lcom/acme/Foo;\x00\x00\x00\x07";
 
 // A breakpoint of line 10 is bound.
-const BINDS: Stage<'static> = Stage {
+pub(crate) const BINDS: Stage<'static> = Stage {
     steps: &[
         Came::Bytes(Side::Client, LIST),
         Came::Bytes(Side::Target, WATCHED),
@@ -60,46 +60,46 @@ const BINDS: Stage<'static> = Stage {
 };
 
 // It is hit by a thread, and by another one (JDWP, Event command set, Composite, Breakpoint).
-const HIT: &[u8] =
+pub(crate) const HIT: &[u8] =
     b"\x00\x00\x00\x36\x00\x00\x00\x02\x00\x40\x64\x02\x00\x00\x00\x01\x02\x00\x00\x00\x04\x00\x00\x00\x00\x00\x00\x00\
     \x07\x01\x00\x00\x00\x00\x00\x00\x00\x10\x00\x00\x00\x00\x00\x00\x00\x03\x00\x00\x00\x00\x00\x00\x00\x05";
 
-const OTHER_HIT: &[u8] =
+pub(crate) const OTHER_HIT: &[u8] =
     b"\x00\x00\x00\x36\x00\x00\x00\x03\x00\x40\x64\x02\x00\x00\x00\x01\x02\x00\x00\x00\x04\x00\x00\x00\x00\x00\x00\x00\
     \x08\x01\x00\x00\x00\x00\x00\x00\x00\x10\x00\x00\x00\x00\x00\x00\x00\x03\x00\x00\x00\x00\x00\x00\x00\x05";
 
 // What is told of it (DAP specification, Events, Stopped).
-const TOLD_HIT: &[u8] =
+pub(crate) const TOLD_HIT: &[u8] =
     b"Content-Length: 134\r\n\r\n{\"body\":{\"allThreadsStopped\":true,\"hitBreakpointIds\":[1],\
     \"reason\":\"breakpoint\",\"threadId\":1},\"event\":\"stopped\",\"seq\":4,\"type\":\"event\"}";
 
 // A hit stops the target.
-const STOPS: Stage<'static> = Stage {
+pub(crate) const STOPS: Stage<'static> = Stage {
     steps: &[Came::Bytes(Side::Target, HIT)],
     told: &[TOLD_HIT],
     sent: &[],
 };
 
 // The target runs on (DAP specification, Continue request).
-const CONTINUE: &[u8] =
+pub(crate) const CONTINUE: &[u8] =
     b"Content-Length: 74\r\n\r\n{\"seq\":3,\"type\":\"request\",\"command\":\"continue\",\
     \"arguments\":{\"threadId\":1}}";
 
-const CONTINUED: &[u8] =
+pub(crate) const CONTINUED: &[u8] =
     b"Content-Length: 115\r\n\r\n{\"body\":{\"allThreadsContinued\":true},\"command\":\"continue\",\"request_seq\":3,\
     \"seq\":5,\"success\":true,\"type\":\"response\"}";
 
 // The target is left (JDWP, VirtualMachine command set, Dispose).
-const DISPOSE: &[u8] = b"\x00\x00\x00\x0b\x00\x00\x00\x0a\x00\x01\x06";
+pub(crate) const DISPOSE: &[u8] = b"\x00\x00\x00\x0b\x00\x00\x00\x0a\x00\x01\x06";
 
-const DISPOSE_NEXT: &[u8] = b"\x00\x00\x00\x0b\x00\x00\x00\x0b\x00\x01\x06";
+pub(crate) const DISPOSE_NEXT: &[u8] = b"\x00\x00\x00\x0b\x00\x00\x00\x0b\x00\x01\x06";
 
 // The same where nothing was asked before (JDWP, VirtualMachine command set, Resume and Dispose).
 const RESUME_FIRST: &[u8] = b"\x00\x00\x00\x0b\x00\x00\x00\x04\x00\x01\x09";
 
 const RESUMED_FIRST: &[u8] = b"\x00\x00\x00\x0b\x00\x00\x00\x04\x80\x00\x00";
 
-const DISPOSE_FIRST: &[u8] = b"\x00\x00\x00\x0b\x00\x00\x00\x04\x00\x01\x06";
+pub(crate) const DISPOSE_FIRST: &[u8] = b"\x00\x00\x00\x0b\x00\x00\x00\x04\x00\x01\x06";
 
 const DISPOSE_SECOND: &[u8] = b"\x00\x00\x00\x0b\x00\x00\x00\x05\x00\x01\x06";
 
