@@ -132,6 +132,16 @@ fn make_known(
     wishes.classes_known(alloc, classes, known.as_slice())
 }
 
+// A class of which nothing is known any more is made known.
+//
+// A value that goes at the end of a scope is taken apart in the proof of that scope: large ones are let go by a call.
+fn forget(alloc: Global, wishes: &mut Wishes, id: u64) -> Result<(), NoMemory> {
+    let nothing = Classes::new(alloc);
+    let known = wishes.class_known(alloc, &nothing, ClassId(id));
+    drop(nothing);
+    known
+}
+
 // The next change has this outcome, where it is one that the change can have.
 fn settle(wishes: &mut Wishes, outcome: Settled) {
     match (wishes.next_change(), outcome) {
@@ -155,7 +165,7 @@ fn carry_out(
         Act::Lines(key, entries) => set_lines(alloc, wishes, key, entries)?,
         Act::Functions(names) => set_functions(alloc, wishes, names)?,
         Act::Known(ids) => make_known(alloc, wishes, classes, ids)?,
-        Act::Forgotten(id) => wishes.class_known(alloc, &Classes::new(alloc), ClassId(id))?,
+        Act::Forgotten(id) => forget(alloc, wishes, id)?,
         Act::Settle(outcome) => settle(wishes, outcome),
     }
     Ok(())
@@ -252,10 +262,30 @@ fn first_wrong(
     Ok(None)
 }
 
+fn wrong_over(
+    alloc: Global,
+    classes: &Classes,
+    steps: &[Step<'_>],
+) -> Result<Option<usize>, NoMemory> {
+    let mut wishes = Wishes::new(alloc)?;
+    let found = first_wrong(alloc, &mut wishes, classes, steps);
+    drop(wishes);
+    found
+}
+
+fn wrong_with(
+    alloc: Global,
+    classes: &mut Classes,
+    course: Course<'_>,
+) -> Result<Option<usize>, NoMemory> {
+    learn(classes, alloc, course.lines)?;
+    wrong_over(alloc, classes, course.steps)
+}
+
 /// The place of the first step of a course that shows something else than it must.
 pub(crate) fn wrong_of(alloc: Global, course: Course<'_>) -> Result<Option<usize>, NoMemory> {
     let mut classes = Classes::new(alloc);
-    learn(&mut classes, alloc, course.lines)?;
-    let mut wishes = Wishes::new(alloc)?;
-    first_wrong(alloc, &mut wishes, &classes, course.steps)
+    let found = wrong_with(alloc, &mut classes, course);
+    drop(classes);
+    found
 }
