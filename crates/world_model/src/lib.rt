@@ -30,6 +30,3 @@ pub use rows::{
     WorldMethod, WorldObject, WorldString, WorldThread, WorldVariable,
 };
 pub use world::World;
-
-#[cfg(test)]
-mod tests;

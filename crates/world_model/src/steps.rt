@@ -1,6 +1,6 @@
 //! Where the thread of a step stands as its event request is set.
-ghost use Rattle.std.specs.Prelude.{◌≡◌, option_copied, option_map, Some};
-ghost use Rattle.class_tables.specs.Lines.{later, entry_at};
+ghost use Rattle.std.specs.Prelude.{◌≡◌, option_copied, option_map};
+ghost use Rattle.class_tables.specs.Lines.{entry_at};
 ghost use Rattle.world_model.specs.Requests.{known_entries, line_of_frame, innermost, line_of_thread, frames_under};
 ghost use Rattle.world_model.specs.Requests.{step_start};
 ghost use Rattle.world_model.specs.Requests.{thread_of_step, stepping};
@@ -8,31 +8,9 @@ ghost use Rattle.world_model.specs.Requests.{thread_of_step, stepping};
 use crate::classes::{is_native, method_in};
 use crate::rows::{StepStart, WorldFrame, WorldMethod};
 use crate::world::World;
+use class_tables::entry_at;
 use jdwp_events::Modifier;
 use jdwp_values::{Line, ThreadId};
-
-// Of the entry found so far and one behind it, that of the greater index; of ties the one behind.
-fn later(found: Option<Line>, entry: Line) -> Line
-    ensures { Some result ≡ later found (Some entry) }
-{
-    match found {
-        Some(before) if before.index > entry.index => before,
-        _ => entry,
-    }
-}
-
-// The entry of the greatest index not above this one, the last of ties.
-fn entry_at(index: u64, entries: &[Line]) -> Option<Line>
-    ensures { result ≡ entry_at index entries.now }
-{
-    let mut found = None;
-    for entry in entries {
-        if entry.index <= index {
-            found = Some(later(found, *entry));
-        }
-    }
-    found
-}
 
 // The entries of a method's line table: none where it is native or they are not known.
 fn known_entries(row: &WorldMethod) -> &[Line]
