@@ -12,8 +12,10 @@ runs to its end, which is told, and the client disconnects.
 - Two threads come to a breakpoint at once, again and again: each hit is told once, in one stop or in two.
 - The same with a pause behind each hit, in whose stop the next hit may be told.
 - A thread starts and ends between two stops: both are told before the second.
+- `stackTrace` shows in each of two stops what the Java program prints there of its frames and of those of a thread that
+  waits; a window of them too; all under their numbers.
 - `pause` holds a program that counts, and a second one changes nothing.
-- `continue` without a stop is refused, and so are both for a thread that was never told.
+- `continue` and `stackTrace` without a stop are refused, and so are all three for a thread that was never told.
 - The client disconnects in a stop, or goes away: the Java program runs on. It is killed in a stop: that is told.
 - 1,000 hits, each continued, are told one by one, as many as a debugger by the Java Debug Interface counts.
 
@@ -36,6 +38,7 @@ from sessions import RUNS_ON, TERMINATED, Session, begin, bound, failed, go_on, 
 
 COPIES = 6
 ROUNDS = 20
+STOPS = 2
 HITS = 1000
 # A number that no thread gets.
 NOBODY = 2147483647
@@ -131,6 +134,27 @@ def a_thread_between_stops(java, bridge, session):
     has_to_be("what is printed behind it", ended(java, bridge, session), b"behind\n")
 
 
+def frames_as_java_prints_them(java, bridge, session):
+    line = line_of("stops/Frames.java", "new Throwable()")
+    begin(session, "stops/Frames.java", [line], is_loaded=False)
+    java.go_on()
+    has_to_be("the event of the class", session.event(), bound(1, line))
+    shown = []
+    for _ in range(STOPS):
+        number = hit(session, [1])
+        # The top frame is shown before the others, so it gets the first of their numbers, as among all.
+        top, total = stack(session, number, levels=1)
+        frames = stack(session, number)[0]
+        has_to_be("their number, and the top one", (total, top), (len(frames), frames[:1]))
+        has_to_be("the last one", stack(session, number, startFrame=total - 1), (frames[-1:], total))
+        has_to_be("those behind it", stack(session, number, startFrame=total), ([], total))
+        has_to_be("all once more", stack(session, number), (frames, total))
+        shown += frames + stack(session, session.number_of("main"))[0]
+        go_on(session, number)
+    printed = ended(java, bridge, session).decode().splitlines()
+    has_to_be("the frames", shown, [frame(*numbered) for numbered in enumerate(printed, 1)])
+
+
 def pause_of_a_running_program(java, bridge, session):
     begin(session)
     number = session.number_of("main")
@@ -151,16 +175,18 @@ def refused_without_stop_or_thread(java, bridge, session):
     begin(session)
     number = session.number_of("main")
     for known in (number, NOBODY):
-        has_to_be("continue, no stop", session.ask("continue", {"threadId": known}), failed(4, "notStopped"))
+        for command in ("continue", "stackTrace"):
+            has_to_be(command + ", no stop", session.ask(command, {"threadId": known}), failed(4, "notStopped"))
     has_to_be("pause, no thread", session.ask("pause", {"threadId": NOBODY}), failed(8, "unknownThread"))
     printed = java.heard(0.2)
     has_to_be("pause", session.ask("pause", {"threadId": number}), succeeded())
     has_to_be("the event behind it", session.event(), stopped(number))
-    for command in ("continue", "pause"):
+    for command in ("continue", "pause", "stackTrace"):
         has_to_be(command + ", no thread", session.ask(command, {"threadId": NOBODY}), failed(8, "unknownThread"))
     printed += stands_still(java)
     go_on(session, number)
-    has_to_be("continue, no stop any more", session.ask("continue", {"threadId": number}), failed(4, "notStopped"))
+    for command in ("continue", "stackTrace"):
+        has_to_be(command + ", no stop any more", session.ask(command, {"threadId": number}), failed(4, "notStopped"))
     counts_on(java, bridge, session, printed)
 
 
@@ -197,7 +223,7 @@ def killed_in_a_stop(java, bridge, session):
     number = first_stop_of_two(java, session)
     java.process.kill()
     has_to_be("the event behind it", session.event(), TERMINATED)
-    for command in ("continue", "pause"):
+    for command in ("continue", "pause", "stackTrace"):
         has_to_be(command + ", no target", session.ask(command, {"threadId": number}), failed(10, "targetGone"))
     leaves(bridge, session)
 
@@ -233,6 +259,25 @@ def hit(session, entries):
     number = event.get("body", {}).get("threadId")
     has_to_be("the stop", event, stopped(number, entries))
     return number
+
+
+def stack(session, number, **window):
+    """The frames of a thread that are shown, all of them or a window, and how many it has (DAP specification,
+    StackTrace request)."""
+    said = session.ask("stackTrace", {"threadId": number, **window})
+    has_to_be("whether stackTrace succeeds", said["success"], True)
+    has_to_be("what it shows", sorted(said["body"]), ["stackFrames", "totalFrames"])
+    return said["body"]["stackFrames"], said["body"]["totalFrames"]
+
+
+def frame(number, printed):
+    """A frame under a number, as a Java program prints it: its method, its file and its line, which is below 0 in a
+    native method (DAP specification, Types, StackFrame)."""
+    name, file, line = printed.split(" ")
+    if int(line) < 0:
+        return {"id": number, "name": name, "line": 0, "column": 0}
+    path = os.path.join(EXAMPLES, *name.split(".")[:-2], file)
+    return {"id": number, "name": name, "line": int(line), "column": 1, "source": {"name": file, "path": path}}
 
 
 def stands_still(java):
@@ -289,6 +334,7 @@ CASES = (
     (two_threads_at_once, False, "stops.Pair", str(ROUNDS)),
     (pause_among_hits, False, "stops.Pair", str(ROUNDS)),
     (a_thread_between_stops, False, "stops.Between"),
+    (frames_as_java_prints_them, False, "stops.Frames", str(STOPS)),
     (pause_of_a_running_program, False, "stops.Counting"),
     (refused_without_stop_or_thread, False, "stops.Counting"),
     (left_in_a_stop, False, "stops.Between"),
