@@ -16,11 +16,15 @@ use wire_core::{Happening, Links, Names, OpenFailed, SendFailed, Side, Text, Wir
 // that has not shaken hands within two seconds.
 const FRESH_MILLIS: u64 = 1500;
 
+// How often both sides are asked behind what the client was told, before a wait: for less than a millisecond.
+const ROUNDS: u16 = 1000;
+
 /// Wires over two TCP streams of the system. They tell no log, and a count stands still at its last value.
 ///
 /// - `next` asks both sides without blocking, the one first from which nothing came last. Where both are silent it waits
 ///   for a moment at the side from which something is due: at the target's while something was sent to it last, else at
-///   the client's.
+///   the client's. Behind what the client was told it asks both many times before it waits, since a target that was
+///   resumed may stop again at once.
 /// - A reset by the peer is the end of its stream. What is sent to a target that has ended counts as sent.
 /// - A link to the target on which nothing went yet doesn't end: where the target dropped it, or it is older than
 ///   1.5 seconds, the first send dials again.
@@ -39,6 +43,8 @@ pub struct TcpWires<R: Net> {
     turn: Side,
     // the side from which something is due
     due: Side,
+    // how often both sides are asked before the next wait
+    rounds: u16,
 }
 
 /// What the wires tell of themselves.
@@ -69,6 +75,7 @@ impl<R: Net + Clock + Alloc + Drop> TcpWires<R> {
             is_fresh: true,
             turn: Side::Client,
             due: Side::Client,
+            rounds: 0,
         }
     }
 
@@ -218,6 +225,21 @@ impl<R: Net + Clock + Alloc + Drop> TcpWires<R> {
         }
     }
 
+    // Asks both sides again and again behind what the client was told.
+    fn ask_on(&mut self, buffer: &mut [u8]) -> Option<Happening>
+        ensures asks { Asks (told_by self.old.tally) (told_by self.new.tally) }
+        ensures possible { IfSome result (IsPossible self.old.tally.links (length buffer.old)) }
+        ensures turn { IfSome result (IsOf (other_side self.new.turn)) }
+    {
+        for _ in 0..self.rounds {
+            if let Some(happening) = self.ask_both(buffer) {
+                return Some(happening);
+            }
+        }
+        self.rounds = 0;
+        None
+    }
+
     // The open side from which something is due.
     fn due_side(&self) -> Side {
         let links = self.tally.links;
@@ -266,6 +288,9 @@ impl<R: Net + Clock + Alloc + Drop> TcpWires<R> {
         ensures quiet { IsQuiet (told_by self.old.tally) (told_by self.new.tally) result }
     {
         if let Some(happening) = self.ask_both(buffer) {
+            return happening;
+        }
+        if let Some(happening) = self.ask_on(buffer) {
             return happening;
         }
         match self.ask_due(buffer) {
@@ -337,6 +362,7 @@ impl<R: Net + Clock + Alloc + Drop> Wires for TcpWires<R> {
         };
         if sent {
             self.due = side;
+            self.rounds = if side == Side::Client { ROUNDS } else { 0 };
             return Ok(());
         }
         self.tally.links = self.tally.links.after(Happening::Failed(side));
