@@ -7,13 +7,14 @@ use Rattle.serde_json.specs.Written.{compact_text, has_float, items_have_float, 
 use Rattle.dap_messages.specs.Telling.{answer_data, breakpoint_data, breakpoints_data, event_data, outcome_data}
 use Rattle.dap_messages.specs.Telling.{count, hit_data, integer, members_of, reason_of, stop_data}
 use Rattle.dap_messages.specs.Telling.{frame_data, source_data, source_member, stack_frames_data}
+use Rattle.dap_messages.specs.Telling.{child_data, variable_data, variables_data}
 use Rattle.dap_messages.specs.Telling.{standing_data, thread_data, threads_data, told_data, told_text}
 use Rattle.dap_messages.specs.declared.told.Told.{Told}
 use Rattle.dap_messages.specs.declared.told.Told.TheVariants as told
 use Rattle.dap_messages.specs.declared.told.Outcome.{Outcome}
 use Rattle.dap_messages.specs.declared.told.Outcome.TheVariants.{Success, Failure as Failed}
 use Rattle.dap_messages.specs.declared.told.Shape.TheVariants.{Nothing, Capabilities, Breakpoints, Threads, Continued}
-use Rattle.dap_messages.specs.declared.told.Shape.TheVariants.{StackFrames}
+use Rattle.dap_messages.specs.declared.told.Shape.TheVariants.{StackFrames, Scopes, Variables}
 use Rattle.dap_messages.specs.declared.told.Event.{Event}
 use Rattle.dap_messages.specs.declared.told.Event.TheVariants.{Initialized, Breakpoint as Changed, Terminated}
 use Rattle.dap_messages.specs.declared.told.Event.TheVariants.{Thread as ThreadChanged, Stopped as HasStopped}
@@ -24,6 +25,7 @@ use Rattle.dap_messages.specs.declared.told.Breakpoint.{Breakpoint}
 use Rattle.dap_messages.specs.declared.told.Thread.{Thread}
 use Rattle.dap_messages.specs.declared.told.Source.{Source}
 use Rattle.dap_messages.specs.declared.told.StackFrame.{StackFrame}
+use Rattle.dap_messages.specs.declared.told.Variable.{Variable}
 
 has_float-standing_data : (id line : ℕ) (reason : Option (List ℕ)) → has_float (standing_data id line reason) ≡ false
 has_float-standing_data id line None = refl
@@ -72,6 +74,24 @@ has_float-stack_frames_data : (frames : List StackFrame) (total : ℕ) →
     has_float (stack_frames_data frames total) ≡ false
 has_float-stack_frames_data frames total = ap (λ found. found || false) (items_have_float-frames frames)
 
+has_float-child_data : (variable : Variable) (indexed : Option ℕ) (kind : Option (List ℕ)) →
+    has_float (child_data variable indexed kind) ≡ false
+has_float-child_data variable None None = refl
+has_float-child_data variable None (Some kind) = refl
+has_float-child_data variable (Some indexed) None = refl
+has_float-child_data variable (Some indexed) (Some kind) = refl
+
+items_have_float-variables : (variables : List Variable) →
+    items_have_float (items_of (map variable_data variables)) ≡ false
+items_have_float-variables [] = refl
+items_have_float-variables (variable ∷ variables) =
+    ap (λ found. found || items_have_float (items_of (map variable_data variables)))
+    (has_float-child_data variable variable.indexed variable.kind)
+    ∙ items_have_float-variables variables
+
+has_float-variables_data : (variables : List Variable) → has_float (variables_data variables) ≡ false
+has_float-variables_data variables = ap (λ found. found || false) (items_have_float-variables variables)
+
 has_float-answer_data : (seq request_seq : ℕ) (command : List ℕ) (body : Data) →
     has_float body ≡ false → has_float (answer_data seq request_seq command (Some body)) ≡ false
 has_float-answer_data seq request_seq command body none = ap (λ found. found || false) none
@@ -90,6 +110,9 @@ has_float-outcome_data seq request_seq command (Success (StackFrames frames tota
     has_float-answer_data seq request_seq command
     (stack_frames_data frames total)
     (has_float-stack_frames_data frames total)
+has_float-outcome_data seq request_seq command (Success (Scopes reference)) = refl
+has_float-outcome_data seq request_seq command (Success (Variables variables)) =
+    has_float-answer_data seq request_seq command (variables_data variables) (has_float-variables_data variables)
 has_float-outcome_data seq request_seq command (Success Continued) = refl
 has_float-outcome_data seq request_seq command (Failed failure) = refl
 

@@ -8,13 +8,19 @@ use Rattle.dap_messages.specs.declared.arguments.Argument.TheVariants.{Arguments
 use Rattle.dap_messages.specs.declared.arguments.Argument.TheVariants.{ColumnsStartAt1, PathFormat}
 use Rattle.dap_messages.specs.declared.arguments.Argument.TheVariants.{SupportsVariableType, SourceRoots}
 use Rattle.dap_messages.specs.declared.arguments.Argument.TheVariants.{Source, Breakpoints, ThreadId}
-use Rattle.dap_messages.specs.declared.arguments.Argument.TheVariants.{StartFrame, Levels, TerminateDebuggee}
+use Rattle.dap_messages.specs.declared.arguments.Argument.TheVariants.{StartFrame, Levels, FrameId}
+use Rattle.dap_messages.specs.declared.arguments.Argument.TheVariants.{VariablesReference, Filter as FilterMember}
+use Rattle.dap_messages.specs.declared.arguments.Argument.TheVariants.{Start, Count, TerminateDebuggee}
 use Rattle.dap_messages.specs.declared.arguments.Refused.{Refused}
 use Rattle.dap_messages.specs.declared.arguments.Refused.TheVariants.{NoMemory, Broken}
 use Rattle.dap_messages.specs.declared.requests.InitializeArguments.{InitializeArguments}
 use Rattle.dap_messages.specs.declared.requests.AttachArguments.{AttachArguments}
 use Rattle.dap_messages.specs.declared.requests.ThreadArguments.{ThreadArguments}
 use Rattle.dap_messages.specs.declared.requests.StackTraceArguments.{StackTraceArguments}
+use Rattle.dap_messages.specs.declared.requests.ScopesArguments.{ScopesArguments}
+use Rattle.dap_messages.specs.declared.requests.VariablesArguments.{VariablesArguments}
+use Rattle.dap_messages.specs.declared.requests.Filter.{Filter}
+use Rattle.dap_messages.specs.declared.requests.Filter.TheVariants.{Both, Indexed, Named}
 use Rattle.dap_messages.specs.declared.requests.DisconnectArguments.{DisconnectArguments}
 
 -- the name under which an argument stands
@@ -31,6 +37,11 @@ argument_name Breakpoints = codes "breakpoints"
 argument_name ThreadId = codes "threadId"
 argument_name StartFrame = codes "startFrame"
 argument_name Levels = codes "levels"
+argument_name FrameId = codes "frameId"
+argument_name VariablesReference = codes "variablesReference"
+argument_name FilterMember = codes "filter"
+argument_name Start = codes "start"
+argument_name Count = codes "count"
 argument_name TerminateDebuggee = codes "terminateDebuggee"
 
 -- null counts as missing
@@ -113,6 +124,21 @@ abbrev pub path_format_at : Argument → Data → Result ⊤ Argument
 path_format_at argument arguments =
     or_missing tt (λ value. unless_broken argument (as_path_format value)) (given argument arguments)
 
+-- which children a text of `filter` names (DAP specification, Variables request, `filter`)
+abbrev pub filter_of : List ℕ → Option Filter
+filter_of text =
+    if bytes_eq text (codes "indexed") then Some Indexed else
+    (if bytes_eq text (codes "named") then Some Named else None)
+
+-- a value that is such a text
+abbrev pub as_filter : Data → Option Filter
+as_filter value = option_and_then filter_of (as_str value)
+
+-- which children are wanted, which are those of both kinds where that is missing
+abbrev pub filter_at : Argument → Data → Result Filter Argument
+filter_at argument arguments =
+    or_missing Both (λ value. unless_broken argument (as_filter value)) (given argument arguments)
+
 -- the first argument that breaks its rule decides
 infixl 10 ◌>>=◌
 abbrev pub ◌>>=◌ : {A B : Type 0} → Result A Argument → (A → Result B Argument) → Result B Argument
@@ -153,6 +179,21 @@ stack_trace_of arguments = do
   start_frame ← int_or StartFrame 0 arguments
   levels ← int_or Levels 0 arguments
   Ok (record { thread_id = thread_id; start_frame = start_frame; levels = levels })
+
+-- what `scopes` says (DAP specification, Scopes request)
+abbrev pub scopes_of : Data → Result ScopesArguments Argument
+scopes_of arguments = do
+  frame_id ← int_at FrameId arguments
+  Ok (record { frame_id = frame_id })
+
+-- what `variables` says, with the defaults of what is missing (DAP specification, Variables request)
+abbrev pub variables_of : Data → Result VariablesArguments Argument
+variables_of arguments = do
+  variables_reference ← int_at VariablesReference arguments
+  filter ← filter_at FilterMember arguments
+  start ← int_or Start 0 arguments
+  count ← int_or Count 0 arguments
+  Ok (record { variables_reference = variables_reference; filter = filter; start = start; count = count })
 
 -- what `disconnect` says (DAP specification, Disconnect request)
 abbrev pub disconnect_of : Data → Result DisconnectArguments Argument

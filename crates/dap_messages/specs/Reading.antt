@@ -6,7 +6,7 @@ use Rattle.serde_json.specs.Data.{Data, null}
 use Rattle.serde_json.specs.Read.{read}
 use Rattle.serde_json.specs.Find.{get, as_null, as_number, as_object, as_str, as_u64}
 use Rattle.dap_messages.specs.Arguments.{◌>>=◌, argument_name, initialize_of, attach_of, thread_of, disconnect_of}
-use Rattle.dap_messages.specs.Arguments.{stack_trace_of}
+use Rattle.dap_messages.specs.Arguments.{stack_trace_of, scopes_of, variables_of}
 use Rattle.dap_messages.specs.Breakpoints.{set_breakpoints_of}
 use Rattle.dap_messages.specs.declared.arguments.Argument.{Argument}
 use Rattle.dap_messages.specs.declared.arguments.Argument.TheVariants.{Arguments}
@@ -15,8 +15,8 @@ use Rattle.dap_messages.specs.declared.rows.Row.TheVariants as row
 use Rattle.dap_messages.specs.declared.requests.Command.{Command}
 use Rattle.dap_messages.specs.declared.requests.Command.TheVariants.{Initialize, Attach, ConfigurationDone}
 use Rattle.dap_messages.specs.declared.requests.Command.TheVariants.{SetBreakpoints, Threads, Continue}
-use Rattle.dap_messages.specs.declared.requests.Command.TheVariants.{Pause, StackTrace, Disconnect, Unsupported}
-use Rattle.dap_messages.specs.declared.requests.Command.TheVariants.{BadArguments}
+use Rattle.dap_messages.specs.declared.requests.Command.TheVariants.{Pause, StackTrace, Scopes, Variables}
+use Rattle.dap_messages.specs.declared.requests.Command.TheVariants.{Disconnect, Unsupported, BadArguments}
 use Rattle.dap_messages.specs.declared.requests.Incoming.{Incoming}
 use Rattle.dap_messages.specs.declared.requests.Incoming.TheVariants.{Request, Ignored}
 use Rattle.dap_messages.specs.declared.requests.ReadFault.{ReadFault}
@@ -33,8 +33,10 @@ row_of name =
     (if bytes_eq name (codes "continue") then row.Continue else
     (if bytes_eq name (codes "pause") then row.Pause else
     (if bytes_eq name (codes "stackTrace") then row.StackTrace else
+    (if bytes_eq name (codes "scopes") then row.Scopes else
+    (if bytes_eq name (codes "variables") then row.Variables else
     (if bytes_eq name (codes "disconnect") then row.Disconnect else
-    row.Unsupported))))))))
+    row.Unsupported))))))))))
 
 -- arguments are an object or null
 abbrev pub object_or_null : Data → Result Data Argument
@@ -76,6 +78,14 @@ row_command row.StackTrace request = do
   arguments ← arguments_of request
   stack_trace ← stack_trace_of arguments
   Ok (StackTrace stack_trace)
+row_command row.Scopes request = do
+  arguments ← arguments_of request
+  scopes ← scopes_of arguments
+  Ok (Scopes scopes)
+row_command row.Variables request = do
+  arguments ← arguments_of request
+  variables ← variables_of arguments
+  Ok (Variables variables)
 row_command row.Disconnect request = do
   arguments ← arguments_of request
   disconnect ← disconnect_of arguments

@@ -12,7 +12,7 @@ use Rattle.dap_messages.specs.declared.told.Outcome.{Outcome}
 use Rattle.dap_messages.specs.declared.told.Outcome.TheVariants.{Success, Failure as Failed}
 use Rattle.dap_messages.specs.declared.told.Shape.{Shape}
 use Rattle.dap_messages.specs.declared.told.Shape.TheVariants.{Nothing, Capabilities, Breakpoints, Threads, Continued}
-use Rattle.dap_messages.specs.declared.told.Shape.TheVariants.{StackFrames}
+use Rattle.dap_messages.specs.declared.told.Shape.TheVariants.{StackFrames, Scopes, Variables}
 use Rattle.dap_messages.specs.declared.told.Breakpoint.{Breakpoint}
 use Rattle.dap_messages.specs.declared.told.BreakpointStatus.{BreakpointStatus}
 use Rattle.dap_messages.specs.declared.told.BreakpointStatus.TheVariants.{Verified, NoSourceRoot}
@@ -21,6 +21,7 @@ use Rattle.dap_messages.specs.declared.told.BreakpointStatus.TheVariants.{NotBou
 use Rattle.dap_messages.specs.declared.told.Thread.{Thread}
 use Rattle.dap_messages.specs.declared.told.Source.{Source}
 use Rattle.dap_messages.specs.declared.told.StackFrame.{StackFrame}
+use Rattle.dap_messages.specs.declared.told.Variable.{Variable}
 use Rattle.dap_messages.specs.declared.told.Failure.{Failure}
 use Rattle.dap_messages.specs.declared.told.Detail.{Detail}
 use Rattle.dap_messages.specs.declared.told.Detail.TheVariants.{Plain, Number, Name}
@@ -51,6 +52,15 @@ target_gone = record { code = 10; detail = Plain }
 
 abbrev pub not_stopped : Failure
 not_stopped = record { code = 4; detail = Plain }
+
+abbrev pub stale : ℕ → Failure
+stale stop = record { code = 5; detail = Number stop }
+
+abbrev pub unknown_reference : ℕ → Failure
+unknown_reference next = record { code = 6; detail = Number next }
+
+abbrev pub wrong_kind : Failure
+wrong_kind = record { code = 7; detail = Plain }
 
 abbrev pub unknown_thread : Failure
 unknown_thread = record { code = 8; detail = Plain }
@@ -163,6 +173,43 @@ stack_frames_data frames total = object_of (
     (codes "stackFrames", array (items_of (map frame_data frames))) ∷
     (codes "totalFrames", count total) ∷ [])
 
+-- a scope: the one that a frame has, whose words are the adapter's own (DAP specification, Types, Scope)
+abbrev pub scope_data : ℕ → Data
+scope_data reference = object_of (
+    (codes "expensive", boolean false) ∷
+    (codes "name", string (codes "Locals")) ∷
+    (codes "presentationHint", string (codes "locals")) ∷
+    (codes "variablesReference", count reference) ∷ [])
+
+-- the body of the response to `scopes` (DAP specification, Scopes request)
+abbrev pub scopes_data : ℕ → Data
+scopes_data reference = object_of ((codes "scopes", array (items_of (scope_data reference ∷ []))) ∷ [])
+
+-- the member `indexedVariables`, where there are such ones (DAP specification, Types, Variable, `indexedVariables`)
+abbrev pub indexed_member : Option ℕ → List (List ℕ × Data)
+indexed_member None = []
+indexed_member (Some indexed) = (codes "indexedVariables", count indexed) ∷ []
+
+-- the member `type`, where the type is shown (DAP specification, Types, Variable, `type`)
+abbrev pub type_member : Option (List ℕ) → List (List ℕ × Data)
+type_member None = []
+type_member (Some kind) = (codes "type", string kind) ∷ []
+
+-- a variable with this many children that have an index, and with this type (DAP specification, Types, Variable)
+abbrev pub child_data : Variable → Option ℕ → Option (List ℕ) → Data
+child_data variable indexed kind = object_of (indexed_member indexed ++
+    (codes "name", string variable.name) ∷ (type_member kind ++
+    (codes "value", string variable.value) ∷
+    (codes "variablesReference", count variable.reference) ∷ []))
+
+-- a variable (DAP specification, Types, Variable)
+abbrev pub variable_data : Variable → Data
+variable_data variable = child_data variable variable.indexed variable.kind
+
+-- the body of the response to `variables` (DAP specification, Variables request)
+abbrev pub variables_data : List Variable → Data
+variables_data variables = object_of ((codes "variables", array (items_of (map variable_data variables))) ∷ [])
+
 -- the body of the response to `continue` (DAP specification, Continue request)
 abbrev pub continued_data : Data
 continued_data = object_of ((codes "allThreadsContinued", boolean true) ∷ [])
@@ -174,6 +221,8 @@ shape_data Capabilities = Some capabilities_data
 shape_data (Breakpoints breakpoints) = Some (breakpoints_data breakpoints)
 shape_data (Threads threads) = Some (threads_data threads)
 shape_data (StackFrames frames total) = Some (stack_frames_data frames total)
+shape_data (Scopes reference) = Some (scopes_data reference)
+shape_data (Variables variables) = Some (variables_data variables)
 shape_data Continued = Some continued_data
 
 -- the member `body`, which stands before all others of a message
@@ -190,11 +239,14 @@ message_of code =
     (if code == 2 then codes "badArguments" else
     (if code == 3 then codes "notAttached" else
     (if code == 4 then codes "notStopped" else
+    (if code == 5 then codes "stale" else
+    (if code == 6 then codes "unknownReference" else
+    (if code == 7 then codes "wrongKind" else
     (if code == 8 then codes "unknownThread" else
     (if code == 9 then codes "targetError" else
     (if code == 10 then codes "targetGone" else
     (if code == 15 then codes "referencesSpent" else
-    (if code == 16 then codes "alreadyAttached" else []))))))))
+    (if code == 16 then codes "alreadyAttached" else [])))))))))))
 
 -- what follows the message, with a space before it
 abbrev pub detail_text : Detail → List ℕ

@@ -3,7 +3,9 @@ ghost use Rattle.serde_json.specs.Find.{as_str};
 ghost use Rattle.serde_json.specs.View.{view, items_view};
 ghost use Rattle.dap_messages.specs.Arguments.{argument_name, as_int, given, int_at, int_or, text_at, texts_at};
 ghost use Rattle.dap_messages.specs.Arguments.{each_in, flag_at, path_format_at, unless_broken, IsRead};
+ghost use Rattle.dap_messages.specs.Arguments.{filter_at, filter_of};
 
+use crate::requests::Filter;
 use serde_json::Value;
 use std::alloc::Global;
 use wire_core::{List, NoMemory, Text};
@@ -25,6 +27,11 @@ pub(crate) enum Argument {
     ThreadId,
     StartFrame,
     Levels,
+    FrameId,
+    VariablesReference,
+    Filter,
+    Start,
+    Count,
     TerminateDebuggee,
 }
 
@@ -45,6 +52,11 @@ impl Argument {
             Argument::ThreadId => "threadId",
             Argument::StartFrame => "startFrame",
             Argument::Levels => "levels",
+            Argument::FrameId => "frameId",
+            Argument::VariablesReference => "variablesReference",
+            Argument::Filter => "filter",
+            Argument::Start => "start",
+            Argument::Count => "count",
             Argument::TerminateDebuggee => "terminateDebuggee",
         }
     }
@@ -187,5 +199,30 @@ pub(crate) fn path_format_at(arguments: &Value, argument: Argument) -> Result<()
             None => Err(Refused::Broken(argument)),
         },
         None => Ok(()),
+    }
+}
+
+/// Which children are wanted, which are those of both kinds where it isn't given.
+pub(crate) fn filter_at(arguments: &Value, argument: Argument) -> Result<Filter, Refused>
+    ensures { IsRead result (filter_at argument (view arguments.now)) }
+{
+    match given(arguments, argument) {
+        Some(value) => match value.as_str().and_then(filter_of) {
+            Some(filter) => Ok(filter),
+            None => Err(Refused::Broken(argument)),
+        },
+        None => Ok(Filter::Both),
+    }
+}
+
+fn filter_of(text: &str) -> Option<Filter>
+    ensures { result ≡ filter_of text.now }
+{
+    if text == "indexed" {
+        Some(Filter::Indexed)
+    } else if text == "named" {
+        Some(Filter::Named)
+    } else {
+        None
     }
 }

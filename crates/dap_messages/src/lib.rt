@@ -13,11 +13,12 @@ mod write;
 
 pub use read::read_request;
 pub use requests::{
-    AttachArguments, Command, DisconnectArguments, Incoming, InitializeArguments, ReadFault,
-    Request, SetBreakpointsArguments, SourceBreakpoint, StackTraceArguments, ThreadArguments,
+    AttachArguments, Command, DisconnectArguments, Filter, Incoming, InitializeArguments,
+    ReadFault, Request, ScopesArguments, SetBreakpointsArguments, SourceBreakpoint,
+    StackTraceArguments, ThreadArguments, VariablesArguments,
 };
 pub use told::{
     Breakpoint, BreakpointStatus, Detail, Event, Failure, Outcome, Response, Shape, Source,
-    StackFrame, StopReason, Stopped, Thread, ThreadChange, Told,
+    StackFrame, StopReason, Stopped, Thread, ThreadChange, Told, Variable,
 };
 pub use write::text_of;

@@ -49,6 +49,8 @@ pub enum Command {
     Continue(ThreadArguments),
     Pause(ThreadArguments),
     StackTrace(StackTraceArguments),
+    Scopes(ScopesArguments),
+    Variables(VariablesArguments),
     Disconnect(DisconnectArguments),
     /// A command that this adapter doesn't have.
     Unsupported,
@@ -104,6 +106,32 @@ pub struct StackTraceArguments {
     pub thread_id: u32,
     pub start_frame: u32,
     pub levels: u32,
+}
+
+/// Arguments of `scopes`: the number of a frame, from 0 to 2^31 - 1. (DAP specification, Scopes request)
+#[derive(Clone, Copy, Debug, Drop, PartialEq, Eq)]
+pub struct ScopesArguments {
+    pub frame_id: u32,
+}
+
+/// Which children of a variable are wanted: all of them, those with an index, or those with a name.
+/// (DAP specification, Variables request, `filter`)
+#[derive(Clone, Copy, Debug, Drop, PartialEq, Eq)]
+pub enum Filter {
+    Both,
+    Indexed,
+    Named,
+}
+
+/// Arguments of `variables`: the reference of the variables that are wanted, which of them are, the first of them, and
+/// how many at most, where 0 stands for all. Each number is from 0 to 2^31 - 1. A filter that is missing stands for
+/// both kinds, and the last two are 0 where they are missing. (DAP specification, Variables request)
+#[derive(Clone, Copy, Debug, Drop, PartialEq, Eq)]
+pub struct VariablesArguments {
+    pub variables_reference: u32,
+    pub filter: Filter,
+    pub start: u32,
+    pub count: u32,
 }
 
 /// Arguments of `disconnect`: whether the target has to end, which it doesn't where that is missing.

@@ -1,17 +1,17 @@
 ghost use Rattle.std.specs.Prelude.{◌≡◌, IfOk};
 ghost use Rattle.serde_json.specs.View.{view};
 ghost use Rattle.dap_messages.specs.Arguments.{initialize_of, attach_of, thread_of, disconnect_of, IsRead};
-ghost use Rattle.dap_messages.specs.Arguments.{stack_trace_of};
+ghost use Rattle.dap_messages.specs.Arguments.{stack_trace_of, scopes_of, variables_of};
 ghost use Rattle.dap_messages.specs.Breakpoints.{set_breakpoints_of};
 ghost use Rattle.dap_messages.specs.Reading.{row_of, row_command, command_of};
 
 use crate::arguments::{
-    Argument, Refused, flag_at, int_at, int_or, path_format_at, text_at, texts_at,
+    Argument, Refused, filter_at, flag_at, int_at, int_or, path_format_at, text_at, texts_at,
 };
 use crate::breakpoints::{breakpoints_at, path_at};
 use crate::requests::{
-    AttachArguments, Command, DisconnectArguments, InitializeArguments, SetBreakpointsArguments,
-    StackTraceArguments, ThreadArguments,
+    AttachArguments, Command, DisconnectArguments, InitializeArguments, ScopesArguments,
+    SetBreakpointsArguments, StackTraceArguments, ThreadArguments, VariablesArguments,
 };
 use serde_json::Value;
 use std::alloc::Global;
@@ -28,6 +28,8 @@ pub(crate) enum Row {
     Continue,
     Pause,
     StackTrace,
+    Scopes,
+    Variables,
     Disconnect,
     Unsupported,
 }
@@ -51,6 +53,10 @@ fn row_of(name: &str) -> Row
         Row::Pause
     } else if name == "stackTrace" {
         Row::StackTrace
+    } else if name == "scopes" {
+        Row::Scopes
+    } else if name == "variables" {
+        Row::Variables
     } else if name == "disconnect" {
         Row::Disconnect
     } else {
@@ -92,6 +98,8 @@ fn row_command(alloc: Global, row: Row, request: &Value) -> Result<Command, Refu
         Row::Continue => Ok(Command::Continue(thread_of(arguments)?)),
         Row::Pause => Ok(Command::Pause(thread_of(arguments)?)),
         Row::StackTrace => Ok(Command::StackTrace(stack_trace_of(arguments)?)),
+        Row::Scopes => Ok(Command::Scopes(scopes_of(arguments)?)),
+        Row::Variables => Ok(Command::Variables(variables_of(arguments)?)),
         Row::Disconnect => Ok(Command::Disconnect(disconnect_of(arguments)?)),
         Row::Unsupported => Ok(Command::Unsupported),
     }
@@ -145,6 +153,28 @@ fn stack_trace_of(arguments: &Value) -> Result<StackTraceArguments, Refused>
         thread_id,
         start_frame,
         levels,
+    })
+}
+
+fn scopes_of(arguments: &Value) -> Result<ScopesArguments, Refused>
+    ensures { IsRead result (scopes_of (view arguments.now)) }
+{
+    let frame_id = int_at(arguments, Argument::FrameId)?;
+    Ok(ScopesArguments { frame_id })
+}
+
+fn variables_of(arguments: &Value) -> Result<VariablesArguments, Refused>
+    ensures { IsRead result (variables_of (view arguments.now)) }
+{
+    let variables_reference = int_at(arguments, Argument::VariablesReference)?;
+    let filter = filter_at(arguments, Argument::Filter)?;
+    let start = int_or(arguments, Argument::Start, 0)?;
+    let count = int_or(arguments, Argument::Count, 0)?;
+    Ok(VariablesArguments {
+        variables_reference,
+        filter,
+        start,
+        count,
     })
 }
 

@@ -1,7 +1,7 @@
 use crate::{
-    Breakpoint, BreakpointStatus, Command, Event, Failure, Incoming, InitializeArguments, Outcome,
-    ReadFault, Request, Response, Shape, Source, SourceBreakpoint, StackFrame, StopReason, Stopped,
-    Thread, ThreadChange, Told, read_request, text_of,
+    Breakpoint, BreakpointStatus, Command, Event, Failure, Filter, Incoming, InitializeArguments,
+    Outcome, ReadFault, Request, Response, Shape, Source, SourceBreakpoint, StackFrame, StopReason,
+    Stopped, Thread, ThreadChange, Told, Variable, VariablesArguments, read_request, text_of,
 };
 use std::alloc::{AllocError, Global};
 use std::process::Abort;
@@ -9,8 +9,20 @@ use std::test::Fail;
 use wire_core::{List, NoMemory, Text};
 
 // What a body says, in a few words.
+//
+// A value that goes at the end of a scope is taken apart in the proof of that scope: large ones are let go by a call.
 fn summary(alloc: Global, body: &[u8]) -> Result<String, AllocError> {
-    match read_request(alloc, body) {
+    let read = read_request(alloc, body);
+    let said = incoming_summary(alloc, &read);
+    drop(read);
+    said
+}
+
+fn incoming_summary(
+    alloc: Global,
+    read: &Result<Incoming, ReadFault>,
+) -> Result<String, AllocError> {
+    match read {
         Ok(Incoming::Request(request)) => request_summary(alloc, request),
         Ok(Incoming::Ignored) => String::from_str(alloc, "ignored"),
         Err(ReadFault::NotJson) => String::from_str(alloc, "not JSON"),
@@ -19,7 +31,7 @@ fn summary(alloc: Global, body: &[u8]) -> Result<String, AllocError> {
     }
 }
 
-fn request_summary(alloc: Global, request: Request) -> Result<String, AllocError> {
+fn request_summary(alloc: Global, request: &Request) -> Result<String, AllocError> {
     let said = command_summary(alloc, &request.command)?;
     let seq = request.seq;
     let name = request.name.as_str();
@@ -45,6 +57,8 @@ fn command_summary(alloc: Global, command: &Command) -> Result<String, AllocErro
             let levels = arguments.levels;
             format!(in alloc; "{thread} from {start} for {levels}")
         }
+        Command::Scopes(arguments) => numbered(alloc, "opens", arguments.frame_id),
+        Command::Variables(arguments) => variables_summary(alloc, arguments),
         Command::Disconnect(arguments) => {
             let terminate = arguments.terminate_debuggee;
             format!(in alloc; "terminates {terminate}")
@@ -68,8 +82,20 @@ fn initialize_summary(
     format!(in alloc; "{adapter} {lines} {columns} {types}")
 }
 
-fn numbered(alloc: Global, verb: &str, thread: u32) -> Result<String, AllocError> {
-    format!(in alloc; "{verb} {thread}")
+fn variables_summary(alloc: Global, arguments: &VariablesArguments) -> Result<String, AllocError> {
+    let reference = arguments.variables_reference;
+    let filter = match arguments.filter {
+        Filter::Both => "both",
+        Filter::Indexed => "indexed",
+        Filter::Named => "named",
+    };
+    let start = arguments.start;
+    let count = arguments.count;
+    format!(in alloc; "{filter} of {reference} from {start} for {count}")
+}
+
+fn numbered(alloc: Global, verb: &str, number: u32) -> Result<String, AllocError> {
+    format!(in alloc; "{verb} {number}")
 }
 
 // Texts, each with `;` behind it.
@@ -386,6 +412,104 @@ fn stack_trace_is_read(rt: HostRuntime) -> Result<(), Fail> {
 }
 
 #[test]
+fn scopes_is_read(rt: HostRuntime) -> Result<(), Fail> {
+    let table = [
+        (r#"{"frameId":0}"#, "opens 0"),
+        (
+            r#"{"threadId":"","frameId":2147483647}"#,
+            "opens 2147483647",
+        ),
+        ("null", "bad frameId"),
+        (r#"{"frameid":1}"#, "bad frameId"),
+        (r#"{"frameId":null}"#, "bad frameId"),
+        (r#"{"frameId":-1}"#, "bad frameId"),
+        (r#"{"frameId":2147483648}"#, "bad frameId"),
+        (r#"{"frameId":1.0}"#, "bad frameId"),
+        (r#"{"frameId":"1"}"#, "bad frameId"),
+        ("[1]", "bad arguments"),
+    ];
+    arguments_are_read(&rt, "scopes", &table)
+}
+
+#[test]
+fn variables_is_read(rt: HostRuntime) -> Result<(), Fail> {
+    let table = [
+        (r#"{"variablesReference":1}"#, "both of 1 from 0 for 0"),
+        (
+            r#"{"variablesReference":1,"filter":null,"start":null,"count":null}"#,
+            "both of 1 from 0 for 0",
+        ),
+        (
+            r#"{"count":20,"start":3,"filter":"indexed","variablesReference":0,"format":7}"#,
+            "indexed of 0 from 3 for 20",
+        ),
+        (
+            r#"{"variablesReference":2147483647,"filter":"n\u0061med","start":2147483647}"#,
+            "named of 2147483647 from 2147483647 for 0",
+        ),
+        (
+            r#"{"variablesReference":1,"count":2147483647}"#,
+            "both of 1 from 0 for 2147483647",
+        ),
+        ("null", "bad variablesReference"),
+        ("[]", "bad arguments"),
+        (
+            r#"{"count":"","start":"","filter":""}"#,
+            "bad variablesReference",
+        ),
+        (
+            r#"{"variablesReference":null,"filter":7}"#,
+            "bad variablesReference",
+        ),
+        (r#"{"variablesReference":-1}"#, "bad variablesReference"),
+        (
+            r#"{"variablesReference":2147483648}"#,
+            "bad variablesReference",
+        ),
+        (r#"{"variablesReference":"1"}"#, "bad variablesReference"),
+    ];
+    arguments_are_read(&rt, "variables", &table)
+}
+
+// What stands beside it is said of `variables` with this behind the reference.
+fn variables_end_with(rt: &(impl Abort + AllocGlobal), table: &[(&str, &str)]) -> Result<(), Fail> {
+    for row in table {
+        let rest = row.0;
+        let arguments = format!(in rt.alloc(); "{{\"variablesReference\":1,{rest}}}")?;
+        arguments_are_read(rt, "variables", &[(arguments.as_str(), row.1)])?;
+    }
+    Ok(())
+}
+
+#[test]
+fn bad_filters_are_read(rt: HostRuntime) -> Result<(), Fail> {
+    let table = [
+        (r#""count":-1,"start":-1,"filter":"both""#, "bad filter"),
+        (r#""filter":"Indexed""#, "bad filter"),
+        (r#""filter":"names""#, "bad filter"),
+        (r#""filter":"""#, "bad filter"),
+        (r#""filter":0"#, "bad filter"),
+        (r#""filter":["named"]"#, "bad filter"),
+    ];
+    variables_end_with(&rt, &table)
+}
+
+#[test]
+fn bad_starts_and_counts_are_read(rt: HostRuntime) -> Result<(), Fail> {
+    let table = [
+        (r#""count":-1,"start":-1"#, "bad start"),
+        (r#""start":2147483648,"filter":"named""#, "bad start"),
+        (r#""start":0.0"#, "bad start"),
+        (r#""start":"0""#, "bad start"),
+        (r#""count":-1"#, "bad count"),
+        (r#""count":2147483648,"start":7"#, "bad count"),
+        (r#""count":[]"#, "bad count"),
+        (r#""count":false"#, "bad count"),
+    ];
+    variables_end_with(&rt, &table)
+}
+
+#[test]
 fn breakpoints_are_read(rt: HostRuntime) -> Result<(), Fail> {
     let table = [
         // the source
@@ -559,43 +683,46 @@ fn no_threads_are_told(rt: HostRuntime) -> Result<(), Fail> {
     )
 }
 
-fn source(alloc: Global, name: &str, path: &str) -> Result<Source, NoMemory> {
-    Ok(Source {
-        name: Text::from_str(alloc, name)?,
-        path: Text::from_str(alloc, path)?,
+// What a frame is made of: its number, its name, its line, and the name and the path of its source.
+type FrameRow<'a> = (u32, &'a str, i64, Option<(&'a str, &'a str)>);
+
+fn source(alloc: Global, row: Option<(&str, &str)>) -> Result<Option<Source>, NoMemory> {
+    match row {
+        Some((name, path)) => Ok(Some(Source {
+            name: Text::from_str(alloc, name)?,
+            path: Text::from_str(alloc, path)?,
+        })),
+        None => Ok(None),
+    }
+}
+
+fn stack_frame(alloc: Global, row: FrameRow<'_>) -> Result<StackFrame, NoMemory> {
+    Ok(StackFrame {
+        id: row.0,
+        name: Text::from_str(alloc, row.1)?,
+        line: row.2,
+        column: 1,
+        source: source(alloc, row.3)?,
     })
+}
+
+fn stack_frames(alloc: Global, rows: &[FrameRow<'_>]) -> Result<List<StackFrame>, NoMemory> {
+    let mut frames = List::new(alloc);
+    for row in rows {
+        frames.push(stack_frame(alloc, *row)?)?;
+    }
+    Ok(frames)
 }
 
 #[test]
 fn stack_frames_are_told(rt: HostRuntime) -> Result<(), Fail> {
-    let alloc = rt.alloc();
-    let table = [
-        (
-            5,
-            "Main.run",
-            12,
-            Some(source(alloc, "Main.java", "/p/Main.java")?),
-        ),
+    let rows = [
+        (5, "Main.run", 12, Some(("Main.java", "/p/Main.java"))),
         (2147483647, "<init>", -1, None),
         (0, "a \"b\"", -9223372036854775808, None),
-        (
-            4294967295,
-            "",
-            9223372036854775807,
-            Some(source(alloc, "é", "")?),
-        ),
+        (4294967295, "", 9223372036854775807, Some(("é", ""))),
     ];
-    let mut frames = List::new(alloc);
-    for (id, name, line, source) in table {
-        let name = Text::from_str(alloc, name)?;
-        frames.push(StackFrame {
-            id,
-            name,
-            line,
-            column: 1,
-            source,
-        })?;
-    }
+    let frames = stack_frames(rt.alloc(), &rows)?;
     let wanted = "{\"stackFrames\":[{\"column\":1,\"id\":5,\"line\":12,\"name\":\"Main.run\",\
         \"source\":{\"name\":\"Main.java\",\"path\":\"/p/Main.java\"}},\
         {\"column\":1,\"id\":2147483647,\"line\":-1,\"name\":\"<init>\"},\
@@ -612,6 +739,65 @@ fn no_stack_frames_are_told(rt: HostRuntime) -> Result<(), Fail> {
         total: 0,
     };
     body_is_told(&rt, shape, r#"{"stackFrames":[],"totalFrames":0}"#)
+}
+
+#[test]
+fn a_scope_is_told(rt: HostRuntime) -> Result<(), Fail> {
+    let wanted =
+        "{\"scopes\":[{\"expensive\":false,\"name\":\"Locals\",\"presentationHint\":\"locals\",\
+        \"variablesReference\":2147483647}]}";
+    body_is_told(&rt, Shape::Scopes(2147483647), wanted)
+}
+
+// What a variable is made of: its name, its value, its type, how many children with an index it has, and its reference.
+type VariableRow<'a> = (&'a str, &'a str, Option<&'a str>, Option<u32>, u32);
+
+fn optional(alloc: Global, text: Option<&str>) -> Result<Option<Text>, NoMemory> {
+    match text {
+        Some(text) => Ok(Some(Text::from_str(alloc, text)?)),
+        None => Ok(None),
+    }
+}
+
+fn variable(alloc: Global, row: VariableRow<'_>) -> Result<Variable, NoMemory> {
+    Ok(Variable {
+        name: Text::from_str(alloc, row.0)?,
+        value: Text::from_str(alloc, row.1)?,
+        kind: optional(alloc, row.2)?,
+        indexed: row.3,
+        reference: row.4,
+    })
+}
+
+fn variables(alloc: Global, rows: &[VariableRow<'_>]) -> Result<List<Variable>, NoMemory> {
+    let mut variables = List::new(alloc);
+    for row in rows {
+        variables.push(variable(alloc, *row)?)?;
+    }
+    Ok(variables)
+}
+
+#[test]
+fn variables_are_told(rt: HostRuntime) -> Result<(), Fail> {
+    let rows = [
+        ("n", "5", None, None, 0),
+        ("s", r#""a \"\\" (3)"#, Some("java.lang.String"), None, 7),
+        ("[0]", "int[3]", None, Some(3), 4294967295),
+        ("", "é", Some(""), Some(0), 1),
+    ];
+    let variables = variables(rt.alloc(), &rows)?;
+    let wanted = "{\"variables\":[{\"name\":\"n\",\"value\":\"5\",\"variablesReference\":0},\
+        {\"name\":\"s\",\"type\":\"java.lang.String\",\"value\":\"\\\"a \\\\\\\"\\\\\\\\\\\" (3)\",\
+        \"variablesReference\":7},\
+        {\"indexedVariables\":3,\"name\":\"[0]\",\"value\":\"int[3]\",\"variablesReference\":4294967295},\
+        {\"indexedVariables\":0,\"name\":\"\",\"type\":\"\",\"value\":\"é\",\"variablesReference\":1}]}";
+    body_is_told(&rt, Shape::Variables(variables), wanted)
+}
+
+#[test]
+fn no_variables_are_told(rt: HostRuntime) -> Result<(), Fail> {
+    let shape = Shape::Variables(List::new(rt.alloc()));
+    body_is_told(&rt, shape, r#"{"variables":[]}"#)
 }
 
 #[test]
@@ -653,32 +839,35 @@ fn failure_is_told(
 
 #[test]
 fn failures_are_told(rt: HostRuntime) -> Result<(), Fail> {
+    let name = Text::from_str(rt.alloc(), "a \"b\"")?;
     let table = [
-        (Failure::unsupported(), 1, "unsupported"),
-        (Failure::not_attached(), 3, "notAttached"),
-        (Failure::not_stopped(), 4, "notStopped"),
-        (Failure::unknown_thread(), 8, "unknownThread"),
-        (Failure::target_gone(), 10, "targetGone"),
-        (Failure::references_spent(), 15, "referencesSpent"),
-        (Failure::already_attached(), 16, "alreadyAttached"),
+        (Failure::unsupported(), 1, "unsupported", ""),
+        (
+            Failure::bad_arguments(name),
+            2,
+            "badArguments",
+            r#" a \"b\""#,
+        ),
+        (Failure::not_attached(), 3, "notAttached", ""),
+        (Failure::not_stopped(), 4, "notStopped", ""),
+        (Failure::stale(3), 5, "stale", " 3"),
+        (
+            Failure::unknown_reference(2147483648),
+            6,
+            "unknownReference",
+            " 2147483648",
+        ),
+        (Failure::wrong_kind(), 7, "wrongKind", ""),
+        (Failure::unknown_thread(), 8, "unknownThread", ""),
+        (Failure::target_error(503), 9, "targetError", " 503"),
+        (Failure::target_gone(), 10, "targetGone", ""),
+        (Failure::references_spent(), 15, "referencesSpent", ""),
+        (Failure::already_attached(), 16, "alreadyAttached", ""),
     ];
-    for (failure, id, message) in table {
-        failure_is_told(&rt, failure, id, message, "")?;
+    for (failure, id, message, detail) in table {
+        failure_is_told(&rt, failure, id, message, detail)?;
     }
     Ok(())
-}
-
-#[test]
-fn details_of_failures_are_told(rt: HostRuntime) -> Result<(), Fail> {
-    let name = Text::from_str(rt.alloc(), "a \"b\"")?;
-    failure_is_told(
-        &rt,
-        Failure::bad_arguments(name),
-        2,
-        "badArguments",
-        r#" a \"b\""#,
-    )?;
-    failure_is_told(&rt, Failure::target_error(503), 9, "targetError", " 503")
 }
 
 // An event is told by this text.

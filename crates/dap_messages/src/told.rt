@@ -41,6 +41,11 @@ pub enum Shape {
         frames: List<StackFrame>,
         total: u32,
     },
+    /// The one scope of a frame, by the reference of its variables, the body of `scopes`.
+    /// (DAP specification, Scopes request; Types, Scope)
+    Scopes(u32),
+    /// Variables in the order in which they are shown, the body of `variables`. (DAP specification, Variables request)
+    Variables(List<Variable>),
     /// All threads go on, the body of `continue`. (DAP specification, Continue request)
     Continued,
 }
@@ -68,6 +73,18 @@ pub struct StackFrame {
     pub line: i64,
     pub column: u32,
     pub source: Option<Source>,
+}
+
+/// A variable: its name, its value in words, its type in words where that is shown, how many children with an index it
+/// has where it has such ones, and the reference of its children, which is 0 where it has none.
+/// (DAP specification, Types, Variable)
+#[derive(Debug, Drop)]
+pub struct Variable {
+    pub name: Text,
+    pub value: Text,
+    pub kind: Option<Text>,
+    pub indexed: Option<u32>,
+    pub reference: u32,
 }
 
 /// A breakpoint: the number that the client knows it by, its line in the client's counting, and how it stands.
@@ -158,6 +175,7 @@ impl Failure {
     ghost use Rattle.dap_messages.specs.Telling.{unsupported, bad_arguments};
     ghost use Rattle.dap_messages.specs.Telling.{already_attached, not_attached, target_gone};
     ghost use Rattle.dap_messages.specs.Telling.{not_stopped, unknown_thread, target_error, references_spent};
+    ghost use Rattle.dap_messages.specs.Telling.{stale, unknown_reference, wrong_kind};
 
     /// The adapter doesn't have this command: code 1, `unsupported`. (DAP specification, Types, Message)
     pub fn unsupported() -> Failure
@@ -218,6 +236,39 @@ impl Failure {
     {
         Failure {
             code: 4,
+            detail: Detail::Plain,
+        }
+    }
+
+    /// The number that the request names was given in the stop of this number, which has ended: code 5, `stale` and the
+    /// stop in decimal. (DAP specification, Types, Message)
+    pub fn stale(stop: u64) -> Failure
+        ensures { result ≡ stale stop }
+    {
+        Failure {
+            code: 5,
+            detail: Detail::Number(stop),
+        }
+    }
+
+    /// The number that the request names was never given: code 6, `unknownReference` and the next one that would be, in
+    /// decimal. (DAP specification, Types, Message)
+    pub fn unknown_reference(next: u32) -> Failure
+        ensures { result ≡ unknown_reference next }
+    {
+        Failure {
+            code: 6,
+            detail: Detail::Number(u64::from(next)),
+        }
+    }
+
+    /// The number that the request names stands for something of another kind: code 7, `wrongKind`.
+    /// (DAP specification, Types, Message)
+    pub fn wrong_kind() -> Failure
+        ensures { result ≡ wrong_kind }
+    {
+        Failure {
+            code: 7,
             detail: Detail::Plain,
         }
     }

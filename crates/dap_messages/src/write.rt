@@ -7,10 +7,11 @@ ghost use Rattle.dap_messages.specs.Telling.{breakpoint_data, breakpoints_data, 
 ghost use Rattle.dap_messages.specs.Telling.{change_reason, thread_changed_data, thread_data, threads_data};
 ghost use Rattle.dap_messages.specs.Telling.{continued_data, hit_data, pause_data, stop_data, stopped_data};
 ghost use Rattle.dap_messages.specs.Telling.{frame_data, located_data, source_data, stack_frames_data};
+ghost use Rattle.dap_messages.specs.Telling.{child_data, scopes_data, variable_data, variables_data};
 
 use crate::told::{
     Breakpoint, BreakpointStatus, Detail, Event, Failure, Outcome, Response, Shape, Source,
-    StackFrame, StopReason, Stopped, Thread, ThreadChange, Told,
+    StackFrame, StopReason, Stopped, Thread, ThreadChange, Told, Variable,
 };
 use serde_json::{Value, json};
 use std::alloc::{AllocError, Global};
@@ -143,6 +144,9 @@ fn message_of(code: u8) -> &'static str
         2 => "badArguments",
         3 => "notAttached",
         4 => "notStopped",
+        5 => "stale",
+        6 => "unknownReference",
+        7 => "wrongKind",
         8 => "unknownThread",
         9 => "targetError",
         10 => "targetGone",
@@ -165,6 +169,8 @@ fn shape_value(alloc: Global, shape: &Shape) -> Result<Option<Value>, AllocError
         Shape::StackFrames { frames, total } => {
             Ok(Some(stack_frames_value(alloc, frames.as_slice(), *total)?))
         }
+        Shape::Scopes(reference) => Ok(Some(scopes_value(alloc, *reference)?)),
+        Shape::Variables(variables) => Ok(Some(variables_value(alloc, variables.as_slice())?)),
         Shape::Continued => Ok(Some(continued_value(alloc)?)),
     }
 }
@@ -291,6 +297,98 @@ fn source_value(alloc: Global, source: &Source) -> Result<Value, AllocError>
     ensures { IfOk result (λ value. view value ≡ source_data source.now) }
 {
     json!(in alloc; {"name": source.name.as_str(), "path": source.path.as_str()})
+}
+
+fn scopes_value(alloc: Global, reference: u32) -> Result<Value, AllocError>
+    ensures { IfOk result (λ value. view value ≡ scopes_data reference) }
+{
+    json!(in alloc; {
+        "scopes": [{
+            "expensive": false,
+            "name": "Locals",
+            "presentationHint": "locals",
+            "variablesReference": reference
+        }]
+    })
+}
+
+fn variables_value(alloc: Global, variables: &[Variable]) -> Result<Value, AllocError>
+    ensures { IfOk result (λ value. view value ≡ variables_data variables.now) }
+{
+    let mut items = Vec::new(alloc);
+    for variable in variables {
+        items.push(variable_value(alloc, variable)?)?;
+    }
+    json!(in alloc; {"variables": Value::Array(items)})
+}
+
+fn variable_value(alloc: Global, variable: &Variable) -> Result<Value, AllocError>
+    ensures { IfOk result (λ value. view value ≡ variable_data variable.now) }
+{
+    match variable.indexed {
+        Some(indexed) => match &variable.kind {
+            Some(kind) => typed_array_value(alloc, variable, indexed, kind.as_str()),
+            None => untyped_array_value(alloc, variable, indexed),
+        },
+        None => match &variable.kind {
+            Some(kind) => typed_value(alloc, variable, kind.as_str()),
+            None => untyped_value(alloc, variable),
+        },
+    }
+}
+
+fn typed_array_value(
+    alloc: Global,
+    variable: &Variable,
+    indexed: u32,
+    kind: &str,
+) -> Result<Value, AllocError>
+    ensures { IfOk result (λ value. view value
+        ≡ child_data variable.now (Some indexed) (Some kind.now)) }
+{
+    json!(in alloc; {
+        "indexedVariables": indexed,
+        "name": variable.name.as_str(),
+        "type": kind,
+        "value": variable.value.as_str(),
+        "variablesReference": variable.reference
+    })
+}
+
+fn untyped_array_value(
+    alloc: Global,
+    variable: &Variable,
+    indexed: u32,
+) -> Result<Value, AllocError>
+    ensures { IfOk result (λ value. view value ≡ child_data variable.now (Some indexed) None) }
+{
+    json!(in alloc; {
+        "indexedVariables": indexed,
+        "name": variable.name.as_str(),
+        "value": variable.value.as_str(),
+        "variablesReference": variable.reference
+    })
+}
+
+fn typed_value(alloc: Global, variable: &Variable, kind: &str) -> Result<Value, AllocError>
+    ensures { IfOk result (λ value. view value ≡ child_data variable.now None (Some kind.now)) }
+{
+    json!(in alloc; {
+        "name": variable.name.as_str(),
+        "type": kind,
+        "value": variable.value.as_str(),
+        "variablesReference": variable.reference
+    })
+}
+
+fn untyped_value(alloc: Global, variable: &Variable) -> Result<Value, AllocError>
+    ensures { IfOk result (λ value. view value ≡ child_data variable.now None None) }
+{
+    json!(in alloc; {
+        "name": variable.name.as_str(),
+        "value": variable.value.as_str(),
+        "variablesReference": variable.reference
+    })
 }
 
 fn continued_value(alloc: Global) -> Result<Value, AllocError>

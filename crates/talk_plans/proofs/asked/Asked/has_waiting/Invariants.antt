@@ -1,8 +1,0 @@
-use Rattle.std.proofs.Common.{◌≡◌}
-use Rattle.machine_model.specs.State.{has_waiting}
-use Rattle.talk_plans.proofs.AskedLemmas.{any_left}
-use Rattle.talk_plans.proofs.asked.Asked.has_waiting.Given as goal
-
--- what is left waits where anything does
-abbrev pub invariant-loop-tried : goal.invariant-loop-tried
-invariant-loop-tried l = any_left l.tried-iterator ≡ has_waiting l.self
