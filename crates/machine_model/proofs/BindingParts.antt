@@ -1,5 +1,5 @@
 -- What stays of what binds breakpoints, where a part is done or a question is asked.
-use Rattle.std.proofs.Common.{◌≡◌, ℕ, Bool, true, false, cond, not, ◌||◌, List, [], ◌∷◌, ◌++◌, Option, Some, None}
+use Rattle.std.proofs.Common.{◌≡◌, ℕ, Bool, true, false, cond, not, ◌&&◌, ◌||◌, List, [], ◌∷◌, ◌++◌, Option, Some, None}
 use Rattle.std.proofs.Common.{refl, sym, ap, subst, ◌∙◌, arith, suc}
 use Rattle.std.specs.List.{AllByRecursion as All}
 use Rattle.class_tables.specs.Facts.{Known}
@@ -15,7 +15,11 @@ use Rattle.machine_model.specs.Names.{Event, Finding}
 use Rattle.machine_model.specs.Names.{Outcome, Part, Replied, Sent}
 use Rattle.machine_model.specs.Names.{Want, all_threads}
 use Rattle.machine_model.specs.Names.{class_facts, classes_found, Guard, Handshake, IdSizes}
-use Rattle.machine_model.specs.Names.{thread_frames}
+use Rattle.machine_model.specs.Names.{container_children, thread_frames}
+use Rattle.machine_model.specs.Harmless.{is_harmless}
+use Rattle.machine_model.specs.Variables.{children_plan}
+use Rattle.machine_model.proofs.IdRows.{all_weak}
+use Rattle.machine_model.proofs.SafePlans.{children_safe, frames_safe, is_safe, threads_safe}
 use Rattle.machine_model.specs.Outcomes.{result_of}
 use Rattle.machine_model.specs.Plans.{Need, fails, has, lacks, made_with, need, question_of, after}
 use Rattle.machine_model.specs.Plans.{asking, asks_for, Found, found_at, found_from, is_done, must_hear}
@@ -30,7 +34,7 @@ use Rattle.machine_model.proofs.BindingHands.{looks_ahead, looks_classes}
 use Rattle.machine_model.proofs.BindingHands.{looks_first, needs_watches, none_awaits, none_queued, notes_classes}
 use Rattle.machine_model.proofs.BindingHands.{notes_lines, placed, queues_listing, was_listed}
 use Rattle.machine_model.proofs.BindingPlans.{IsLearnt, does_fail, known_wants, need_alone, need_holds}
-use Rattle.machine_model.proofs.BindingPlans.{frames_wants, is_listing, plan_lacks, threads_wants, wants_other}
+use Rattle.machine_model.proofs.BindingPlans.{is_listing, plan_lacks, wants_other}
 use Rattle.machine_model.specs.Frames.{frames_plan}
 use Rattle.machine_model.proofs.BindingSeen.{bound_still}
 use Rattle.machine_model.proofs.PlanIds.{need_made}
@@ -310,30 +314,43 @@ queued_more asked queue (want ∷ wants) h none = queued_more asked (with_want a
     by_test false = last_one queue none
 
 -- only the look-up of classes asks for a list of them
-pub lacked_other : (state : State) (hand : Hand) (parts : List Part) → looks_first parts ≡ false
-    → All (λ want. wants_other want ≡ true) (lacked_by state hand parts)
-lacked_other state hand [] none = tt
-lacked_other state hand (Part.Looks all_threads ∷ rest) none =
-    plan_lacks wants_other (sight_of state hand) threads_plan threads_wants
-lacked_other state hand (Part.Looks (thread_frames thread start levels) ∷ rest) none =
-    plan_lacks wants_other (sight_of state hand) (frames_plan state thread start levels)
-    (frames_wants state thread start levels)
-lacked_other state hand (Part.Looks class_facts ∷ rest) none = cc
-lacked_other state hand (Part.Awaits guard ∷ rest) none = guards guard
+pub lacked_safe : (state : State) (hand : Hand) (parts : List Part) → looks_first parts ≡ false
+    → All (λ want. is_safe want ≡ true) (lacked_by state hand parts)
+lacked_safe state hand [] none = tt
+lacked_safe state hand (Part.Looks all_threads ∷ rest) none =
+    plan_lacks is_safe (sight_of state hand) threads_plan threads_safe
+lacked_safe state hand (Part.Looks (thread_frames thread start levels) ∷ rest) none =
+    plan_lacks is_safe (sight_of state hand) (frames_plan state thread start levels)
+    (frames_safe state thread start levels)
+lacked_safe state hand (Part.Looks (container_children thing filter start count) ∷ rest) none =
+    plan_lacks is_safe (sight_of state hand) (children_plan state.options.shows_types thing filter start count)
+    (children_safe state.options.shows_types thing filter start count)
+lacked_safe state hand (Part.Looks class_facts ∷ rest) none = cc
+lacked_safe state hand (Part.Awaits guard ∷ rest) none = guards guard
   where
-    guards : (guard : Guard) → All (λ want. wants_other want ≡ true) (asked_by (way guard state))
+    guards : (guard : Guard) → All (λ want. is_safe want ≡ true) (asked_by (way guard state))
     guards Handshake = by_tests state.greeting_sent state.greeting_heard
       where
-        by_tests : (sent heard : Bool) → All (λ want. wants_other want ≡ true) (asked_by (greeted_by sent heard))
+        by_tests : (sent heard : Bool) → All (λ want. is_safe want ≡ true) (asked_by (greeted_by sent heard))
         by_tests false heard = tt
         by_tests true false = tt
         by_tests true true = tt
     guards IdSizes = by_sizes state.sizes
       where
-        by_sizes : (sizes : Option SizesRead) → All (λ want. wants_other want ≡ true) (asked_by (sized_by sizes))
+        by_sizes : (sizes : Option SizesRead) → All (λ want. is_safe want ≡ true) (asked_by (sized_by sizes))
         by_sizes None = (refl, tt)
         by_sizes (Some sizes) = tt
-lacked_other state hand (_ ∷ rest) none = tt
+lacked_safe state hand (_ ∷ rest) none = tt
+
+lacked_other : (state : State) (hand : Hand) (parts : List Part) → looks_first parts ≡ false
+    → All (λ want. wants_other want ≡ true) (lacked_by state hand parts)
+lacked_other state hand parts none = all_weak (λ want. is_safe want ≡ true) (λ want. wants_other want ≡ true)
+    (λ want. first_of (wants_other want) (is_harmless (question_of want))) (lacked_by state hand parts)
+    (lacked_safe state hand parts none)
+  where
+    first_of : (first second : Bool) → (first && second) ≡ true → first ≡ true
+    first_of true second is = refl
+    first_of false second is = cc
 
 pub queues_on : {state : State} (hand : Hand) → Binding state hand.parts hand.queue hand.asked
     → Binding state hand.parts (newly_lacked state hand) hand.asked

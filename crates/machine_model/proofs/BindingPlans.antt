@@ -1,5 +1,5 @@
 -- What the look-up of classes asks: facts of classes alone, which are heard alike from what is known and from replies.
-use Rattle.std.proofs.Common.{◌≡◌, ℕ, zero, suc, Bool, true, false, cond, not, List, [], ◌∷◌, Option, Some, None}
+use Rattle.std.proofs.Common.{◌≡◌, ℕ, suc, Bool, true, false, cond, not, List, [], ◌∷◌, Option, Some, None}
 use Rattle.std.proofs.Common.{refl, sym, ap, ◌∙◌}
 use Rattle.std.specs.List.{AllByRecursion as All}
 use Rattle.class_tables.specs.Facts.{Known}
@@ -12,24 +12,17 @@ use Rattle.machine_model.specs.Binding.{sight_alone}
 use Rattle.machine_model.specs.Classes.{class_plan, is_keyed, keyed_plan, known_plan, lines_plan, methods_plan}
 use Rattle.machine_model.specs.Classes.{package_plan, prepared_plan, watched_plan}
 use Rattle.machine_model.specs.Facts.{fact_known, methods_in, source_in}
-use Rattle.machine_model.specs.Lookups.{name_plan, names_plan, threads_in, threads_plan}
 use Rattle.machine_model.specs.Names.{Answer, Question, Replied, Sent, Want, an_answer, an_error}
-use Rattle.machine_model.specs.Names.{ThreadId, frames_found}
 use Rattle.machine_model.specs.Plans.{Found, Need, Plan, Sight, after, asking, asks_for, beside, chained, each}
 use Rattle.machine_model.specs.Plans.{fact_heard, fails, found_at, found_from, gives, has, heard_of, joined, lacking}
 use Rattle.machine_model.specs.Plans.{lacks, made_with, need, pairs, question_of, wants, must_by, must_hear, may_hear}
-use Rattle.machine_model.specs.Plans.{both}
-use Rattle.machine_model.specs.State.{State, is_some}
+use Rattle.machine_model.specs.State.{is_some}
 use Rattle.machine_model.proofs.IdRows.{all_joined}
 use Rattle.machine_model.proofs.KeyLaws.{is_one}
 use Rattle.wish_sets.specs.Places.{key_by}
 use Rattle.wish_sets.specs.Wanted.{Wanted}
 use Rattle.wish_sets.specs.Wished.{is_watched}
 use Rattle.machine_model.proofs.PlanIds.{after_like}
-use Rattle.machine_model.specs.Frames.{count_from, count_in, counted_plan, frame_plan, frame_shown, frames_from, frames_plan}
-use Rattle.machine_model.specs.Frames.{lines_plan as lines_of, methods_plan as methods_of, shown_plan, signature_plan as signature_of}
-use Rattle.machine_model.specs.Frames.{source_plan as source_of}
-use Rattle.jdwp_commands.specs.declared.listed.Frame.{Frame}
 
 -- Questions -----------------------------------------------------------------------------------------------------------
 
@@ -63,26 +56,26 @@ AllWants test (wants want rest) = (test want ≡ true) × ((heard : Option Answe
 AllWants test (pairs p q rest) = AllWants test p × AllWants test q × ((two : _) → AllWants test (rest two))
 
 module _ (test : Want → Bool) where
-  chains : {A B : Type 0} (p : Plan A) (f : A → Plan B) → AllWants test p → ((a : A) → AllWants test (f a))
+  pub chains : {A B : Type 0} (p : Plan A) (f : A → Plan B) → AllWants test p → ((a : A) → AllWants test (f a))
       → AllWants test (chained p f)
   unfolding AllWants chained
   chains (gives a) f h k = k a
   chains (wants want rest) f h k = (h.0, λ heard. chains (rest heard) f (h.1 heard) k)
   chains (pairs p q rest) f h k = (h.0, h.1, λ two. chains (rest two) f (h.2 two) k)
 
-  makes : {A B : Type 0} (f : A → B) (p : Plan A) → AllWants test p → AllWants test (made_with f p)
+  pub makes : {A B : Type 0} (f : A → B) (p : Plan A) → AllWants test p → AllWants test (made_with f p)
   unfolding AllWants made_with
   makes f (gives a) h = tt
   makes f (wants want rest) h = (h.0, λ heard. makes f (rest heard) (h.1 heard))
   makes f (pairs p q rest) h = (h.0, h.1, λ two. makes f (rest two) (h.2 two))
 
-  every : {A B : Type 0} (f : A → Plan B) → ((a : A) → AllWants test (f a)) → (list : List A)
+  pub every : {A B : Type 0} (f : A → Plan B) → ((a : A) → AllWants test (f a)) → (list : List A)
       → AllWants test (each f list)
   unfolding AllWants each
   every f k [] = tt
   every f k (a ∷ others) = (k a, every f k others, λ two. tt)
 
-  asks : {A : Type 0} (read : Option Answer → A) (want : Want) → test want ≡ true → AllWants test (asking read want)
+  pub asks : {A : Type 0} (read : Option Answer → A) (want : Want) → test want ≡ true → AllWants test (asking read want)
   unfolding AllWants
   asks read want is = (is, λ heard. tt)
 
@@ -121,36 +114,6 @@ pub known_wants : (wanted : Wanted) (known : Lookups) → AllWants wants_fact (k
 known_wants wanted known = makes wants_fact joined (each (λ class. class_plan wanted class (known.loaded class)) known.order)
     (every wants_fact (λ class. class_plan wanted class (known.loaded class))
     (λ class. class_wants wanted class (known.loaded class)) known.order)
-
--- that of threads wants no list of classes
-pub threads_wants : AllWants wants_other threads_plan
-threads_wants = chains wants_other (asking threads_in (Want.Must questions.AllThreads)) names_plan
-    (asks wants_other threads_in (Want.Must questions.AllThreads) refl)
-    (λ threads. makes wants_other _ (each name_plan threads)
-    (every wants_other name_plan (λ thread. asks wants_other _ (Want.May (questions.ThreadName thread)) refl) threads))
-
--- nor does that of frames list classes
-frame_wants : (state : State) (thread : ThreadId) (frame : Frame) → AllWants wants_other (frame_plan state thread frame)
-unfolding AllWants
-frame_wants state thread frame = makes wants_other (frame_shown state thread frame)
-    (both (both (signature_of frame.at.class) (source_of frame.at.class))
-    (both (methods_of frame.at.class) (lines_of frame.at.class frame.at.method)))
-    (((refl, λ heard. tt), (refl, λ heard. tt), λ two. tt), ((refl, λ heard. tt), (refl, λ heard. tt), λ two. tt), λ two. tt)
-
-from_wants : (thread : ThreadId) (start count : ℕ) → AllWants wants_other (frames_from thread start count)
-unfolding AllWants
-from_wants thread start zero = tt
-from_wants thread start (suc count) = (refl, λ heard. tt)
-
-pub frames_wants : (state : State) (thread : ThreadId) (start levels : ℕ)
-    → AllWants wants_other (frames_plan state thread start levels)
-frames_wants state thread start levels = chains wants_other (asking count_in (Want.Must (questions.FrameCount thread)))
-    (counted_plan state thread start levels)
-    (asks wants_other count_in (Want.Must (questions.FrameCount thread)) refl)
-    (λ total. chains wants_other (frames_from thread start (count_from total start levels))
-    (shown_plan state thread total) (from_wants thread start (count_from total start levels))
-    (λ frames. makes wants_other (frames_found total) (each (frame_plan state thread) frames)
-    (every wants_other (frame_plan state thread) (frame_wants state thread) frames)))
 
 -- What is lacking -----------------------------------------------------------------------------------------------------
 

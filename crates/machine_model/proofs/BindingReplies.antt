@@ -10,7 +10,7 @@ use Rattle.machine_model.specs.Lookups.{classes_of, finished, found_for}
 use Rattle.machine_model.specs.Names.{Choice, Classes, Clear, Configured, Decides, Does, Effect, EntryHeld, Finding}
 use Rattle.machine_model.specs.Names.{Leaves, Lines, Lookup, Note, Options, Part, Question, Replied, Roots, Sent, Set}
 use Rattle.machine_model.specs.Names.{TellsNews, Want, all_threads, an_effect, class_facts}
-use Rattle.machine_model.specs.Names.{thread_frames}
+use Rattle.machine_model.specs.Names.{container_children, thread_frames}
 use Rattle.machine_model.specs.Outcomes.{result_of}
 use Rattle.machine_model.specs.Plans.{Need, answer_in, need}
 use Rattle.machine_model.specs.Plans.{is_done}
@@ -314,6 +314,10 @@ finds_on {state} hand all_threads found rest c is needs done h =
 finds_on {state} hand (thread_frames thread start levels) found rest c is needs done h =
     goes_by state (Part.Looks (thread_frames thread start levels)) rest
     (finished (thread_frames thread start levels) (result_of found) state ++ rest) (itself state) c
+    refl is (record { ahead = refl; needs = refl; notes = refl; binds = refl }) (λ so w. w so) h
+finds_on {state} hand (container_children thing filter start count) found rest c is needs done h =
+    goes_by state (Part.Looks (container_children thing filter start count)) rest
+    (finished (container_children thing filter start count) (result_of found) state ++ rest) (itself state) c
     refl is (record { ahead = refl; needs = refl; notes = refl; binds = refl }) (λ so w. w so) h
 finds_on {state} hand class_facts found rest c is needs done h = record {
   watches = λ so. h.watches refl;

@@ -42,7 +42,7 @@ abbrev frames_of : ℕ → ℕ → Question
 frames_of start length = questions.Frames one (pos start) (pos length)
 
 -- the target answers, and the machine goes on
-abbrev says : Question → Answer → Machine → Machine
+abbrev pub says : Question → Answer → Machine → Machine
 says question answer m = drive 8 (answered m (a_question question) (an_answer answer))
 
 -- a frame in the class where the breakpoint stands, and one in a class that was never listed
@@ -98,7 +98,7 @@ unfolding due wanted load_of newly_lacked next_change wished need chained made_w
 asks_facts = refl
 
 -- a class without a source, whose method isn't known: the replies come in another order
-abbrev known : Machine
+abbrev pub known : Machine
 known = answered
     (drive 8 (answered (drive 8 (answered (says (questions.Methods place.class) (answers.Methods []) (drive 8 framed))
     (a_question (questions.LineTable place.class place.method)) (an_error 101)))

@@ -4,18 +4,18 @@ use Rattle.std.proofs.Common.{ap, subst, ◌∙◌, option_map, arith}
 use Rattle.std.specs.Prelude.{nat_lt, ◌-◌, ◌+◌}
 use Rattle.jdwp_events.specs.declared.kind.Policy.{Policy}
 use Rattle.jdwp_events.specs.declared.kind.Policy.TheVariants.{NoThread, EventThread, All}
-use Rattle.machine_model.specs.Composites.{composite_parts, has_death}
+use Rattle.machine_model.specs.Composites.{composite_parts}
 use Rattle.machine_model.specs.Due.{after_deed, asked_hand, entry_by, sent, stopped_by}
-use Rattle.machine_model.specs.Knowing.{View, begins, dies, dying_by, held_in, held_with, has_last, may_do, may_send}
-use Rattle.machine_model.specs.Knowing.{owed_by, owed_in, part_owes, sent_view, stopped_behind, view_of}
+use Rattle.machine_model.specs.Knowing.{View, begins, dies, dying_by, held_in, held_with, has_last, may_send}
+use Rattle.machine_model.specs.Knowing.{owed_by, owed_in, sent_view, stopped_behind, view_of}
 use Rattle.machine_model.specs.Lookups.{finished}
 use Rattle.machine_model.specs.Names.{Attached, Choice, Clear, Command, Decides, Deed, Dispose, Does, Effect, EntryHeld}
-use Rattle.machine_model.specs.Names.{Exit, Finding, Fresh, Gone, Hit, Item, Leaves, Lookup, Note, Part, Phase, Replied}
-use Rattle.machine_model.specs.Names.{Resume, Set, StopCause, Stopping, Suspend, Suspension, TargetCommand, TellsNews}
-use Rattle.machine_model.specs.Names.{Want, a_composite, a_question, a_raw, a_request, a_stop, all_threads, an_effect}
-use Rattle.machine_model.specs.Names.{by_client, class_facts, of_composite, of_entry, of_stop, target_end}
+use Rattle.machine_model.specs.Names.{Exit, Finding, Fresh, Gone, Hit, Item, Leaves, Lookup, Part, Phase, Replied}
+use Rattle.machine_model.specs.Names.{Resume, Set, StopCause, Stopping, Suspend, TargetCommand, TellsNews}
+use Rattle.machine_model.specs.Names.{Want, a_question, a_stop, all_threads, an_effect}
+use Rattle.machine_model.specs.Names.{by_client, class_facts, of_composite, of_entry, of_stop}
 use Rattle.machine_model.specs.Names.{thread_frames}
-use Rattle.machine_model.specs.Pending.{bit}
+use Rattle.machine_model.specs.Names.{container_children}
 use Rattle.machine_model.specs.Plans.{Result}
 use Rattle.machine_model.specs.Replying.{given_up, hand_replied}
 use Rattle.machine_model.specs.Requests.{Wishes, effect_due, effect_of}
@@ -99,6 +99,7 @@ pub found_owes : (stopped : Bool) (lookup : Lookup) (result : Result Finding) (s
     → owed_in stopped (finished lookup result state ++ rest) ≡ owed_in stopped rest
 found_owes stopped all_threads result state rest = refl
 found_owes stopped (thread_frames thread start levels) result state rest = refl
+found_owes stopped (container_children thing filter start count) result state rest = refl
 found_owes stopped class_facts result state rest = refl
 
 -- what is decided on a composite's suspension is one of three: a stop holds it, the entry does, or it is undone

@@ -1,6 +1,6 @@
 -- What an item in hand does with suspensions of the target: it undoes only what is held, it begins a stop only where none
 -- is in hand, and it decides on a composite's suspension once, at its end.
-use Rattle.std.proofs.Common.{◌≡◌, Bool, true, false, cond, not, List, [], ◌∷◌, ◌++◌, Option, Some, None, refl, sym, ap}
+use Rattle.std.proofs.Common.{◌≡◌, Bool, true, false, cond, not, List, [], ◌∷◌, ◌++◌, Option, Some, None, refl}
 use Rattle.std.proofs.Common.{subst, ◌∙◌, option_map, arith}
 use Rattle.std.specs.Option.{option_or}
 use Rattle.std.specs.Prelude.{find}
@@ -8,17 +8,18 @@ use Rattle.jdwp_events.specs.declared.event.Event.{Event as ATargetEvent}
 use Rattle.jdwp_events.specs.declared.event.Event.TheVariants as happened
 use Rattle.jdwp_events.specs.declared.kind.Policy.{Policy}
 use Rattle.machine_model.specs.Composites.{composite_parts, has_death}
-use Rattle.machine_model.specs.Due.{after_deed, asked_hand, entry_by}
+use Rattle.machine_model.specs.Due.{asked_hand, entry_by}
 use Rattle.machine_model.specs.Knowing.{stopped_behind, stopped_told}
 use Rattle.machine_model.specs.Lookups.{finished}
 use Rattle.machine_model.specs.Names.{Attached, Choice, Classes, Command, Configured, Decides, Deed, Dispose, EntryHeld}
 use Rattle.machine_model.specs.Names.{Event, Exit, Finding, Fresh, Gone, Hit, Initialized, Item, Leaves, Lines, Location}
-use Rattle.machine_model.specs.Names.{Lookup, News, Note, Options, Outcome, Part, Phase, Replied, Resume, Roots, StopCause}
+use Rattle.machine_model.specs.Names.{Lookup, Note, Options, Outcome, Part, Phase, Replied, Resume, Roots, StopCause}
 use Rattle.machine_model.specs.Names.{Stopping, Suspend, Suspension, TargetCommand, TellsNews, Terminated, ThreadId}
 use Rattle.machine_model.specs.Names.{Want}
 use Rattle.machine_model.specs.Names.{a_composite, a_question, a_raw, a_request, a_stop, all_threads, an_effect, by_client}
 use Rattle.machine_model.specs.Names.{class_facts, of_composite, of_entry, of_stop, some_news, target_end}
 use Rattle.machine_model.specs.Names.{thread_frames}
+use Rattle.machine_model.specs.Names.{container_children}
 use Rattle.machine_model.specs.Outcomes.{result_of}
 use Rattle.machine_model.specs.Plans.{Result}
 use Rattle.machine_model.specs.Replying.{given_up, hand_replied, replied_to}
@@ -145,6 +146,7 @@ found_may : (phase : Phase) (stopped entry : Bool) (lookup : Lookup) (result : R
     → may_all phase stopped entry (finished lookup result state ++ rest) ≡ may_all phase stopped entry rest
 found_may phase stopped entry all_threads result state rest = refl
 found_may phase stopped entry (thread_frames thread start levels) result state rest = refl
+found_may phase stopped entry (container_children thing filter start count) result state rest = refl
 found_may phase stopped entry class_facts result state rest = refl
 
 -- a stop that a composite tells is a hit

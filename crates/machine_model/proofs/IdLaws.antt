@@ -25,9 +25,14 @@ use Rattle.wish_sets.specs.declared.wish.Wish.{Wish}
 use Rattle.machine_model.proofs.IdRows.{all_weak, plain_fits}
 use Rattle.machine_model.proofs.ItemIds.{HandStands, Waits, waiting_on}
 use Rattle.machine_model.proofs.ThreadIds.{ItemStands, TellStands}
+use Rattle.machine_model.specs.Names.{Body, Capabilities, Continued, Failed, Nothing, ShownVariable, breakpoint_list}
+use Rattle.machine_model.specs.Names.{container_children, frame_list, scope_list, variable_list}
+use Rattle.stop_refs.specs.declared.thing.FrameThing.{FrameThing}
+use Rattle.stop_refs.specs.declared.thing.Thing.{Thing}
+use Rattle.stop_refs.specs.declared.thing.Thing.TheVariants as things
 use Rattle.machine_model.proofs.PlanIds.{IsAskable, IsAsked, IsReplied, IsWanted, OfNamed, OfThread, OnSome, is_sizes}
-use Rattle.machine_model.proofs.PlanIds.{OfClass}
-use Rattle.machine_model.proofs.Standing.{IsKept, Near, PartStands, asked_in, at_front, ids_said, left_in, queue_in}
+use Rattle.machine_model.proofs.PlanIds.{OfClass, OfFrameThing, OfShownFrame, OfShownVariable, OfThing}
+use Rattle.machine_model.proofs.Standing.{IsKept, Near, OfBody, PartStands, asked_in, at_front, ids_said, left_in, queue_in}
 use Rattle.machine_model.proofs.StandingReplies.{queued_near, sizes_is}
 use Rattle.machine_model.proofs.StandingWalk.{kept_on}
 use Rattle.machine_model.proofs.Stepping.{Loses, Moves, by_moves, with_said}
@@ -41,12 +46,40 @@ module _ (P Q : Id → Type 0) (k : (id : Id) → P id → Q id) where
   weak_ids : (ids : List Id) → All P ids → All Q ids
   weak_ids ids h = all_weak P Q k ids h
 
+  weak_frame : (one : FrameThing) → OfFrameThing P one → OfFrameThing Q one
+  weak_frame one h = (k _ h.0, k _ h.1, k _ h.2, k _ h.3)
+
+  weak_thing : (thing : Thing) → OfThing P thing → OfThing Q thing
+  weak_thing (things.Frame one) h = weak_frame one h
+  weak_thing (things.Locals one) h = weak_frame one h
+  weak_thing (things.Object one) h = k (object one.0) h
+  weak_thing (things.Array one) h = k (object one.0) h
+
+  weak_variable : (one : ShownVariable) → OfShownVariable P one → OfShownVariable Q one
+  weak_variable one h = by_thing one.seen.thing h
+    where
+      by_thing : (thing : Option Thing) → OnSome (OfThing P) thing → OnSome (OfThing Q) thing
+      by_thing None h = tt
+      by_thing (Some thing) h = weak_thing thing h
+
+  weak_body : (body : Body) → OfBody P body → OfBody Q body
+  weak_body (thread_list named) h = all_weak (OfNamed P) (OfNamed Q) (λ one. k _) named h
+  weak_body (frame_list total frames) h =
+      all_weak (OfShownFrame P) (OfShownFrame Q) (λ one. weak_frame one.frame) frames h
+  weak_body (scope_list one) h = weak_frame one h
+  weak_body (variable_list shown) h = all_weak (OfShownVariable P) (OfShownVariable Q) weak_variable shown h
+  weak_body Nothing h = tt
+  weak_body Capabilities h = tt
+  weak_body (breakpoint_list rooted listed) h = tt
+  weak_body Continued h = tt
+
   weak_part : (part : Part) → PartStands P part → PartStands Q part
-  weak_part (Part.Responds (Success (thread_list named))) h =
-      all_weak (OfNamed P) (OfNamed Q) (λ one. k _) named h
+  weak_part (Part.Responds (Success body)) h = weak_body body h
+  weak_part (Part.Responds (Failed failure)) h = tt
   weak_part (Part.Notes (Lines key path entries)) h = h
   weak_part (Part.Looks all_threads) h = tt
   weak_part (Part.Looks (thread_frames thread start levels)) h = k (object thread.0) h
+  weak_part (Part.Looks (container_children thing filter start count)) h = weak_thing thing h
   weak_part (Part.Looks class_facts) h = tt
   weak_part (Part.Notes (Classes classes)) h = all_weak (OfClass P) (OfClass Q) (λ one. k _) classes h
   weak_part _ h = tt
@@ -104,6 +137,7 @@ weak_waits P Q k m w near = record {
   waiting = all_weak (ItemStands P) (ItemStands Q) each m.waiting (w near).waiting;
   held = by_hand m.hand (w near).held;
   threads = all_weak (OfThread P) (OfThread Q) (λ thread. k (object thread.0)) m.state.threads (w near).threads;
+  things = all_weak (OfThing P) (OfThing Q) (weak_thing P Q k) m.state.numbers.things (w near).things;
 }
   where
     each : (item : Item) → ItemStands P item → ItemStands Q item
@@ -170,7 +204,7 @@ pub always_kept : {P : List Message → Id → Type 0} → IsIdTest P → {messa
     → Run messages m → IsKept (P messages) messages m
 always_kept {P} t r =
     (by_moves {Holds = λ (messages : List Message) (m : Machine). Standing (P messages) messages m} (record {
-      starts = record { waits = λ near. record { waiting = tt; held = tt; threads = tt }; kept = none_yet (P []) };
+      starts = record { waits = λ near. record { waiting = tt; held = tt; threads = tt; things = tt }; kept = none_yet (P []) };
       moves = λ messages m next said s move. kept_next t messages m next said s move;
     }) r).kept
 
@@ -262,7 +296,7 @@ sends_may {P} {messages} {m} command k move = by_move command (Some (Message.sen
     by_move command said is _ = cc
 
 -- one among these and one more is that one, or among these
-last_or_not : {A : Type 0} (all : List A) (last one : A) (before after : List A)
+pub last_or_not : {A : Type 0} (all : List A) (last one : A) (before after : List A)
     → all ++ last ∷ [] ≡ before ++ one ∷ after
     → ((all ≡ before) × (last ≡ one)) ⊎ ((rest : List A) × (all ≡ before ++ one ∷ rest))
 last_or_not [] last one [] after is = inl (refl, cc)
@@ -296,7 +330,7 @@ pub all_sent : {P : List Message → Id → Type 0} {Good : List Message → Tar
 all_sent {P} {Good} t good r = by_moves {Holds = Sends P Good} (record {
   starts = record {
     stands = record {
-      waits = λ near. record { waiting = tt; held = tt; threads = tt };
+      waits = λ near. record { waiting = tt; held = tt; threads = tt; things = tt };
       kept = none_yet (P []);
     };
     sent = none_sent;

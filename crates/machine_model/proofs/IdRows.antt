@@ -1,6 +1,6 @@
 -- Ids in rows: those of what has a spelling fit the sizes, and what has ids and numbers alone has a spelling by its
 -- ids.
-use Rattle.std.proofs.Common.{◌≡◌, ◌<◌, ◌^◌, Bool, true, false, List, [], ◌∷◌, ◌++◌, refl}
+use Rattle.std.proofs.Common.{◌≡◌, ◌<◌, ◌^◌, ◌&&◌, Bool, true, false, List, [], ◌∷◌, ◌++◌, refl, length, nat_lt, arith}
 use Rattle.std.specs.List.{AllByRecursion as All, flat_map}
 use Rattle.jdwp_commands.specs.Answers.{told_answer}
 use Rattle.jdwp_commands.specs.Items as items
@@ -8,6 +8,8 @@ use Rattle.jdwp_commands.specs.Items.{FitsItem, FitsListed, FitsSayings, Item, L
 use Rattle.jdwp_commands.specs.Regions.{FitsBehind}
 use Rattle.jdwp_commands.specs.declared.answer.Answer.{Answer}
 use Rattle.jdwp_commands.specs.declared.answer.Answer.TheVariants as answers
+use Rattle.jdwp_commands.specs.declared.listed.Slot.{Slot}
+use Rattle.jdwp_values.specs.declared.id.FieldId.{FieldId}
 use Rattle.jdwp_events.specs.Composites.{FitsComposite}
 use Rattle.jdwp_events.specs.Events.{FitsEvent, told as told_event}
 use Rattle.jdwp_events.specs.Modifiers.{told}
@@ -157,11 +159,21 @@ same_ids limit _ = refl
 
 -- Ids and numbers alone -----------------------------------------------------------------------------------------------
 
--- what is said has ids and numbers alone: no text, no list, no value
+-- a list that is short enough for its count
+abbrev pub is_short : {A : Type 0} → List A → Bool
+is_short list = nat_lt (length list) 2147483648
+
+-- an item has ids and numbers alone: no text and no value, and its list is short enough
+abbrev pub plain_item : (i : Item) → OfItem i → Bool
+plain_item (items.part (parts.simple s)) x = true
+plain_item (items.many Any items.field_ids) xs = is_short xs
+plain_item (items.many Any items.slots) xs = is_short xs
+plain_item i x = false
+
+-- and so has what is said
 abbrev pub are_plain : List Saying → Bool
 are_plain [] = true
-are_plain (says (items.part (parts.simple s)) x ∷ sayings) = are_plain sayings
-are_plain (says i x ∷ sayings) = false
+are_plain (says i x ∷ sayings) = plain_item i x && are_plain sayings
 
 fits_simple : (used : IdSizes) (s : Simple) (x : OfSimple s) → Fit used (ids_of_simple s x) → FitsSimple used s x
 fits_simple used parts.object_id x h = h.0
@@ -172,12 +184,41 @@ fits_simple used parts.field_id x h = h.0
 fits_simple used parts.frame_id x h = h.0
 fits_simple used _ x h = tt
 
+fits_count : {A : Type 0} (list : List A) → is_short list ≡ true → length list < 2 ^ 31
+fits_count list is = grind (arith, is)
+
+fits_fields : (used : IdSizes) (fields : List FieldId) → Fit used (flat_map (ids_of_listed items.field_ids) fields)
+    → All (FitsListed items.field_ids used) fields
+fits_fields used [] h = tt
+fits_fields used (one ∷ fields) h = (h.0, fits_fields used fields h.1)
+
+fits_slots : (used : IdSizes) (slots : List Slot) → All (FitsListed items.slots used) slots
+fits_slots used [] = tt
+fits_slots used (slot ∷ slots) = ((tt, (tt, tt)), fits_slots used slots)
+
 -- it has a spelling where its ids fit
+fits_item : (used : IdSizes) (i : Item) (x : OfItem i) → plain_item i x ≡ true → Fit used (ids_of_item i x)
+    → FitsItem used i x
+fits_item used (items.part (parts.simple s)) x is h = fits_simple used s x h
+fits_item used (items.many Any items.field_ids) xs is h =
+    (record { count = fits_count xs is; each = fits_fields used xs h }, refl)
+fits_item used (items.many Any items.slots) xs is h =
+    (record { count = fits_count xs is; each = fits_slots used xs }, refl)
+fits_item used i x is h = cc
+
 pub plain_fits : (used : IdSizes) (sayings : List Saying) → are_plain sayings ≡ true
     → All (FitsId used) (flat_map ids_of_saying sayings) → FitsSayings used sayings
 plain_fits used [] is h = tt
-plain_fits used (says (items.part (parts.simple s)) x ∷ sayings) is h = (
-  fits_simple used s x (all_front (FitsId used) (ids_of_simple s x) (flat_map ids_of_saying sayings) h),
-  plain_fits used sayings is (all_back (FitsId used) (ids_of_simple s x) (flat_map ids_of_saying sayings) h),
-)
-plain_fits used (says i x ∷ sayings) is h = cc
+plain_fits used (says i x ∷ sayings) is h = by_tests (plain_item i x) (are_plain sayings) is
+    (fits_item used i x) (plain_fits used sayings)
+  where
+    by_tests : (first others : Bool) → (first && others) ≡ true
+        → (first ≡ true → Fit used (ids_of_item i x) → FitsItem used i x)
+        → (others ≡ true → All (FitsId used) (flat_map ids_of_saying sayings) → FitsSayings used sayings)
+        → FitsSayings used (says i x ∷ sayings)
+    by_tests true true is one rest = (
+      one refl (all_front (FitsId used) (ids_of_item i x) (flat_map ids_of_saying sayings) h),
+      rest refl (all_back (FitsId used) (ids_of_item i x) (flat_map ids_of_saying sayings) h),
+    )
+    by_tests true false is one rest = cc
+    by_tests false others is one rest = cc

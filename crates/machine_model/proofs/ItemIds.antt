@@ -10,7 +10,7 @@ use Rattle.jdwp_events.specs.declared.kind.Policy.{Policy}
 use Rattle.jdwp_events.specs.declared.kind.Policy.TheVariants.{NoThread, EventThread, All as AllThreads}
 use Rattle.machine_model.specs.Composites.{has_death, learnt_by, learnt_in, prepared_by, prepared_in, prepared_under}
 use Rattle.machine_model.specs.Due.{Picked, asked_hand, passed_by, pick}
-use Rattle.machine_model.specs.Ids.{Id, class, ids_of_composite, ids_of_event}
+use Rattle.machine_model.specs.Ids.{Id, class, ids_of_event}
 use Rattle.machine_model.specs.Names.{Attached, Fresh, Gone, Item, Phase, a_composite, a_raw, a_request}
 use Rattle.machine_model.specs.Names.{Part, Replied, TargetCommand, ThreadId, Want, a_question, an_effect, target_end}
 use Rattle.machine_model.specs.Runs.{Message}
@@ -23,6 +23,7 @@ use Rattle.machine_model.proofs.RequestSteps.{near_before}
 use Rattle.machine_model.proofs.Standing.{IsKept, at_front, ids_said}
 use Rattle.machine_model.proofs.StandingReplies.{loaded_known}
 use Rattle.machine_model.proofs.Stepping.{IsAt, Moves}
+use Rattle.machine_model.proofs.ThingIds.{AreThings, things_on}
 use Rattle.machine_model.proofs.ThreadIds.{ItemStands, TellStands, begun_tells, chosen_tells, event_threads, found_tells}
 use Rattle.machine_model.proofs.ThreadIds.{noted_threads, replied_threads, responded_threads, taken_threads}
 
@@ -31,11 +32,13 @@ abbrev pub HandStands : (Id → Type 0) → Option Hand → Type 0
 HandStands P None = Unit {0}
 HandStands P (Some hand) = ItemStands P hand.item × All (TellStands P) hand.parts
 
--- while the target isn't gone, the ids in what waits and what is in hand pass, and those of threads that were told
+-- while the target isn't gone, the ids in what waits and what is in hand pass, and those of threads that were told and
+-- of what was told by numbers in the stop in hand
 pub record AreItems (P : Id → Type 0) (m : Machine) : Type 0 where
   pub waiting : All (ItemStands P) m.waiting
   pub held : HandStands P m.hand
   pub threads : All (OfThread P) m.state.threads
+  pub things : AreThings P m.state.numbers
 
 abbrev pub Waits : (Id → Type 0) → Machine → Type 0
 Waits P m = is_gone m.state.phase ≡ false → AreItems P m
@@ -210,4 +213,5 @@ waiting_on P messages m next said h k moved brought here =
       waiting = waits_on P m next said items.waiting here moved (brought here);
       held = held.0;
       threads = held.1;
+      things = things_on P messages m next said items.things k here moved;
     }

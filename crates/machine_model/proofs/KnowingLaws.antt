@@ -13,16 +13,17 @@ use Rattle.jdwp_commands.specs.Answers.{kind_of_answer}
 use Rattle.jdwp_commands.specs.Commands.{kind_of}
 use Rattle.machine_model.specs.Names.{Answer, Attached, Capabilities, Classes, Clear, Command, Composite, Configured}
 use Rattle.machine_model.specs.Names.{Continued, Does, Effect, EntryHeld, Event, Failed, Fresh, Gone, Initialized}
-use Rattle.machine_model.specs.Names.{Item, Lines, NamedThread, News, Note, Nothing, Options, Outcome, Part, Phase}
+use Rattle.machine_model.specs.Names.{Item, Lines, NamedThread, Note, Nothing, Options, Outcome, Part, Phase}
 use Rattle.machine_model.specs.Names.{Question, Replied, Roots, Set, Success, TargetCommand, Terminated, ThreadId}
 use Rattle.machine_model.specs.Names.{a_composite, a_question, a_raw, a_request, a_stop, an_answer, an_effect}
 use Rattle.machine_model.specs.Names.{an_event, breakpoint_list, entry_verified, some_news, target_end, thread_changed}
 use Rattle.machine_model.specs.Names.{thread_list}
 use Rattle.machine_model.specs.Names.{frame_list}
+use Rattle.machine_model.specs.Names.{scope_list, variable_list}
 use Rattle.machine_model.specs.Replying.{IsReply, ended_with, hand_replied, is_end, replied_to, sizes_in, unlisted_by}
 use Rattle.machine_model.specs.Replying.{knows_fact, learnt, still_unlisted, wire}
 use Rattle.machine_model.proofs.BindingFacts.{is_mapped}
-use Rattle.machine_model.specs.Rows.{chosen, end_parts, failure_of, noted, request_parts, wanting}
+use Rattle.machine_model.specs.Rows.{chosen, end_parts, noted, request_parts}
 use Rattle.machine_model.specs.Runs.{Message, Run, is_disconnect}
 use Rattle.machine_model.specs.State.{Hand, Machine, SizesRead, State, is_gone, knowing, left}
 use Rattle.machine_model.specs.Telling.{after_event, attached_from, event_told, numbered_by, outcome_told}
@@ -39,7 +40,6 @@ use Rattle.machine_model.specs.Plans.{answer_in}
 use Rattle.class_tables.specs.Facts.{Fact, Known, same_class, same_method, with_fact}
 use Rattle.class_tables.specs.Tables.{under}
 use Rattle.jdwp_commands.specs.declared.listed.LoadedClass.{LoadedClass}
-use Rattle.jdwp_events.specs.declared.kind.Policy.TheVariants.{All, EventThread, NoThread}
 use Rattle.jdwp_events.specs.declared.kind.Policy.{Policy}
 use Rattle.machine_model.proofs.EarlyItems.{IsEarly, always_early, not_fresh}
 use Rattle.machine_model.proofs.HeldLaws.{asked_last, asked_owes, chosen_owes, composite_last, composite_owes}
@@ -150,6 +150,8 @@ response_view (Success Capabilities) m = refl
 response_view (Success (breakpoint_list rooted listed)) m = refl
 response_view (Success Continued) m = refl
 response_view (Success (frame_list total frames)) m = refl
+response_view (Success (scope_list frame)) m = refl
+response_view (Success (variable_list shown)) m = refl
 response_view (Success (thread_list named)) m = refl
 response_view (Failed failure) m = refl
 
@@ -564,6 +566,8 @@ outcome_numbers numbers (Success Nothing) state = no_numbers numbers state.threa
 outcome_numbers numbers (Success Capabilities) state = no_numbers numbers state.threads
 outcome_numbers numbers (Success Continued) state = no_numbers numbers state.threads
 outcome_numbers numbers (Success (frame_list total frames)) state = no_numbers numbers state.threads
+outcome_numbers numbers (Success (scope_list frame)) state = no_numbers numbers state.threads
+outcome_numbers numbers (Success (variable_list shown)) state = no_numbers numbers state.threads
 outcome_numbers numbers (Success (breakpoint_list rooted listed)) state = no_numbers numbers state.threads
 outcome_numbers numbers (Success (thread_list named)) state = record {
   distinct = distinct_with state.threads named;

@@ -1,3 +1,6 @@
+mod Examples
+mod FrameExamples
+mod StopExamples
 pub mod AskedLaws
 pub mod BindingFacts
 pub mod BindingGrows
@@ -12,10 +15,8 @@ pub mod BreakpointExamples
 pub mod CommandLemmas
 pub mod EarlyItems
 pub mod EventLaws
-mod Examples
-mod FrameExamples
-pub mod FrameLaws
 pub mod HandshakeLaws
+pub mod HarmlessLaws
 pub mod HeldLaws
 pub mod HoldingParts
 pub mod IdLaws
@@ -28,6 +29,7 @@ pub mod KnowingLaws
 pub mod LeavingLaws
 pub mod LeavingParts
 pub mod LeavingWalk
+pub mod LookupIds
 pub mod MarkLaws
 pub mod NewsLaws
 pub mod NotingLaws
@@ -38,10 +40,12 @@ pub mod PlanIds
 pub mod PlanLaws
 pub mod QuestionLaws
 pub mod QuietLaws
+pub mod ReferenceLaws
 pub mod ReplyLaws
 pub mod RequestLaws
 pub mod RequestSteps
 pub mod RestLaws
+pub mod SafePlans
 pub mod ServedLaws
 pub mod SizeLaws
 pub mod SpellLaws
@@ -51,15 +55,16 @@ pub mod StandingMoves
 pub mod StandingReplies
 pub mod StandingWalk
 pub mod Stepping
-mod StopExamples
 pub mod StopLaws
 pub mod SuspendLaws
 pub mod Tables
 pub mod Testing
+pub mod ThingIds
+pub mod ThreadIds
 pub mod ToldLaws
 pub mod ToldParts
-pub mod ThreadIds
 pub mod TurnLaws
+pub mod VariableExamples
 pub mod VerifiedLaws
 pub mod WaitingLaws
 pub mod WishIds

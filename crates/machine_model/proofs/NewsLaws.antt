@@ -1,10 +1,9 @@
 -- A breakpoint that is told is verified, and the client wasn't told that it is.
 use Rattle.std.proofs.Common.{◌≡◌, ℕ, Bool, true, false, cond, List, [], ◌∷◌, ◌++◌, Option, Some, None, refl, ap, subst}
-use Rattle.std.proofs.Common.{◌∙◌, sym, ◌||◌, ◌==◌, option_map, arith, filter, fold, map}
+use Rattle.std.proofs.Common.{◌∙◌, sym, ◌==◌, option_map, arith, filter, map}
 use Rattle.std.proofs.lemmas.Cmp.{nat_cmp_total, on_total}
 use Rattle.std.proofs.lemmas.List.Elements.{All-contains_itself, All-filter, recursion_from_All}
 use Rattle.std.proofs.lemmas.List.Kept.{IsStrictlySortedBy-filter}
-use Rattle.std.specs.BTreeSet.{insert_key}
 use Rattle.std.specs.List.{AllByRecursion as All, Contains, flat_map}
 use Rattle.std.specs.List.Sorted.{IsStrictlySortedBy}
 use Rattle.std.specs.Ordering.{nat_cmp, on}
@@ -16,7 +15,7 @@ use Rattle.jdwp_events.specs.declared.event.Event.{Event as ATargetEvent}
 use Rattle.jdwp_events.specs.declared.event.Event.TheVariants as happened
 use Rattle.jdwp_values.specs.declared.id.ThreadId.{ThreadId}
 use Rattle.machine_model.specs.BreakpointEvents.{IsNews}
-use Rattle.machine_model.specs.Breakpoints.{has_id, is_news, newly_verified, with_id}
+use Rattle.machine_model.specs.Breakpoints.{has_id, is_news, with_id}
 use Rattle.machine_model.specs.Composites.{change_told, changes_in}
 use Rattle.machine_model.specs.Due.{due}
 use Rattle.machine_model.specs.Lookups.{finished}
@@ -26,6 +25,7 @@ use Rattle.machine_model.specs.Names.{Replied, Set, TellsNews, Terminated, a_com
 use Rattle.machine_model.specs.Names.{a_stop, all_threads, an_effect, an_event, class_facts, entry_verified, some_news}
 use Rattle.machine_model.specs.Names.{target_end, thread_changed}
 use Rattle.machine_model.specs.Names.{thread_frames}
+use Rattle.machine_model.specs.Names.{container_children}
 use Rattle.machine_model.specs.Outcomes.{result_of}
 use Rattle.machine_model.specs.Plans.{Result}
 use Rattle.machine_model.specs.Replying.{given_up, told_by}
@@ -92,6 +92,7 @@ found_same : (lookup : Lookup) (result : Result Finding) (state : State) (rest :
     → has_told (finished lookup result state ++ rest) ≡ has_told rest
 found_same all_threads result state rest = refl
 found_same (thread_frames thread start levels) result state rest = refl
+found_same (container_children thing filter start count) result state rest = refl
 found_same class_facts result state rest = refl
 
 given_untold : (ids : List ℕ) (w : Wishes) (hand : Option Hand) → AreNews ids w (parts_left (option_map given_up hand))

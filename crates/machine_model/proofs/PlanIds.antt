@@ -1,10 +1,10 @@
 -- What a look-up lacks is asked with ids that its sight has: once over plans, and by row what its plan says.
 use Rattle.std.proofs.Common.{◌≡◌, ℕ, suc, Bool, true, false, cond, not, List, [], ◌∷◌, Option, Some, None, refl}
-use Rattle.std.proofs.Common.{sym, subst, ◌∙◌, option_map, zero, pos}
+use Rattle.std.proofs.Common.{◌∙◌, option_map}
 use Rattle.std.specs.List.{AllByRecursion as All, flat_map}
 use Rattle.class_tables.specs.Facts.{Known, same_class}
 use Rattle.class_tables.specs.Lookups.{found_in}
-use Rattle.class_tables.specs.Tables.{put, under, keys}
+use Rattle.class_tables.specs.Tables.{put, under}
 use Rattle.jdwp_commands.specs.Commands.{told_question}
 use Rattle.jdwp_commands.specs.declared.asked.Asked.TheVariants as commands
 use Rattle.jdwp_commands.specs.declared.answer.Answer.TheVariants as answers
@@ -13,29 +13,21 @@ use Rattle.jdwp_values.specs.Classes.{field_row, method_row}
 use Rattle.jdwp_values.specs.declared.class.Field.{Field}
 use Rattle.jdwp_values.specs.declared.class.Method.{Method}
 use Rattle.jdwp_values.specs.declared.id.ClassId.{ClassId}
-use Rattle.jdwp_commands.specs.declared.listed.Frame.{Frame}
-use Rattle.machine_model.specs.Facts.{fact_known, fact_of, lines_in, methods_in, signature_in, source_in}
-use Rattle.machine_model.specs.Frames.{count_from, count_in, counted_plan, frame_plan, frame_shown, frames_from}
-use Rattle.machine_model.specs.Frames.{frames_in, frames_plan, lines_plan as lines_of, methods_plan as methods_of}
-use Rattle.machine_model.specs.Frames.{shown_plan, signature_plan as signature_of, source_plan as source_of}
-use Rattle.machine_model.specs.Ids.{Id, class, ids_answered, ids_asked, ids_of, ids_replied, method, object}
+use Rattle.machine_model.specs.Facts.{fact_known, fact_of}
+use Rattle.machine_model.specs.Ids.{Id, class, frame, ids_answered, ids_asked, ids_of, ids_replied, method, object}
 use Rattle.machine_model.specs.Keys.{same_question}
-use Rattle.machine_model.specs.Lookups.{name_plan, named_by, names_plan, plan, threads_in, threads_plan}
 use Rattle.machine_model.specs.Names.{Answer, Finding, Lookup, NamedThread, Question, Replied, Sent, ThreadId, Want}
 use Rattle.machine_model.specs.Names.{all_threads, an_answer, an_error, threads_found, classes_found, class_facts}
-use Rattle.machine_model.specs.Names.{frames_found, thread_frames}
-use Rattle.machine_model.specs.Plans.{Found, Need, Plan, Sight, after, answer_in, asking, asks_for, beside, chained}
-use Rattle.machine_model.specs.Plans.{both, each, fact_heard, fails, found_at, found_from, gives, has, heard_of, lacks}
-use Rattle.machine_model.specs.Plans.{made_with, may_hear, must_hear, need, pairs, question_of, wants, joined}
-use Rattle.machine_model.specs.State.{State}
+use Rattle.machine_model.specs.Names.{ShownFrame, ShownVariable, container_children, frames_found, thread_frames}
+use Rattle.machine_model.specs.Names.{variables_found}
+use Rattle.machine_model.specs.Plans.{Found, Need, Plan, Sight, after, answer_in, asks_for, beside, chained}
+use Rattle.machine_model.specs.Plans.{fails, found_at, found_from, gives, has, heard_of, lacks}
+use Rattle.machine_model.specs.Plans.{made_with, need, pairs, question_of, wants}
 use Rattle.machine_model.proofs.IdRows.{all_joined, are_plain, none_in}
+use Rattle.stop_refs.specs.declared.thing.FrameThing.{FrameThing}
+use Rattle.stop_refs.specs.declared.thing.Thing.{Thing}
+use Rattle.stop_refs.specs.declared.thing.Thing.TheVariants as things
 use Rattle.class_tables.specs.declared.loaded.Loaded.{Loaded}
-use Rattle.machine_model.specs.Classes.{class_plan, classes_plan, is_keyed, keyed_plan, lines_plan, methods_plan}
-use Rattle.machine_model.specs.Classes.{package_plan, prepared_plan, source_plan, watched_plan}
-use Rattle.class_tables.specs.Signatures.{package_in}
-use Rattle.wish_sets.specs.Places.{key_by}
-use Rattle.wish_sets.specs.Wanted.{Wanted}
-use Rattle.wish_sets.specs.Wished.{is_watched}
 
 -- What may be asked, and what was heard -------------------------------------------------------------------------------
 
@@ -108,7 +100,7 @@ mapped : {A B : Type 0} (P : A → Type 0) (Q : B → Type 0) (f : A → B) → 
 mapped P Q f k None h = tt
 mapped P Q f k (Some a) h = k a h
 
-abbrev Any : {A : Type 0} → A → Type 0
+abbrev pub Any : {A : Type 0} → A → Type 0
 Any a = Unit {0}
 
 any : {A : Type 0} (found : Option A) → OnSome Any found
@@ -116,7 +108,7 @@ any None = tt
 any (Some a) = tt
 
 -- a fact that is known, as an answer, has ids that pass
-fact_some : (P : Id → Type 0) (known : Known) (question : Question) → AreKnown P known
+pub fact_some : (P : Id → Type 0) (known : Known) (question : Question) → AreKnown P known
     → OnSome (IsHeard P) (fact_known (found_in known) question)
 fact_some P known (questions.Signature c) h =
     mapped Any (IsHeard P) _ (λ loaded k. tt) ((found_in known).loaded c) (any _)
@@ -142,7 +134,7 @@ fact_some P known (questions.VariableTable c m) h = mapped Any (IsHeard P) _
 fact_some P known _ h = tt
 
 -- and so has a fact that was replied
-fact_good : (P : Id → Type 0) → P (class 0) → (question : Question) (heard : Option Answer) → IsHeard P heard
+pub fact_good : (P : Id → Type 0) → P (class 0) → (question : Question) (heard : Option Answer) → IsHeard P heard
     → IsHeard P (fact_of question heard)
 fact_good P null (questions.Signature c) heard h = tt
 fact_good P null (questions.SourceFile c) (Some (answers.SourceFile file)) h = tt
@@ -168,10 +160,10 @@ pub reply_heard : (P : Id → Type 0) (replied : Replied) → All P (ids_replied
 reply_heard P (an_answer answer) h = h
 reply_heard P (an_error code) h = tt
 
-abbrev IsFound : (Id → Type 0) → Found → Type 0
+abbrev pub IsFound : (Id → Type 0) → Found → Type 0
 IsFound P found = All P (ids_replied found.replied)
 
-found_some : (P : Id → Type 0) (sized : Bool) (place : ℕ) (asked : List Sent) (question : Question)
+pub found_some : (P : Id → Type 0) (sized : Bool) (place : ℕ) (asked : List Sent) (question : Question)
     → All (IsAsked P sized) asked → OnSome (IsFound P) (found_from place asked question)
 found_some P sized place [] question h = tt
 found_some P sized place (sent ∷ asked) question h =
@@ -192,13 +184,13 @@ NeedStands P Good (has a) = Good a
 NeedStands P Good (fails fault) = Unit {0}
 NeedStands P Good (lacks want others) = All (IsWanted P true) (want ∷ others)
 
-after_stands : {A B : Type 0} (P : Id → Type 0) (Good : A → Type 0) (Best : B → Type 0) (n : Need A) (f : A → Need B)
+pub after_stands : {A B : Type 0} (P : Id → Type 0) (Good : A → Type 0) (Best : B → Type 0) (n : Need A) (f : A → Need B)
     → NeedStands P Good n → ((a : A) → Good a → NeedStands P Best (f a)) → NeedStands P Best (after n f)
 after_stands P Good Best (has a) f h k = k a h
 after_stands P Good Best (fails fault) f h k = tt
 after_stands P Good Best (lacks want others) f h k = h
 
-beside_stands : {A B : Type 0} (P : Id → Type 0) (Good : A → Type 0) (Best : B → Type 0) (m : Need A) (n : Need B)
+pub beside_stands : {A B : Type 0} (P : Id → Type 0) (Good : A → Type 0) (Best : B → Type 0) (m : Need A) (n : Need B)
     → NeedStands P Good m → NeedStands P Best n → NeedStands P (λ two. Good two.0 × Best two.1) (beside m n)
 beside_stands P Good Best (has a) (has b) h k = (h, k)
 beside_stands P Good Best (has a) (fails fault) h k = tt
@@ -244,7 +236,7 @@ need_made sight f (pairs p q rest) =
     after_like (beside (need sight p) (need sight q)) _ _ (λ two. need_made sight f (rest two))
     ∙ after_after (beside (need sight p) (need sight q)) (λ two. need sight (rest two)) (λ a. has (f a))
 
--- Rows ----------------------------------------------------------------------------------------------------------------
+-- What a look-up has of ids -------------------------------------------------------------------------------------------
 
 abbrev pub OfThread : (Id → Type 0) → ThreadId → Type 0
 OfThread P thread = P (object thread.0)
@@ -258,235 +250,33 @@ OfMethod P one = P (method one.id.0)
 abbrev pub OfNamed : (Id → Type 0) → NamedThread → Type 0
 OfNamed P named = P (object named.thread.0)
 
+-- a frame that was told, and what a number stands for
+abbrev pub OfFrameThing : (Id → Type 0) → FrameThing → Type 0
+OfFrameThing P one =
+    P (object one.thread.0) × P (frame one.frame.0) × P (class one.at.class.0) × P (method one.at.method.0)
+
+abbrev pub OfThing : (Id → Type 0) → Thing → Type 0
+OfThing P (things.Frame one) = OfFrameThing P one
+OfThing P (things.Locals one) = OfFrameThing P one
+OfThing P (things.Object one) = P (object one.0)
+OfThing P (things.Array one) = P (object one.0)
+
+abbrev pub OfShownFrame : (Id → Type 0) → ShownFrame → Type 0
+OfShownFrame P shown = OfFrameThing P shown.frame
+
+abbrev pub OfShownVariable : (Id → Type 0) → ShownVariable → Type 0
+OfShownVariable P shown = OnSome (OfThing P) shown.seen.thing
+
 -- what a look-up finds has ids that pass
 abbrev pub IsGood : (Id → Type 0) → Finding → Type 0
 IsGood P (threads_found named) = All (OfNamed P) named
 IsGood P (classes_found classes) = All (OfClass P) classes
-IsGood P (frames_found total frames) = Unit {0}
+IsGood P (frames_found total frames) = All (OfShownFrame P) frames
+IsGood P (variables_found shown) = All (OfShownVariable P) shown
 
 -- what a look-up is of
 abbrev pub OfLookup : (Id → Type 0) → Lookup → Type 0
 OfLookup P all_threads = Unit {0}
 OfLookup P (thread_frames thread start levels) = OfThread P thread
+OfLookup P (container_children thing filter start count) = OfThing P thing
 OfLookup P class_facts = Unit {0}
-
-abbrev OfFrame : (Id → Type 0) → Frame → Type 0
-OfFrame P frame = P (class frame.at.class.0) × P (method frame.at.method.0)
-
-module _ (P : Id → Type 0) (null : P (class 0)) (sight : Sight) (known : Known) (facts : AreKnown P known)
-    (asked : All (IsAsked P true) sight.asked) (sees : sight.classes ≡ found_in known) where
-  -- the plan lacks what may be asked, and its value is good
-  abbrev Row : {A : Type 0} → (A → Type 0) → Plan A → Type 0
-  Row Good p = NeedStands P Good (need sight p)
-
-  hears : (want : Want) → IsWanted P true want → NeedStands P (IsHeard P) (heard_of sight want)
-  hears (Want.Must question) q =
-      by_found (found_from 0 sight.asked question) (found_some P true 0 sight.asked question asked)
-    where
-      by_reply : (place : ℕ) (replied : Replied) → All P (ids_replied replied)
-          → NeedStands P (IsHeard P) (must_hear question (Some (record { place = place; replied = replied })))
-      by_reply place (an_answer answer) k = k
-      by_reply place (an_error code) k = tt
-
-      by_found : (found : Option Found) → OnSome (IsFound P) found → NeedStands P (IsHeard P) (must_hear question found)
-      by_found None k = (q, tt)
-      by_found (Some found) k = by_reply found.place found.replied k
-  hears (Want.May question) q =
-      by_found (found_from 0 sight.asked question) (found_some P true 0 sight.asked question asked)
-    where
-      by_found : (found : Option Found) → OnSome (IsFound P) found → NeedStands P (IsHeard P) (may_hear question found)
-      by_found None k = (q, tt)
-      by_found (Some found) k = reply_heard P found.replied k
-  hears (Want.Fact question) q =
-      by_fact (fact_known sight.classes question) (found_from 0 sight.asked question)
-      (subst (λ classes. OnSome (IsHeard P) (fact_known classes question)) (sym sees)
-      (fact_some P known question facts)) (found_some P true 0 sight.asked question asked)
-    where
-      by_fact : (fact : Option (Option Answer)) (found : Option Found) → OnSome (IsHeard P) fact
-          → OnSome (IsFound P) found → NeedStands P (IsHeard P) (fact_heard question fact found)
-      by_fact None None k l = (q, tt)
-      by_fact None (Some found) k l =
-          fact_good P null question (answer_in found.replied) (reply_heard P found.replied l)
-      by_fact (Some heard) found k l = k
-
-  chains : {A B : Type 0} (Good : A → Type 0) (Best : B → Type 0) (p : Plan A) (f : A → Plan B) → Row Good p
-      → ((a : A) → Good a → Row Best (f a)) → Row Best (chained p f)
-  chains Good Best p f k l =
-      subst (NeedStands P Best) (sym (need_chained sight p f)) (after_stands P Good Best (need sight p) _ k l)
-
-  makes : {A B : Type 0} (Good : A → Type 0) (Best : B → Type 0) (f : A → B) (p : Plan A) → Row Good p
-      → ((a : A) → Good a → Best (f a)) → Row Best (made_with f p)
-  makes Good Best f p k l =
-      subst (NeedStands P Best) (sym (need_made sight f p)) (after_stands P Good Best (need sight p) _ k l)
-
-  joins : {A B C : Type 0} (Good : A → Type 0) (Best : B → Type 0) (Last : C → Type 0) (p : Plan A) (q : Plan B)
-      (rest : A × B → Plan C) → Row Good p → Row Best q
-      → ((two : A × B) → Good two.0 × Best two.1 → Row Last (rest two)) → Row Last (pairs p q rest)
-  unfolding need
-  joins Good Best Last p q rest k l m = after_stands P (λ two. Good two.0 × Best two.1) Last
-      (beside (need sight p) (need sight q)) _ (beside_stands P Good Best (need sight p) (need sight q) k l) m
-
-  every : {A B : Type 0} (Good : A → Type 0) (Best : B → Type 0) (f : A → Plan B) → ((a : A) → Good a → Row Best (f a))
-      → (list : List A) → All Good list → Row (All Best) (each f list)
-  unfolding need each
-  every Good Best f k [] h = tt
-  every Good Best f k (a ∷ others) h = joins Best (All Best) (All Best) (f a) (each f others)
-      (λ two. gives (two.0 ∷ two.1)) (k a h.0) (every Good Best f k others h.1) (λ two good. good)
-
-  asks : {A : Type 0} (Good : A → Type 0) (read : Option Answer → A) (want : Want) → IsWanted P true want
-      → ((heard : Option Answer) → IsHeard P heard → Good (read heard)) → Row Good (asking read want)
-  unfolding need
-  asks Good read want q k = after_stands P (IsHeard P) Good (heard_of sight want) _ (hears want q) k
-
-  -- the names that are asked are those of threads in the answer to AllThreads
-  threads_heard : (heard : Option Answer) → IsHeard P heard → All (OfThread P) (threads_in heard)
-  threads_heard (Some (answers.AllThreads [])) k = tt
-  threads_heard (Some (answers.AllThreads (thread ∷ threads))) k =
-      (k.0, threads_heard (Some (answers.AllThreads threads)) k.1)
-  threads_heard _ k = tt
-
-  name_heard : (thread : ThreadId) → OfThread P thread → (heard : Option Answer) → All (OfNamed P)
-      (named_by thread heard)
-  name_heard thread k (Some (answers.ThreadName name)) = (k, tt)
-  name_heard thread k _ = tt
-
-  named_joined : (lists : List (List NamedThread)) → All (All (OfNamed P)) lists → All (OfNamed P) (joined lists)
-  named_joined [] h = tt
-  named_joined (named ∷ lists) h = all_joined (OfNamed P) named (joined lists) h.0 (named_joined lists h.1)
-
-  threads_row : Row (IsGood P) threads_plan
-  threads_row = chains (All (OfThread P)) (IsGood P) (asking threads_in (Want.Must questions.AllThreads)) names_plan
-      (asks _ threads_in (Want.Must questions.AllThreads)
-      (record { ids = tt; plain = refl; first = refl }) threads_heard)
-      (λ threads h. makes (All (All (OfNamed P))) (IsGood P) _ (each name_plan threads)
-      (every (OfThread P) (All (OfNamed P)) name_plan (λ thread k. asks (All (OfNamed P)) (named_by thread)
-      (Want.May (questions.ThreadName thread))
-      (record { ids = (k, tt); plain = refl; first = refl }) (λ heard any. name_heard thread k heard)) threads h)
-      named_joined)
-
-  -- a class is asked by its id and those of its methods
-  methods_heard : (heard : Option Answer) → IsHeard P heard → All (OfMethod P) (methods_in heard)
-  methods_heard (Some (answers.Methods [])) k = tt
-  methods_heard (Some (answers.Methods (one ∷ others))) k = (k.0, methods_heard (Some (answers.Methods others)) k.1)
-  methods_heard _ k = tt
-
-  lines_row : (c : ClassId) → OfClass P c → (one : Method) → OfMethod P one → Row Any (lines_plan c one)
-  lines_row c k one h = asks Any (λ heard. heard) (Want.Fact (questions.LineTable c one.id))
-      (record { ids = (k, (h, tt)); plain = refl; first = refl }) (λ heard any. tt)
-
-  keyed_row : (keyed : Bool) (c : ClassId) → OfClass P c → Row (All (OfClass P)) (keyed_plan keyed c)
-  unfolding need
-  keyed_row false c k = tt
-  keyed_row true c k =
-      chains (All (OfMethod P)) (All (OfClass P)) (asking methods_in (Want.Fact (questions.Methods c)))
-      (methods_plan c)
-      (asks (All (OfMethod P)) methods_in (Want.Fact (questions.Methods c))
-      (record { ids = (k, tt); plain = refl; first = refl }) methods_heard)
-      (λ methods h. makes (All Any) (All (OfClass P)) (λ heard. c ∷ []) (each (lines_plan c) methods)
-      (every (OfMethod P) Any (lines_plan c) (lines_row c k) methods h) (λ heard any. (k, tt)))
-
-  source_row : (wanted : Wanted) (c : ClassId) (signature : List ℕ) → OfClass P c
-      → Row (All (OfClass P)) (source_plan wanted c signature)
-  source_row wanted c signature k =
-      chains Any (All (OfClass P)) (asking source_in (Want.Fact (questions.SourceFile c)))
-      (λ source. keyed_plan (is_keyed wanted (key_by signature source)) c)
-      (asks Any source_in (Want.Fact (questions.SourceFile c))
-      (record { ids = (k, tt); plain = refl; first = refl }) (λ heard any. tt))
-      (λ source any. keyed_row (is_keyed wanted (key_by signature source)) c k)
-
-  class_row : (wanted : Wanted) (c : ClassId) (loaded : Option Loaded) → OfClass P c
-      → Row (All (OfClass P)) (class_plan wanted c loaded)
-  unfolding need
-  class_row wanted c None k = tt
-  class_row wanted c (Some loaded) k = by_prepared loaded.prepared
-    where
-      by_watched : (watched : Bool) → Row (All (OfClass P)) (watched_plan watched wanted c loaded.signature)
-      by_watched false = tt
-      by_watched true = source_row wanted c loaded.signature k
-
-      by_package : (path : Option (List ℕ)) → Row (All (OfClass P)) (package_plan wanted c loaded.signature path)
-      by_package None = tt
-      by_package (Some path) = by_watched (is_watched wanted path)
-
-      by_prepared : (prepared : Bool) → Row (All (OfClass P)) (prepared_plan prepared wanted c loaded.signature)
-      by_prepared false = tt
-      by_prepared true = by_package (package_in loaded.signature)
-
-  classes_joined : (lists : List (List ClassId)) → All (All (OfClass P)) lists → All (OfClass P) (joined lists)
-  classes_joined [] h = tt
-  classes_joined (classes ∷ lists) h = all_joined (OfClass P) classes (joined lists) h.0 (classes_joined lists h.1)
-
-  keys_known : (entries : List (ClassId × Loaded)) → All (λ (entry : ClassId × Loaded). P (class entry.0.0)) entries
-      → All (OfClass P) (keys entries)
-  keys_known [] h = tt
-  keys_known (entry ∷ entries) h = (h.0, keys_known entries h.1)
-
-  classes_row : (unlisted : Bool) (wanted : Wanted)
-      → Row (All (OfClass P)) (classes_plan unlisted wanted (found_in known))
-  classes_row true wanted = asks (All (OfClass P)) (λ heard. []) (Want.Must questions.AllClasses)
-      (record { ids = tt; plain = refl; first = refl }) (λ heard any. tt)
-  classes_row false wanted = makes (All (All (OfClass P))) (All (OfClass P)) joined
-      (each (λ c. class_plan wanted c ((found_in known).loaded c)) (keys known.loaded))
-      (every (OfClass P) (All (OfClass P)) (λ c. class_plan wanted c ((found_in known).loaded c))
-      (λ c k. class_row wanted c ((found_in known).loaded c) k) (keys known.loaded)
-      (keys_known known.loaded facts.loaded))
-      classes_joined
-
-  -- frames are asked of a thread that was read, and their classes and methods are those in the answer
-  frames_heard : (heard : Option Answer) → IsHeard P heard → All (OfFrame P) (frames_in heard)
-  frames_heard (Some (answers.Frames [])) k = tt
-  frames_heard (Some (answers.Frames (frame ∷ frames))) k =
-      ((k.1.0, k.1.1.0), frames_heard (Some (answers.Frames frames)) k.1.1.1)
-  frames_heard _ k = tt
-
-  frame_row : (state : State) (thread : ThreadId) (frame : Frame) → OfFrame P frame
-      → Row Any (frame_plan state thread frame)
-  unfolding need
-  frame_row state thread frame k = makes Any Any (frame_shown state thread frame)
-      (both (both (signature_of frame.at.class) (source_of frame.at.class))
-      (both (methods_of frame.at.class) (lines_of frame.at.class frame.at.method)))
-      (joins Any Any Any (both (signature_of frame.at.class) (source_of frame.at.class))
-      (both (methods_of frame.at.class) (lines_of frame.at.class frame.at.method)) gives
-      (joins Any Any Any (signature_of frame.at.class) (source_of frame.at.class) gives
-      (asks Any signature_in (Want.Fact (questions.Signature frame.at.class))
-      (record { ids = (k.0, tt); plain = refl; first = refl }) (λ heard any. tt))
-      (asks Any source_in (Want.Fact (questions.SourceFile frame.at.class))
-      (record { ids = (k.0, tt); plain = refl; first = refl }) (λ heard any. tt)) (λ two good. tt))
-      (joins Any Any Any (methods_of frame.at.class) (lines_of frame.at.class frame.at.method) gives
-      (asks Any methods_in (Want.Fact (questions.Methods frame.at.class))
-      (record { ids = (k.0, tt); plain = refl; first = refl }) (λ heard any. tt))
-      (asks Any lines_in (Want.Fact (questions.LineTable frame.at.class frame.at.method))
-      (record { ids = (k.0, (k.1, tt)); plain = refl; first = refl }) (λ heard any. tt)) (λ two good. tt))
-      (λ two good. tt)) (λ facts any. tt)
-
-  from_row : (thread : ThreadId) → OfThread P thread → (start count : ℕ)
-      → Row (All (OfFrame P)) (frames_from thread start count)
-  unfolding need
-  from_row thread k start zero = tt
-  from_row thread k start (suc count) = asks (All (OfFrame P)) frames_in
-      (Want.Must (questions.Frames thread (pos start) (pos (suc count))))
-      (record { ids = (k, tt); plain = refl; first = refl }) frames_heard
-
-  frames_row : (state : State) (thread : ThreadId) → OfThread P thread → (start levels : ℕ)
-      → Row (IsGood P) (frames_plan state thread start levels)
-  frames_row state thread k start levels = chains Any (IsGood P)
-      (asking count_in (Want.Must (questions.FrameCount thread))) (counted_plan state thread start levels)
-      (asks Any count_in (Want.Must (questions.FrameCount thread))
-      (record { ids = (k, tt); plain = refl; first = refl }) (λ heard any. tt))
-      (λ total any. chains (All (OfFrame P)) (IsGood P) (frames_from thread start (count_from total start levels))
-      (shown_plan state thread total) (from_row thread k start (count_from total start levels))
-      (λ frames h. makes (All Any) (IsGood P) (frames_found total) (each (frame_plan state thread) frames)
-      (every (OfFrame P) Any (frame_plan state thread) (λ frame. frame_row state thread frame) frames h)
-      (λ shown any. tt)))
-
-  -- all rows
-  pub rows_stand : (lookup : Lookup) (state : State) → state.classes ≡ known → OfLookup P lookup
-      → Row (IsGood P) (plan lookup state)
-  rows_stand all_threads state same of = threads_row
-  rows_stand (thread_frames thread start levels) state same of = frames_row state thread of start levels
-  rows_stand class_facts state same of =
-      subst (λ (k : Known). Row (IsGood P) (made_with classes_found
-      (classes_plan state.unlisted state.wishes.wanted (found_in k)))) (sym same)
-      (makes (All (OfClass P)) (IsGood P) classes_found
-      (classes_plan state.unlisted state.wishes.wanted (found_in known))
-      (classes_row state.unlisted state.wishes.wanted) (λ classes good. good))

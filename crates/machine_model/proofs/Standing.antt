@@ -6,15 +6,16 @@ use Rattle.std.specs.List.{AllByRecursion as All}
 use Rattle.std.proofs.lemmas.List.Concat.{flat_map-append}
 use Rattle.jdwp_commands.specs.declared.question.Question.TheVariants as questions
 use Rattle.machine_model.specs.Ids.{Id, ids_given}
-use Rattle.machine_model.specs.Names.{IdSizes, Initialized, Part, Sent, Success, TargetCommand, Want, a_question}
-use Rattle.machine_model.specs.Names.{an_effect, thread_list, Lines, Classes}
+use Rattle.machine_model.specs.Names.{Body, Classes, Failed, IdSizes, Initialized, Lines, Outcome, Part, Sent, Success}
+use Rattle.machine_model.specs.Names.{TargetCommand, Want, a_question, an_effect, frame_list, scope_list, thread_list}
+use Rattle.machine_model.specs.Names.{variable_list}
 use Rattle.machine_model.specs.Plans.{question_of}
 use Rattle.machine_model.specs.Replying.{waits_for}
 use Rattle.machine_model.specs.Runs.{Message}
 use Rattle.machine_model.specs.Spelling.{all_sizes, first_sizes, sizes_by, sizes_replied}
 use Rattle.machine_model.specs.State.{State, Hand, Machine, SizesRead, is_attached, is_gone, is_some}
-use Rattle.machine_model.proofs.PlanIds.{AreKnown, IsAsked, IsWanted, OfNamed, OfThread, is_sizes, OfClass}
-use Rattle.machine_model.proofs.PlanIds.{OfLookup}
+use Rattle.machine_model.proofs.PlanIds.{AreKnown, IsAsked, IsWanted, OfClass, OfFrameThing, OfLookup, OfNamed}
+use Rattle.machine_model.proofs.PlanIds.{OfShownFrame, OfShownVariable, is_sizes}
 use Rattle.machine_model.proofs.Stepping.{IsAt, with_said}
 use Rattle.machine_model.proofs.WishIds.{AreWished, IsShortKey}
 
@@ -32,9 +33,21 @@ abbrev pub asked_in : Option Hand → List Sent
 asked_in None = []
 asked_in (Some hand) = hand.asked
 
--- what a part has of ids passes
+-- what a response has of ids passes
+abbrev pub OfBody : (Id → Type 0) → Body → Type 0
+OfBody P (thread_list named) = All (OfNamed P) named
+OfBody P (frame_list total frames) = All (OfShownFrame P) frames
+OfBody P (scope_list one) = OfFrameThing P one
+OfBody P (variable_list shown) = All (OfShownVariable P) shown
+OfBody P _ = Unit {0}
+
+abbrev pub OfOutcome : (Id → Type 0) → Outcome → Type 0
+OfOutcome P (Success body) = OfBody P body
+OfOutcome P (Failed failure) = Unit {0}
+
+-- and what a part has
 abbrev pub PartStands : (Id → Type 0) → Part → Type 0
-PartStands P (Part.Responds (Success (thread_list named))) = All (OfNamed P) named
+PartStands P (Part.Responds outcome) = OfOutcome P outcome
 PartStands P (Part.Notes (Lines key path entries)) = IsShortKey key
 PartStands P (Part.Looks lookup) = OfLookup P lookup
 PartStands P (Part.Notes (Classes classes)) = All (OfClass P) classes

@@ -6,18 +6,18 @@ use Rattle.std.proofs.Common.{Some, None, refl, sym, ap, subst, ◌∙◌, arith
 use Rattle.std.specs.List.{AllByRecursion as All}
 use Rattle.machine_model.specs.Ids.{Id, class}
 use Rattle.machine_model.specs.Lookups.{finished, found_for, sight_of}
-use Rattle.machine_model.specs.Names.{Attach, Attached, BadArguments, Capabilities, Choice, Classes, Command}
+use Rattle.machine_model.specs.Names.{Attach, Attached, BadArguments, Choice, Classes, Command}
 use Rattle.machine_model.specs.Names.{ConfigurationDone, Configured, Continue, Decides, Disconnect, Effect, EntryHeld}
 use Rattle.machine_model.specs.Names.{Event, Failed, Failure, Finding, Fresh, Gone, Initialize, Initialized, Item}
-use Rattle.machine_model.specs.Names.{Leaves, Lines, Lookup, NamedThread, News, Note, Nothing, Options, Outcome, Part}
+use Rattle.machine_model.specs.Names.{Leaves, Lines, Lookup, News, Note, Options, Outcome, Part}
 use Rattle.machine_model.specs.Names.{Pause, Phase, Replied, Roots, Sent, SetBreakpoints, Success, TargetCommand}
 use Rattle.machine_model.specs.Names.{TellsNews, Terminated, ThreadId, Threads, Unsupported, Want, a_composite, a_raw}
-use Rattle.machine_model.specs.Names.{a_request, a_stop, all_threads, breakpoint_list, class_facts, classes_found}
-use Rattle.machine_model.specs.Names.{some_news, target_end, thread_list, threads_found}
-use Rattle.machine_model.specs.Names.{ShownFrame, frame_list, frames_found, thread_frames}
-use Rattle.machine_model.specs.Names.{StackTrace}
-use Rattle.machine_model.specs.Lookups.{frames_outcome}
-use Rattle.machine_model.specs.Frames.{has_room}
+use Rattle.machine_model.specs.Names.{a_request, a_stop, all_threads, class_facts, classes_found}
+use Rattle.machine_model.specs.Names.{some_news, target_end, threads_found}
+use Rattle.machine_model.specs.Names.{Body, Scopes, StackTrace, Variables, container_children, frames_found, scope_list}
+use Rattle.machine_model.specs.Names.{thread_frames, variables_found}
+use Rattle.machine_model.specs.Lookups.{body_of, outcome_by, shown_by}
+use Rattle.machine_model.specs.References.{has_room, things_of}
 use Rattle.dap_messages.specs.Telling.{references_spent}
 use Rattle.machine_model.specs.Plans.{Need, fails, has, lacks}
 use Rattle.machine_model.specs.Replying.{done_by}
@@ -25,20 +25,30 @@ use Rattle.machine_model.proofs.Testing.{same_numbered}
 use Rattle.machine_model.specs.Rows.{chosen, configured_parts, continue_parts, failure_of, leaves, news_of, noted}
 use Rattle.machine_model.specs.Rows.{parts_by, parts_of, pause_parts, request_parts, row_of, thread_with, told_in}
 use Rattle.machine_model.specs.Rows.{wanting}
-use Rattle.machine_model.specs.Rows.{stack_parts}
+use Rattle.machine_model.specs.Rows.{scopes_parts, stack_parts, variables_parts}
 use Rattle.machine_model.specs.Runs.{Message}
 use Rattle.machine_model.specs.State.{Hand, Machine, State, is_attached, is_gone, is_some, left}
-use Rattle.machine_model.specs.Telling.{after_event, is_among, numbered_by, with_thread, with_threads}
+use Rattle.machine_model.specs.Telling.{after_event, numbered_by}
 use Rattle.machine_model.proofs.IdRows.{all_joined}
-use Rattle.machine_model.proofs.PlanIds.{OfLookup, OnSome}
-use Rattle.machine_model.proofs.PlanIds.{IsAsked, IsGood, NeedStands, OfNamed, OfThread, rows_stand, AreKnown}
+use Rattle.machine_model.proofs.LookupIds.{rows_stand}
+use Rattle.machine_model.proofs.PlanIds.{AreKnown, IsAsked, IsGood, NeedStands, OfFrameThing, OfLookup, OfThing, OfThread}
+use Rattle.machine_model.proofs.PlanIds.{OnSome}
 use Rattle.machine_model.proofs.Stepping.{IsAt, Skips}
 use Rattle.machine_model.specs.Outcomes.{result_of}
-use Rattle.machine_model.proofs.Standing.{IsKept, Kept, Near, PartStands, Same, at_front, same_state, in_order}
+use Rattle.machine_model.proofs.Standing.{IsKept, Kept, Near, OfBody, OfOutcome, PartStands, Same, at_front, in_order}
+use Rattle.machine_model.proofs.Standing.{same_state}
 use Rattle.machine_model.proofs.Standing.{awaits_sizes, needs_sizes, stays}
 use Rattle.machine_model.proofs.Tables.{decided_alike, of_decided, told_alike}
 use Rattle.machine_model.specs.Breakpoints.{behind_roots, key_of, longest_key, short_key, slashed}
-use Rattle.std.specs.Prelude.{ℕ, zero, suc, ◌-◌, ◌==◌, nat_le, length, slice_get}
+use Rattle.std.specs.Prelude.{ℕ, zero, suc, ◌-◌, ◌==◌, nat_le, nat_lt, length, slice_get, if◌then◌else◌}
+use Rattle.std.specs.Prelude.{Result, Ok, Err}
+use Rattle.stop_refs.specs.Numbers.{InHand, and_then, container, frame, next_in, or_unknown, refused_in, stop_with}
+use Rattle.stop_refs.specs.Numbers.{thing_with}
+use Rattle.stop_refs.specs.Things.{as_container, as_frame}
+use Rattle.stop_refs.specs.declared.fault.RefFault.{RefFault}
+use Rattle.stop_refs.specs.declared.thing.FrameThing.{FrameThing}
+use Rattle.stop_refs.specs.declared.thing.Thing.{Thing}
+use Rattle.stop_refs.specs.declared.thing.Thing.TheVariants as things
 use Rattle.machine_model.proofs.WishIds.{AreWished, IsShortKey, classes_stand, lines_stand}
 use Rattle.machine_model.specs.Composites.{composite_parts, has_death}
 
@@ -124,39 +134,107 @@ told_thread P threads number h = by_zero (number == 0)
     by_zero true = tt
     by_zero false = at threads (number - 1) h
 
+-- a response that tells numbers
+pub shown_good : (P : Id → Type 0) (numbers : InHand) (body : Body) → OfBody P body → OfOutcome P (shown_by numbers body)
+shown_good P numbers body h = by_room (has_room (things_of body) numbers)
+  where
+    by_room : (room : Bool) → OfOutcome P (cond room (Success body) (Failed references_spent))
+    by_room true = h
+    by_room false = tt
+
+-- and so was what a number stands for
+abbrev pub OnFound : {A : Type 0} → (A → Type 0) → Result A RefFault → Type 0
+OnFound P (Ok a) = P a
+OnFound P (Err fault) = Unit {0}
+
+told_thing : (P : Id → Type 0) (number : ℕ) (numbers : InHand) → All (OfThing P) numbers.things
+    → OnFound (OfThing P) (thing_with number numbers)
+told_thing P number numbers h = by_past (nat_lt number numbers.past.next)
+  where
+    at : (listed : List Thing) (place : ℕ) → All (OfThing P) listed
+        → OnFound (OfThing P) (or_unknown (next_in numbers) (slice_get listed place))
+    at [] place h = tt
+    at (thing ∷ listed) zero h = h.0
+    at (thing ∷ listed) (suc place) h = at listed place h.1
+
+    by_past : (past : Bool) → OnFound (OfThing P)
+        (if past then Err (refused_in (next_in numbers) (stop_with numbers.past.firsts number))
+        else or_unknown (next_in numbers) (slice_get numbers.things (number - numbers.past.next)))
+    by_past true = tt
+    by_past false = at numbers.things (number - numbers.past.next) h
+
+told_frame : (P : Id → Type 0) (number : ℕ) (numbers : InHand) → All (OfThing P) numbers.things
+    → OnFound (OfFrameThing P) (frame number numbers)
+told_frame P number numbers h = by_thing (thing_with number numbers) (told_thing P number numbers h)
+  where
+    by_thing : (found : Result Thing RefFault) → OnFound (OfThing P) found
+        → OnFound (OfFrameThing P) (and_then as_frame found)
+    by_thing (Ok (things.Frame one)) k = k
+    by_thing (Ok (things.Locals one)) k = tt
+    by_thing (Ok (things.Object one)) k = tt
+    by_thing (Ok (things.Array one)) k = tt
+    by_thing (Err fault) k = tt
+
+told_container : (P : Id → Type 0) (number : ℕ) (numbers : InHand) → All (OfThing P) numbers.things
+    → OnFound (OfThing P) (container number numbers)
+told_container P number numbers h = by_thing (thing_with number numbers) (told_thing P number numbers h)
+  where
+    by_thing : (found : Result Thing RefFault) → OnFound (OfThing P) found
+        → OnFound (OfThing P) (and_then as_container found)
+    by_thing (Ok (things.Frame one)) k = tt
+    by_thing (Ok (things.Locals one)) k = k
+    by_thing (Ok (things.Object one)) k = k
+    by_thing (Ok (things.Array one)) k = k
+    by_thing (Err fault) k = tt
+
 row_parts : (P : Id → Type 0) (command : Command) (state : State) → All (OfThread P) state.threads
+    → All (OfThing P) state.numbers.things
     → All (PartStands P) (row_of command state)
-row_parts P (Initialize arguments) state told = (tt, (tt, tt))
-row_parts P (Attach arguments) state told = (tt, (tt, (tt, (tt, (tt, (tt, tt))))))
-row_parts P ConfigurationDone state told = by_entry state.entry
+row_parts P (Initialize arguments) state told told_things = (tt, (tt, tt))
+row_parts P (Attach arguments) state told told_things = (tt, (tt, (tt, (tt, (tt, (tt, tt))))))
+row_parts P ConfigurationDone state told told_things = by_entry state.entry
   where
     by_entry : (entry : Bool) → All (PartStands P) (configured_parts entry)
     by_entry true = (tt, (tt, (tt, tt)))
     by_entry false = (tt, (tt, tt))
-row_parts P (SetBreakpoints arguments) state told =
+row_parts P (SetBreakpoints arguments) state told told_things =
     (key_is_short state.roots arguments.path, (tt, (tt, (tt, (tt, (tt, tt))))))
-row_parts P Threads state told = (tt, tt)
-row_parts P (Continue arguments) state told = by_thread (thread_with state.threads arguments.thread_id)
+row_parts P Threads state told told_things = (tt, tt)
+row_parts P (Continue arguments) state told told_things = by_thread (thread_with state.threads arguments.thread_id)
   where
     by_thread : (thread : Option ThreadId) → All (PartStands P) (continue_parts thread)
     by_thread None = (tt, tt)
     by_thread (Some thread) = (tt, (tt, tt))
-row_parts P (Pause arguments) state told = by_stop state.stopped (thread_with state.threads arguments.thread_id)
+row_parts P (Pause arguments) state told told_things = by_stop state.stopped (thread_with state.threads arguments.thread_id)
   where
     by_stop : (stopped : Bool) (thread : Option ThreadId) → All (PartStands P) (pause_parts stopped thread)
     by_stop stopped None = (tt, tt)
     by_stop true (Some thread) = (tt, tt)
     by_stop false (Some thread) = (tt, (tt, (tt, tt)))
-row_parts P (StackTrace arguments) state told = by_thread (thread_with state.threads arguments.thread_id)
+row_parts P (StackTrace arguments) state told told_things = by_thread (thread_with state.threads arguments.thread_id)
     (told_thread P state.threads arguments.thread_id told)
   where
     by_thread : (thread : Option ThreadId) → OnSome (OfThread P) thread
         → All (PartStands P) (stack_parts thread arguments)
     by_thread None k = (tt, tt)
     by_thread (Some thread) k = (k, tt)
-row_parts P (Disconnect arguments) state told = (tt, (tt, (tt, tt)))
-row_parts P Unsupported state told = (tt, tt)
-row_parts P (BadArguments name) state told = (tt, tt)
+row_parts P (Scopes arguments) state told told_things = by_frame (frame arguments.frame_id state.numbers)
+    (told_frame P arguments.frame_id state.numbers told_things)
+  where
+    by_frame : (found : Result FrameThing RefFault) → OnFound (OfFrameThing P) found
+        → All (PartStands P) (scopes_parts state.numbers found)
+    by_frame (Ok one) k = (shown_good P state.numbers (scope_list one) k, tt)
+    by_frame (Err fault) k = (tt, tt)
+row_parts P (Variables arguments) state told told_things = by_thing (container arguments.variables_reference state.numbers)
+    (told_container P arguments.variables_reference state.numbers told_things)
+  where
+    by_thing : (found : Result Thing RefFault) → OnFound (OfThing P) found
+        → All (PartStands P) (variables_parts arguments found)
+    by_thing (Ok thing) k = (k, tt)
+    by_thing (Err fault) k = (tt, tt)
+row_parts P (Disconnect arguments) state told told_things = (tt, (tt, (tt, tt)))
+row_parts P Unsupported state told told_things = (tt, tt)
+row_parts P (BadArguments name) state told told_things = (tt, tt)
 
 unless_fails : (P : Id → Type 0) (failure : Option Failure) (row : List Part) → All (PartStands P) row
     → All (PartStands P) (parts_by failure row)
@@ -164,15 +242,15 @@ unless_fails P (Some failure) row h = (tt, tt)
 unless_fails P None row h = h
 
 pub begun_parts : (P : Id → Type 0) (state : State) (item : Item) → All (OfThread P) state.threads
-    → All (PartStands P) (parts_of state item)
-begun_parts P state (a_request request) told = unless_fails P (failure_of (wanting request.command) state)
-    (row_of request.command state) (row_parts P request.command state told)
-begun_parts P state target_end told = by_end state.terminated
+    → All (OfThing P) state.numbers.things → All (PartStands P) (parts_of state item)
+begun_parts P state (a_request request) told told_things = unless_fails P (failure_of (wanting request.command) state)
+    (row_of request.command state) (row_parts P request.command state told told_things)
+begun_parts P state target_end told told_things = by_end state.terminated
   where
     by_end : (ended : Bool) → All (PartStands P) (parts_of (record state { terminated = ended }) target_end)
     by_end true = tt
     by_end false = (tt, tt)
-begun_parts P state (a_composite at composite) told =
+begun_parts P state (a_composite at composite) told told_things =
     by_phase state.phase (has_death composite.events) composite.policy
   where
     by_phase : (phase : Phase) (dies : Bool) (policy : Policy)
@@ -185,7 +263,7 @@ begun_parts P state (a_composite at composite) told =
     by_phase Attached false EventThread = (tt, tt)
     by_phase Attached false AllThreads = (tt, (tt, (tt, (tt, tt))))
     by_phase Gone dies policy = tt
-begun_parts P state (a_raw at body) told = tt
+begun_parts P state (a_raw at body) told told_things = tt
 
 pub chosen_order : (choice : Choice) (state : State) (hand : Hand) (sized attached : Bool) (rest : List Part)
     → in_order sized attached rest ≡ true → in_order sized attached (chosen choice state hand ++ rest) ≡ true
@@ -216,31 +294,31 @@ chosen_parts P (Leaves exits) state hand rest h = by_phase state.phase
     by_phase Attached = (tt, h)
     by_phase Gone = h
 
+body_good : (P : Id → Type 0) (finding : Finding) → IsGood P finding → OfBody P (body_of finding)
+body_good P (threads_found named) h = h
+body_good P (classes_found classes) h = tt
+body_good P (frames_found total frames) h = h
+body_good P (variables_found shown) h = h
+
+outcome_good : (P : Id → Type 0) (numbers : InHand) (found : Need Finding) → NeedStands P (IsGood P) found
+    → OfOutcome P (outcome_by numbers (result_of found))
+outcome_good P numbers (has finding) h = shown_good P numbers (body_of finding) (body_good P finding h)
+outcome_good P numbers (fails fault) h = tt
+outcome_good P numbers (lacks want others) h = tt
+
 found_parts : (P : Id → Type 0) (lookup : Lookup) (found : Need Finding) (state : State) → NeedStands P (IsGood P) found
     → All (PartStands P) (finished lookup (result_of found) state)
-found_parts P all_threads (has (threads_found named)) state h = (h, tt)
-found_parts P all_threads (has (classes_found classes)) state h = (tt, tt)
-found_parts P all_threads (has (frames_found total frames)) state h = (tt, tt)
+found_parts P all_threads (has finding) state h = (body_good P finding h, tt)
+found_parts P all_threads (fails fault) state h = (tt, tt)
+found_parts P all_threads (lacks want others) state h = (tt, tt)
+found_parts P (thread_frames thread start levels) found state h = (outcome_good P state.numbers found h, tt)
+found_parts P (container_children thing filter start count) found state h = (outcome_good P state.numbers found h, tt)
 found_parts P class_facts (has (threads_found named)) state h = (tt, tt)
 found_parts P class_facts (has (classes_found classes)) state h = (h, tt)
 found_parts P class_facts (has (frames_found total frames)) state h = (tt, tt)
+found_parts P class_facts (has (variables_found shown)) state h = (tt, tt)
 found_parts P class_facts (fails fault) state h = (tt, tt)
 found_parts P class_facts (lacks want others) state h = (tt, tt)
-found_parts P all_threads (fails fault) state h = (tt, tt)
-found_parts P all_threads (lacks want others) state h = (tt, tt)
-found_parts P (thread_frames thread start levels) found state h = (by_found found, tt)
-  where
-    by_room : (room : Bool) (total : ℕ) (frames : List ShownFrame) → PartStands P (Part.Responds
-        (cond room (Success (frame_list total frames)) (Failed references_spent)))
-    by_room true total frames = tt
-    by_room false total frames = tt
-
-    by_found : (found : Need Finding) → PartStands P (Part.Responds (frames_outcome (result_of found) state.numbers))
-    by_found (has (frames_found total frames)) = by_room (has_room frames state.numbers) total frames
-    by_found (has (threads_found named)) = tt
-    by_found (has (classes_found classes)) = tt
-    by_found (fails fault) = tt
-    by_found (lacks want others) = tt
 
 -- Parts that need the sizes -------------------------------------------------------------------------------------------
 

@@ -33,7 +33,7 @@ kept_on {P} messages m next said null w k (Moves.begins picked free none is) bro
             (picked_stand P (is_gone m.state.phase) m.waiting picked is (w near).waiting).0 n.classes;
         wanted = n.wanted;
         order = begun_order m.state (is_some m.state.sizes) picked.item n.order;
-        parts = begun_parts P m.state picked.item (w near).threads;
+        parts = begun_parts P m.state picked.item (w near).threads (w near).things;
         wants = tt;
         replies = tt;
       };

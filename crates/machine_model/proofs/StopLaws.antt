@@ -3,7 +3,12 @@ use Rattle.std.proofs.Common.{◌≡◌, ℕ, Bool, true, false, cond, not, ◌|
 use Rattle.std.proofs.Common.{refl, sym, ap, subst, ◌∙◌, option_map, arith}
 use Rattle.std.specs.List.{AllByRecursion as All}
 use Rattle.std.specs.Option.{option_or}
-use Rattle.std.specs.Prelude.{find}
+use Rattle.std.specs.Prelude as prelude
+use Rattle.std.specs.Prelude.{find, Ok, Err}
+use Rattle.stop_refs.specs.Numbers.{container, frame}
+use Rattle.stop_refs.specs.declared.fault.RefFault.{RefFault}
+use Rattle.stop_refs.specs.declared.thing.FrameThing.{FrameThing}
+use Rattle.stop_refs.specs.declared.thing.Thing.{Thing}
 use Rattle.dap_messages.specs.declared.told.Event.TheVariants as events
 use Rattle.dap_messages.specs.declared.told.StopReason.TheVariants as reasons
 use Rattle.dap_messages.specs.declared.told.Stopped.{Stopped}
@@ -18,13 +23,14 @@ use Rattle.machine_model.specs.Lookups.{finished}
 use Rattle.machine_model.specs.Names.{Act, Attach, Attached, BadArguments, Choice, Clear, Command, ConfigurationDone}
 use Rattle.machine_model.specs.Names.{Continue, Decides, Deed, Disconnect, Does, Effect, Event, Failure, Finding}
 use Rattle.machine_model.specs.Names.{Fresh, Gone, Hit, Initialize, Initialized, Item, Leaves, Location, Lookup, News}
-use Rattle.machine_model.specs.Names.{Note, Part, Pause, Phase, Replied, Resume, Set, SetBreakpoints, StopCause}
+use Rattle.machine_model.specs.Names.{Part, Pause, Phase, Replied, Resume, Set, SetBreakpoints, StopCause}
 use Rattle.machine_model.specs.Names.{Stopping, TargetCommand, TellsNews, Terminated, ThreadId, Threads, Unsupported}
 use Rattle.machine_model.specs.Names.{Want, a_composite, a_question, a_raw, a_request, a_stop, all_threads, an_effect}
 use Rattle.machine_model.specs.Names.{an_event, by_client, class_facts, entry_verified, of_composite, some_news}
 use Rattle.machine_model.specs.Names.{target_end, thread_changed}
 use Rattle.machine_model.specs.Names.{thread_frames}
 use Rattle.machine_model.specs.Names.{StackTrace}
+use Rattle.machine_model.specs.Names.{Scopes, Variables, container_children}
 use Rattle.machine_model.specs.Outcomes.{result_of}
 use Rattle.machine_model.specs.Plans.{Result}
 use Rattle.machine_model.specs.Replying.{given_up, hand_replied}
@@ -32,7 +38,7 @@ use Rattle.machine_model.specs.Requests.{Wishes, wishes_after}
 use Rattle.machine_model.specs.Rows.{chosen, configured_parts, continue_parts, end_parts, failure_of, gone_parts, gone_row}
 use Rattle.machine_model.specs.Rows.{gone_tail, has_response, leaves, news_of, noted, parts_by, parts_of, pause_parts}
 use Rattle.machine_model.specs.Rows.{request_parts, row_of, thread_with, told_in, wanting}
-use Rattle.machine_model.specs.Rows.{stack_parts}
+use Rattle.machine_model.specs.Rows.{scopes_parts, stack_parts, variables_parts}
 use Rattle.machine_model.specs.Runs.{Allows, Message, Run, said}
 use Rattle.machine_model.specs.State.{Hand, Machine, State, is_attached, is_gone, knowing, left}
 use Rattle.machine_model.specs.Stopping.{HasHit, IsStop, IsToldAs}
@@ -213,6 +219,7 @@ found_none : (lookup : Lookup) (result : Result Finding) (state : State) (rest :
     → has_hit (finished lookup result state ++ rest) ≡ has_hit rest
 found_none all_threads result state rest = refl
 found_none (thread_frames thread start levels) result state rest = refl
+found_none (container_children thing filter start count) result state rest = refl
 found_none class_facts result state rest = refl
 
 behind_none : (part : Part) (rest : List Part) → hit_first (part ∷ rest) ≡ true → has_hit rest ≡ false
@@ -321,6 +328,16 @@ row_tells w item (StackTrace arguments) state is = by_thread (thread_with state.
     by_thread : (thread : Option ThreadId) → All (PartTells w item) (stack_parts thread arguments)
     by_thread None = (tt, tt)
     by_thread (Some thread) = (tt, tt)
+row_tells w item (Scopes arguments) state is = by_frame (frame arguments.frame_id state.numbers)
+  where
+    by_frame : (found : prelude.Result FrameThing RefFault) → All (PartTells w item) (scopes_parts state.numbers found)
+    by_frame (Ok one) = (tt, tt)
+    by_frame (Err fault) = (tt, tt)
+row_tells w item (Variables arguments) state is = by_thing (container arguments.variables_reference state.numbers)
+  where
+    by_thing : (found : prelude.Result Thing RefFault) → All (PartTells w item) (variables_parts arguments found)
+    by_thing (Ok thing) = (tt, tt)
+    by_thing (Err fault) = (tt, tt)
 row_tells w item (Disconnect arguments) state is = (tt, (tt, (tt, tt)))
 row_tells w item Unsupported state is = (tt, tt)
 row_tells w item (BadArguments name) state is = (tt, tt)
@@ -358,6 +375,7 @@ found_tells : (w : Wishes) (item : Item) (lookup : Lookup) (result : Result Find
     → All (PartTells w item) rest → All (PartTells w item) (finished lookup result state ++ rest)
 found_tells w item all_threads result state rest h = (tt, h)
 found_tells w item (thread_frames thread start levels) result state rest h = (tt, h)
+found_tells w item (container_children thing filter start count) result state rest h = (tt, h)
 found_tells w item class_facts result state rest h = (tt, h)
 
 stop_of : (w : Wishes) (item : Item) (stopping : Stopping) → HasHit w (events_in item) stopping
@@ -409,6 +427,8 @@ given_tells w (Some hand) = by_item (has_response hand.parts) hand.item
     by_row item (Continue arguments) = (tt, tt)
     by_row item (Pause arguments) = (tt, tt)
     by_row item (StackTrace arguments) = (tt, tt)
+    by_row item (Scopes arguments) = (tt, tt)
+    by_row item (Variables arguments) = (tt, tt)
     by_row item Unsupported = (tt, tt)
     by_row item (BadArguments name) = (tt, tt)
 
@@ -422,6 +442,8 @@ given_tells w (Some hand) = by_item (has_response hand.parts) hand.item
     by_tail item (Continue arguments) = tt
     by_tail item (Pause arguments) = tt
     by_tail item (StackTrace arguments) = tt
+    by_tail item (Scopes arguments) = tt
+    by_tail item (Variables arguments) = tt
     by_tail item Unsupported = tt
     by_tail item (BadArguments name) = tt
 
@@ -564,6 +586,8 @@ asked_stop m hand stop is reason stopped (a_request request) item pauses = by_co
     by_command Threads same pauses = cc
     by_command (Continue arguments) same pauses = cc
     by_command (StackTrace arguments) same pauses = cc
+    by_command (Scopes arguments) same pauses = cc
+    by_command (Variables arguments) same pauses = cc
     by_command (Disconnect arguments) same pauses = cc
     by_command Unsupported same pauses = cc
     by_command (BadArguments name) same pauses = cc

@@ -10,6 +10,7 @@ use Rattle.machine_model.specs.Names.{Resume, Stopping, Suspension, TargetComman
 use Rattle.machine_model.specs.Names.{a_question, a_raw, a_request, a_stop, all_threads, an_effect, class_facts}
 use Rattle.machine_model.specs.Names.{of_composite, of_entry, of_stop, target_end}
 use Rattle.machine_model.specs.Names.{thread_frames}
+use Rattle.machine_model.specs.Names.{container_children}
 use Rattle.machine_model.specs.Outcomes.{result_of}
 use Rattle.machine_model.specs.Plans.{Result}
 use Rattle.machine_model.specs.Replying.{hand_replied}
@@ -150,6 +151,7 @@ found_same : (lookup : Lookup) (result : Result Finding) (state : State) (rest :
     → has_resume (finished lookup result state ++ rest) ≡ has_resume rest
 found_same all_threads result state rest = refl
 found_same (thread_frames thread start levels) result state rest = refl
+found_same (container_children thing filter start count) result state rest = refl
 found_same class_facts result state rest = refl
 
 chosen_resumed : (choice : Choice) (state : State) (hand : Hand) (rest : List Part)

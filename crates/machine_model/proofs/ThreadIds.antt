@@ -1,5 +1,5 @@
 -- The ids of threads that are told were read: those in composites that are in hand, and those in answers.
-use Rattle.std.proofs.Common.{◌≡◌, ℕ, Bool, true, false, cond, List, [], ◌∷◌, ◌++◌, Option, Some, None, refl, sym}
+use Rattle.std.proofs.Common.{◌≡◌, Bool, true, false, cond, List, [], ◌∷◌, ◌++◌, Option, Some, None}
 use Rattle.std.proofs.Common.{arith}
 use Rattle.std.specs.Prelude.{find, map, ◌==◌}
 use Rattle.std.specs.List.{AllByRecursion as All, flat_map}
@@ -10,22 +10,23 @@ use Rattle.jdwp_events.specs.declared.kind.Policy.{Policy}
 use Rattle.jdwp_events.specs.declared.kind.Policy.TheVariants.{NoThread, EventThread, All as AllThreads}
 use Rattle.machine_model.specs.Breakpoints.{newly_verified}
 use Rattle.machine_model.specs.Composites.{change_told, changes_in, composite_parts, has_death}
-use Rattle.machine_model.specs.Ids.{Id, ids_of_composite, ids_of_event, object}
+use Rattle.machine_model.specs.Ids.{Id, ids_of_composite, ids_of_event}
 use Rattle.machine_model.specs.Names.{Attach, Attached, BadArguments, Choice, Command, ConfigurationDone, Continue}
 use Rattle.machine_model.specs.Names.{Decides, Disconnect, Event, Failed, Failure, Fresh, Gone, Initialize, Initialized}
 use Rattle.machine_model.specs.Names.{Item, Leaves, Lookup, NamedThread, News, Outcome, Part, Pause, Phase, Replied}
 use Rattle.machine_model.specs.Names.{SetBreakpoints, StackTrace, Stopping, Success, TargetCommand, TellsNews, Terminated}
 use Rattle.machine_model.specs.Names.{ThreadId, Threads, Unsupported, a_composite, a_raw, a_request, a_stop}
 use Rattle.machine_model.specs.Names.{breakpoint_list, class_facts, all_threads, thread_frames, Capabilities, Continued}
-use Rattle.machine_model.specs.Names.{Nothing, Note, Options, Roots, Lines, Classes, EntryHeld, Configured}
+use Rattle.machine_model.specs.Names.{Nothing, Note}
 use Rattle.machine_model.specs.Names.{entry_verified, frame_list, some_news, target_end, thread_changed, thread_list}
 use Rattle.machine_model.specs.Lookups.{finished}
 use Rattle.machine_model.specs.Names.{Finding, Hit}
+use Rattle.machine_model.specs.Names.{container_children, scope_list, variable_list}
 use Rattle.machine_model.specs.Plans.{Result}
-use Rattle.machine_model.specs.Replying.{given_up, replied_to}
-use Rattle.machine_model.specs.Rows.{chosen, configured_parts, continue_parts, each_told, end_parts, failure_of}
+use Rattle.machine_model.specs.Replying.{replied_to}
+use Rattle.machine_model.specs.Rows.{chosen, configured_parts, continue_parts, end_parts, failure_of}
 use Rattle.machine_model.specs.Rows.{leaves, news_of, noted, parts_by, parts_of, pause_parts, row_of, stack_parts}
-use Rattle.machine_model.specs.Rows.{taken, thread_with, told_in, wanting, gone_parts, gone_row, gone_tail, has_response}
+use Rattle.machine_model.specs.Rows.{taken, thread_with, told_in, wanting, gone_parts, gone_row, gone_tail}
 use Rattle.machine_model.specs.State.{Hand, State, is_attached}
 use Rattle.machine_model.specs.Stops.{decided_by, events_in, holds_entry, first_of, hit_by, hits_in, is_at_line, is_live, stop_among}
 use Rattle.machine_model.specs.Telling.{after_event, is_among, numbered_by, with_thread, with_threads}
@@ -33,8 +34,15 @@ use Rattle.machine_model.proofs.IdRows.{all_back, all_front, all_joined}
 use Rattle.machine_model.proofs.PlanIds.{OfNamed, OfThread, OnSome}
 use Rattle.machine_model.proofs.Standing.{PartStands}
 use Rattle.machine_model.proofs.StandingMoves.{told_thread}
-use Rattle.machine_model.proofs.Tables.{of_decided}
 use Rattle.wish_sets.specs.Wishes.{Wishes}
+use Rattle.machine_model.specs.Names.{Scopes, Variables}
+use Rattle.machine_model.specs.Rows.{scopes_parts, variables_parts}
+use Rattle.std.specs.Prelude as prelude
+use Rattle.std.specs.Prelude.{Ok, Err}
+use Rattle.stop_refs.specs.Numbers.{container, frame}
+use Rattle.stop_refs.specs.declared.fault.RefFault.{RefFault}
+use Rattle.stop_refs.specs.declared.thing.FrameThing.{FrameThing}
+use Rattle.stop_refs.specs.declared.thing.Thing.{Thing}
 
 -- What a part tells ---------------------------------------------------------------------------------------------------
 
@@ -77,6 +85,8 @@ responded_threads P (Success Nothing) state k h = h
 responded_threads P (Success Capabilities) state k h = h
 responded_threads P (Success (breakpoint_list rooted listed)) state k h = h
 responded_threads P (Success (frame_list total frames)) state k h = h
+responded_threads P (Success (scope_list frame)) state k h = h
+responded_threads P (Success (variable_list shown)) state k h = h
 responded_threads P (Success Continued) state k h = h
 responded_threads P (Success (thread_list named)) state k h = some_more P state.threads named k h
 
@@ -136,6 +146,16 @@ row_tells P (StackTrace arguments) state told = by_thread (thread_with state.thr
     by_thread : (thread : Option ThreadId) → All (TellStands P) (stack_parts thread arguments)
     by_thread None = (tt, tt)
     by_thread (Some thread) = (tt, tt)
+row_tells P (Scopes arguments) state told = by_frame (frame arguments.frame_id state.numbers)
+  where
+    by_frame : (found : prelude.Result FrameThing RefFault) → All (TellStands P) (scopes_parts state.numbers found)
+    by_frame (Ok one) = (tt, tt)
+    by_frame (Err fault) = (tt, tt)
+row_tells P (Variables arguments) state told = by_thing (container arguments.variables_reference state.numbers)
+  where
+    by_thing : (found : prelude.Result Thing RefFault) → All (TellStands P) (variables_parts arguments found)
+    by_thing (Ok thing) = (tt, tt)
+    by_thing (Err fault) = (tt, tt)
 row_tells P (Disconnect arguments) state told = (tt, (tt, (tt, tt)))
 row_tells P Unsupported state told = (tt, tt)
 row_tells P (BadArguments name) state told = (tt, tt)
@@ -173,6 +193,7 @@ pub found_tells : (P : Id → Type 0) (lookup : Lookup) (result : Result Finding
     → All (TellStands P) rest → All (TellStands P) (finished lookup result state ++ rest)
 found_tells P all_threads result state rest h = (tt, h)
 found_tells P (thread_frames thread start levels) result state rest h = (tt, h)
+found_tells P (container_children thing filter start count) result state rest h = (tt, h)
 found_tells P class_facts result state rest h = (tt, h)
 
 -- What a composite tells ----------------------------------------------------------------------------------------------

@@ -15,9 +15,11 @@ use Rattle.machine_model.specs.Names.{Resume, Set, Success, TargetCommand, Tells
 use Rattle.machine_model.specs.Names.{a_question, a_raw, a_request, a_stop, all_threads, an_answer, an_effect}
 use Rattle.machine_model.specs.Names.{an_error, breakpoint_list, class_facts, entry_verified, of_composite, some_news}
 use Rattle.machine_model.specs.Names.{target_end, thread_changed, thread_list}
-use Rattle.machine_model.specs.Names.{ShownFrame, frame_list, frames_found, classes_found, threads_found, thread_frames}
-use Rattle.machine_model.specs.Lookups.{frames_outcome}
-use Rattle.machine_model.specs.Frames.{has_room}
+use Rattle.machine_model.specs.Names.{classes_found, container_children, frame_list, frames_found, scope_list}
+use Rattle.machine_model.specs.Names.{thread_frames, threads_found, variable_list, variables_found}
+use Rattle.machine_model.specs.Lookups.{body_of, outcome_by}
+use Rattle.machine_model.specs.References.{has_room, things_of}
+use Rattle.stop_refs.specs.Numbers.{InHand}
 use Rattle.dap_messages.specs.Telling.{references_spent}
 use Rattle.machine_model.specs.Due.{asked_hand}
 use Rattle.machine_model.specs.Knowing.{is_fresh}
@@ -273,6 +275,10 @@ module _ (id : ℕ) where
       skips id state.phase (Part.Responds (Success Continued)) rest c c.noted (λ fresh. fresh) refl
   responded_covers (Success (frame_list total frames)) state rest c =
       skips id state.phase (Part.Responds (Success (frame_list total frames))) rest c c.noted (λ fresh. fresh) refl
+  responded_covers (Success (scope_list frame)) state rest c =
+      skips id state.phase (Part.Responds (Success (scope_list frame))) rest c c.noted (λ fresh. fresh) refl
+  responded_covers (Success (variable_list shown)) state rest c =
+      skips id state.phase (Part.Responds (Success (variable_list shown))) rest c c.noted (λ fresh. fresh) refl
   responded_covers (Success (thread_list named)) state rest c =
       skips id state.phase (Part.Responds (Success (thread_list named))) rest c c.noted (λ fresh. fresh) refl
   responded_covers (Failed failure) state rest c =
@@ -320,6 +326,20 @@ module _ (id : ℕ) where
   untold : (asked : Bool) (outcome : Outcome) → asked ≡ false → tells_it id asked (Part.Responds outcome) ≡ false
   untold asked outcome is = grind (arith, is)
 
+  -- what is found tells of no breakpoint
+  none_shown : (asked : Bool) (numbers : InHand) (result : Result Finding)
+      → tells_it id asked (Part.Responds (outcome_by numbers result)) ≡ false
+  none_shown asked numbers (refused code) = refl
+  none_shown asked numbers (gave finding) = by_room (has_room (things_of (body_of finding)) numbers) finding
+    where
+      by_room : (room : Bool) (finding : Finding)
+          → tells_it id asked (Part.Responds (cond room (Success (body_of finding)) (Failed references_spent))) ≡ false
+      by_room false finding = refl
+      by_room true (threads_found named) = refl
+      by_room true (classes_found classes) = refl
+      by_room true (frames_found total frames) = refl
+      by_room true (variables_found shown) = refl
+
   found_covers : {asked : Bool} {w : Wishes} {phase : Phase} {next : ℕ} {ids : List ℕ} (lookup : Lookup)
       (result : Result Finding) (state : State) (rest : List Part)
       → Covers id asked w phase next ids (Part.Looks lookup ∷ rest)
@@ -341,20 +361,18 @@ module _ (id : ℕ) where
     below = c.below;
     noted = c.noted;
     covered = c.covered;
-    told = λ is placed. ap (λ b. has_id ids id || (b || will_tell id asked rest)) (none result) ∙ c.told is placed;
+    told = λ is placed. ap (λ b. has_id ids id || (b || will_tell id asked rest)) (none_shown asked state.numbers result)
+        ∙ c.told is placed;
   }
-    where
-      by_room : (room : Bool) (total : ℕ) (frames : List ShownFrame) → tells_it id asked (Part.Responds
-          (cond room (Success (frame_list total frames)) (Failed references_spent))) ≡ false
-      by_room true total frames = refl
-      by_room false total frames = refl
-
-      none : (result : Result Finding)
-          → tells_it id asked (Part.Responds (frames_outcome result state.numbers)) ≡ false
-      none (gave (frames_found total frames)) = by_room (has_room frames state.numbers) total frames
-      none (gave (threads_found named)) = refl
-      none (gave (classes_found classes)) = refl
-      none (refused code) = refl
+  found_covers {asked} {ids = ids} (container_children thing filter start count) result state rest c = record {
+    functions = c.functions;
+    early = c.early;
+    below = c.below;
+    noted = c.noted;
+    covered = c.covered;
+    told = λ is placed. ap (λ b. has_id ids id || (b || will_tell id asked rest)) (none_shown asked state.numbers result)
+        ∙ c.told is placed;
+  }
   found_covers class_facts result state rest c = record {
     functions = c.functions;
     early = c.early;

@@ -11,12 +11,17 @@ use Rattle.machine_model.specs.Names.{Disconnect, EntryHeld, Failure, Initialize
 use Rattle.machine_model.specs.Names.{Options, Part, Pause, Phase, Roots, SetBreakpoints, Success, TellsNews, ThreadId}
 use Rattle.machine_model.specs.Names.{Threads, Unsupported, a_composite, a_raw, a_request, breakpoint_list}
 use Rattle.machine_model.specs.Names.{class_facts, entry_verified, some_news, target_end}
-use Rattle.machine_model.specs.Names.{StackTrace}
+use Rattle.machine_model.specs.Names.{Scopes, StackTrace, Variables}
+use Rattle.std.specs.Prelude.{Result, Ok, Err}
+use Rattle.stop_refs.specs.Numbers.{container, frame}
+use Rattle.stop_refs.specs.declared.fault.RefFault.{RefFault}
+use Rattle.stop_refs.specs.declared.thing.FrameThing.{FrameThing}
+use Rattle.stop_refs.specs.declared.thing.Thing.{Thing}
 use Rattle.machine_model.specs.Knowing.{is_fresh}
 use Rattle.machine_model.specs.Requests.{Wishes}
 use Rattle.machine_model.specs.Rows.{breakpoint_parts, configured_parts, continue_parts, end_parts, failure_of}
 use Rattle.machine_model.specs.Rows.{if_attached, noted, parts_by, parts_of, pause_parts, row_of, thread_with, wanting}
-use Rattle.machine_model.specs.Rows.{stack_parts}
+use Rattle.machine_model.specs.Rows.{scopes_parts, stack_parts, variables_parts}
 use Rattle.machine_model.specs.State.{State}
 use Rattle.class_tables.specs.Lookups.{Lookups, found_in}
 use Rattle.class_tables.specs.Tables.{put}
@@ -233,6 +238,18 @@ module _ (id : ℕ) where
       by_thread : (thread : Option ThreadId) → AreNoted true state.phase state.next_entry (stack_parts thread arguments)
       by_thread None = refl
       by_thread (Some thread) = refl
+  row_noted None (Scopes arguments) state same = by_frame (frame arguments.frame_id state.numbers)
+    where
+      by_frame : (found : Result FrameThing RefFault)
+          → AreNoted true state.phase state.next_entry (scopes_parts state.numbers found)
+      by_frame (Ok one) = refl
+      by_frame (Err fault) = refl
+  row_noted None (Variables arguments) state same = by_thing (container arguments.variables_reference state.numbers)
+    where
+      by_thing : (found : Result Thing RefFault)
+          → AreNoted true state.phase state.next_entry (variables_parts arguments found)
+      by_thing (Ok thing) = refl
+      by_thing (Err fault) = refl
   row_noted None (Disconnect arguments) state same = refl
   row_noted None Unsupported state same = refl
   row_noted None (BadArguments name) state same = refl

@@ -1,7 +1,7 @@
 -- What `stackTrace` shows of a thread (DAP specification, StackTrace request; JDWP, ThreadReference command set,
 -- FrameCount and Frames).
 use Rattle.std.specs.Prelude.{ℕ, zero, suc, ℤ, pos, ◌-ℤ◌, ◌-◌, ◌==◌, ◌∷◌, ◌++◌, Bool, true, false, cond, List, [], min}
-use Rattle.std.specs.Prelude.{map, find, fold, filter, length, nat_le, unwrap_or, codes, bytes_eq, slice_get}
+use Rattle.std.specs.Prelude.{find, unwrap_or, codes, bytes_eq}
 use Rattle.std.specs.Prelude.{Option, None, Some, option_map}
 use Rattle.class_tables.specs.Lines.{entry_at}
 use Rattle.class_tables.specs.Tables.{put}
@@ -20,7 +20,7 @@ use Rattle.machine_model.specs.Facts.{lines_in, methods_in, signature_in, source
 use Rattle.machine_model.specs.Names.{Answer, ClientOptions, Finding, ShownFrame, Spot, ThreadId, Want, frames_found}
 use Rattle.machine_model.specs.Plans.{Plan, asking, both, chained, each, gives, made_with}
 use Rattle.machine_model.specs.State.{State}
-use Rattle.stop_refs.specs.Numbers.{InHand, is_new, number_of, room, with_thing}
+use Rattle.stop_refs.specs.Numbers.{InHand, number_of}
 use Rattle.stop_refs.specs.declared.thing.Thing.TheVariants.{Frame as a_frame}
 use Rattle.value_views.specs.Names.{class_name}
 use Rattle.wish_sets.specs.Names.{key_parts, same_key}
@@ -137,19 +137,7 @@ abbrev pub frames_plan : State → ThreadId → ℕ → ℕ → Plan Finding
 frames_plan state thread start levels =
     chained (asking count_in (Want.Must (questions.FrameCount thread))) (counted_plan state thread start levels)
 
--- Their numbers -------------------------------------------------------------------------------------------------------
-
--- a frame is told, under the number that it has or gets (DAP specification, Types, StackFrame, id)
-abbrev pub with_frame : InHand → ShownFrame → InHand
-with_frame numbers shown = with_thing (a_frame shown.frame) numbers
-
-abbrev pub with_frames : List ShownFrame → InHand → InHand
-with_frames frames numbers = fold with_frame numbers frames
-
--- those that have no number yet all get one
-abbrev pub has_room : List ShownFrame → InHand → Bool
-has_room frames numbers =
-    nat_le (length (filter (λ shown. is_new (a_frame shown.frame) numbers) frames)) (room numbers)
+-- How they are told --------------------------------------------------------------------------------------------------
 
 -- a line as the client counts lines (DAP specification, Initialize request, linesStartAt1)
 abbrev pub client_line : Bool → ℤ → ℤ

@@ -456,6 +456,8 @@ numbers_in_shape (shapes.Breakpoints breakpoints) = []
 numbers_in_shape (shapes.Threads threads) = map thread_number threads
 numbers_in_shape shapes.Continued = []
 numbers_in_shape (shapes.StackFrames frames total) = []
+numbers_in_shape (shapes.Scopes reference) = []
+numbers_in_shape (shapes.Variables variables) = []
 
 abbrev pub numbers_in_outcome : OutcomeTold → List ℕ
 numbers_in_outcome (outcomes.Success shape) = numbers_in_shape shape

@@ -2,14 +2,15 @@ pub mod Asking
 pub mod Binding
 pub mod BreakpointEvents
 pub mod Breakpoints
+pub mod Children
 pub mod Classes
 pub mod Composites
 pub mod Due
 pub mod EventRequests
 pub mod Events
 pub mod Facts
-pub mod FrameNumbers
 pub mod Frames
+pub mod Harmless
 pub mod Ids
 pub mod Keys
 pub mod Knowing
@@ -22,6 +23,8 @@ pub mod Pending
 pub mod PlanLaws
 pub mod Plans
 pub mod Questions
+pub mod ReferenceNumbers
+pub mod References
 pub mod Replying
 pub mod Requests
 pub mod Responses
@@ -34,4 +37,6 @@ pub mod Stopping
 pub mod Stops
 pub mod Suspending
 pub mod Telling
+pub mod Values
+pub mod Variables
 pub mod Waiting

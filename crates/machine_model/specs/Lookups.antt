@@ -5,13 +5,16 @@ use Rattle.dap_messages.specs.Telling.{references_spent, target_error, unknown_t
 use Rattle.jdwp_commands.specs.declared.answer.Answer.TheVariants as answers
 use Rattle.jdwp_commands.specs.declared.question.Question.TheVariants as questions
 use Rattle.machine_model.specs.Classes.{classes_plan}
-use Rattle.machine_model.specs.Frames.{frames_plan, has_room}
-use Rattle.machine_model.specs.Names.{Answer, Classes, ClassId, Failed, Failure, Finding, Lookup, NamedThread, Nothing}
-use Rattle.machine_model.specs.Names.{Outcome, Part, Success, ThreadId, Want, all_threads, class_facts, classes_found}
-use Rattle.machine_model.specs.Names.{frame_list, frames_found, thread_frames, thread_list, threads_found}
+use Rattle.machine_model.specs.Frames.{frames_plan}
+use Rattle.machine_model.specs.Names.{Answer, Body, Classes, ClassId, Failed, Failure, Finding, Lookup, NamedThread}
+use Rattle.machine_model.specs.Names.{Nothing, Outcome, Part, Success, ThreadId, Want, all_threads, class_facts}
+use Rattle.machine_model.specs.Names.{classes_found, container_children, frame_list, frames_found, thread_frames}
+use Rattle.machine_model.specs.Names.{thread_list, threads_found, variable_list, variables_found}
 use Rattle.machine_model.specs.Plans.{Need, Plan, Result, Sight, asking, chained, each, gave, joined, made_with}
 use Rattle.machine_model.specs.Plans.{need, refused}
+use Rattle.machine_model.specs.References.{has_room, things_of}
 use Rattle.machine_model.specs.State.{Hand, State}
+use Rattle.machine_model.specs.Variables.{children_plan}
 use Rattle.stop_refs.specs.Numbers.{InHand}
 
 -- what an item sees: the facts that were learnt, and what was asked for it
@@ -45,6 +48,8 @@ threads_plan = chained (asking threads_in (Want.Must questions.AllThreads)) name
 abbrev pub plan : Lookup → State → Plan Finding
 plan all_threads state = threads_plan
 plan (thread_frames thread start levels) state = frames_plan state thread start levels
+plan (container_children thing filter start count) state =
+    children_plan state.options.shows_types thing filter start count
 plan class_facts state =
     made_with classes_found (classes_plan state.unlisted state.wishes.wanted (found_in state.classes))
 
@@ -56,44 +61,46 @@ found_for lookup state hand = need (sight_of state hand) (plan lookup state)
 abbrev pub refusal : ℕ → Failure
 refusal code = cond (code == 10) unknown_thread (target_error code)
 
--- the response that shows threads
-abbrev pub threads_shown : Finding → Outcome
-threads_shown (threads_found named) = Success (thread_list named)
-threads_shown (classes_found classes) = Success Nothing
-threads_shown (frames_found total frames) = Success Nothing
-
-abbrev pub threads_outcome : Result Finding → Outcome
-threads_outcome (gave finding) = threads_shown finding
-threads_outcome (refused code) = Failed (refusal code)
-
 -- the classes that were found
 abbrev pub classes_of : Result Finding → List ClassId
 classes_of (gave (threads_found named)) = []
 classes_of (gave (classes_found classes)) = classes
 classes_of (gave (frames_found total frames)) = []
+classes_of (gave (variables_found shown)) = []
 classes_of (refused code) = []
 
--- The response that shows frames; where too few numbers are left it fails (DAP specification, StackTrace request; Types,
--- StackFrame, id).
-abbrev pub frames_shown : Finding → InHand → Outcome
-frames_shown (threads_found named) numbers = Success Nothing
-frames_shown (classes_found classes) numbers = Success Nothing
-frames_shown (frames_found total frames) numbers =
-    cond (has_room frames numbers) (Success (frame_list total frames)) (Failed references_spent)
+-- what a response shows that was found
+abbrev pub body_of : Finding → Body
+body_of (threads_found named) = thread_list named
+body_of (classes_found classes) = Nothing
+body_of (frames_found total frames) = frame_list total frames
+body_of (variables_found shown) = variable_list shown
 
-abbrev pub frames_outcome : Result Finding → InHand → Outcome
-frames_outcome (gave finding) numbers = frames_shown finding numbers
-frames_outcome (refused code) numbers = Failed (refusal code)
+-- the response that shows threads
+abbrev pub threads_outcome : Result Finding → Outcome
+threads_outcome (gave finding) = Success (body_of finding)
+threads_outcome (refused code) = Failed (refusal code)
+
+-- One that tells numbers; where too few are left it fails (DAP specification, Types, StackFrame, id; Types, Variable,
+-- variablesReference).
+abbrev pub shown_by : InHand → Body → Outcome
+shown_by numbers body = cond (has_room (things_of body) numbers) (Success body) (Failed references_spent)
+
+abbrev pub outcome_by : InHand → Result Finding → Outcome
+outcome_by numbers (gave finding) = shown_by numbers (body_of finding)
+outcome_by numbers (refused code) = Failed (refusal code)
 
 -- the parts that a result becomes
 abbrev pub finished : Lookup → Result Finding → State → List Part
 finished all_threads result state = Part.Responds (threads_outcome result) ∷ []
-finished (thread_frames thread start levels) result state =
-    Part.Responds (frames_outcome result state.numbers) ∷ []
+finished (thread_frames thread start levels) result state = Part.Responds (outcome_by state.numbers result) ∷ []
+finished (container_children thing filter start count) result state =
+    Part.Responds (outcome_by state.numbers result) ∷ []
 finished class_facts result state = Part.Notes (Classes (classes_of result)) ∷ []
 
 -- whether they bring the response
 abbrev pub lookup_responds : Lookup → Bool
 lookup_responds all_threads = true
 lookup_responds (thread_frames thread start levels) = true
+lookup_responds (container_children thing filter start count) = true
 lookup_responds class_facts = false

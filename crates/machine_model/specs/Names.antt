@@ -2,7 +2,7 @@
 pub use Rattle.dap_messages.specs.declared.requests.Command.{Command}
 pub use Rattle.dap_messages.specs.declared.requests.Command.TheVariants.{Initialize, Attach, ConfigurationDone}
 pub use Rattle.dap_messages.specs.declared.requests.Command.TheVariants.{SetBreakpoints, Threads, Continue, Pause}
-pub use Rattle.dap_messages.specs.declared.requests.Command.TheVariants.{StackTrace}
+pub use Rattle.dap_messages.specs.declared.requests.Command.TheVariants.{StackTrace, Scopes, Variables}
 pub use Rattle.dap_messages.specs.declared.requests.Command.TheVariants.{Disconnect, Unsupported, BadArguments}
 pub use Rattle.dap_messages.specs.declared.requests.Request.{Request}
 pub use Rattle.dap_messages.specs.declared.told.Failure.{Failure}
@@ -36,6 +36,7 @@ pub use Rattle.machine_model.specs.declared.parts.Body.TheVariants.{Nothing, Cap
 pub use Rattle.machine_model.specs.declared.parts.Body.TheVariants.{Breakpoints as breakpoint_list}
 pub use Rattle.machine_model.specs.declared.parts.Body.TheVariants.{Threads as thread_list, Continued}
 pub use Rattle.machine_model.specs.declared.parts.Body.TheVariants.{StackFrames as frame_list}
+pub use Rattle.machine_model.specs.declared.parts.Body.TheVariants.{Scopes as scope_list, Variables as variable_list}
 pub use Rattle.machine_model.specs.declared.parts.Choice.{Choice}
 pub use Rattle.machine_model.specs.declared.parts.Choice.TheVariants.{TellsNews, Decides, Leaves}
 pub use Rattle.machine_model.specs.declared.parts.Deed.{Deed}
@@ -47,6 +48,7 @@ pub use Rattle.machine_model.specs.declared.parts.Finding.{Finding}
 pub use Rattle.machine_model.specs.declared.parts.Finding.TheVariants.{Threads as threads_found}
 pub use Rattle.machine_model.specs.declared.parts.Finding.TheVariants.{Classes as classes_found}
 pub use Rattle.machine_model.specs.declared.parts.Finding.TheVariants.{Frames as frames_found}
+pub use Rattle.machine_model.specs.declared.parts.Finding.TheVariants.{Variables as variables_found}
 pub use Rattle.machine_model.specs.declared.parts.Finish.{Finish}
 pub use Rattle.machine_model.specs.declared.parts.Finish.TheVariants.{Done, OneThread}
 pub use Rattle.machine_model.specs.declared.parts.Guard.{Guard}
@@ -56,6 +58,7 @@ pub use Rattle.machine_model.specs.declared.parts.Lookup.{Lookup}
 pub use Rattle.machine_model.specs.declared.parts.Lookup.TheVariants.{Threads as all_threads}
 pub use Rattle.machine_model.specs.declared.parts.Lookup.TheVariants.{Classes as class_facts}
 pub use Rattle.machine_model.specs.declared.parts.Lookup.TheVariants.{Frames as thread_frames}
+pub use Rattle.machine_model.specs.declared.parts.Lookup.TheVariants.{Variables as container_children}
 pub use Rattle.machine_model.specs.declared.parts.NamedThread.{NamedThread}
 pub use Rattle.machine_model.specs.declared.parts.News.{News}
 pub use Rattle.machine_model.specs.declared.parts.News.TheVariants.{Verified as entry_verified}
@@ -66,7 +69,9 @@ pub use Rattle.machine_model.specs.declared.parts.Note.TheVariants.{EntryHeld, C
 pub use Rattle.machine_model.specs.declared.parts.Outcome.{Outcome}
 pub use Rattle.machine_model.specs.declared.parts.Outcome.TheVariants.{Success, Failure as Failed}
 pub use Rattle.machine_model.specs.declared.parts.Part.{Part}
+pub use Rattle.machine_model.specs.declared.parts.Seen.{Seen}
 pub use Rattle.machine_model.specs.declared.parts.ShownFrame.{ShownFrame}
+pub use Rattle.machine_model.specs.declared.parts.ShownVariable.{ShownVariable}
 pub use Rattle.machine_model.specs.declared.parts.Spot.{Spot}
 pub use Rattle.machine_model.specs.declared.parts.StopCause.{StopCause}
 pub use Rattle.machine_model.specs.declared.parts.StopCause.TheVariants.{Hit, Pause as by_client}

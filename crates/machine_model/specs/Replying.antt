@@ -16,7 +16,7 @@ use Rattle.jdwp_values.specs.Sizes.{is_no_size}
 use Rattle.jdwp_values.specs.declared.sizes.IdSizes.{IdSizes}
 use Rattle.machine_model.specs.Classes.{classes_in, with_listed}
 use Rattle.machine_model.specs.Facts.{above_in, fact_known, fields_in, lines_in, methods_in, source_in, variables_in}
-use Rattle.machine_model.specs.Names.{Answer, Clear, Deed, Dispose, Does, Doing, Effect, Exit, Gone, Phase, Question}
+use Rattle.machine_model.specs.Names.{Answer, Clear, Deed, Dispose, Does, Doing, Effect, Exit, Phase, Question}
 use Rattle.machine_model.specs.Names.{Replied, Resume, Sent, Set, Suspend, TargetCommand, Want, a_question, an_answer}
 use Rattle.machine_model.specs.Names.{an_effect, an_error, target_end}
 use Rattle.machine_model.specs.Plans.{answer_in, asks_for, question_of}

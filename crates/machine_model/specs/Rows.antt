@@ -1,26 +1,32 @@
 -- What each item does, part by part (DAP specification, Requests; JDWP, Event command set, Composite).
 use Rattle.std.specs.Prelude.{ℕ, ◌+◌, ◌-◌, ◌==◌, ◌∷◌, ◌++◌, ◌||◌, Bool, true, false, cond, List, [], length, map}
-use Rattle.std.specs.Prelude.{Option, None, Some, slice_get}
+use Rattle.std.specs.Prelude.{Option, None, Some, Result, Ok, Err, slice_get}
 use Rattle.class_tables.specs.Lookups.{found_in}
 use Rattle.dap_messages.specs.Telling.{already_attached, bad_arguments, not_attached, not_stopped, target_gone}
 use Rattle.dap_messages.specs.Telling.{unknown_thread, unsupported}
 use Rattle.dap_messages.specs.declared.requests.InitializeArguments.{InitializeArguments}
 use Rattle.dap_messages.specs.declared.requests.StackTraceArguments.{StackTraceArguments}
+use Rattle.dap_messages.specs.declared.requests.VariablesArguments.{VariablesArguments}
 use Rattle.machine_model.specs.Breakpoints.{entry_of, key_of, lines_wished, newly_verified, numbered_from}
 use Rattle.machine_model.specs.Composites.{changes_in, composite_parts, has_death, learnt_by}
 use Rattle.machine_model.specs.Frames.{with_path}
-use Rattle.machine_model.specs.Lookups.{lookup_responds}
+use Rattle.machine_model.specs.Lookups.{lookup_responds, shown_by}
 use Rattle.machine_model.specs.Names.{Attach, Attached, BadArguments, Capabilities, Choice, Classes, ClientOptions}
 use Rattle.machine_model.specs.Names.{Command, ConfigurationDone, Configured, Continue, Continued, Decides, Deed}
 use Rattle.machine_model.specs.Names.{Disconnect, Dispose, Done, EntryHeld, Exit, Failed, Failure, Fresh, Gone}
 use Rattle.machine_model.specs.Names.{Handshake, IdSizes, Initialize, Initialized, Item, Leaves, Lines}
 use Rattle.machine_model.specs.Names.{ListedBreakpoint, News, Note, Nothing, Options, Part, Pause, Phase, Resume, Roots}
-use Rattle.machine_model.specs.Names.{SetBreakpoints, StackTrace, Success, Suspend, TellsNews, Terminated, ThreadId}
+use Rattle.machine_model.specs.Names.{Scopes, SetBreakpoints, StackTrace, Success, Suspend, TellsNews, Terminated, ThreadId}
 use Rattle.machine_model.specs.Names.{Threads, Unsupported, a_composite, a_raw, a_request, a_stop, all_threads, breakpoint_list}
 use Rattle.machine_model.specs.Names.{by_client, class_facts, entry_verified, of_entry, of_stop, some_news, target_end}
-use Rattle.machine_model.specs.Names.{thread_frames}
+use Rattle.machine_model.specs.Names.{Variables, container_children, scope_list, thread_frames}
 use Rattle.machine_model.specs.State.{Hand, State, is_some}
 use Rattle.machine_model.specs.Stops.{decided}
+use Rattle.machine_model.specs.Variables.{reference_failure}
+use Rattle.stop_refs.specs.Numbers.{InHand, container, frame}
+use Rattle.stop_refs.specs.declared.fault.RefFault.{RefFault}
+use Rattle.stop_refs.specs.declared.thing.FrameThing.{FrameThing}
+use Rattle.stop_refs.specs.declared.thing.Thing.{Thing}
 use Rattle.wish_sets.specs.Wanted.{with_known}
 use Rattle.wish_sets.specs.Wishes.{rewished}
 
@@ -75,6 +81,17 @@ stack_parts None arguments = Part.Responds (Failed unknown_thread) ∷ []
 stack_parts (Some thread) arguments =
     Part.Looks (thread_frames thread arguments.start_frame arguments.levels) ∷ []
 
+-- the one scope of a frame: its variables (DAP specification, Scopes request)
+abbrev pub scopes_parts : InHand → Result FrameThing RefFault → List Part
+scopes_parts numbers (Ok frame) = Part.Responds (shown_by numbers (scope_list frame)) ∷ []
+scopes_parts numbers (Err fault) = Part.Responds (Failed (reference_failure fault)) ∷ []
+
+-- the children of a container (DAP specification, Variables request)
+abbrev pub variables_parts : VariablesArguments → Result Thing RefFault → List Part
+variables_parts arguments (Ok thing) =
+    Part.Looks (container_children thing arguments.filter arguments.start arguments.count) ∷ []
+variables_parts arguments (Err fault) = Part.Responds (Failed (reference_failure fault)) ∷ []
+
 -- the table of requests
 abbrev pub row_of : Command → State → List Part
 row_of (Initialize arguments) state =
@@ -90,6 +107,9 @@ row_of Threads state = Part.Looks all_threads ∷ []
 row_of (Continue arguments) state = continue_parts (thread_with state.threads arguments.thread_id)
 row_of (Pause arguments) state = pause_parts state.stopped (thread_with state.threads arguments.thread_id)
 row_of (StackTrace arguments) state = stack_parts (thread_with state.threads arguments.thread_id) arguments
+row_of (Scopes arguments) state = scopes_parts state.numbers (frame arguments.frame_id state.numbers)
+row_of (Variables arguments) state =
+    variables_parts arguments (container arguments.variables_reference state.numbers)
 row_of (Disconnect arguments) state =
     Part.Unfolds (Leaves arguments.terminate_debuggee) ∷ Part.Responds (Success Nothing) ∷ Part.Ends Done ∷ []
 row_of Unsupported state = Part.Responds (Failed unsupported) ∷ []
@@ -112,6 +132,8 @@ wanting Threads = wants_target
 wanting (Continue arguments) = wants_stop
 wanting (Pause arguments) = wants_target
 wanting (StackTrace arguments) = wants_stop
+wanting (Scopes arguments) = wants_target
+wanting (Variables arguments) = wants_target
 wanting (Disconnect arguments) = wants_nothing
 wanting Unsupported = wants_nothing
 wanting (BadArguments name) = wants_nothing

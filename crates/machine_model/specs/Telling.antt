@@ -12,12 +12,17 @@ use Rattle.dap_messages.specs.declared.told.StopReason.TheVariants as reasons
 use Rattle.dap_messages.specs.declared.told.Thread.{Thread}
 use Rattle.jdwp_values.specs.Lossy.{lossy}
 use Rattle.machine_model.specs.Breakpoints.{breakpoint_told, verified_told, with_id, with_told}
-use Rattle.machine_model.specs.Frames.{frame_told, with_frames}
+use Rattle.machine_model.specs.Frames.{frame_told}
 use Rattle.machine_model.specs.Names.{Attached, Body, Capabilities, Continued, Event, Failed, Fresh, Gone, Hit}
 use Rattle.machine_model.specs.Names.{Initialized, NamedThread, News, Nothing, Outcome, Phase, Request, StopCause, Success}
 use Rattle.machine_model.specs.Names.{Terminated, ThreadId, Told, a_response, a_stop, breakpoint_list, by_client}
-use Rattle.machine_model.specs.Names.{entry_verified, frame_list, some_news, thread_changed, thread_list}
+use Rattle.machine_model.specs.Names.{entry_verified, frame_list, scope_list, some_news, thread_changed, thread_list}
+use Rattle.machine_model.specs.Names.{variable_list}
+use Rattle.machine_model.specs.References.{things_of, with_things}
 use Rattle.machine_model.specs.State.{State, lost}
+use Rattle.machine_model.specs.Variables.{variable_told}
+use Rattle.stop_refs.specs.Numbers.{number_of, with_thing}
+use Rattle.stop_refs.specs.declared.thing.Thing.TheVariants.{Locals as some_locals}
 use Rattle.wish_sets.specs.Entries.{entries_at}
 use Rattle.wish_sets.specs.declared.entry.EntryAt.{EntryAt}
 
@@ -50,7 +55,11 @@ numbered Capabilities state = state
 numbered (breakpoint_list rooted listed) state =
     record state { bound = with_told state.bound (map (breakpoint_told rooted state.wishes) listed) }
 numbered Continued state = state
-numbered (frame_list total frames) state = record state { numbers = with_frames frames state.numbers }
+numbered (frame_list total frames) state =
+    record state { numbers = with_things (things_of (frame_list total frames)) state.numbers }
+numbered (scope_list frame) state = record state { numbers = with_thing (some_locals frame) state.numbers }
+numbered (variable_list shown) state =
+    record state { numbers = with_things (things_of (variable_list shown)) state.numbers }
 numbered (thread_list named) state = record state { threads = with_threads state.threads named }
 
 -- a thread as it is told, its name as text (DAP specification, Types, Thread)
@@ -66,6 +75,8 @@ body_told (breakpoint_list rooted listed) state =
 body_told Continued state = shapes.Continued
 body_told (frame_list total frames) state =
     shapes.StackFrames (map (frame_told state.options state.numbers) frames) total
+body_told (scope_list frame) state = shapes.Scopes (number_of (some_locals frame) state.numbers)
+body_told (variable_list shown) state = shapes.Variables (map (variable_told state.numbers) shown)
 body_told (thread_list named) state = shapes.Threads (map (thread_told state.threads) named)
 
 abbrev pub numbered_by : Outcome → State → State

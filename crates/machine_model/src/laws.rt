@@ -5,7 +5,7 @@ ghost use Rattle.machine_model.specs.Binding.{Binds};
 ghost use Rattle.machine_model.specs.BreakpointEvents.{TellsAll, TellsVerified};
 ghost use Rattle.machine_model.specs.EventRequests.{AsReplied, Once, Settles, Stands};
 ghost use Rattle.machine_model.specs.Events.{Events};
-ghost use Rattle.machine_model.specs.FrameNumbers.{NumbersFrames};
+ghost use Rattle.machine_model.specs.Harmless.{Harmless};
 ghost use Rattle.machine_model.specs.Ids.{Ids};
 ghost use Rattle.machine_model.specs.Knowing.{Knows};
 ghost use Rattle.machine_model.specs.Leaving.{Disconnects, Farewells, Greetings};
@@ -14,6 +14,7 @@ ghost use Rattle.machine_model.specs.Outcomes.{Outcomes};
 ghost use Rattle.machine_model.specs.Pending.{Pends, Windows};
 ghost use Rattle.machine_model.specs.PlanLaws.{Errors, Wants, Worlds};
 ghost use Rattle.machine_model.specs.Questions.{Questions};
+ghost use Rattle.machine_model.specs.ReferenceNumbers.{NumbersReferences};
 ghost use Rattle.machine_model.specs.Responses.{Responses, Rests};
 ghost use Rattle.machine_model.specs.Spelling.{Spells};
 ghost use Rattle.machine_model.specs.Stopping.{TellsStops, UndoesSurplus};
@@ -131,6 +132,13 @@ pub fn nothing_is_asked_but_what_is_lacking()
     ensures { Questions }
 {}
 
+/// No question about null is asked, which may end the target's process: none about object 0, and not which class the class
+/// 0 extends. Nor is one asked for nothing: for no frame, no element, no field or no slot (JDWP, Detailed Command
+/// Information).
+pub fn nothing_is_asked_of_null()
+    ensures { Harmless }
+{}
+
 /// Where the machine waits and the window has room, each question that the part in front lacks was asked; and it
 /// awaits a reply where anything is lacking.
 pub fn all_that_is_lacking_was_asked()
@@ -148,11 +156,11 @@ pub fn what_is_known_is_what_messages_say()
     ensures { Knows }
 {}
 
-/// Frames are numbered 1, 2, 3 as they are first told in a stop. A number is told again in its stop alone: once the Resume
-/// that ends the stop is sent, no number below the next one is told any more (DAP specification, StackTrace request;
-/// Overview, Lifetime of Objects References).
-pub fn frames_are_numbered_as_they_are_told()
-    ensures { NumbersFrames }
+/// Frames and containers are numbered 1, 2, 3 as they are first told in a stop. A number is told again in its stop alone:
+/// once the Resume that ends the stop is sent, no number below the next one is told any more (DAP specification, Overview,
+/// Lifetime of Objects References; StackTrace, Scopes and Variables requests).
+pub fn references_are_numbered_as_they_are_told()
+    ensures { NumbersReferences }
 {}
 
 /// Until the target is gone, the client is served with the options that the last `initialize` which has its response

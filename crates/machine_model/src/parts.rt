@@ -1,9 +1,9 @@
 //! What an item does, part by part.
 
 use crate::options::ClientOptions;
-use dap_messages::{Failure, Source};
+use dap_messages::{Failure, Filter, Source};
 use jdwp_values::{ClassId, Location, ThreadId};
-use stop_refs::FrameThing;
+use stop_refs::{FrameThing, Thing};
 use wire_core::{Blob, List, Text};
 use wish_sets::LineEntry;
 
@@ -40,6 +40,23 @@ pub struct ShownFrame {
     pub spot: Option<Spot>,
 }
 
+/// A value as it is shown: its text, its type where the client asked for types, its length where it is an array, and the
+/// container that it is, if it has children (DAP specification, Types, Variable).
+#[derive(Debug, Drop)]
+pub struct Seen {
+    pub text: Text,
+    pub kind: Option<Text>,
+    pub indexed: Option<u32>,
+    pub thing: Option<Thing>,
+}
+
+/// A child of a container, by its name, and its value (DAP specification, Types, Variable).
+#[derive(Debug, Drop)]
+pub struct ShownVariable {
+    pub name: Text,
+    pub seen: Seen,
+}
+
 /// What a response that succeeds shows, by the target's ids; its numbers are given when it is told.
 #[derive(Debug, Drop)]
 pub enum Body {
@@ -57,6 +74,10 @@ pub enum Body {
         total: u32,
         frames: List<ShownFrame>,
     },
+    /// The one scope of a frame: its variables.
+    Scopes(FrameThing),
+    /// Children of a container.
+    Variables(List<ShownVariable>),
     /// The whole target runs on.
     Continued,
 }
@@ -132,6 +153,14 @@ pub enum Lookup {
         start: u32,
         levels: u32,
     },
+    /// Children of a container, from this one on, and so many at most, where 0 is all (DAP specification, Variables
+    /// request).
+    Variables {
+        thing: Thing,
+        filter: Filter,
+        start: u32,
+        count: u32,
+    },
     /// What has to be known of classes before breakpoints are bound in them: all classes, where a watch was set since
     /// they were listed; the source of each that is prepared and watched; and the methods and lines of those whose
     /// source is listed (JDWP, VirtualMachine command set, AllClasses; JDWP, ReferenceType command set, SourceFile and
@@ -148,6 +177,8 @@ pub enum Finding {
         total: u32,
         frames: List<ShownFrame>,
     },
+    /// Children of a container.
+    Variables(List<ShownVariable>),
     /// The classes whose source is listed.
     Classes(List<ClassId>),
 }

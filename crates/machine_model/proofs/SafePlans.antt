@@ -1,0 +1,257 @@
+-- Look-ups other than that of classes list no classes, and ask nothing of null: by row what its plan may want.
+use Rattle.std.proofs.Common.{◌==◌, ◌&&◌, ℕ, zero, suc, pos, Bool, true, false, List, [], ◌∷◌, ◌++◌, None, refl}
+use Rattle.std.specs.List.{list_any}
+use Rattle.dap_messages.specs.declared.requests.Filter.{Filter}
+use Rattle.dap_messages.specs.declared.requests.Filter.TheVariants.{Both, Indexed, Named}
+use Rattle.jdwp_commands.specs.declared.listed.Frame.{Frame}
+use Rattle.jdwp_commands.specs.declared.listed.Slot.{Slot}
+use Rattle.jdwp_commands.specs.declared.question.Question.TheVariants as questions
+use Rattle.jdwp_values.specs.Lossy.{lossy}
+use Rattle.jdwp_values.specs.declared.id.FieldId.{FieldId}
+use Rattle.jdwp_values.specs.declared.value.Value.{Value}
+use Rattle.jdwp_values.specs.declared.value.Value.TheVariants as values
+use Rattle.machine_model.specs.Children.{Child, FieldOf, above_plan, chain, chain_fields, class_fields, field_plan}
+use Rattle.machine_model.specs.Children.{fields_named, fields_plan, listed_variables, locals_plan}
+use Rattle.machine_model.specs.Children.{name_plan as field_name_plan, object_fields, of_classes, of_field, reach}
+use Rattle.machine_model.specs.Children.{this_in, this_plan, variables_plan, visible_at, visible_plan, with_class}
+use Rattle.machine_model.specs.Children.{with_this}
+use Rattle.machine_model.specs.Facts.{above_in, fields_in, signature_in}
+use Rattle.machine_model.specs.Frames.{count_from, count_in, counted_plan, frame_plan, frame_shown, frames_from}
+use Rattle.machine_model.specs.Frames.{frames_plan, lines_plan as lines_of, methods_plan as methods_of, shown_plan}
+use Rattle.machine_model.specs.Frames.{signature_plan as signature_of, source_plan as source_of}
+use Rattle.machine_model.specs.Harmless.{is_harmless}
+use Rattle.machine_model.specs.Lookups.{name_plan, names_plan, threads_in, threads_plan}
+use Rattle.machine_model.specs.Names.{ClassId, ThreadId, Want, frames_found, variables_found}
+use Rattle.machine_model.specs.Plans.{Plan, asking, both, chained, each, gives, question_of}
+use Rattle.machine_model.specs.State.{State}
+use Rattle.machine_model.specs.Values.{Declared, Valued, array_plan, array_seen, by_id, class_in, class_plan as class_of}
+use Rattle.machine_model.specs.Values.{declared_plan, element_of, element_plan, is_signature, length_in, length_plan}
+use Rattle.machine_model.specs.Values.{null_plan, object_plan, object_seen, seen_by, seen_plan, string_plan, string_seen}
+use Rattle.machine_model.specs.Values.{text_in, text_plan, type_if, type_plan, typed}
+use Rattle.machine_model.specs.Variables.{child_plan, children_plan, elements_page, elements_plan, elements_valued}
+use Rattle.machine_model.specs.Variables.{field_values, fields_of, fields_page, fields_valued, locals_page, locals_valued}
+use Rattle.machine_model.specs.Variables.{page, page_plan, shown_as, shown_plan as values_shown, slots_of, slots_plan}
+use Rattle.machine_model.specs.Variables.{values_in, with_known}
+use Rattle.machine_model.proofs.BindingPlans.{AllWants, asks, chains, every, makes, wants_other}
+use Rattle.stop_refs.specs.declared.thing.FrameThing.{FrameThing}
+use Rattle.stop_refs.specs.declared.thing.Thing.{Thing}
+use Rattle.stop_refs.specs.declared.thing.Thing.TheVariants as things
+
+-- a want lists no classes, and asks nothing of null
+abbrev pub is_safe : Want → Bool
+is_safe want = wants_other want && is_harmless (question_of want)
+
+abbrev Safe : {A : Type 0} → Plan A → Type 0
+Safe p = AllWants is_safe p
+
+gives_safe : {A : Type 0} (a : A) → Safe (gives a)
+unfolding AllWants
+gives_safe a = tt
+
+both_safe : {A B : Type 0} (p : Plan A) (q : Plan B) → Safe p → Safe q → Safe (both p q)
+unfolding AllWants
+both_safe p q h k = (h, k, λ two. tt)
+
+-- Threads and frames --------------------------------------------------------------------------------------------------
+
+pub threads_safe : Safe threads_plan
+threads_safe = chains is_safe (asking threads_in (Want.Must questions.AllThreads)) names_plan
+    (asks is_safe threads_in (Want.Must questions.AllThreads) refl)
+    (λ threads. makes is_safe _ (each name_plan threads)
+    (every is_safe name_plan (λ thread. asks is_safe _ (Want.May (questions.ThreadName thread)) refl) threads))
+
+signature_safe : (class : ClassId) → Safe (signature_of class)
+signature_safe class = asks is_safe signature_in (Want.Fact (questions.Signature class)) refl
+
+frame_safe : (state : State) (thread : ThreadId) (frame : Frame) → Safe (frame_plan state thread frame)
+unfolding AllWants
+frame_safe state thread frame = makes is_safe (frame_shown state thread frame)
+    (both (both (signature_of frame.at.class) (source_of frame.at.class))
+    (both (methods_of frame.at.class) (lines_of frame.at.class frame.at.method)))
+    (((refl, λ heard. tt), (refl, λ heard. tt), λ two. tt), ((refl, λ heard. tt), (refl, λ heard. tt), λ two. tt), λ two. tt)
+
+from_safe : (thread : ThreadId) (start count : ℕ) → Safe (frames_from thread start count)
+from_safe thread start zero = gives_safe []
+from_safe thread start (suc count) =
+    asks is_safe _ (Want.Must (questions.Frames thread (pos start) (pos (suc count)))) refl
+
+pub frames_safe : (state : State) (thread : ThreadId) (start levels : ℕ) → Safe (frames_plan state thread start levels)
+frames_safe state thread start levels = chains is_safe (asking count_in (Want.Must (questions.FrameCount thread)))
+    (counted_plan state thread start levels)
+    (asks is_safe count_in (Want.Must (questions.FrameCount thread)) refl)
+    (λ total. chains is_safe (frames_from thread start (count_from total start levels))
+    (shown_plan state thread total) (from_safe thread start (count_from total start levels))
+    (λ frames. makes is_safe (frames_found total) (each (frame_plan state thread) frames)
+    (every is_safe (frame_plan state thread) (frame_safe state thread) frames)))
+
+-- Values --------------------------------------------------------------------------------------------------------------
+
+class_safe : (id : ℕ) → Safe (class_of (suc id))
+class_safe id = asks is_safe class_in (Want.Must (questions.ObjectType (record { 0 = suc id }))) refl
+
+type_safe : (id : ℕ) → Safe (type_plan (suc id))
+type_safe id = chains is_safe (class_of (suc id)) signature_of (class_safe id) signature_safe
+
+length_safe : (id : ℕ) → Safe (length_plan (suc id))
+length_safe id = asks is_safe length_in (Want.Must (questions.ArrayLength (record { 0 = suc id }))) refl
+
+text_safe : (id : ℕ) → Safe (text_plan (suc id))
+text_safe id = asks is_safe text_in (Want.Must (questions.StringValue (record { 0 = suc id }))) refl
+
+by_id_safe : {A : Type 0} (id : ℕ) (none : Plan A) (some : ℕ → Plan A) → Safe none → ((id : ℕ) → Safe (some (suc id)))
+    → Safe (by_id id none some)
+by_id_safe zero none some h k = h
+by_id_safe (suc id) none some h k = k id
+
+declared_safe : (declared : Declared) → Safe (declared_plan declared)
+declared_safe (is_signature signature) = gives_safe signature
+declared_safe (element_of id) = by_id_safe id (gives []) element_plan (gives_safe [])
+    (λ id. makes is_safe _ (type_plan (suc id)) (type_safe id))
+
+typed_safe : (types : Bool) (p : Plan (List ℕ)) → Safe p → Safe (typed types p)
+typed_safe false p h = gives_safe None
+typed_safe true p h = makes is_safe (type_if true) p h
+
+null_safe : (types : Bool) (v : Valued) → Safe (null_plan types v)
+null_safe types v = makes is_safe _ (typed types (declared_plan v.declared))
+    (typed_safe types (declared_plan v.declared) (declared_safe v.declared))
+
+string_safe : (types : Bool) (value : Value) (id : ℕ) → Safe (string_plan types value (suc id))
+string_safe types value id = makes is_safe (string_seen value) (both (text_plan (suc id)) (typed types (type_plan (suc id))))
+    (both_safe (text_plan (suc id)) (typed types (type_plan (suc id))) (text_safe id)
+    (typed_safe types (type_plan (suc id)) (type_safe id)))
+
+array_safe : (types : Bool) (value : Value) (id : ℕ) → Safe (array_plan types value (suc id))
+array_safe types value id = makes is_safe (array_seen types value (suc id)) (both (type_plan (suc id)) (length_plan (suc id)))
+    (both_safe (type_plan (suc id)) (length_plan (suc id)) (type_safe id) (length_safe id))
+
+object_safe : (types : Bool) (value : Value) (id : ℕ) → Safe (object_plan types value (suc id))
+object_safe types value id = makes is_safe (object_seen types value (suc id)) (type_plan (suc id)) (type_safe id)
+
+seen_safe : (types : Bool) (v : Valued) → Safe (seen_plan types v)
+seen_safe types v = by_value v.value
+  where
+    by_value : (value : Value) → Safe (seen_by types v value)
+    by_value (values.Object o) = by_id_safe o.0 _ _ (null_safe types v) (object_safe types v.value)
+    by_value (values.Array o) = by_id_safe o.0 _ _ (null_safe types v) (array_safe types v.value)
+    by_value (values.String o) = by_id_safe o.0 _ _ (null_safe types v) (string_safe types v.value)
+    by_value (values.Thread o) = by_id_safe o.0 _ _ (null_safe types v) (object_safe types v.value)
+    by_value (values.ThreadGroup o) = by_id_safe o.0 _ _ (null_safe types v) (object_safe types v.value)
+    by_value (values.ClassLoader o) = by_id_safe o.0 _ _ (null_safe types v) (object_safe types v.value)
+    by_value (values.ClassObject o) = by_id_safe o.0 _ _ (null_safe types v) (object_safe types v.value)
+    by_value (values.Byte x) = gives_safe _
+    by_value (values.Char x) = gives_safe _
+    by_value (values.Double x) = gives_safe _
+    by_value (values.Float x) = gives_safe _
+    by_value (values.Int x) = gives_safe _
+    by_value (values.Long x) = gives_safe _
+    by_value (values.Short x) = gives_safe _
+    by_value (values.Boolean x) = gives_safe _
+    by_value values.Void = gives_safe _
+
+-- Children ------------------------------------------------------------------------------------------------------------
+
+locals_safe : (f : FrameThing) → Safe (locals_plan f)
+locals_safe f = makes is_safe with_this (both (this_plan f) (visible_plan f))
+    (both_safe (this_plan f) (visible_plan f)
+    (asks is_safe this_in (Want.Must (questions.ThisObject f.thread f.frame)) refl)
+    (makes is_safe (visible_at f.at.index) (variables_plan f.at.class f.at.method)
+    (asks is_safe listed_variables (Want.Fact (questions.VariableTable f.at.class f.at.method)) refl)))
+
+chain_safe : (steps : ℕ) (met : List ℕ) (class : ℕ) → Safe (chain steps met class)
+unfolding chain
+chain_safe zero met class = gives_safe met
+chain_safe (suc steps) met zero = gives_safe met
+chain_safe (suc steps) met (suc class) =
+    by_met (list_any (λ other. other == suc class) met) (chain_safe steps (met ++ suc class ∷ []))
+  where
+    by_met : (is : Bool) → ((above : ℕ) → Safe (chain steps (met ++ suc class ∷ []) above)) → Safe (elim is [
+      | true ↦ gives met
+      | false ↦ chained (above_plan (suc class)) (λ above. chain steps (met ++ suc class ∷ []) above.0)
+    ])
+    by_met true behind = gives_safe met
+    by_met false behind = chains is_safe (above_plan (suc class)) (λ above. chain steps (met ++ suc class ∷ []) above.0)
+        (asks is_safe above_in (Want.Fact (questions.Superclass (record { 0 = suc class }))) refl)
+        (λ above. behind above.0)
+
+class_fields_safe : (class : ℕ) → Safe (class_fields class)
+class_fields_safe class = makes is_safe _ (fields_plan class)
+    (asks is_safe fields_in (Want.Fact (questions.Fields (record { 0 = class }))) refl)
+
+field_safe : (f : FieldOf) → Safe (field_plan f)
+field_safe f = makes is_safe (of_field f.field) (field_name_plan f.class (lossy f.field.name) f.is_met) (by_met f.is_met)
+  where
+    by_met : (met : Bool) → Safe (field_name_plan f.class (lossy f.field.name) met)
+    by_met false = gives_safe _
+    by_met true = makes is_safe (with_class (lossy f.field.name)) (signature_of (record { 0 = f.class }))
+        (signature_safe (record { 0 = f.class }))
+
+object_fields_safe : (id : ℕ) → Safe (object_fields (suc id))
+object_fields_safe id = chains is_safe (chained (class_of (suc id)) chain_fields) fields_named
+    (chains is_safe (class_of (suc id)) chain_fields (class_safe id)
+    (λ class. chains is_safe (chain reach [] class.0) (each class_fields) (chain_safe reach [] class.0)
+    (every is_safe class_fields class_fields_safe)))
+    (λ classes. every is_safe field_plan field_safe (of_classes [] classes))
+
+-- Pages ---------------------------------------------------------------------------------------------------------------
+
+slots_safe : (f : FrameThing) (slots : List Slot) → Safe (slots_plan f slots)
+slots_safe f [] = gives_safe []
+slots_safe f (slot ∷ slots) =
+    asks is_safe values_in (Want.Must (questions.GetSlots f.thread f.frame (slot ∷ slots))) refl
+
+field_values_safe : (id : ℕ) (fields : List FieldId) → Safe (field_values (suc id) fields)
+field_values_safe id [] = gives_safe []
+field_values_safe id (field ∷ fields) =
+    asks is_safe values_in (Want.Must (questions.GetFields (record { 0 = suc id }) (field ∷ fields))) refl
+
+elements_safe : (id start count : ℕ) → Safe (elements_plan (suc id) start count)
+elements_safe id start zero = gives_safe []
+elements_safe id start (suc count) =
+    asks is_safe values_in (Want.Must (questions.GetElements (record { 0 = suc id }) (pos start) (pos (suc count)))) refl
+
+locals_page_safe : (f : FrameThing) (start count : ℕ) → Safe (locals_page f start count)
+locals_page_safe f start count = chains is_safe (locals_plan f)
+    (λ children. locals_valued f (page start count children)) (locals_safe f)
+    (λ children. makes is_safe (with_known (page start count children)) (slots_plan f (slots_of (page start count children)))
+    (slots_safe f (slots_of (page start count children))))
+
+fields_page_safe : (start count id : ℕ) → Safe (fields_page start count (suc id))
+fields_page_safe start count id = chains is_safe (object_fields (suc id))
+    (λ children. fields_valued (suc id) (page start count children)) (object_fields_safe id)
+    (λ children. makes is_safe _ (field_values (suc id) (fields_of (page start count children)))
+    (field_values_safe id (fields_of (page start count children))))
+
+elements_page_safe : (start count id : ℕ) → Safe (elements_page start count (suc id))
+elements_page_safe start count id = chains is_safe (length_plan (suc id))
+    (λ total. elements_valued (suc id) start (count_from total start count)) (length_safe id)
+    (λ total. makes is_safe _ (elements_plan (suc id) start (count_from total start count))
+    (elements_safe id start (count_from total start count)))
+
+page_safe : (thing : Thing) (filter : Filter) (start count : ℕ) → Safe (page_plan thing filter start count)
+page_safe (things.Frame f) filter start count = gives_safe []
+page_safe (things.Locals f) Both start count = locals_page_safe f start count
+page_safe (things.Locals f) Indexed start count = gives_safe []
+page_safe (things.Locals f) Named start count = locals_page_safe f start count
+page_safe (things.Object o) Both start count =
+    by_id_safe o.0 (gives []) (fields_page start count) (gives_safe []) (fields_page_safe start count)
+page_safe (things.Object o) Indexed start count = gives_safe []
+page_safe (things.Object o) Named start count =
+    by_id_safe o.0 (gives []) (fields_page start count) (gives_safe []) (fields_page_safe start count)
+page_safe (things.Array o) Both start count =
+    by_id_safe o.0 (gives []) (elements_page start count) (gives_safe []) (elements_page_safe start count)
+page_safe (things.Array o) Indexed start count =
+    by_id_safe o.0 (gives []) (elements_page start count) (gives_safe []) (elements_page_safe start count)
+page_safe (things.Array o) Named start count = gives_safe []
+
+child_safe : (types : Bool) (two : Child × Value) → Safe (child_plan types two)
+child_safe types two = makes is_safe (shown_as two.0.name)
+    (seen_plan types (record { value = two.1; declared = two.0.declared }))
+    (seen_safe types (record { value = two.1; declared = two.0.declared }))
+
+pub children_safe : (types : Bool) (thing : Thing) (filter : Filter) (start count : ℕ)
+    → Safe (children_plan types thing filter start count)
+children_safe types thing filter start count = makes is_safe variables_found
+    (chained (page_plan thing filter start count) (values_shown types))
+    (chains is_safe (page_plan thing filter start count) (values_shown types) (page_safe thing filter start count)
+    (every is_safe (child_plan types) (child_safe types)))
