@@ -13,6 +13,13 @@ use Rattle.class_tables.specs.Lookups.{Lookups, found_in}
 use Rattle.class_tables.specs.Tables.{put}
 use Rattle.dap_messages.specs.declared.requests.SourceBreakpoint.{SourceBreakpoint}
 use Rattle.dap_messages.specs.declared.requests.StackTraceArguments.{StackTraceArguments}
+use Rattle.dap_messages.specs.declared.requests.VariablesArguments.{VariablesArguments}
+use Rattle.std.specs.Prelude as prelude
+use Rattle.std.specs.Prelude.{Ok, Err}
+use Rattle.stop_refs.specs.Numbers.{InHand, container, frame}
+use Rattle.stop_refs.specs.declared.fault.RefFault.{RefFault}
+use Rattle.stop_refs.specs.declared.thing.FrameThing.{FrameThing}
+use Rattle.stop_refs.specs.declared.thing.Thing.{Thing}
 use Rattle.jdwp_values.specs.declared.id.ClassId.{ClassId}
 use Rattle.jdwp_events.specs.declared.kind.Policy.{Policy}
 use Rattle.machine_model.specs.Breakpoints.{entry_of, is_news, newly_verified, numbered_from}
@@ -25,7 +32,8 @@ use Rattle.machine_model.specs.Requests.{Wishes}
 use Rattle.machine_model.specs.declared.parts.News.{News}
 use Rattle.machine_model.specs.declared.parts.News.TheVariants.{Verified as entry_verified}
 use Rattle.machine_model.specs.Rows.{chosen, configured_parts, continue_parts, end_parts, failure_of, news_of, noted}
-use Rattle.machine_model.specs.Rows.{parts_by, parts_of, pause_parts, row_of, stack_parts, thread_with, told_in, wanting}
+use Rattle.machine_model.specs.Rows.{parts_by, parts_of, pause_parts, row_of, scopes_parts, stack_parts, thread_with, told_in}
+use Rattle.machine_model.specs.Rows.{variables_parts, wanting}
 use Rattle.machine_model.specs.Runs.{Message}
 use Rattle.machine_model.specs.State.{Hand, Machine, State, is_gone, is_raw, knowing, left}
 use Rattle.machine_model.specs.Telling.{after_event, numbered_by}
@@ -35,7 +43,7 @@ use Rattle.jdwp_values.specs.declared.id.ThreadId.{ThreadId}
 use Rattle.bridge_core.specs.Names.{Attached, Choice, Classes, Command, ConfigurationDone, Configured, Continue}
 use Rattle.bridge_core.specs.Names.{Decides, EntryHeld, Event, Failure, Finding, Fresh, Gone, Item, Leaves, Lines}
 use Rattle.bridge_core.specs.Names.{Lookup, Note, Options, Outcome, Part, Pause, Phase, Roots, SetBreakpoints}
-use Rattle.bridge_core.specs.Names.{StackTrace, TellsNews, a_composite, a_raw, a_request, target_end}
+use Rattle.bridge_core.specs.Names.{Scopes, StackTrace, TellsNews, Variables, a_composite, a_raw, a_request, target_end}
 use Rattle.bridge_core.specs.Working.{lines_in, lines_in_part, lines_listed, lines_noted, news_in_hand, news_in_item}
 use Rattle.bridge_core.specs.Working.{news_left, news_waiting}
 use Rattle.bridge_core.proofs.OwnMoves.{is_own, not_lost}
@@ -180,6 +188,16 @@ stack_lines : (thread : Option ThreadId) (arguments : StackTraceArguments)
 stack_lines None arguments = refl
 stack_lines (Some thread) arguments = refl
 
+scopes_lines : (numbers : InHand) (found : prelude.Result FrameThing RefFault)
+    → lines_in (scopes_parts numbers found) ≡ 0
+scopes_lines numbers (Ok one) = refl
+scopes_lines numbers (Err fault) = refl
+
+variables_lines : (arguments : VariablesArguments) (found : prelude.Result Thing RefFault)
+    → lines_in (variables_parts arguments found) ≡ 0
+variables_lines arguments (Ok thing) = refl
+variables_lines arguments (Err fault) = refl
+
 row_lines : (command : Command) (state : State) → lines_in (row_of command state) ≡ lines_listed command
 row_lines (SetBreakpoints arguments) state =
     let listed = numbered_from state.next_entry arguments.breakpoints in
@@ -190,6 +208,9 @@ row_lines (Continue arguments) state = continue_lines (thread_with state.threads
 row_lines (Pause arguments) state = pause_lines state.stopped (thread_with state.threads arguments.thread_id)
 row_lines (StackTrace arguments) state =
     stack_lines (thread_with state.threads arguments.thread_id) arguments
+row_lines (Scopes arguments) state = scopes_lines state.numbers (frame arguments.frame_id state.numbers)
+row_lines (Variables arguments) state =
+    variables_lines arguments (container arguments.variables_reference state.numbers)
 row_lines command state = grind arith
 
 parts_lines : (failure : Option Failure) (row : List Part) → lines_in (parts_by failure row) ≤ lines_in row

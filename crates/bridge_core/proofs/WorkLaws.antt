@@ -14,7 +14,8 @@ use Rattle.machine_model.specs.Lookups.{finished, found_for}
 use Rattle.bridge_core.specs.Names.{Act, Attach, Attached, BadArguments, Choice, Command, ConfigurationDone, Continue}
 use Rattle.bridge_core.specs.Names.{Decides, Disconnect, Does, Effect, Event, Failure, Finding, Fresh, Gone}
 use Rattle.bridge_core.specs.Names.{Initialize, Item, Leaves, Lookup, Note, Outcome, Part, Pause, Phase, Question}
-use Rattle.bridge_core.specs.Names.{SetBreakpoints, StackTrace, TargetCommand, TellsNews, Threads, Unsupported, Want}
+use Rattle.bridge_core.specs.Names.{Scopes, SetBreakpoints, StackTrace, TargetCommand, TellsNews, Threads, Unsupported}
+use Rattle.bridge_core.specs.Names.{Variables, Want}
 use Rattle.bridge_core.specs.Names.{a_composite, a_question, a_raw, a_request, an_effect, target_end}
 use Rattle.machine_model.specs.Outcomes.{result_of}
 use Rattle.machine_model.specs.Plans.{Need, Result, fails, has, lacks, question_of}
@@ -24,7 +25,8 @@ use Rattle.jdwp_values.specs.declared.id.ThreadId.{ThreadId}
 use Rattle.machine_model.specs.Composites.{changes_in, composite_parts, has_death}
 use Rattle.machine_model.specs.declared.parts.News.{News}
 use Rattle.machine_model.specs.Rows.{chosen, configured_parts, continue_parts, end_parts, failure_of, leaves, news_of}
-use Rattle.machine_model.specs.Rows.{noted, parts_by, parts_of, pause_parts, row_of, stack_parts, thread_with}
+use Rattle.machine_model.specs.Rows.{noted, parts_by, parts_of, pause_parts, row_of, scopes_parts, stack_parts, thread_with}
+use Rattle.machine_model.specs.Rows.{variables_parts}
 use Rattle.machine_model.specs.Rows.{told_in, wanting}
 use Rattle.machine_model.specs.Runs.{Allows, Message, Run, said}
 use Rattle.machine_model.specs.State.{Hand, Machine, State, has_waiting, is_empty, is_flying, is_gone, is_raw, knowing}
@@ -40,6 +42,13 @@ use Rattle.machine_model.proofs.TurnLaws.{Turns, turned, unsent}
 use Rattle.bridge_core.specs.Working.{choice_weight, hand_work, is_wait, is_work, lines_in, news_in_hand, news_left}
 use Rattle.bridge_core.specs.Working.{one_if, one_unless, waiting_work, weight, weights, work, work_of}
 use Rattle.dap_messages.specs.declared.requests.StackTraceArguments.{StackTraceArguments}
+use Rattle.dap_messages.specs.declared.requests.VariablesArguments.{VariablesArguments}
+use Rattle.std.specs.Prelude as prelude
+use Rattle.std.specs.Prelude.{Ok, Err}
+use Rattle.stop_refs.specs.Numbers.{InHand, container, frame}
+use Rattle.stop_refs.specs.declared.fault.RefFault.{RefFault}
+use Rattle.stop_refs.specs.declared.thing.FrameThing.{FrameThing}
+use Rattle.stop_refs.specs.declared.thing.Thing.{Thing}
 use Rattle.jdwp_events.specs.declared.kind.Policy.{Policy}
 use Rattle.wish_sets.specs.Entries.{all_lines}
 use Rattle.bridge_core.proofs.LineLaws.{all_news_few, news_on}
@@ -199,6 +208,16 @@ stack_light : (most : ℕ) (thread : Option ThreadId) (arguments : StackTraceArg
 stack_light most None arguments = omega arith
 stack_light most (Some thread) arguments = omega arith
 
+scopes_light : (most : ℕ) (numbers : InHand) (found : prelude.Result FrameThing RefFault)
+    → weights most (scopes_parts numbers found) < 60 + most
+scopes_light most numbers (Ok one) = omega arith
+scopes_light most numbers (Err fault) = omega arith
+
+variables_light : (most : ℕ) (arguments : VariablesArguments) (found : prelude.Result Thing RefFault)
+    → weights most (variables_parts arguments found) < 60 + most
+variables_light most arguments (Ok thing) = omega arith
+variables_light most arguments (Err fault) = omega arith
+
 row_light : (most : ℕ) (command : Command) (state : State) → weights most (row_of command state) < 60 + most
 row_light most (Initialize arguments) state = omega arith
 row_light most (Attach arguments) state = omega arith
@@ -210,6 +229,10 @@ row_light most (Pause arguments) state =
     pause_light most state.stopped (thread_with state.threads arguments.thread_id)
 row_light most (StackTrace arguments) state =
     stack_light most (thread_with state.threads arguments.thread_id) arguments
+row_light most (Scopes arguments) state =
+    scopes_light most state.numbers (frame arguments.frame_id state.numbers)
+row_light most (Variables arguments) state =
+    variables_light most arguments (container arguments.variables_reference state.numbers)
 row_light most (Disconnect arguments) state = omega arith
 row_light most Unsupported state = omega arith
 row_light most (BadArguments name) state = omega arith

@@ -2,7 +2,8 @@
 pub use Rattle.dap_messages.specs.declared.requests.Command.{Command}
 pub use Rattle.dap_messages.specs.declared.requests.Command.TheVariants.{Attach, BadArguments, ConfigurationDone}
 pub use Rattle.dap_messages.specs.declared.requests.Command.TheVariants.{Continue, Disconnect, Initialize, Pause}
-pub use Rattle.dap_messages.specs.declared.requests.Command.TheVariants.{SetBreakpoints, StackTrace, Threads, Unsupported}
+pub use Rattle.dap_messages.specs.declared.requests.Command.TheVariants.{Scopes, SetBreakpoints, StackTrace, Threads, Unsupported}
+pub use Rattle.dap_messages.specs.declared.requests.Command.TheVariants.{Variables}
 pub use Rattle.dap_messages.specs.declared.requests.Request.{Request}
 pub use Rattle.dap_messages.specs.declared.told.Failure.{Failure}
 pub use Rattle.dap_messages.specs.declared.told.Told.{Told}

@@ -17,7 +17,7 @@ use Rattle.machine_model.specs.Rest.{request_in}
 use Rattle.machine_model.specs.Rows.{chosen, configured_parts, continue_parts, end_parts, failure_of, gone_parts}
 use Rattle.machine_model.specs.Rows.{has_response, is_response, news_of, parts_by, parts_of, pause_parts}
 use Rattle.machine_model.specs.Rows.{request_parts, row_of, thread_with, told_in, wanting}
-use Rattle.machine_model.specs.Rows.{stack_parts}
+use Rattle.machine_model.specs.Rows.{scopes_parts, stack_parts, variables_parts}
 use Rattle.machine_model.specs.Runs.{Message, is_disconnect}
 use Rattle.machine_model.specs.State.{Hand, Machine, State, is_empty, knowing, left}
 use Rattle.machine_model.specs.Telling.{numbered_by, outcome_told, response_to}
@@ -26,8 +26,15 @@ use Rattle.machine_model.proofs.Tables.{of_decided, told_alike}
 use Rattle.session_model.specs.Names.{Choice, Command, Decides, Finding, Item, Leaves, Lookup, Nothing, Outcome, Part}
 use Rattle.session_model.specs.Names.{Phase, Replied, Request, Success, TargetCommand, TellsNews, Want, a_composite}
 use Rattle.session_model.specs.Names.{a_question, a_raw, a_request, an_effect, finish_done, target_end}
-use Rattle.dap_messages.specs.declared.requests.Command.TheVariants.{StackTrace}
+use Rattle.dap_messages.specs.declared.requests.Command.TheVariants.{Scopes, StackTrace, Variables}
 use Rattle.dap_messages.specs.declared.requests.StackTraceArguments.{StackTraceArguments}
+use Rattle.dap_messages.specs.declared.requests.VariablesArguments.{VariablesArguments}
+use Rattle.std.specs.Prelude as prelude
+use Rattle.std.specs.Prelude.{Ok, Err}
+use Rattle.stop_refs.specs.Numbers.{InHand, container, frame}
+use Rattle.stop_refs.specs.declared.fault.RefFault.{RefFault}
+use Rattle.stop_refs.specs.declared.thing.FrameThing.{FrameThing}
+use Rattle.stop_refs.specs.declared.thing.Thing.{Thing}
 
 -- Lists of parts ------------------------------------------------------------------------------------------------------
 
@@ -99,6 +106,16 @@ stack_on : (arguments : StackTraceArguments) (thread : Option ThreadId)
 stack_on arguments None = refl
 stack_on arguments (Some thread) = refl
 
+scopes_on : (numbers : InHand) (found : prelude.Result FrameThing RefFault)
+    → goes_on false (scopes_parts numbers found) ≡ true
+scopes_on numbers (Ok one) = refl
+scopes_on numbers (Err fault) = refl
+
+variables_on : (arguments : VariablesArguments) (found : prelude.Result Thing RefFault)
+    → goes_on false (variables_parts arguments found) ≡ true
+variables_on arguments (Ok thing) = refl
+variables_on arguments (Err fault) = refl
+
 row_on : (command : Command) (state : State) → goes_on (is_disconnect command) (row_of command state) ≡ true
 row_on (Initialize arguments) state = refl
 row_on (Attach arguments) state = refl
@@ -108,6 +125,8 @@ row_on Threads state = refl
 row_on (Continue arguments) state = continue_on (thread_with state.threads arguments.thread_id)
 row_on (Pause arguments) state = pause_on state.stopped (thread_with state.threads arguments.thread_id)
 row_on (StackTrace arguments) state = stack_on arguments (thread_with state.threads arguments.thread_id)
+row_on (Scopes arguments) state = scopes_on state.numbers (frame arguments.frame_id state.numbers)
+row_on (Variables arguments) state = variables_on arguments (container arguments.variables_reference state.numbers)
 row_on (Disconnect arguments) state = refl
 row_on Unsupported state = refl
 row_on (BadArguments name) state = refl
