@@ -1,0 +1,4 @@
+pub mod Asking
+pub mod Needs
+pub mod Shown
+pub mod Slots

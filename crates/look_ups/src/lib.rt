@@ -1,0 +1,29 @@
+//! What was asked for an item, and what look-ups come to by the replies.
+#![tactic(auto)]
+
+mod asked;
+mod chains;
+mod copies;
+mod field_names;
+mod fields;
+mod locals;
+mod met;
+mod need;
+mod objects;
+mod pages;
+mod paired;
+mod place;
+mod question_key;
+mod shown;
+mod sight;
+mod slots;
+mod types;
+mod values;
+mod values_heard;
+
+pub use asked::{Asked, Reason};
+pub use copies::question_copy;
+pub use need::Need;
+pub use pages::variables_need;
+pub use question_key::QuestionKey;
+pub use sight::Sight;
