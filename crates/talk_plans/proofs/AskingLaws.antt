@@ -12,7 +12,8 @@ use Rattle.machine_model.specs.declared.acts.Sent.{Sent}
 use Rattle.machine_model.specs.declared.acts.Want.{Want}
 use Rattle.machine_model.proofs.AskedLaws.{all_due, apart_asked, are_apart, with_apart}
 use Rattle.machine_model.proofs.KeyLaws.{same_back}
-use Rattle.talk_plans.specs.Asking.{reason_of, want_of}
+use Rattle.look_ups.specs.Asking.{want_of}
+use Rattle.talk_plans.specs.Asking.{reason_of}
 
 -- a question is to be asked where its key was seen
 pub listed_is : (queue : List Want) (question : Question)

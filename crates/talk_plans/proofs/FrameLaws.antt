@@ -12,7 +12,7 @@ use Rattle.jdwp_values.specs.declared.id.MethodId.{MethodId}
 use Rattle.jdwp_values.specs.declared.id.ThreadId.{ThreadId}
 use Rattle.class_tables.specs.declared.loaded.Loaded.{Loaded}
 use Rattle.machine_model.specs.Facts.{lines_in, methods_in, signature_in, source_in}
-use Rattle.machine_model.specs.Frames.{count_from, count_in, counted_plan, frame_plan, frames_from, frames_in}
+use Rattle.machine_model.specs.Frames.{count_from, count_in, frame_plan, frames_from, frames_in}
 use Rattle.machine_model.specs.Frames.{frame_shown, lines_plan, methods_plan, shown_plan, signature_plan}
 use Rattle.machine_model.specs.Frames.{source_plan}
 use Rattle.machine_model.specs.Plans.{Found, Plan, Sight, after, answer_in, beside, both, chained, each, fact_heard}
@@ -22,10 +22,10 @@ use Rattle.machine_model.specs.declared.acts.Sent.{Sent}
 use Rattle.machine_model.specs.declared.acts.Want.{Want}
 use Rattle.machine_model.specs.declared.parts.Finding.TheVariants.{Frames as frames_found}
 use Rattle.talk_plans.proofs.PlanLaws.{each_lacks, made_lacks}
-use Rattle.talk_plans.specs.ClassPlanning.{known_or, lines_heard, lines_lacking, lines_question, methods_heard}
-use Rattle.talk_plans.specs.ClassPlanning.{source_heard, unless_heard}
+use Rattle.talk_plans.specs.ClassPlanning.{known_or, lines_heard, lines_lacking, lines_question}
+use Rattle.talk_plans.specs.ClassPlanning.{unless_heard}
 use Rattle.talk_plans.specs.FramePlanning.{counted_in, frame_found, frame_lacking, listed_in, listed_plan}
-use Rattle.talk_plans.specs.FramePlanning.{methods_found, methods_lacking, shown_in, signature_found, signature_heard}
+use Rattle.talk_plans.specs.FramePlanning.{methods_found, methods_lacking, shown_in, signature_found}
 use Rattle.talk_plans.specs.FramePlanning.{signature_lacking, source_found, source_lacking, stack_in}
 use Rattle.talk_plans.specs.Planning.{lacks_or, sight_in}
 

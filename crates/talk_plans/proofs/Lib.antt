@@ -1,4 +1,3 @@
-pub mod AskedLemmas
 pub mod AskingLaws
 pub mod BoundLaws
 pub mod ClassLaws
@@ -7,6 +6,7 @@ pub mod EffectLaws
 pub mod FrameLaws
 pub mod OpenLaws
 pub mod PlanLaws
+pub mod ReferenceLemmas
 pub mod ReplyLaws
 pub mod StopLaws
 pub mod TalkLaws

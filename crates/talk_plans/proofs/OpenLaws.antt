@@ -1,5 +1,5 @@
 -- Classes that are left out lack nothing, or aren't found; and it stays so as facts are learnt.
-use Rattle.std.proofs.Common.{◌≡◌, ℕ, Bool, true, false, cond, not, ◌&&◌, List, [], ◌∷◌, ◌++◌, Option, Some, None}
+use Rattle.std.proofs.Common.{◌≡◌, ℕ, Bool, true, false, cond, ◌&&◌, List, [], ◌∷◌, ◌++◌, Option, Some, None}
 use Rattle.std.proofs.Common.{refl, sym, ap, ◌∙◌, flat_map, option_map, subst}
 use Rattle.std.specs.Prelude.{◌==◌, IfSome, is_some, is_none}
 use Rattle.std.specs.List.{list_all}
@@ -32,7 +32,7 @@ use Rattle.talk_plans.specs.OpenClasses.{may_be_found, may_lack, methods_standin
 use Rattle.talk_plans.specs.OpenClasses.{stays_open}
 use Rattle.talk_plans.specs.declared.open_classes.OpenClasses.{OpenClasses}
 use Rattle.talk_plans.specs.declared.open_classes.Standing.{Standing}
-use Rattle.talk_plans.specs.declared.open_classes.Standing.TheVariants.{Passed, Settled, Open}
+use Rattle.talk_plans.specs.declared.open_classes.Standing.TheVariants.{Passed, Open}
 use Rattle.wish_sets.specs.Places.{key_by}
 use Rattle.wish_sets.specs.Wanted.{Wanted}
 use Rattle.wish_sets.specs.Wished.{is_listed, is_watched}

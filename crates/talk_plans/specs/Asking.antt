@@ -1,34 +1,15 @@
--- What was asked, as the code keeps it: each question with why it was asked and its reply.
-use Rattle.std.specs.Prelude.{ℕ, cond, Option, Some, None, List, [], ◌∷◌, ◌++◌}
+-- What is to be asked for an item, and what was.
+use Rattle.std.specs.Prelude.{Option, Some, None, List, [], ◌∷◌, ◌++◌}
 use Rattle.jdwp_commands.specs.declared.question.Question.{Question}
 use Rattle.jdwp_commands.specs.declared.asked.Replied.{Replied}
 use Rattle.machine_model.specs.declared.acts.Sent.{Sent}
 use Rattle.machine_model.specs.declared.acts.Want.{Want}
-use Rattle.machine_model.specs.Plans.{Found, question_of}
-use Rattle.machine_model.specs.Replying.{filled, is_failed, unless_failed, waits_for}
-use Rattle.talk_plans.specs.declared.asked.Reason.{Reason}
-use Rattle.talk_plans.specs.declared.asked.Reason.TheVariants as reasons
-use Rattle.talk_plans.specs.declared.asked.Tried.{Tried}
+use Rattle.machine_model.specs.Plans.{question_of}
+use Rattle.machine_model.specs.Replying.{filled, is_failed, unless_failed}
+use Rattle.look_ups.specs.declared.asked.Reason.{Reason}
+use Rattle.look_ups.specs.declared.asked.Reason.TheVariants as reasons
 
--- the want of a question
-abbrev pub want_of : Reason → Question → Want
-want_of reasons.Must question = Want.Must question
-want_of reasons.May question = Want.May question
-want_of reasons.Fact question = Want.Fact question
-
--- a reply at a place
-abbrev pub found_of : ℕ → Replied → Found
-found_of place replied = record { place = place; replied = replied }
-
--- the first want of a question that has no reply
-abbrev pub waiting_in : Question → List Sent → Option Want
-waiting_in question [] = None
-waiting_in question (sent ∷ asked) = cond (waits_for sent question) (Some sent.want) (waiting_in question asked)
-
--- what was asked, of a question and what came of it
-abbrev pub sent_of : Question × Tried → Sent
-sent_of entry = record { want = want_of entry.1.reason entry.0; reply = entry.1.reply }
-
+-- why a want is asked
 abbrev pub reason_of : Want → Reason
 reason_of (Want.Must question) = reasons.Must
 reason_of (Want.May question) = reasons.May

@@ -1,7 +1,7 @@
 -- What is shown of frames, in the words of the code: what is heard of the class of each, what it lacks, and how it is
 -- shown once nothing is lacking (JDWP, ThreadReference command set, Frames; JDWP, ReferenceType command set, Signature,
 -- SourceFile and Methods; JDWP, Method command set, LineTable).
-use Rattle.std.specs.Prelude.{ℕ, pos, ◌++◌, List, [], ◌∷◌, Option, None, Some, option_copied, option_map, unwrap_or}
+use Rattle.std.specs.Prelude.{ℕ, pos, ◌++◌, List, [], ◌∷◌, Option, None, option_copied, option_map, unwrap_or}
 use Rattle.jdwp_commands.specs.declared.listed.Frame.{Frame}
 use Rattle.jdwp_commands.specs.declared.question.Question.TheVariants as questions
 use Rattle.jdwp_values.specs.declared.class.LineTable.{LineTable}

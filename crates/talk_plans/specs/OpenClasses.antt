@@ -1,5 +1,5 @@
 -- How classes stand by what was learnt of them: which may lack something, and which may be found, whatever is asked.
-use Rattle.std.specs.Prelude.{◌≡◌, ◌∷◌, Bool, true, false, cond, not, is_none, is_some, List, [], ℕ, Option, None, Some}
+use Rattle.std.specs.Prelude.{◌≡◌, ◌∷◌, Bool, true, false, not, is_none, is_some, List, [], ℕ, Option, None, Some}
 use Rattle.std.specs.List.{flat_map, list_all}
 use Rattle.class_tables.specs.Lookups.{Lookups}
 use Rattle.jdwp_commands.specs.declared.question.Question.{Question}

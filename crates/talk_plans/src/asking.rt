@@ -10,11 +10,9 @@ ghost use Rattle.machine_model.specs.Plans.{question_of};
 ghost use Rattle.machine_model.specs.State.{is_empty};
 ghost use Rattle.talk_plans.specs.Asking.{answered_in, asked_next, reason_of, with_first};
 
-use crate::asked::{Asked, Reason};
-use crate::copies::question_copy;
-use crate::question_key::QuestionKey;
 use indexmap::IndexSet;
 use jdwp_commands::{Question, Replied};
+use look_ups::{Asked, QuestionKey, Reason, question_copy};
 use machine_model::Want;
 use std::alloc::Global;
 use std::collections::VecDeque;

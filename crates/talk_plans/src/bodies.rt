@@ -3,6 +3,7 @@ ghost use Rattle.std.specs.Prelude.{◌≡◌, IfOk, OnOk, map};
 ghost use Rattle.machine_model.specs.Breakpoints.{breakpoint_told, with_told};
 ghost use Rattle.machine_model.specs.Telling.{body_told, event_told, hit_told, numbered, numbered_by, outcome_told};
 ghost use Rattle.machine_model.specs.Telling.{reason_told, response_to, thread_told, with_threads};
+ghost use Rattle.machine_model.specs.declared.parts.Body.TheVariants.{StackFrames};
 ghost use Rattle.machine_model.specs.declared.parts.Event.TheVariants.{Stopped as a_stop};
 
 use crate::bound::BoundIds;
@@ -12,12 +13,15 @@ use crate::news::news_told;
 use crate::state::State;
 use crate::stops::has_line;
 use crate::threads::ThreadNumbers;
+use crate::variable_numbers::{scope_told, variables_told};
 use dap_messages::{
     Breakpoint, Event as EventTold, Outcome as OutcomeTold, Request, Response, Shape, StopReason,
     Stopped, Thread, Told,
 };
 use jdwp_values::lossy;
-use machine_model::{Body, Event, ListedBreakpoint, NamedThread, Outcome, StopCause, Stopping};
+use machine_model::{
+    Body, Event, ListedBreakpoint, NamedThread, Outcome, ShownFrame, StopCause, Stopping,
+};
 use std::alloc::Global;
 use wire_core::{List, NoMemory, Text};
 use wish_sets::{EntryAt, Wishes};
@@ -73,6 +77,24 @@ fn breakpoints_told(
     Ok(told)
 }
 
+// How frames are told, once they have their numbers.
+fn stack_told(
+    alloc: Global,
+    total: u32,
+    frames: &[ShownFrame],
+    state: &mut State,
+) -> Result<Shape, NoMemory>
+    ensures told { IfOk result (λ shape. shape
+        ≡ body_told (StackFrames total frames.now) (numbered (StackFrames total frames.now) state.old)) }
+    ensures numbered { OnOk result (state.new ≡ numbered (StackFrames total frames.now) state.old) }
+{
+    let told = frames_told(alloc, state.options, &mut state.numbers, frames)?;
+    Ok(Shape::StackFrames {
+        frames: told,
+        total,
+    })
+}
+
 // How a body is told, once its threads have their numbers; the client knows of its breakpoints from there on.
 fn body_told(alloc: Global, body: &Body, state: &mut State) -> Result<Shape, NoMemory>
     ensures told { IfOk result (λ shape. shape ≡ body_told body.now (numbered body.now state.old)) }
@@ -87,12 +109,11 @@ fn body_told(alloc: Global, body: &Body, state: &mut State) -> Result<Shape, NoM
             Ok(Shape::Breakpoints(told))
         }
         Body::Continued => Ok(Shape::Continued),
-        Body::StackFrames { total, frames } => {
-            let frames = frames_told(alloc, state.options, &mut state.numbers, frames.as_slice())?;
-            Ok(Shape::StackFrames {
-                frames,
-                total: *total,
-            })
+        Body::StackFrames { total, frames } => stack_told(alloc, *total, frames.as_slice(), state),
+        Body::Scopes(frame) => Ok(Shape::Scopes(scope_told(&mut state.numbers, *frame)?)),
+        Body::Variables(shown) => {
+            let told = variables_told(alloc, &mut state.numbers, shown.as_slice())?;
+            Ok(Shape::Variables(told))
         }
         Body::Threads(named) => {
             add_threads(&mut state.threads, named.as_slice())?;

@@ -8,15 +8,14 @@ ghost use Rattle.talk_plans.specs.ClassPlanning.{source_heard};
 ghost use Rattle.talk_plans.specs.OpenClasses.{AreOpen};
 ghost use Rattle.talk_plans.specs.Planning.{sight_in};
 
-use crate::asked::Asked;
 use crate::facts::{methods_in, source_in};
 use crate::open_classes::{
     OpenClasses, all_open, is_keyed, known_methods, known_source, watched_signature,
 };
-use crate::question_key::QuestionKey;
 use crate::state::State;
 use jdwp_commands::Question;
 use jdwp_values::{ClassId, Method, MethodId};
+use look_ups::{Asked, QuestionKey};
 use machine_model::Want;
 use std::alloc::Global;
 use std::collections::VecDeque;

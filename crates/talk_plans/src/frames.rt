@@ -10,16 +10,15 @@ ghost use Rattle.talk_plans.specs.FramePlanning.{shown_in, signature_heard, sign
 ghost use Rattle.talk_plans.specs.FramePlanning.{stack_in};
 ghost use Rattle.talk_plans.specs.Planning.{need_of, sight_in};
 
-use crate::asked::Asked;
 use crate::class_plans::{add_lines, lack, methods_heard, source_heard};
 use crate::facts::line_table_in;
 use crate::frame_names::{ClassHeard, frame_shown};
 use crate::open_classes::known_signature;
 use crate::plans::{Need, lacks};
-use crate::question_key::QuestionKey;
 use crate::state::State;
 use jdwp_commands::{Answer, Frame, Question, Replied};
 use jdwp_values::{ClassId, LineTable, MethodId, ThreadId};
+use look_ups::{Asked, QuestionKey};
 use machine_model::{Finding, ShownFrame, Want};
 use std::alloc::Global;
 use std::collections::VecDeque;

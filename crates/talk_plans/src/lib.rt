@@ -1,7 +1,6 @@
 //! What a session does for one item: what is known, and the talk about the item in hand.
 #![tactic(auto)]
 
-mod asked;
 mod asking;
 mod bodies;
 mod bound;
@@ -22,7 +21,7 @@ mod open_classes;
 mod paths;
 mod places;
 mod plans;
-mod question_key;
+mod references;
 mod replies;
 mod rows;
 mod run_rows;
@@ -31,6 +30,8 @@ mod state;
 mod stops;
 mod talk;
 mod threads;
+mod variable_numbers;
+mod variable_rows;
 mod wire;
 
 pub use bodies::response_to;

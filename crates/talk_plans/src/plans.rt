@@ -3,24 +3,24 @@ ghost use Rattle.std.specs.Prelude.{◌≡◌, ◌++◌, [], IfOk, OnOk, option_
 ghost use Rattle.std.specs.List.{flat_map};
 ghost use Rattle.jdwp_commands.specs.declared.question.Question.TheVariants as questions;
 ghost use Rattle.machine_model.specs.Lookups.{classes_of, finished, names_plan, plan, refusal, threads_plan};
-ghost use Rattle.machine_model.specs.Lookups.{threads_shown};
 ghost use Rattle.machine_model.specs.Plans.{after, found_from, gave, has, must_hear, need, refused};
 ghost use Rattle.machine_model.specs.declared.parts.Finding.{Finding as AFinding};
 ghost use Rattle.machine_model.specs.declared.parts.Finding.TheVariants.{Classes as classes_found};
+ghost use Rattle.machine_model.specs.declared.parts.Finding.TheVariants.{Variables as variables_found};
+ghost use Rattle.look_ups.specs.Needs.{need_of as found_of};
 ghost use Rattle.machine_model.specs.declared.parts.Lookup.TheVariants.{Classes as class_facts};
 ghost use Rattle.talk_plans.specs.Planning.{lacking_name, lacks_or, name_known, name_question, named_thread, need_of};
 ghost use Rattle.talk_plans.specs.Planning.{need_or, sight_in};
 
-use crate::asked::Asked;
 use crate::class_plans::{all_found, all_lacking};
-use crate::frame_numbers::frames_shown;
 use crate::frames::frames_need;
-use crate::question_key::QuestionKey;
+use crate::references::{body_of, shown_by};
 use crate::state::State;
 use dap_messages::Failure;
 use jdwp_commands::{Answer, Question, Replied};
 use jdwp_values::{ClassId, ThreadId};
-use machine_model::{Body, Finding, Lookup, NamedThread, Note, Outcome, Part, Want};
+use look_ups::{Asked, QuestionKey, Sight, variables_need};
+use machine_model::{Finding, Lookup, NamedThread, Note, Outcome, Part, ShownVariable, Want};
 use std::alloc::Global;
 use std::collections::VecDeque;
 use wire_core::{Blob, List, NoMemory};
@@ -167,8 +167,19 @@ fn classes_need(alloc: Global, state: &State, asked: &Asked) -> Result<Need, NoM
     }
 }
 
+// Children of a container, as a look-up finds them.
+fn children_found(found: look_ups::Need<List<ShownVariable>>) -> Need
+    ensures { need_of result ≡ after (found_of found) (λ shown. has (variables_found shown)) }
+{
+    match found {
+        look_ups::Need::Has(shown) => Need::Has(Finding::Variables(shown)),
+        look_ups::Need::Fails { place, code } => Need::Fails { place, code },
+        look_ups::Need::Lacks { first, others } => Need::Lacks { first, others },
+    }
+}
+
 /// What a look-up comes to by what was replied so far.
-#[tactic(auto, unfolding(crate::specs::FramePlanning::stack_in))]
+#[tactic(auto, using(machine_model::proofs::PlanIds::need_made), unfolding(crate::specs::FramePlanning::stack_in))]
 pub(crate) fn found_for(
     alloc: Global,
     lookup: Lookup,
@@ -184,6 +195,20 @@ pub(crate) fn found_for(
             start,
             levels,
         } => frames_need(alloc, state, asked, thread, start, levels),
+        Lookup::Variables {
+            thing,
+            filter,
+            start,
+            count,
+        } => {
+            let sight = Sight {
+                classes: &state.classes,
+                asked,
+            };
+            let types = state.options.shows_types;
+            let found = variables_need(alloc, sight, types, thing, filter, start, count)?;
+            Ok(children_found(found))
+        }
         Lookup::Classes => classes_need(alloc, state, asked),
     }
 }
@@ -199,16 +224,6 @@ pub(crate) fn refusal(code: u16) -> Failure
     }
 }
 
-fn threads_shown(finding: Finding) -> Outcome
-    ensures { result ≡ threads_shown finding }
-{
-    match finding {
-        Finding::Threads(named) => Outcome::Success(Body::Threads(named)),
-        Finding::Frames { .. } => Outcome::Success(Body::Nothing),
-        Finding::Classes(_) => Outcome::Success(Body::Nothing),
-    }
-}
-
 // The classes that were found.
 fn classes_of(alloc: Global, finding: Finding) -> List<ClassId>
     ensures { result ≡ classes_of (gave finding) }
@@ -216,6 +231,7 @@ fn classes_of(alloc: Global, finding: Finding) -> List<ClassId>
     match finding {
         Finding::Threads(_) => List::new(alloc),
         Finding::Frames { .. } => List::new(alloc),
+        Finding::Variables(_) => List::new(alloc),
         Finding::Classes(classes) => classes,
     }
 }
@@ -232,11 +248,15 @@ pub(crate) fn found_parts(
     match lookup {
         Lookup::Threads => Ok(VecDeque::from_array(
             alloc,
-            [Part::Responds(threads_shown(finding))],
+            [Part::Responds(Outcome::Success(body_of(finding)))],
         )?),
         Lookup::Frames { .. } => Ok(VecDeque::from_array(
             alloc,
-            [Part::Responds(frames_shown(finding, &state.numbers)?)],
+            [Part::Responds(shown_by(alloc, &state.numbers, body_of(finding))?)],
+        )?),
+        Lookup::Variables { .. } => Ok(VecDeque::from_array(
+            alloc,
+            [Part::Responds(shown_by(alloc, &state.numbers, body_of(finding))?)],
         )?),
         Lookup::Classes => Ok(VecDeque::from_array(
             alloc,
@@ -260,6 +280,10 @@ pub(crate) fn refused_parts(
             [Part::Responds(Outcome::Failure(refusal(code)))],
         )?),
         Lookup::Frames { .. } => Ok(VecDeque::from_array(
+            alloc,
+            [Part::Responds(Outcome::Failure(refusal(code)))],
+        )?),
+        Lookup::Variables { .. } => Ok(VecDeque::from_array(
             alloc,
             [Part::Responds(Outcome::Failure(refusal(code)))],
         )?),

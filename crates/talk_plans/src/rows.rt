@@ -17,6 +17,7 @@ use crate::news::told_news;
 use crate::run_rows::{configured_row, continue_row, pause_row, stack_row};
 use crate::state::State;
 use crate::stops::decided;
+use crate::variable_rows::{scopes_row, variables_row};
 use dap_messages::{Command, Failure, InitializeArguments};
 use machine_model::{
     Body, Choice, ClientOptions, Deed, Event, Finish, Guard, Item, Lookup, Note, Outcome, Part,
@@ -92,6 +93,8 @@ fn row_of(alloc: Global, command: &Command, state: &State) -> Result<VecDeque<Pa
         Command::Continue(arguments) => continue_row(alloc, *arguments, state),
         Command::Pause(arguments) => pause_row(alloc, *arguments, state),
         Command::StackTrace(arguments) => stack_row(alloc, *arguments, state),
+        Command::Scopes(arguments) => scopes_row(alloc, *arguments, state),
+        Command::Variables(arguments) => variables_row(alloc, *arguments, state),
         Command::Disconnect(arguments) => disconnect_row(alloc, arguments.terminate_debuggee),
         Command::Unsupported => failing(alloc, Failure::unsupported()),
         Command::BadArguments(name) => {
@@ -156,6 +159,8 @@ fn failure_of(command: &Command, state: &State) -> Option<Failure>
         Command::Continue(_) => if_stopped(state.is_stopped(), state.phase),
         Command::Pause(_) => if_attached(state.phase),
         Command::StackTrace(_) => if_stopped(state.is_stopped(), state.phase),
+        Command::Scopes(_) => if_attached(state.phase),
+        Command::Variables(_) => if_attached(state.phase),
         Command::Disconnect(_) => None,
         Command::Unsupported => None,
         Command::BadArguments(_) => None,
@@ -248,6 +253,7 @@ fn lookup_responds(lookup: Lookup) -> bool
     match lookup {
         Lookup::Threads => true,
         Lookup::Frames { .. } => true,
+        Lookup::Variables { .. } => true,
         Lookup::Classes => false,
     }
 }

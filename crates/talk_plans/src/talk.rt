@@ -332,6 +332,7 @@ fn look_ahead(alloc: Global, lookup: Lookup, state: &mut State) -> Result<(), No
     match lookup {
         Lookup::Threads => Ok(()),
         Lookup::Frames { .. } => Ok(()),
+        Lookup::Variables { .. } => Ok(()),
         Lookup::Classes => {
             if state.unlisted {
                 return Ok(());
