@@ -202,3 +202,26 @@ pub(crate) fn check(alloc: Global, course: &Course<'_>) -> Result<(), Fail> {
     }
     Ok(())
 }
+
+/// The same of sessions that begin with these stages, each in place of its own.
+pub(crate) fn check_all(
+    alloc: Global,
+    first: &'static [Stage<'static>],
+    courses: &'static [Course<'static>],
+) -> Result<(), Fail> {
+    for course in courses {
+        check(
+            alloc,
+            &Course {
+                first,
+                steps: course.steps,
+                limits: course.limits,
+                failing: course.failing,
+                told: course.told,
+                sent: course.sent,
+                ending: course.ending,
+            },
+        )?;
+    }
+    Ok(())
+}

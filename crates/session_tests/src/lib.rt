@@ -22,3 +22,7 @@ mod stack_traces;
 mod stops;
 #[cfg(test)]
 mod threads;
+#[cfg(test)]
+mod values;
+#[cfg(test)]
+mod variables;
