@@ -42,9 +42,10 @@ def lacking(*names):
 
 
 def compiled(folder, *sources):
-    """Compiles sources, by default that of the program with workers, and gives the folder of their classes."""
+    """Compiles sources, by default that of the program with workers, and gives the folder of their classes, which tell
+    debuggers all."""
     paths = sources or [os.path.join(EXAMPLES, "Workers.java")]
-    words = [tool("javac"), "-encoding", "UTF-8", "-d", folder, *paths]
+    words = [tool("javac"), "-g", "-encoding", "UTF-8", "-d", folder, *paths]
     subprocess.run(words, stdin=subprocess.DEVNULL, timeout=PATIENCE, check=True)
     return folder
 

@@ -14,6 +14,10 @@ runs to its end, which is told, and the client disconnects.
 - A thread starts and ends between two stops: both are told before the second.
 - `stackTrace` shows in each of two stops what the Java program prints there of its frames and of those of a thread that
   waits; a window of them too; all under their numbers.
+- `scopes` and `variables` show in each of two stops what the Java program prints there of the variables of three
+  frames, and of all that they hold, under their numbers and types; and windows of an array of 25,000 elements.
+- A number of a stop that is over is refused as such, one that was never told, and one of the wrong kind. No types are
+  shown to a client that doesn't ask for them.
 - `pause` holds a program that counts, and a second one changes nothing.
 - `continue` and `stackTrace` without a stop are refused, and so are all three for a thread that was never told.
 - The client disconnects in a stop, or goes away: the Java program runs on. It is killed in a stop: that is told.
@@ -40,8 +44,20 @@ COPIES = 6
 ROUNDS = 20
 STOPS = 2
 HITS = 1000
-# A number that no thread gets.
+# A number that no thread, frame or thing gets.
 NOBODY = 2147483647
+# Failures of numbers.
+STALE, UNKNOWN, WRONG = (5, "stale"), (6, "unknownReference"), (7, "wrongKind")
+# How many elements an array has, and windows of it, each with those that it shows: at most 10,000.
+ELEMENTS = 25000
+WINDOWS = (
+    ({}, range(10000)),
+    ({"filter": "indexed", "start": 5, "count": 20000}, range(5, 10005)),
+    ({"start": 3, "count": 2}, range(3, 5)),
+    ({"start": 24998, "count": 100}, range(24998, ELEMENTS)),
+    ({"start": ELEMENTS}, range(0)),
+    ({"filter": "named"}, range(0)),
+)
 SOURCES = [*glob.glob(os.path.join(EXAMPLES, "stops", "*.java")), os.path.join(EXAMPLES, "Ticks.java"), DEBUGGER]
 
 
@@ -155,6 +171,50 @@ def frames_as_java_prints_them(java, bridge, session):
     has_to_be("the frames", shown, [frame(*numbered) for numbered in enumerate(printed, 1)])
 
 
+def variables_as_java_prints_them(java, bridge, session):
+    line = line_of("stops/Variables.java", "onSpinWait()")
+    begin(session, "stops/Variables.java", [line], is_loaded=False, supportsVariableType=True)
+    java.go_on()
+    has_to_be("the event of the class", session.event(), bound(1, line))
+    told = 0
+    for _ in range(STOPS):
+        number = hit(session, [1])
+        frames, waiting = stack(session, number)[0], stack(session, session.number_of("main"))[0]
+        told += len(frames) + len(waiting)
+        for place, shown in enumerate((frames[0], waiting[0], waiting[-1]), 1):
+            has_to_be("scopes", ask_of(session, "scopes", shown["id"]), succeeded(scope(told + place)))
+        last = as_printed(java, session, told)
+        windows_of(session, told + 3)
+        told = last
+        go_on(session, number)
+    has_to_be("what is printed behind it", ended(java, bridge, session), b"")
+
+
+def numbers_die_with_their_stop(java, bridge, session):
+    number = first_stop_of_two(java, session)
+    are_refused(session, {("scopes", 1): UNKNOWN + (1,), ("variables", 1): UNKNOWN + (1,)})
+    has_to_be("frames", [shown["id"] for shown in stack(session, number)[0]], [1])
+    has_to_be("scopes", ask_of(session, "scopes", 1), succeeded(scope(2)))
+    words = {"indexedVariables": 0, "name": "words", "value": "java.lang.String[0]"}
+    has_to_be("variables", children(session, 2), [{**words, "variablesReference": 3}])
+    has_to_be("those of an array without elements", children(session, 3), [])
+    are_refused(session, {("scopes", 2): WRONG, ("variables", 1): WRONG, ("scopes", 4): UNKNOWN + (4,)})
+    old = ("scopes", {"frameId": 1}), ("variables", {"variablesReference": 3})
+    said = session.ask_all([("continue", {"threadId": number}), *old])
+    has_to_be("what is said behind a continue", said, [RUNS_ON, failed(*STALE, 1), failed(*STALE, 1)])
+    has_to_be("the thread of the second stop", hit(session, [2]), number)
+    are_refused(session, {("scopes", 1): STALE + (1,), ("variables", 2): STALE + (1,)})
+    are_refused(session, {("scopes", 4): UNKNOWN + (4,)})
+    has_to_be("frames", [shown["id"] for shown in stack(session, number)[0]], [4])
+    has_to_be("scopes", ask_of(session, "scopes", 4), succeeded(scope(5)))
+    first, more = children(session, 5)
+    has_to_be("variables", first, {**words, "variablesReference": 6})
+    has_to_be("the thread", (more["name"], more["variablesReference"]), ("more", 7))
+    are_refused(session, {("scopes", 5): WRONG, ("variables", 4): WRONG, ("variables", NOBODY): UNKNOWN + (8,)})
+    go_on(session, number)
+    has_to_be("what is printed", ended(java, bridge, session), b"before\nbehind\n")
+
+
 def pause_of_a_running_program(java, bridge, session):
     begin(session)
     number = session.number_of("main")
@@ -225,6 +285,7 @@ def killed_in_a_stop(java, bridge, session):
     has_to_be("the event behind it", session.event(), TERMINATED)
     for command in ("continue", "pause", "stackTrace"):
         has_to_be(command + ", no target", session.ask(command, {"threadId": number}), failed(10, "targetGone"))
+    are_refused(session, {("scopes", 1): (10, "targetGone"), ("variables", 1): (10, "targetGone")})
     leaves(bridge, session)
 
 
@@ -278,6 +339,84 @@ def frame(number, printed):
         return {"id": number, "name": name, "line": 0, "column": 0}
     path = os.path.join(EXAMPLES, *name.split(".")[:-2], file)
     return {"id": number, "name": name, "line": int(line), "column": 1, "source": {"name": file, "path": path}}
+
+
+def ask_of(session, command, number, **window):
+    """What a response says of the frame or the thing of a number."""
+    return session.ask(command, {"frameId" if command == "scopes" else "variablesReference": number, **window})
+
+
+def are_refused(session, due):
+    """What isn't shown, each with its failure."""
+    for (command, number), failure in due.items():
+        has_to_be("%s of %d" % (command, number), ask_of(session, command, number), failed(*failure))
+
+
+def scope(number):
+    """The variables of a frame, under a number (DAP specification, Types, Scope)."""
+    told = {"expensive": False, "name": "Locals", "presentationHint": "locals", "variablesReference": number}
+    return {"scopes": [told]}
+
+
+def children(session, number, **window):
+    """What a thing holds, all of it or a window (DAP specification, Variables request)."""
+    said = ask_of(session, "variables", number, **window)
+    if not said["success"]:
+        raise ValueError("variables of %d: %r" % (number, said))
+    has_to_be("what it shows", list(said["body"]), ["variables"])
+    return said["body"]["variables"]
+
+
+def windows_of(session, number):
+    """Windows of the array that is among these variables, and of the variables, which have no elements."""
+    variables = children(session, number)
+    has_to_be("variables with a name", children(session, number, filter="named"), variables)
+    has_to_be("the second one", children(session, number, start=1, count=1), variables[1:2])
+    has_to_be("those without a name", children(session, number, filter="indexed"), [])
+    for window, places in WINDOWS:
+        due = [{"name": "[%d]" % n, "type": "int", "value": str(n), "variablesReference": 0} for n in places]
+        has_to_be("elements %s" % window, children(session, variables[1]["variablesReference"], **window), due)
+
+
+def as_printed(java, session, told):
+    """Compares what things hold with what the Java program printed of them before it stopped. So many numbers were told
+    before theirs. Gives the last of theirs."""
+    ids, last = {}, told
+    for number, lines in printed_of_things(java):
+        shown = [without_id(child, ids) for child in children(session, told + number)]
+        due = [printed_child(line, told) for line in lines]
+        has_to_be("what %d holds" % number, shown, due)
+        last = max([last, *(child["variablesReference"] for child in due)])
+    has_to_be("the number of ids", len(set(ids.values())), len(ids))
+    return last
+
+
+def printed_of_things(java):
+    """Numbers of things, and of each the lines of its children, as stops/Shown.java prints them."""
+    things = []
+    while line := java.process.stdout.readline().decode().rstrip("\n"):
+        if line.startswith("> "):
+            things.append((int(line[2:]), []))
+        else:
+            things[-1][1].append(line)
+    return things
+
+
+def printed_child(line, told):
+    """A child as a line says it (DAP specification, Types, Variable)."""
+    name, type_, length, number, value = line.split("\t")
+    child = {"name": name, "type": type_, "value": value, "variablesReference": int(number) and told + int(number)}
+    return {**child, "indexedVariables": int(length)} if length else child
+
+
+def without_id(child, ids):
+    """A child without the id of its object, which is the same wherever that is shown."""
+    number = child["variablesReference"]
+    if not number or "indexedVariables" in child:
+        return child
+    name, _, digits = child["value"].rpartition("@")
+    has_to_be("the id of %d" % number, digits, ids.setdefault(number, "%x" % int(digits, 16)))
+    return {**child, "value": name + "@"}
 
 
 def stands_still(java):
@@ -335,6 +474,8 @@ CASES = (
     (pause_among_hits, False, "stops.Pair", str(ROUNDS)),
     (a_thread_between_stops, False, "stops.Between"),
     (frames_as_java_prints_them, False, "stops.Frames", str(STOPS)),
+    (variables_as_java_prints_them, False, "stops.Variables", "a word"),
+    (numbers_die_with_their_stop, False, "stops.Between"),
     (pause_of_a_running_program, False, "stops.Counting"),
     (refused_without_stop_or_thread, False, "stops.Counting"),
     (left_in_a_stop, False, "stops.Between"),

@@ -21,9 +21,10 @@ def succeeded(body=None):
     return {"success": True} if body is None else {"success": True, "body": body}
 
 
-def failed(code, name):
+def failed(code, name, detail=None):
     """What a response says that fails (DAP specification, Base Protocol, ErrorResponse)."""
-    return {"success": False, "message": name, "body": {"error": {"format": name, "id": code}}}
+    text = name if detail is None else "%s %d" % (name, detail)
+    return {"success": False, "message": name, "body": {"error": {"format": text, "id": code}}}
 
 
 def stopped(number, entries=None):
@@ -110,9 +111,10 @@ def line_of(source, text):
     return number
 
 
-def begin(session, source=None, lines=(), is_loaded=True):
-    """Begins a session with breakpoints in these lines of a source, bound at once where their class is loaded."""
-    has_to_be("initialize", session.ask("initialize", {"adapterID": "jdwp"}), succeeded(CAPABILITIES))
+def begin(session, source=None, lines=(), is_loaded=True, **options):
+    """Begins a session of a client with these options, and with breakpoints in these lines of a source, bound at once
+    where their class is loaded."""
+    has_to_be("initialize", session.ask("initialize", {"adapterID": "jdwp", **options}), succeeded(CAPABILITIES))
     has_to_be("attach", session.ask("attach", {"sourceRoots": [EXAMPLES]}), succeeded())
     has_to_be("the event behind it", session.event(), {"event": "initialized"})
     if source:
