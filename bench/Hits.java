@@ -28,21 +28,21 @@ import java.util.Map;
  */
 public class Hits {
     private static final long PATIENCE = 60_000;
-    private final VirtualMachine machine;
+    final VirtualMachine machine;
     private final String name;
     private final int line;
     private final long hold;
     private final List<Long> heard = new ArrayList<>();
     private final List<Long> resumed = new ArrayList<>();
 
-    private Hits(VirtualMachine machine, String name, int line, long hold) {
+    Hits(VirtualMachine machine, String name, int line, long hold) {
         this.machine = machine;
         this.name = name;
         this.line = line;
         this.hold = hold;
     }
 
-    private static VirtualMachine attached(String port) throws Exception {
+    static VirtualMachine attached(String port) throws Exception {
         for (AttachingConnector connector : Bootstrap.virtualMachineManager().attachingConnectors()) {
             if (connector.name().equals("com.sun.jdi.SocketAttach")) {
                 Map<String, Connector.Argument> arguments = connector.defaultArguments();
@@ -70,11 +70,16 @@ public class Hits {
         }
     }
 
-    private void handle(Event event) throws AbsentInformationException {
+    /** What is done at a hit, before it is resumed. */
+    void stand(BreakpointEvent hit) throws Exception {
+    }
+
+    private void handle(Event event) throws Exception {
         if (event instanceof ClassPrepareEvent) {
             set(((ClassPrepareEvent) event).referenceType());
         } else if (event instanceof BreakpointEvent) {
             heard.add(System.nanoTime());
+            stand((BreakpointEvent) event);
         }
     }
 
@@ -90,7 +95,8 @@ public class Hits {
     }
 
     /** Handles what comes, each set of events at once, and resumes behind it, until the program has ended. */
-    private void run() throws Exception {
+    final void run() throws Exception {
+        watch();
         try {
             while (true) {
                 EventSet events = machine.eventQueue().remove(PATIENCE);
@@ -127,7 +133,6 @@ public class Hits {
 
     public static void main(String[] words) throws Exception {
         Hits hits = new Hits(attached(words[0]), words[1], Integer.parseInt(words[2]), Long.parseLong(words[3]));
-        hits.watch();
         hits.run();
         System.out.println(hits.report());
     }
