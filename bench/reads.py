@@ -3,7 +3,7 @@
 
 The Java program, examples/stops/Deep.java, comes to one line again and again. The bridge with a client of this script,
 and bench/Reads.java, which uses JDI, attach to it in turn, five times each, and stop at each hit. Both have to read the
-same. Printed are milliseconds, the median of each run and of these, and the ratio, for
+same. Printed are milliseconds, the median of each run and of these, the ratio, and the bridge's processor time, for
 
 - a stop: all threads, fourteen frames, and the variables of the upper one, at 1,000 hits. The client asks `threads`,
   `stackTrace`, `scopes` and `variables`, each once the one before is answered; and once more all in one piece, since it
@@ -33,6 +33,7 @@ sys.path.insert(0, os.path.join(os.path.dirname(os.path.dirname(os.path.abspath(
 from building import PATIENCE, TOP, plainly, program_of, stop
 from java_machine import DEBUGGER, EXAMPLES, JavaProgram, compiled, lacking, tool
 from over_tcp import Program, request
+from round_trips import processor_seconds
 from sessions import Session, begin, bound, has_to_be, line_of
 from stops import is_hit
 
@@ -109,23 +110,25 @@ def by_bridge(program, classes, line, words, read):
             return read(Asker(session, session.event()["body"]["threadId"]), bridge.process.pid)
 
 
-def timed(asker, pieces):
-    """The answers to requests that are asked piece by piece, and the milliseconds that this took."""
-    start = time.perf_counter()
+def timed(asker, pid, pieces):
+    """The answers to requests that are asked piece by piece, and the milliseconds that this took, all in all and of the
+    bridge's processor time."""
+    before, start = processor_seconds(pid), time.perf_counter()
     answers = [answer for piece in pieces for answer in asker.answers(piece)]
-    return answers, 1000 * (time.perf_counter() - start)
+    taken = time.perf_counter() - start
+    return answers, (1000 * taken, 1000 * (processor_seconds(pid) - before))
 
 
 def stops_read(at_once):
     """Reads stops, each by one piece or by one a request."""
 
-    def read(asker, _):
+    def read(asker, pid):
         texts, taken, told = [], [], 0
         while True:
             asked = [asker.request("threads"), asker.request("stackTrace", threadId=asker.thread),
                      asker.request("scopes", frameId=told + 1),
                      asker.request("variables", variablesReference=told + FRAMES + 1)]
-            answers, milliseconds = timed(asker, [asked] if at_once else [[one] for one in asked])
+            answers, milliseconds = timed(asker, pid, [asked] if at_once else [[one] for one in asked])
             texts.append(answers)
             taken.append(milliseconds)
             told += NUMBERS
@@ -144,12 +147,12 @@ def text_of_stop(answers):
     return "".join(line + "\n" for line in [*frames, *named])
 
 
-def elements_read(asker, _):
+def elements_read(asker, pid):
     """Reads elements, so many at each stop, behind those that were read."""
     texts, taken = [], []
     for number in (WARM, *ELEMENTS):
         asked = asker.request("variables", variablesReference=asker.array(), start=len(texts), count=number)
-        (answer,), milliseconds = timed(asker, [[asked]])
+        (answer,), milliseconds = timed(asker, pid, [[asked]])
         texts += [plain(child) + "\n" for child in json.loads(answer)["body"]["variables"]]
         taken.append(milliseconds)
         asker.go_on()
@@ -178,12 +181,20 @@ def peak(starts):
     return read
 
 
-def show(name, runs, beside=None):
-    """Prints the medians of runs, and how many times the other's they take. Gives the median of these."""
+def show(name, runs):
+    """Prints the medians of runs. Gives the median of these."""
     median = statistics.median(runs)
-    ratio = "" if beside is None else ", ratio %.2f" % (median / beside)
-    print("  %-22s %s; of these %.3f%s" % (name, " ".join("%.3f" % run for run in runs), median, ratio), flush=True)
+    print("  %-22s %s; of these %.3f" % (name, " ".join("%.3f" % run for run in runs), median), flush=True)
     return median
+
+
+def show_beside(name, runs, beside, each=1):
+    """Prints the medians of runs, which are of pairs; how many times the other's they take; and the processor time for
+    each of so many things."""
+    median = show(name, [run for run, _ in runs])
+    spent = statistics.median(spent for _, spent in runs) / each
+    print("  ratio %.2f; %.1f us each, %.1f us of it processor time of the bridge"
+          % (median / beside, 1000 * median / each, 1000 * spent), flush=True)
 
 
 def alike(sums):
@@ -196,11 +207,12 @@ def compare_stops(program, classes, line):
     runs = [[by_jdi(classes, line, words), *(by_bridge(program, classes, line, words, read) for read in reads)]
             for _ in range(RUNS)]
     alike(total for run in runs for total, _ in run)
-    jdi, one_by_one, at_once = ([statistics.median(taken) for _, taken in side] for side in zip(*runs))
+    jdi, *bridge = zip(*runs)
+    one_by_one, at_once = ([[statistics.median(part) for part in zip(*taken)] for _, taken in side] for side in bridge)
     print("%d stops of %d frames; milliseconds to read one, medians of runs in turn" % (STOPS, FRAMES))
-    beside = show("by JDI", jdi)
-    show("by the bridge", one_by_one, beside)
-    show("the same in one piece", at_once, beside)
+    beside = show("by JDI", [statistics.median(taken) for _, taken in jdi])
+    show_beside("by the bridge", one_by_one, beside)
+    show_beside("the same in one piece", at_once, beside)
 
 
 def compare_elements(program, classes, line):
@@ -212,8 +224,7 @@ def compare_elements(program, classes, line):
     for place, number in enumerate(ELEMENTS, 1):
         print("%d elements of %d kinds; milliseconds to read them, runs in turn" % (number, KINDS))
         jdi, bridge = ([taken[place] for _, taken in side] for side in zip(*runs))
-        beside = show("by JDI", jdi)
-        print("  an element %.1f us" % (1000 * show("by the bridge", bridge, beside) / number))
+        show_beside("by the bridge", bridge, show("by JDI", jdi), number)
 
 
 def weigh_numbers(program, classes, line):
