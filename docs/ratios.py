@@ -21,8 +21,9 @@ SECTIONS = [
     ("Many threads", "{0} threads", {"5,000 threads": 1.3}),
     ("Breakpoints over many classes", "{0} classes of {1} methods, {2} others, {3} files", {None: 3}),
     ("Stops", "{0} hits, each held for {1}", {}),
+    ("Reading a stop", "{0}", {}),
 ]
-TICKS = [0.5, 1, 2, 4, 8]
+TICKS = [0.125, 0.25, 0.5, 1, 2, 4, 8]
 LEFT, RIGHT, TOP, STEP = 420, 960, 56, 22
 DOT, GOAL, LINE, GRID = "#2b6cb0", "#c05621", "#445", "#d5d9e0"
 
