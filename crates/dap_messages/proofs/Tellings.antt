@@ -4,22 +4,24 @@ use Rattle.std.proofs.Common.{option_map, ap, ◌∙◌}
 use Rattle.serde_json.specs.Data.{Data}
 use Rattle.serde_json.specs.View.{items_of}
 use Rattle.serde_json.specs.Written.{compact_text, has_float, items_have_float, members_have_float}
-use Rattle.dap_messages.specs.Telling.{answer_data, breakpoint_data, breakpoints_data, event_data, outcome_data}
-use Rattle.dap_messages.specs.Telling.{count, hit_data, integer, members_of, reason_of, stop_data}
-use Rattle.dap_messages.specs.Telling.{frame_data, source_data, source_member, stack_frames_data}
-use Rattle.dap_messages.specs.Telling.{child_data, variable_data, variables_data}
-use Rattle.dap_messages.specs.Telling.{standing_data, thread_data, threads_data, told_data, told_text}
+use Rattle.dap_messages.specs.Objects.{count, integer, members_of}
+use Rattle.dap_messages.specs.Bodies.{breakpoint_data, breakpoints_data, reason_of, standing_data}
+use Rattle.dap_messages.specs.Bodies.{frame_data, source_data, source_member, stack_frames_data}
+use Rattle.dap_messages.specs.Bodies.{child_data, variable_data, variables_data}
+use Rattle.dap_messages.specs.Bodies.{thread_data, threads_data}
+use Rattle.dap_messages.specs.Events.{event_data, halt_data, hit_data, stop_data}
+use Rattle.dap_messages.specs.Telling.{answer_data, outcome_data, told_data, told_text}
 use Rattle.dap_messages.specs.declared.told.Told.{Told}
 use Rattle.dap_messages.specs.declared.told.Told.TheVariants as told
 use Rattle.dap_messages.specs.declared.told.Outcome.{Outcome}
 use Rattle.dap_messages.specs.declared.told.Outcome.TheVariants.{Success, Failure as Failed}
 use Rattle.dap_messages.specs.declared.told.Shape.TheVariants.{Nothing, Capabilities, Breakpoints, Threads, Continued}
-use Rattle.dap_messages.specs.declared.told.Shape.TheVariants.{StackFrames, Scopes, Variables}
+use Rattle.dap_messages.specs.declared.told.Shape.TheVariants.{StackFrames, Scopes, Variables, ExceptionInfo}
 use Rattle.dap_messages.specs.declared.told.Event.{Event}
 use Rattle.dap_messages.specs.declared.told.Event.TheVariants.{Initialized, Breakpoint as Changed, Terminated}
 use Rattle.dap_messages.specs.declared.told.Event.TheVariants.{Thread as ThreadChanged, Stopped as HasStopped}
 use Rattle.dap_messages.specs.declared.told.StopReason.{StopReason}
-use Rattle.dap_messages.specs.declared.told.StopReason.TheVariants.{Breakpoint as Hit, Pause}
+use Rattle.dap_messages.specs.declared.told.StopReason.TheVariants.{Breakpoint as Hit, Exception, Step, Pause}
 use Rattle.dap_messages.specs.declared.told.StopReason.TheVariants.{FunctionBreakpoint as FunctionHit}
 use Rattle.dap_messages.specs.declared.told.Breakpoint.{Breakpoint}
 use Rattle.dap_messages.specs.declared.told.Thread.{Thread}
@@ -27,9 +29,12 @@ use Rattle.dap_messages.specs.declared.told.Source.{Source}
 use Rattle.dap_messages.specs.declared.told.StackFrame.{StackFrame}
 use Rattle.dap_messages.specs.declared.told.Variable.{Variable}
 
-has_float-standing_data : (id line : ℕ) (reason : Option (List ℕ)) → has_float (standing_data id line reason) ≡ false
-has_float-standing_data id line None = refl
-has_float-standing_data id line (Some reason) = refl
+has_float-standing_data : (id : ℕ) (line : Option ℕ) (reason : Option (List ℕ)) →
+    has_float (standing_data id line reason) ≡ false
+has_float-standing_data id None None = refl
+has_float-standing_data id None (Some reason) = refl
+has_float-standing_data id (Some line) None = refl
+has_float-standing_data id (Some line) (Some reason) = refl
 
 items_have_float-breakpoints : (breakpoints : List Breakpoint) →
     items_have_float (items_of (map breakpoint_data breakpoints)) ≡ false
@@ -114,6 +119,7 @@ has_float-outcome_data seq request_seq command (Success (Scopes reference)) = re
 has_float-outcome_data seq request_seq command (Success (Variables variables)) =
     has_float-answer_data seq request_seq command (variables_data variables) (has_float-variables_data variables)
 has_float-outcome_data seq request_seq command (Success Continued) = refl
+has_float-outcome_data seq request_seq command (Success (ExceptionInfo id mode)) = refl
 has_float-outcome_data seq request_seq command (Failed failure) = refl
 
 items_have_float-ids : (ids : List ℕ) → items_have_float (items_of (map count ids)) ≡ false
@@ -123,9 +129,16 @@ items_have_float-ids (id ∷ ids) = items_have_float-ids ids
 has_float-hit_data : (reason ids : List ℕ) (thread : ℕ) → has_float (hit_data reason ids thread) ≡ false
 has_float-hit_data reason ids thread = ap (λ found. found || false) (items_have_float-ids ids)
 
+has_float-halt_data : (reason : List ℕ) (text : Option (List ℕ)) (thread : ℕ) →
+    has_float (halt_data reason text thread) ≡ false
+has_float-halt_data reason None thread = refl
+has_float-halt_data reason (Some text) thread = refl
+
 has_float-stop_data : (reason : StopReason) (thread : ℕ) → has_float (stop_data reason thread) ≡ false
 has_float-stop_data (Hit ids) thread = has_float-hit_data (codes "breakpoint") ids thread
 has_float-stop_data (FunctionHit ids) thread = has_float-hit_data (codes "function breakpoint") ids thread
+has_float-stop_data (Exception text) thread = has_float-halt_data (codes "exception") text thread
+has_float-stop_data Step thread = refl
 has_float-stop_data Pause thread = refl
 
 has_float-event_data : (seq : ℕ) (event : Event) → has_float (event_data seq event) ≡ false

@@ -7,7 +7,7 @@ use Rattle.dap_messages.specs.declared.arguments.Argument.{Argument}
 use Rattle.dap_messages.specs.declared.arguments.Argument.TheVariants.{Arguments, AdapterId, LinesStartAt1}
 use Rattle.dap_messages.specs.declared.arguments.Argument.TheVariants.{ColumnsStartAt1, PathFormat}
 use Rattle.dap_messages.specs.declared.arguments.Argument.TheVariants.{SupportsVariableType, SourceRoots}
-use Rattle.dap_messages.specs.declared.arguments.Argument.TheVariants.{Source, Breakpoints, ThreadId}
+use Rattle.dap_messages.specs.declared.arguments.Argument.TheVariants.{Source, Breakpoints, Filters, ThreadId}
 use Rattle.dap_messages.specs.declared.arguments.Argument.TheVariants.{StartFrame, Levels, FrameId}
 use Rattle.dap_messages.specs.declared.arguments.Argument.TheVariants.{VariablesReference, Filter as FilterMember}
 use Rattle.dap_messages.specs.declared.arguments.Argument.TheVariants.{Start, Count, TerminateDebuggee}
@@ -34,6 +34,7 @@ argument_name SupportsVariableType = codes "supportsVariableType"
 argument_name SourceRoots = codes "sourceRoots"
 argument_name Source = codes "source"
 argument_name Breakpoints = codes "breakpoints"
+argument_name Filters = codes "filters"
 argument_name ThreadId = codes "threadId"
 argument_name StartFrame = codes "startFrame"
 argument_name Levels = codes "levels"
@@ -166,7 +167,8 @@ attach_of arguments = do
   source_roots ← texts_at SourceRoots arguments
   Ok (record { source_roots = source_roots })
 
--- what `continue` and `pause` say (DAP specification, Continue request, Pause request)
+-- what `continue`, `next`, `stepIn`, `stepOut`, `pause` and `exceptionInfo` say
+-- (DAP specification, Continue, Next, StepIn, StepOut, Pause and ExceptionInfo request)
 abbrev pub thread_of : Data → Result ThreadArguments Argument
 thread_of arguments = do
   thread_id ← int_at ThreadId arguments

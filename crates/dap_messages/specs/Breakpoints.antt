@@ -1,4 +1,4 @@
--- The breakpoints that a request asks for. (DAP specification, SetBreakpoints request; Types, SourceBreakpoint)
+-- The breakpoints that a request asks for. (DAP specification, SetBreakpoints and SetFunctionBreakpoints request)
 use Rattle.std.specs.Prelude.{ℕ, ◌==◌, List, [], length, Bool, ◌&&◌, codes, Option, option_and_then, option_map}
 use Rattle.std.specs.Prelude.{unwrap_or, Result, Ok}
 use Rattle.serde_json.specs.Data.{Data}
@@ -8,16 +8,20 @@ use Rattle.dap_messages.specs.declared.arguments.Argument.{Argument}
 use Rattle.dap_messages.specs.declared.arguments.Argument.TheVariants.{Source, Breakpoints}
 use Rattle.dap_messages.specs.declared.requests.SetBreakpointsArguments.{SetBreakpointsArguments}
 use Rattle.dap_messages.specs.declared.requests.SourceBreakpoint.{SourceBreakpoint}
+use Rattle.dap_messages.specs.declared.requests.SetFunctionBreakpointsArguments.{SetFunctionBreakpointsArguments}
+use Rattle.dap_messages.specs.declared.requests.FunctionBreakpoint.{FunctionBreakpoint}
 
 -- a member that is no text counts as missing, and so does an empty text
 abbrev pub lacks_text : List ℕ → Data → Bool
 lacks_text name value = length (unwrap_or (option_and_then as_str (get name value)) []) == 0
 
+-- without a condition and a hit condition (DAP specification, Types, SourceBreakpoint and FunctionBreakpoint)
+abbrev pub is_unconditional : Data → Bool
+is_unconditional value = lacks_text (codes "condition") value && lacks_text (codes "hitCondition") value
+
 -- without a condition, a hit condition and a log message (DAP specification, Types, SourceBreakpoint)
 abbrev pub is_plain : Data → Bool
-is_plain value =
-    lacks_text (codes "condition") value &&
-    (lacks_text (codes "hitCondition") value && lacks_text (codes "logMessage") value)
+is_plain value = is_unconditional value && lacks_text (codes "logMessage") value
 
 -- a value that is a breakpoint: an object with a line (DAP specification, Types, SourceBreakpoint)
 abbrev pub as_breakpoint : Data → Option SourceBreakpoint
@@ -48,3 +52,23 @@ set_breakpoints_of arguments = do
   path ← path_at arguments
   breakpoints ← breakpoints_at arguments
   Ok (record { path = path; breakpoints = breakpoints })
+
+-- a value that is a function to stop in: an object with a name (DAP specification, Types, FunctionBreakpoint)
+abbrev pub as_function : Data → Option FunctionBreakpoint
+as_function value =
+    option_map (λ name. record { name = name; plain = is_unconditional value })
+    (option_and_then as_str (get (codes "name") value))
+
+-- a value that is a list of functions
+abbrev pub as_functions : Data → Option (List FunctionBreakpoint)
+as_functions value = option_and_then (each_in as_function) (as_array value)
+
+-- the functions, which must be there (DAP specification, SetFunctionBreakpoints request)
+abbrev pub functions_at : Data → Result (List FunctionBreakpoint) Argument
+functions_at arguments = unless_broken Breakpoints (option_and_then as_functions (given Breakpoints arguments))
+
+-- what `setFunctionBreakpoints` says (DAP specification, SetFunctionBreakpoints request)
+abbrev pub set_function_breakpoints_of : Data → Result SetFunctionBreakpointsArguments Argument
+set_function_breakpoints_of arguments = do
+  breakpoints ← functions_at arguments
+  Ok (record { breakpoints = breakpoints })

@@ -7,7 +7,8 @@ use Rattle.serde_json.specs.Read.{read}
 use Rattle.serde_json.specs.Find.{get, as_null, as_number, as_object, as_str, as_u64}
 use Rattle.dap_messages.specs.Arguments.{◌>>=◌, argument_name, initialize_of, attach_of, thread_of, disconnect_of}
 use Rattle.dap_messages.specs.Arguments.{stack_trace_of, scopes_of, variables_of}
-use Rattle.dap_messages.specs.Breakpoints.{set_breakpoints_of}
+use Rattle.dap_messages.specs.Breakpoints.{set_breakpoints_of, set_function_breakpoints_of}
+use Rattle.dap_messages.specs.Exceptions.{set_exception_breakpoints_of}
 use Rattle.dap_messages.specs.declared.arguments.Argument.{Argument}
 use Rattle.dap_messages.specs.declared.arguments.Argument.TheVariants.{Arguments}
 use Rattle.dap_messages.specs.declared.rows.Row.{Row}
@@ -15,6 +16,9 @@ use Rattle.dap_messages.specs.declared.rows.Row.TheVariants as row
 use Rattle.dap_messages.specs.declared.requests.Command.{Command}
 use Rattle.dap_messages.specs.declared.requests.Command.TheVariants.{Initialize, Attach, ConfigurationDone}
 use Rattle.dap_messages.specs.declared.requests.Command.TheVariants.{SetBreakpoints, Threads, Continue}
+use Rattle.dap_messages.specs.declared.requests.Command.TheVariants.{SetFunctionBreakpoints}
+use Rattle.dap_messages.specs.declared.requests.Command.TheVariants.{SetExceptionBreakpoints}
+use Rattle.dap_messages.specs.declared.requests.Command.TheVariants.{Next, StepIn, StepOut, ExceptionInfo}
 use Rattle.dap_messages.specs.declared.requests.Command.TheVariants.{Pause, StackTrace, Scopes, Variables}
 use Rattle.dap_messages.specs.declared.requests.Command.TheVariants.{Disconnect, Unsupported, BadArguments}
 use Rattle.dap_messages.specs.declared.requests.Incoming.{Incoming}
@@ -29,14 +33,20 @@ row_of name =
     (if bytes_eq name (codes "attach") then row.Attach else
     (if bytes_eq name (codes "configurationDone") then row.ConfigurationDone else
     (if bytes_eq name (codes "setBreakpoints") then row.SetBreakpoints else
+    (if bytes_eq name (codes "setFunctionBreakpoints") then row.SetFunctionBreakpoints else
+    (if bytes_eq name (codes "setExceptionBreakpoints") then row.SetExceptionBreakpoints else
     (if bytes_eq name (codes "threads") then row.Threads else
     (if bytes_eq name (codes "continue") then row.Continue else
+    (if bytes_eq name (codes "next") then row.Next else
+    (if bytes_eq name (codes "stepIn") then row.StepIn else
+    (if bytes_eq name (codes "stepOut") then row.StepOut else
     (if bytes_eq name (codes "pause") then row.Pause else
+    (if bytes_eq name (codes "exceptionInfo") then row.ExceptionInfo else
     (if bytes_eq name (codes "stackTrace") then row.StackTrace else
     (if bytes_eq name (codes "scopes") then row.Scopes else
     (if bytes_eq name (codes "variables") then row.Variables else
     (if bytes_eq name (codes "disconnect") then row.Disconnect else
-    row.Unsupported))))))))))
+    row.Unsupported))))))))))))))))
 
 -- arguments are an object or null
 abbrev pub object_or_null : Data → Result Data Argument
@@ -63,6 +73,14 @@ row_command row.SetBreakpoints request = do
   arguments ← arguments_of request
   set_breakpoints ← set_breakpoints_of arguments
   Ok (SetBreakpoints set_breakpoints)
+row_command row.SetFunctionBreakpoints request = do
+  arguments ← arguments_of request
+  functions ← set_function_breakpoints_of arguments
+  Ok (SetFunctionBreakpoints functions)
+row_command row.SetExceptionBreakpoints request = do
+  arguments ← arguments_of request
+  exceptions ← set_exception_breakpoints_of arguments
+  Ok (SetExceptionBreakpoints exceptions)
 row_command row.Threads request = do
   arguments ← arguments_of request
   Ok Threads
@@ -70,10 +88,26 @@ row_command row.Continue request = do
   arguments ← arguments_of request
   thread ← thread_of arguments
   Ok (Continue thread)
+row_command row.Next request = do
+  arguments ← arguments_of request
+  thread ← thread_of arguments
+  Ok (Next thread)
+row_command row.StepIn request = do
+  arguments ← arguments_of request
+  thread ← thread_of arguments
+  Ok (StepIn thread)
+row_command row.StepOut request = do
+  arguments ← arguments_of request
+  thread ← thread_of arguments
+  Ok (StepOut thread)
 row_command row.Pause request = do
   arguments ← arguments_of request
   thread ← thread_of arguments
   Ok (Pause thread)
+row_command row.ExceptionInfo request = do
+  arguments ← arguments_of request
+  thread ← thread_of arguments
+  Ok (ExceptionInfo thread)
 row_command row.StackTrace request = do
   arguments ← arguments_of request
   stack_trace ← stack_trace_of arguments

@@ -24,6 +24,7 @@ pub(crate) enum Argument {
     SourceRoots,
     Source,
     Breakpoints,
+    Filters,
     ThreadId,
     StartFrame,
     Levels,
@@ -49,6 +50,7 @@ impl Argument {
             Argument::SourceRoots => "sourceRoots",
             Argument::Source => "source",
             Argument::Breakpoints => "breakpoints",
+            Argument::Filters => "filters",
             Argument::ThreadId => "threadId",
             Argument::StartFrame => "startFrame",
             Argument::Levels => "levels",
@@ -122,7 +124,12 @@ pub(crate) fn texts_at(
     }
 }
 
-fn texts_in(alloc: Global, argument: Argument, items: &[Value]) -> Result<List<Text>, Refused>
+/// The texts that all items are.
+pub(crate) fn texts_in(
+    alloc: Global,
+    argument: Argument,
+    items: &[Value],
+) -> Result<List<Text>, Refused>
     ensures { IsRead result (unless_broken argument (each_in as_str (items_view items.now))) }
 {
     let mut texts = List::new(alloc);

@@ -2,23 +2,30 @@
 #![tactic(auto)]
 
 mod arguments;
+mod bodies;
 mod breakpoints;
+mod events;
+mod exceptions;
+mod failures;
+mod frame_bodies;
 mod read;
 mod requests;
 mod rows;
 #[cfg(test)]
 mod tests;
 mod told;
+mod variable_bodies;
 mod write;
 
 pub use read::read_request;
 pub use requests::{
-    AttachArguments, Command, DisconnectArguments, Filter, Incoming, InitializeArguments,
-    ReadFault, Request, ScopesArguments, SetBreakpointsArguments, SourceBreakpoint,
+    AttachArguments, Command, DisconnectArguments, Filter, FunctionBreakpoint, Incoming,
+    InitializeArguments, ReadFault, Request, ScopesArguments, SetBreakpointsArguments,
+    SetExceptionBreakpointsArguments, SetFunctionBreakpointsArguments, SourceBreakpoint,
     StackTraceArguments, ThreadArguments, VariablesArguments,
 };
 pub use told::{
-    Breakpoint, BreakpointStatus, Detail, Event, Failure, Outcome, Response, Shape, Source,
-    StackFrame, StopReason, Stopped, Thread, ThreadChange, Told, Variable,
+    BreakMode, Breakpoint, BreakpointStatus, Detail, Event, Failure, Outcome, Response, Shape,
+    Source, StackFrame, StopReason, Stopped, Thread, ThreadChange, Told, Variable,
 };
 pub use write::text_of;

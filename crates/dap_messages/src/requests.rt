@@ -45,9 +45,15 @@ pub enum Command {
     Attach(AttachArguments),
     ConfigurationDone,
     SetBreakpoints(SetBreakpointsArguments),
+    SetFunctionBreakpoints(SetFunctionBreakpointsArguments),
+    SetExceptionBreakpoints(SetExceptionBreakpointsArguments),
     Threads,
     Continue(ThreadArguments),
+    Next(ThreadArguments),
+    StepIn(ThreadArguments),
+    StepOut(ThreadArguments),
     Pause(ThreadArguments),
+    ExceptionInfo(ThreadArguments),
     StackTrace(StackTraceArguments),
     Scopes(ScopesArguments),
     Variables(VariablesArguments),
@@ -91,8 +97,31 @@ pub struct SourceBreakpoint {
     pub plain: bool,
 }
 
-/// Arguments of `continue` and `pause`: the number of a thread, from 0 to 2^31 - 1.
-/// (DAP specification, Continue request, Pause request)
+/// Arguments of `setFunctionBreakpoints`: the functions to stop in, in the client's order, which take the place of all
+/// that were there. (DAP specification, SetFunctionBreakpoints request)
+#[derive(Debug, Drop)]
+pub struct SetFunctionBreakpointsArguments {
+    pub breakpoints: List<FunctionBreakpoint>,
+}
+
+/// A function to stop in: its name as the client wrote it, and whether it is plain, that is without a condition and a hit
+/// condition. (DAP specification, Types, FunctionBreakpoint)
+#[derive(Debug, Drop)]
+pub struct FunctionBreakpoint {
+    pub name: Text,
+    pub plain: bool,
+}
+
+/// Arguments of `setExceptionBreakpoints`: whether its filters name `caught`, and whether they name `uncaught`; other
+/// filters are passed over. (DAP specification, SetExceptionBreakpoints request, `filters`)
+#[derive(Clone, Copy, Debug, Drop, PartialEq, Eq)]
+pub struct SetExceptionBreakpointsArguments {
+    pub caught: bool,
+    pub uncaught: bool,
+}
+
+/// Arguments of `continue`, `next`, `stepIn`, `stepOut`, `pause` and `exceptionInfo`: the number of a thread, from 0 to
+/// 2^31 - 1. (DAP specification, Continue, Next, StepIn, StepOut, Pause and ExceptionInfo request)
 #[derive(Clone, Copy, Debug, Drop, PartialEq, Eq)]
 pub struct ThreadArguments {
     pub thread_id: u32,

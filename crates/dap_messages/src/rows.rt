@@ -2,16 +2,19 @@ ghost use Rattle.std.specs.Prelude.{◌≡◌, IfOk};
 ghost use Rattle.serde_json.specs.View.{view};
 ghost use Rattle.dap_messages.specs.Arguments.{initialize_of, attach_of, thread_of, disconnect_of, IsRead};
 ghost use Rattle.dap_messages.specs.Arguments.{stack_trace_of, scopes_of, variables_of};
-ghost use Rattle.dap_messages.specs.Breakpoints.{set_breakpoints_of};
+ghost use Rattle.dap_messages.specs.Breakpoints.{set_breakpoints_of, set_function_breakpoints_of};
+ghost use Rattle.dap_messages.specs.Exceptions.{set_exception_breakpoints_of};
 ghost use Rattle.dap_messages.specs.Reading.{row_of, row_command, command_of};
 
 use crate::arguments::{
     Argument, Refused, filter_at, flag_at, int_at, int_or, path_format_at, text_at, texts_at,
 };
-use crate::breakpoints::{breakpoints_at, path_at};
+use crate::breakpoints::{breakpoints_at, functions_at, path_at};
+use crate::exceptions::{filters_at, has_filter};
 use crate::requests::{
     AttachArguments, Command, DisconnectArguments, InitializeArguments, ScopesArguments,
-    SetBreakpointsArguments, StackTraceArguments, ThreadArguments, VariablesArguments,
+    SetBreakpointsArguments, SetExceptionBreakpointsArguments, SetFunctionBreakpointsArguments,
+    StackTraceArguments, ThreadArguments, VariablesArguments,
 };
 use serde_json::Value;
 use std::alloc::Global;
@@ -24,9 +27,15 @@ pub(crate) enum Row {
     Attach,
     ConfigurationDone,
     SetBreakpoints,
+    SetFunctionBreakpoints,
+    SetExceptionBreakpoints,
     Threads,
     Continue,
+    Next,
+    StepIn,
+    StepOut,
     Pause,
+    ExceptionInfo,
     StackTrace,
     Scopes,
     Variables,
@@ -37,30 +46,25 @@ pub(crate) enum Row {
 fn row_of(name: &str) -> Row
     ensures { result ≡ row_of name.now }
 {
-    if name == "initialize" {
-        Row::Initialize
-    } else if name == "attach" {
-        Row::Attach
-    } else if name == "configurationDone" {
-        Row::ConfigurationDone
-    } else if name == "setBreakpoints" {
-        Row::SetBreakpoints
-    } else if name == "threads" {
-        Row::Threads
-    } else if name == "continue" {
-        Row::Continue
-    } else if name == "pause" {
-        Row::Pause
-    } else if name == "stackTrace" {
-        Row::StackTrace
-    } else if name == "scopes" {
-        Row::Scopes
-    } else if name == "variables" {
-        Row::Variables
-    } else if name == "disconnect" {
-        Row::Disconnect
-    } else {
-        Row::Unsupported
+    match name {
+        "initialize" => Row::Initialize,
+        "attach" => Row::Attach,
+        "configurationDone" => Row::ConfigurationDone,
+        "setBreakpoints" => Row::SetBreakpoints,
+        "setFunctionBreakpoints" => Row::SetFunctionBreakpoints,
+        "setExceptionBreakpoints" => Row::SetExceptionBreakpoints,
+        "threads" => Row::Threads,
+        "continue" => Row::Continue,
+        "next" => Row::Next,
+        "stepIn" => Row::StepIn,
+        "stepOut" => Row::StepOut,
+        "pause" => Row::Pause,
+        "exceptionInfo" => Row::ExceptionInfo,
+        "stackTrace" => Row::StackTrace,
+        "scopes" => Row::Scopes,
+        "variables" => Row::Variables,
+        "disconnect" => Row::Disconnect,
+        _ => Row::Unsupported,
     }
 }
 
@@ -94,9 +98,21 @@ fn row_command(alloc: Global, row: Row, request: &Value) -> Result<Command, Refu
         Row::Attach => Ok(Command::Attach(attach_of(alloc, arguments)?)),
         Row::ConfigurationDone => Ok(Command::ConfigurationDone),
         Row::SetBreakpoints => Ok(Command::SetBreakpoints(set_breakpoints_of(alloc, arguments)?)),
+        Row::SetFunctionBreakpoints => {
+            let functions = set_function_breakpoints_of(alloc, arguments)?;
+            Ok(Command::SetFunctionBreakpoints(functions))
+        }
+        Row::SetExceptionBreakpoints => {
+            let exceptions = set_exception_breakpoints_of(alloc, arguments)?;
+            Ok(Command::SetExceptionBreakpoints(exceptions))
+        }
         Row::Threads => Ok(Command::Threads),
         Row::Continue => Ok(Command::Continue(thread_of(arguments)?)),
+        Row::Next => Ok(Command::Next(thread_of(arguments)?)),
+        Row::StepIn => Ok(Command::StepIn(thread_of(arguments)?)),
+        Row::StepOut => Ok(Command::StepOut(thread_of(arguments)?)),
         Row::Pause => Ok(Command::Pause(thread_of(arguments)?)),
+        Row::ExceptionInfo => Ok(Command::ExceptionInfo(thread_of(arguments)?)),
         Row::StackTrace => Ok(Command::StackTrace(stack_trace_of(arguments)?)),
         Row::Scopes => Ok(Command::Scopes(scopes_of(arguments)?)),
         Row::Variables => Ok(Command::Variables(variables_of(arguments)?)),
@@ -134,6 +150,29 @@ fn set_breakpoints_of(alloc: Global, arguments: &Value) -> Result<SetBreakpoints
     let path = path_at(alloc, arguments)?;
     let breakpoints = breakpoints_at(alloc, arguments)?;
     Ok(SetBreakpointsArguments { path, breakpoints })
+}
+
+fn set_function_breakpoints_of(
+    alloc: Global,
+    arguments: &Value,
+) -> Result<SetFunctionBreakpointsArguments, Refused>
+    ensures { IsRead result (set_function_breakpoints_of (view arguments.now)) }
+{
+    let breakpoints = functions_at(alloc, arguments)?;
+    Ok(SetFunctionBreakpointsArguments { breakpoints })
+}
+
+fn set_exception_breakpoints_of(
+    alloc: Global,
+    arguments: &Value,
+) -> Result<SetExceptionBreakpointsArguments, Refused>
+    ensures { IsRead result (set_exception_breakpoints_of (view arguments.now)) }
+{
+    let filters = filters_at(alloc, arguments)?;
+    Ok(SetExceptionBreakpointsArguments {
+        caught: has_filter(filters.as_slice(), "caught"),
+        uncaught: has_filter(filters.as_slice(), "uncaught"),
+    })
 }
 
 fn thread_of(arguments: &Value) -> Result<ThreadArguments, Refused>

@@ -1,7 +1,9 @@
 use crate::{
-    Breakpoint, BreakpointStatus, Command, Event, Failure, Filter, Incoming, InitializeArguments,
-    Outcome, ReadFault, Request, Response, Shape, Source, SourceBreakpoint, StackFrame, StopReason,
-    Stopped, Thread, ThreadChange, Told, Variable, VariablesArguments, read_request, text_of,
+    BreakMode, Breakpoint, BreakpointStatus, Command, Event, Failure, Filter, FunctionBreakpoint,
+    Incoming, InitializeArguments, Outcome, ReadFault, Request, Response,
+    SetExceptionBreakpointsArguments, Shape, Source, SourceBreakpoint, StackFrame,
+    StackTraceArguments, StopReason, Stopped, Thread, ThreadChange, Told, Variable,
+    VariablesArguments, read_request, text_of,
 };
 use std::alloc::{AllocError, Global};
 use std::process::Abort;
@@ -48,15 +50,19 @@ fn command_summary(alloc: Global, command: &Command) -> Result<String, AllocErro
             let breakpoints = listed(alloc, arguments.breakpoints.as_slice())?;
             format!(in alloc; "{path}:{breakpoints}")
         }
+        Command::SetFunctionBreakpoints(arguments) => named(
+            alloc,
+            arguments.breakpoints.as_slice(),
+        ),
+        Command::SetExceptionBreakpoints(arguments) => exceptions_summary(alloc, *arguments),
         Command::Threads => String::from_str(alloc, "lists"),
         Command::Continue(arguments) => numbered(alloc, "resumes", arguments.thread_id),
+        Command::Next(arguments) => numbered(alloc, "steps over", arguments.thread_id),
+        Command::StepIn(arguments) => numbered(alloc, "steps into", arguments.thread_id),
+        Command::StepOut(arguments) => numbered(alloc, "steps out of", arguments.thread_id),
         Command::Pause(arguments) => numbered(alloc, "suspends", arguments.thread_id),
-        Command::StackTrace(arguments) => {
-            let thread = arguments.thread_id;
-            let start = arguments.start_frame;
-            let levels = arguments.levels;
-            format!(in alloc; "{thread} from {start} for {levels}")
-        }
+        Command::ExceptionInfo(arguments) => numbered(alloc, "explains", arguments.thread_id),
+        Command::StackTrace(arguments) => stack_trace_summary(alloc, *arguments),
         Command::Scopes(arguments) => numbered(alloc, "opens", arguments.frame_id),
         Command::Variables(arguments) => variables_summary(alloc, arguments),
         Command::Disconnect(arguments) => {
@@ -80,6 +86,25 @@ fn initialize_summary(
     let columns = arguments.columns_start_at1;
     let types = arguments.supports_variable_type;
     format!(in alloc; "{adapter} {lines} {columns} {types}")
+}
+
+fn exceptions_summary(
+    alloc: Global,
+    arguments: SetExceptionBreakpointsArguments,
+) -> Result<String, AllocError> {
+    let caught = arguments.caught;
+    let uncaught = arguments.uncaught;
+    format!(in alloc; "caught {caught} uncaught {uncaught}")
+}
+
+fn stack_trace_summary(
+    alloc: Global,
+    arguments: StackTraceArguments,
+) -> Result<String, AllocError> {
+    let thread = arguments.thread_id;
+    let start = arguments.start_frame;
+    let levels = arguments.levels;
+    format!(in alloc; "{thread} from {start} for {levels}")
 }
 
 fn variables_summary(alloc: Global, arguments: &VariablesArguments) -> Result<String, AllocError> {
@@ -115,6 +140,17 @@ fn listed(alloc: Global, breakpoints: &[SourceBreakpoint]) -> Result<String, All
         let line = breakpoint.line;
         let mark = if breakpoint.plain { "" } else { "?" };
         all.push_str(format!(in alloc; " {line}{mark}")?.as_str())?;
+    }
+    Ok(all)
+}
+
+// Functions, each with ` ` before it, and with `?` behind it where it isn't plain.
+fn named(alloc: Global, functions: &[FunctionBreakpoint]) -> Result<String, AllocError> {
+    let mut all = String::new(alloc);
+    for function in functions {
+        let name = function.name.as_str();
+        let mark = if function.plain { "" } else { "?" };
+        all.push_str(format!(in alloc; " {name}{mark}")?.as_str())?;
     }
     Ok(all)
 }
@@ -370,6 +406,42 @@ fn pause_is_read(rt: HostRuntime) -> Result<(), Fail> {
     arguments_are_read(&rt, "pause", &table)
 }
 
+// What stands beside it is said by each of these commands of a thread.
+fn thread_is_read(rt: &(impl Abort + AllocGlobal), command: &str, verb: &str) -> Result<(), Fail> {
+    let least = format!(in rt.alloc(); "{verb} 0")?;
+    let greatest = format!(in rt.alloc(); "{verb} 2147483647")?;
+    let table = [
+        (r#"{"threadId":0}"#, least.as_str()),
+        (
+            r#"{"singleThread":"","threadId":2147483647,"granularity":7}"#,
+            greatest.as_str(),
+        ),
+        ("null", "bad threadId"),
+        (r#"{"threadID":1}"#, "bad threadId"),
+        (r#"{"threadId":null}"#, "bad threadId"),
+        (r#"{"threadId":-1}"#, "bad threadId"),
+        (r#"{"threadId":2147483648}"#, "bad threadId"),
+        (r#"{"threadId":"1"}"#, "bad threadId"),
+        ("[1]", "bad arguments"),
+    ];
+    arguments_are_read(rt, command, &table)
+}
+
+#[test]
+fn steps_are_read(rt: HostRuntime) -> Result<(), Fail> {
+    thread_is_read(&rt, "next", "steps over")?;
+    thread_is_read(&rt, "stepIn", "steps into")?;
+    thread_is_read(&rt, "stepOut", "steps out of")?;
+    let table = [(r#"{"threadId":1}"#, "unsupported")];
+    arguments_are_read(&rt, "stepin", &table)?;
+    arguments_are_read(&rt, "stepBack", &table)
+}
+
+#[test]
+fn exception_info_is_read(rt: HostRuntime) -> Result<(), Fail> {
+    thread_is_read(&rt, "exceptionInfo", "explains")
+}
+
 #[test]
 fn stack_trace_is_read(rt: HostRuntime) -> Result<(), Fail> {
     let table = [
@@ -600,6 +672,61 @@ fn conditions_are_read(rt: HostRuntime) -> Result<(), Fail> {
     breakpoints_end_with(&rt, &table)
 }
 
+#[test]
+fn functions_are_read(rt: HostRuntime) -> Result<(), Fail> {
+    let table = [
+        (r#"{"breakpoints":[]}"#, ""),
+        (
+            r#"{"breakpoints":[{"name":"com.acme.Foo.run"},{"name":""},{"name":"\u00e9"}]}"#,
+            " com.acme.Foo.run  é",
+        ),
+        (
+            r#"{"breakpoints":[{"name":"a","condition":"x"},{"name":"b","hitCondition":"5"},{"name":"c"}]}"#,
+            " a? b? c",
+        ),
+        (
+            r#"{"breakpoints":[{"name":"a","condition":"","hitCondition":5,"logMessage":"x"}]}"#,
+            " a",
+        ),
+        ("null", "bad breakpoints"),
+        (r#"{"breakpoints":null}"#, "bad breakpoints"),
+        (r#"{"breakpoints":{"name":"a"}}"#, "bad breakpoints"),
+        (r#"{"breakpoints":["a"]}"#, "bad breakpoints"),
+        (r#"{"breakpoints":[{"name":"a"},{}]}"#, "bad breakpoints"),
+        (r#"{"breakpoints":[{"name":null}]}"#, "bad breakpoints"),
+        (r#"{"breakpoints":[{"name":7}]}"#, "bad breakpoints"),
+        (r#"[{"name":"a"}]"#, "bad arguments"),
+    ];
+    arguments_are_read(&rt, "setFunctionBreakpoints", &table)
+}
+
+#[test]
+fn exceptions_are_read(rt: HostRuntime) -> Result<(), Fail> {
+    let table = [
+        (r#"{"filters":[]}"#, "caught false uncaught false"),
+        (r#"{"filters":["caught"]}"#, "caught true uncaught false"),
+        (
+            r#"{"filters":["uncaught"],"filterOptions":7}"#,
+            "caught false uncaught true",
+        ),
+        (
+            r#"{"filters":["uncaught","all","","caught","caught"]}"#,
+            "caught true uncaught true",
+        ),
+        (
+            r#"{"filters":["Caught","uncaught "]}"#,
+            "caught false uncaught false",
+        ),
+        ("null", "bad filters"),
+        (r#"{"filters":null}"#, "bad filters"),
+        (r#"{"filters":"caught"}"#, "bad filters"),
+        (r#"{"filters":["caught",null]}"#, "bad filters"),
+        (r#"{"filters":[7]}"#, "bad filters"),
+        (r#"["caught"]"#, "bad arguments"),
+    ];
+    arguments_are_read(&rt, "setExceptionBreakpoints", &table)
+}
+
 // A message is told by this text.
 fn is_told(
     rt: &(impl Abort + AllocGlobal),
@@ -804,11 +931,13 @@ fn no_variables_are_told(rt: HostRuntime) -> Result<(), Fail> {
 fn breakpoints_are_told(rt: HostRuntime) -> Result<(), Fail> {
     let mut breakpoints = List::new(rt.alloc());
     let table = [
-        (1, 10, BreakpointStatus::Verified),
-        (2, 11, BreakpointStatus::NoSourceRoot),
-        (3, 12, BreakpointStatus::ConditionsUnsupported),
-        (4, 13, BreakpointStatus::RefusedByTarget),
-        (5, 14, BreakpointStatus::NotBoundYet),
+        (1, Some(10), BreakpointStatus::Verified),
+        (2, Some(11), BreakpointStatus::NoSourceRoot),
+        (3, Some(12), BreakpointStatus::ConditionsUnsupported),
+        (4, Some(13), BreakpointStatus::RefusedByTarget),
+        (5, Some(14), BreakpointStatus::NotBoundYet),
+        (6, None, BreakpointStatus::NotBoundYet),
+        (7, None, BreakpointStatus::Verified),
     ];
     for (id, line, status) in table {
         breakpoints.push(Breakpoint { id, line, status })?;
@@ -817,8 +946,31 @@ fn breakpoints_are_told(rt: HostRuntime) -> Result<(), Fail> {
         {\"id\":2,\"line\":11,\"message\":\"no source root\",\"verified\":false},\
         {\"id\":3,\"line\":12,\"message\":\"conditions are not supported\",\"verified\":false},\
         {\"id\":4,\"line\":13,\"message\":\"refused by the target\",\"verified\":false},\
-        {\"id\":5,\"line\":14,\"message\":\"not bound yet\",\"verified\":false}]}";
+        {\"id\":5,\"line\":14,\"message\":\"not bound yet\",\"verified\":false},\
+        {\"id\":6,\"message\":\"not bound yet\",\"verified\":false},\
+        {\"id\":7,\"verified\":true}]}";
     body_is_told(&rt, Shape::Breakpoints(breakpoints), wanted)
+}
+
+#[test]
+fn exceptions_are_told(rt: HostRuntime) -> Result<(), Fail> {
+    let table = [
+        (
+            "java.lang.IllegalStateException",
+            BreakMode::Unhandled,
+            r#"{"breakMode":"unhandled","exceptionId":"java.lang.IllegalStateException"}"#,
+        ),
+        (
+            "null",
+            BreakMode::Always,
+            r#"{"breakMode":"always","exceptionId":"null"}"#,
+        ),
+    ];
+    for (name, mode, wanted) in table {
+        let id = Text::from_str(rt.alloc(), name)?;
+        body_is_told(&rt, Shape::ExceptionInfo { id, mode }, wanted)?;
+    }
+    Ok(())
 }
 
 // A failure is told by this code, this message and what follows the message.
@@ -887,13 +1039,21 @@ fn events_without_a_body_are_told(rt: HostRuntime) -> Result<(), Fail> {
 fn a_change_of_a_breakpoint_is_told(rt: HostRuntime) -> Result<(), Fail> {
     let changed = Breakpoint {
         id: 1,
-        line: 10,
+        line: Some(10),
+        status: BreakpointStatus::Verified,
+    };
+    let function = Breakpoint {
+        id: 2,
+        line: None,
         status: BreakpointStatus::Verified,
     };
     let wanted =
         "{\"body\":{\"breakpoint\":{\"id\":1,\"line\":10,\"verified\":true},\"reason\":\"changed\"},\
         \"event\":\"breakpoint\",\"seq\":5,\"type\":\"event\"}";
-    event_is_told(&rt, Event::Breakpoint(changed), wanted)
+    event_is_told(&rt, Event::Breakpoint(changed), wanted)?;
+    let wanted = "{\"body\":{\"breakpoint\":{\"id\":2,\"verified\":true},\"reason\":\"changed\"},\
+        \"event\":\"breakpoint\",\"seq\":5,\"type\":\"event\"}";
+    event_is_told(&rt, Event::Breakpoint(function), wanted)
 }
 
 #[test]
@@ -947,6 +1107,12 @@ fn stops_are_told(rt: HostRuntime) -> Result<(), Fail> {
             StopReason::FunctionBreakpoint(List::new(alloc)),
             r#""hitBreakpointIds":[],"reason":"function breakpoint""#,
         ),
+        (
+            StopReason::Exception(Some(Text::from_str(alloc, "a.B")?)),
+            r#""reason":"exception","text":"a.B""#,
+        ),
+        (StopReason::Exception(None), r#""reason":"exception""#),
+        (StopReason::Step, r#""reason":"step""#),
         (StopReason::Pause, r#""reason":"pause""#),
     ];
     for (reason, wanted) in table {

@@ -1,7 +1,7 @@
 use Rattle.std.proofs.Common.{◌≡◌, map, take}
 use Rattle.serde_json.specs.View.{view}
-use Rattle.dap_messages.specs.Telling.{variable_data}
-use Rattle.dap_messages.proofs.write.variables_value.Given as goal
+use Rattle.dap_messages.specs.Bodies.{variable_data}
+use Rattle.dap_messages.proofs.variable_bodies.variables_value.Given as goal
 
 abbrev pub invariant-loop-variable : goal.invariant-loop-variable
 invariant-loop-variable l = map view l.items.items ≡ map variable_data (take l.variable-index l.variables)
