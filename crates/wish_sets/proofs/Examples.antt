@@ -14,7 +14,7 @@ use Rattle.wish_sets.specs.declared.facts.KnownClass.{KnownClass}
 use Rattle.wish_sets.specs.declared.facts.KnownMethod.{KnownMethod}
 use Rattle.wish_sets.specs.declared.wish.Depth.TheVariants.{Over}
 use Rattle.wish_sets.specs.declared.wish.Wish.TheVariants as wishes
-use Rattle.wish_sets.specs.Entries.{state_of, entries_at}
+use Rattle.wish_sets.specs.Entries.{state_of, entries_at, verified}
 use Rattle.wish_sets.specs.Wanted.{Wanted}
 use Rattle.wish_sets.specs.Wished.{wished, is_listed, is_named}
 use Rattle.wish_sets.specs.Wishes.{Wishes, clears, sets, next_change, next_place, settled, owner_of, rewished}
@@ -165,6 +165,11 @@ refused_entry = refl
 both_are_hit : entries_at shop start ≡ record { id = 1; line = true } ∷ record { id = 4; line = false } ∷ []
 unfolding lossy lossy_after is_utf8 chars encode
 both_are_hit = refl
+
+-- of the entries that are verified the breakpoint of the source has its line, and that of the function has none
+both_are_verified : verified bound ≡ record { id = 1; line = Some (pos 3) } ∷ record { id = 4; line = None } ∷ []
+unfolding lossy lossy_after is_utf8 chars encode
+both_are_verified = refl
 
 -- an event belongs to the wish of its kind and id alone
 owner : owner_of bound.installed kinds.Breakpoint 8 ≡ Some (wishes.Stop start)

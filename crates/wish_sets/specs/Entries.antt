@@ -7,7 +7,9 @@ use Rattle.std.specs.Ordering.{nat_cmp, on}
 use Rattle.jdwp_values.specs.declared.location.Location.{Location}
 use Rattle.wish_sets.specs.declared.entry.EntryAt.{EntryAt}
 use Rattle.wish_sets.specs.declared.entry.EntryState.{EntryState}
+use Rattle.wish_sets.specs.declared.entry.FunctionEntry.{FunctionEntry}
 use Rattle.wish_sets.specs.declared.entry.LineEntry.{LineEntry}
+use Rattle.wish_sets.specs.declared.entry.VerifiedEntry.{VerifiedEntry}
 use Rattle.wish_sets.specs.declared.entry.EntryState.TheVariants.{Verified, Refused, Waiting}
 use Rattle.wish_sets.specs.declared.wish.Wish.{Wish}
 use Rattle.wish_sets.specs.declared.wish.Wish.TheVariants as wishes
@@ -45,16 +47,23 @@ all_entries_at wanted at =
 abbrev pub entries_at : Wanted → Location → List EntryAt
 entries_at wanted at = fold (insert_key (on (λ entry. entry.id) nat_cmp)) [] (all_entries_at wanted at)
 
--- all breakpoints of sources, list by list
-abbrev pub all_lines : Wanted → List LineEntry
-all_lines wanted = flat_map (λ list. list.1) wanted.lists
+-- a breakpoint of a source, by its id and its line (DAP specification, Types, Breakpoint, line)
+abbrev pub line_seen : LineEntry → VerifiedEntry
+line_seen entry = record { id = entry.id; line = Some entry.line }
+
+-- a breakpoint of a function, by its id alone (DAP specification, Types, Breakpoint, id)
+abbrev pub function_seen : FunctionEntry → VerifiedEntry
+function_seen entry = record { id = entry.id; line = None }
+
+-- all entries that are listed: the breakpoints of sources, list by list, and then those of functions
+abbrev pub all_entries : Wanted → List VerifiedEntry
+all_entries wanted = flat_map (λ list. map line_seen list.1) wanted.lists ++ map function_seen wanted.functions
 
 -- one of its locations is installed
-abbrev pub is_verified : Wishes → LineEntry → Bool
+abbrev pub is_verified : Wishes → VerifiedEntry → Bool
 is_verified w entry = has_location (places w.wanted) entry.id (is_installed w.installed)
 
--- the breakpoints of sources that are verified, in order of their ids, each once (DAP specification, Types, Breakpoint,
--- verified)
-abbrev pub verified : Wishes → List LineEntry
+-- the entries that are verified, in order of their ids, each once (DAP specification, Types, Breakpoint, verified)
+abbrev pub verified : Wishes → List VerifiedEntry
 verified w =
-    fold (insert_key (on (λ entry. entry.id) nat_cmp)) [] (filter (is_verified w) (all_lines w.wanted))
+    fold (insert_key (on (λ entry. entry.id) nat_cmp)) [] (filter (is_verified w) (all_entries w.wanted))

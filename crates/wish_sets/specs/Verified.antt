@@ -1,10 +1,10 @@
--- Which breakpoints of sources are verified, one after another.
+-- Which entries are verified, one after another.
 use Rattle.std.specs.Prelude.{ℕ, ◌+◌, Bool, true, false, List, [], ◌∷◌, filter, fold, Option, Some, None}
 use Rattle.std.specs.BTreeSet.{insert_key}
 use Rattle.std.specs.Ordering.{match_ordering, nat_cmp, on}
 use Rattle.wish_sets.specs.declared.entry.EntryState.{EntryState}
 use Rattle.wish_sets.specs.declared.entry.EntryState.TheVariants.{Verified, Refused, Waiting}
-use Rattle.wish_sets.specs.declared.entry.LineEntry.{LineEntry}
+use Rattle.wish_sets.specs.declared.entry.VerifiedEntry.{VerifiedEntry}
 use Rattle.wish_sets.specs.Entries.{state_of}
 use Rattle.wish_sets.specs.Wishes.{Wishes}
 
@@ -15,13 +15,13 @@ is_sure (Some Verified) = true
 is_sure (Some Refused) = false
 is_sure (Some Waiting) = false
 
--- the place at which a breakpoint goes by its id, counted from a place, where none has it
-abbrev pub line_place : ℕ → ℕ → List LineEntry → Option ℕ
-line_place place id [] = Some place
-line_place place id (entry ∷ entries) =
-    match_ordering (nat_cmp id entry.id) (Some place) None (line_place (place + 1) id entries)
+-- the place at which an entry goes by its id, counted from a place, where none has it
+abbrev pub entry_place : ℕ → ℕ → List VerifiedEntry → Option ℕ
+entry_place place id [] = Some place
+entry_place place id (entry ∷ entries) =
+    match_ordering (nat_cmp id entry.id) (Some place) None (entry_place (place + 1) id entries)
 
--- those of a list that are verified take their places among others by their ids
-abbrev pub with_verified : Wishes → List LineEntry → List LineEntry → List LineEntry
+-- those of some entries that are verified take their places among others by their ids
+abbrev pub with_verified : Wishes → List VerifiedEntry → List VerifiedEntry → List VerifiedEntry
 with_verified w entries found =
     fold (insert_key (on (λ entry. entry.id) nat_cmp)) found (filter (λ entry. is_sure (state_of w entry.id)) entries)

@@ -29,6 +29,14 @@ pub enum EntryState {
     Waiting,
 }
 
+/// An entry that is verified: its id, and its line where it is a breakpoint of a source (DAP specification, Types,
+/// Breakpoint, verified).
+#[derive(Clone, Copy, Debug, PartialEq, Eq)]
+pub struct VerifiedEntry {
+    pub id: u64,
+    pub line: Option<i32>,
+}
+
 /// An entry that has a location: its id, and whether it is one of a source's lines and not a function.
 #[derive(Clone, Copy, Debug, PartialEq, Eq)]
 pub struct EntryAt {

@@ -26,7 +26,7 @@ mod wish;
 mod wishes;
 
 pub use change::{Change, Settled};
-pub use entry::{EntryAt, EntryState, FunctionEntry, LineEntry};
+pub use entry::{EntryAt, EntryState, FunctionEntry, LineEntry, VerifiedEntry};
 pub use facts::{KnownClass, KnownMethod};
 pub use laws::{
     a_package_is_watched_where_it_is_wished, a_refusal_is_kept_while_it_is_wished,

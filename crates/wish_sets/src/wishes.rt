@@ -15,7 +15,7 @@ use crate::asked::{is_listed, is_named, watches};
 use crate::bound::{Bound, has_id, of_id};
 use crate::change::{Change, Settled};
 use crate::cursor::Cursor;
-use crate::entry::{EntryAt, EntryState, FunctionEntry, LineEntry};
+use crate::entry::{EntryAt, EntryState, FunctionEntry, LineEntry, VerifiedEntry};
 use crate::fixed::{fixed_slots, want_step, want_thrown};
 use crate::forming::form;
 use crate::known::{is_nothing, know_all, put_back};
@@ -23,7 +23,7 @@ use crate::owners::{Owners, owner};
 use crate::slot::{Slot, late, settle, unset};
 use crate::standing::{entries_at, entry_state};
 use crate::table::{put_at, take_back};
-use crate::verified::verified_lines;
+use crate::verified::verified_entries;
 use crate::wants::{Wants, list_at};
 use crate::wish::{Depth, StepWish, Wish};
 use class_tables::Classes;
@@ -307,11 +307,11 @@ impl Wishes {
         entries_at(alloc, self.bound.all.as_slice(), *at)
     }
 
-    /// The breakpoints of sources that are verified, in order of their ids, each id once. Takes memory for the list;
-    /// `NoMemory` comes where it is refused (DAP specification, Types, Breakpoint, verified).
-    pub fn verified(&self, alloc: Global) -> Result<List<LineEntry>, NoMemory>
+    /// The entries that are verified, breakpoints of sources and of functions, in order of their ids, each id once.
+    /// Takes memory for the list; `NoMemory` comes where it is refused (DAP specification, Types, Breakpoint, verified).
+    pub fn verified(&self, alloc: Global) -> Result<List<VerifiedEntry>, NoMemory>
         ensures { IfOk result (λ entries. entries ≡ verified self.now) }
     {
-        verified_lines(alloc, self, &self.wants.lists)
+        verified_entries(alloc, self, &self.wants)
     }
 }

@@ -4,7 +4,8 @@ use jdwp_values::{ClassId, Line, LineTable, Location, Method, MethodId, ThreadId
 use std::alloc::Global;
 use wire_core::{Blob, List, NoMemory, Text};
 use wish_sets::{
-    Change, Depth, EntryAt, EntryState, FunctionEntry, LineEntry, Settled, Wish, Wishes,
+    Change, Depth, EntryAt, EntryState, FunctionEntry, LineEntry, Settled, VerifiedEntry, Wish,
+    Wishes,
 };
 
 /// What is done.
@@ -35,7 +36,7 @@ pub(crate) enum Seen<'a> {
     Next(Next),
     Owner(EventKind, u32, Option<u64>),
     State(u64, Option<EntryState>),
-    Verified(&'a [LineEntry]),
+    Verified(&'a [VerifiedEntry]),
     Entries(u64, &'a [EntryAt]),
     Watched(&'a [u8], bool),
     Listed(&'a [u8], &'a [u8], bool),
@@ -200,7 +201,11 @@ fn owner_of(wishes: &Wishes, kind: EventKind, request: u32) -> Option<u64> {
     Some(index_of(owner))
 }
 
-fn are_verified(alloc: Global, wishes: &Wishes, entries: &[LineEntry]) -> Result<bool, NoMemory> {
+fn are_verified(
+    alloc: Global,
+    wishes: &Wishes,
+    entries: &[VerifiedEntry],
+) -> Result<bool, NoMemory> {
     let verified = wishes.verified(alloc)?;
     Ok(verified.as_slice() == entries)
 }

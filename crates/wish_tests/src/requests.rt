@@ -2,7 +2,7 @@ use crate::courses::{Act, Course, Next, Seen, Step, wrong_of};
 use jdwp_events::EventKind;
 use jdwp_values::Line;
 use std::test::Fail;
-use wish_sets::{Depth, EntryAt, EntryState, LineEntry, Settled};
+use wish_sets::{Depth, EntryAt, EntryState, LineEntry, Settled, VerifiedEntry};
 
 // An entry that waits for nothing but its line.
 const LINE_3: LineEntry = LineEntry {
@@ -12,6 +12,12 @@ const LINE_3: LineEntry = LineEntry {
 };
 
 const ENTRY_1: EntryAt = EntryAt { id: 1, line: true };
+
+// That entry, as it is verified.
+const LINE_3_SEEN: VerifiedEntry = VerifiedEntry {
+    id: 1,
+    line: Some(3),
+};
 
 const LINE_3_AT_4: &[Line] = &[Line { index: 4, line: 3 }];
 
@@ -87,8 +93,49 @@ const STANDING: Course<'static> = Course {
         Step::See(Seen::State(1, Some(EntryState::Verified))),
         Step::See(Seen::State(2, Some(EntryState::Refused))),
         Step::See(Seen::State(3, None)),
-        Step::See(Seen::Verified(&[LINE_3])),
+        Step::See(Seen::Verified(&[LINE_3_SEEN])),
         Step::See(Seen::Entries(4, &[ENTRY_1])),
+    ],
+};
+
+// A function that is verified, by its id.
+const ADD_SEEN: VerifiedEntry = VerifiedEntry { id: 2, line: None };
+
+// Breakpoints of sources and of functions are verified in order of their ids, whatever stands in front in their lists.
+const VERIFIED: Course<'static> = Course {
+    lines: &[Line { index: 4, line: 3 }, Line { index: 9, line: 5 }],
+    steps: &[
+        Step::Do(Act::Settle(Settled::Installed(1))),
+        Step::Do(Act::Settle(Settled::Installed(2))),
+        Step::Do(Act::Lines(
+            "Cart.java",
+            &[
+                LineEntry {
+                    id: 4,
+                    line: 5,
+                    plain: true,
+                },
+                LINE_3,
+            ],
+        )),
+        Step::Do(Act::Functions(&[(3, "Cart.pay"), (2, "Cart.add")])),
+        Step::Do(Act::Settle(Settled::Installed(3))),
+        Step::Do(Act::Known(&[5])),
+        Step::See(Seen::Verified(&[])),
+        Step::Do(Act::Settle(Settled::Installed(4))),
+        Step::See(Seen::Verified(&[ADD_SEEN])),
+        Step::Do(Act::Settle(Settled::Installed(5))),
+        Step::See(Seen::Verified(&[LINE_3_SEEN, ADD_SEEN])),
+        Step::Do(Act::Settle(Settled::Installed(6))),
+        Step::See(Seen::Next(Next::Nothing)),
+        Step::See(Seen::Verified(&[
+            LINE_3_SEEN,
+            ADD_SEEN,
+            VerifiedEntry {
+                id: 4,
+                line: Some(5),
+            },
+        ])),
     ],
 };
 
@@ -193,7 +240,7 @@ fn event_requests_follow_what_is_wished(rt: HostRuntime) -> Result<(), Fail> {
 
 #[test]
 fn entries_are_bound_and_told_by_their_locations(rt: HostRuntime) -> Result<(), Fail> {
-    for course in [BOUND, STANDING, WANTED] {
+    for course in [BOUND, STANDING, VERIFIED, WANTED] {
         assert_eq!(rt; wrong_of(rt.alloc(), course)?, None);
     }
     Ok(())
