@@ -1,6 +1,6 @@
 -- A fact that is learnt is known, and a class that is made known is bound by what is known of it.
 use Rattle.std.proofs.Common.{◌≡◌, ℕ, Bool, true, false, cond, List, [], ◌∷◌, Option, Some, None, refl}
-use Rattle.std.proofs.Common.{sym, ap, ◌∙◌, option_map, arith}
+use Rattle.std.proofs.Common.{sym, ap, ◌∙◌, option_map, arith, ◌||◌}
 use Rattle.std.specs.List.{AllByRecursion as All}
 use Rattle.class_tables.specs.Facts.{Known, MethodOf, same_class, same_method}
 use Rattle.class_tables.specs.Lookups.{Lookups, found_in}
@@ -10,8 +10,8 @@ use Rattle.class_tables.specs.Views.{Key}
 use Rattle.class_tables.specs.declared.loaded.Loaded.{Loaded}
 use Rattle.jdwp_commands.specs.declared.question.Question.TheVariants as questions
 use Rattle.jdwp_values.specs.declared.id.ClassId.{ClassId}
-use Rattle.machine_model.specs.Binding.{IsBound}
-use Rattle.machine_model.specs.Classes.{class_plan, is_keyed, keyed_plan, known_plan, package_plan}
+use Rattle.machine_model.specs.Binding.{HasPlaces, IsBound}
+use Rattle.machine_model.specs.Classes.{bound_plan, class_plan, is_keyed, keyed_plan, known_plan, package_plan}
 use Rattle.machine_model.specs.Classes.{prepared_plan, source_plan, watched_plan}
 use Rattle.machine_model.specs.Facts.{source_in}
 use Rattle.machine_model.specs.Names.{Answer, Question, Want}
@@ -22,8 +22,9 @@ use Rattle.machine_model.proofs.BindingPlans.{is_fact}
 use Rattle.machine_model.proofs.PlanIds.{after_like, need_chained, need_made}
 use Rattle.wish_sets.specs.Places.{key_by}
 use Rattle.wish_sets.specs.Wanted.{Wanted, class_found, put_known, with_class, with_known}
-use Rattle.wish_sets.specs.Wished.{is_watched}
+use Rattle.wish_sets.specs.Wished.{is_named, is_watched}
 use Rattle.wish_sets.specs.declared.facts.KnownClass.{KnownClass}
+use Rattle.wish_sets.specs.declared.wish.StepWish.{StepWish}
 
 -- Tables --------------------------------------------------------------------------------------------------------------
 
@@ -95,9 +96,12 @@ class_apart a b x other is = grind (arith, other, is)
 
 bound_now : (known : Known) (class : ClassId) (wanted : Wanted)
     → IsBound known (with_class (found_in known) class wanted) class
-bound_now known class wanted facts is =
-    ap (λ (found : Option KnownClass). under same_class class (put_known class found wanted.classes)) is
-    ∙ put_gives same_class class facts wanted.classes (class_is class)
+bound_now known class wanted facts is = record {
+  held = facts;
+  is_held = ap (λ (found : Option KnownClass). under same_class class (put_known class found wanted.classes)) is
+      ∙ put_gives same_class class facts wanted.classes (class_is class);
+  same_places = refl;
+}
 
 bound_kept : (known : Known) (class other : ClassId) (wanted : Wanted) → IsBound known wanted other
     → IsBound known (with_class (found_in known) class wanted) other
@@ -106,16 +110,23 @@ bound_kept known class other wanted h facts is =
   where
     by_same : (same : Bool) → same_class other class ≡ same → (found : Option KnownClass)
         → class_found (found_in known) class ≡ found
-        → under same_class other (put_known class found wanted.classes) ≡ Some facts
-    by_same same e None found_is = h facts is
+        → HasPlaces (record wanted { classes = put_known class found wanted.classes }) other facts
+    by_same same e None found_is = let before = h facts is in
+        record { held = before.held; is_held = before.is_held; same_places = before.same_places }
     by_same true e (Some found) found_is =
         let one = class_equal other class e in
-        let alike : Some facts ≡ Some found = sym is ∙ ap (class_found (found_in known)) one ∙ found_is in
-        ap (λ (c : ClassId). under same_class c (put same_class class found wanted.classes)) one
-        ∙ put_gives same_class class found wanted.classes (class_is class) ∙ sym alike
-    by_same false e (Some found) found_is =
-        put_other same_class other class found wanted.classes e
-        (λ x same. class_apart other class x e same) ∙ h facts is
+        let alike : Some facts ≡ Some found = sym is ∙ ap (class_found (found_in known)) one ∙ found_is in record {
+          held = facts;
+          is_held = ap (λ (c : ClassId). under same_class c (put same_class class found wanted.classes)) one
+              ∙ put_gives same_class class found wanted.classes (class_is class) ∙ sym alike;
+          same_places = refl;
+        }
+    by_same false e (Some found) found_is = let before = h facts is in record {
+      held = before.held;
+      is_held = put_other same_class other class found wanted.classes e
+          (λ x same. class_apart other class x e same) ∙ before.is_held;
+      same_places = before.same_places;
+    }
 
 all_kept : (known : Known) (classes : List ClassId) (other : ClassId) (wanted : Wanted) → IsBound known wanted other
     → IsBound known (with_known (found_in known) classes wanted) other
@@ -131,30 +142,50 @@ all_bound known (class ∷ classes) wanted = (
   all_bound known classes (with_class (found_in known) class wanted),
 )
 
+-- the step and the exceptions that stop change no place
+pub bound_alike : (known : Known) (wanted : Wanted) (classes : List (ClassId × KnownClass)) (step : Option StepWish)
+    (caught uncaught : Bool) (found : List ClassId) → All (IsBound known (record wanted { classes = classes })) found
+    → All (IsBound known (record wanted { classes = classes; step = step; caught = caught; uncaught = uncaught })) found
+bound_alike known wanted classes step caught uncaught [] h = tt
+bound_alike known wanted classes step caught uncaught (class ∷ found) h = (
+  λ facts is. let before = h.0 facts is in
+      record { held = before.held; is_held = before.is_held; same_places = before.same_places },
+  bound_alike known wanted classes step caught uncaught found h.1,
+)
+
 pub only_classes : (known : Lookups) (classes : List ClassId) (wanted : Wanted)
     → with_known known classes wanted ≡ record wanted { classes = (with_known known classes wanted).classes }
 only_classes known [] wanted = refl
 only_classes known (class ∷ classes) wanted = only_classes known classes (with_class known class wanted)
 
--- What is lacking doesn't hang on what was made known -----------------------------------------------------------------
+-- What is lacking doesn't hang on what was made known, nor on a step and on exceptions ----------------------------------
 
-module _ (sight : Sight) (wanted : Wanted) (classes : List (ClassId × KnownClass)) where
+module _ (sight : Sight) (wanted : Wanted) (classes : List (ClassId × KnownClass)) (step : Option StepWish)
+    (caught uncaught : Bool) where
   abbrev later : Wanted
-  later = record wanted { classes = classes }
+  later = record wanted { classes = classes; step = step; caught = caught; uncaught = uncaught }
 
   same_keyed : (key : Option Key) → is_keyed later key ≡ is_keyed wanted key
   same_keyed None = refl
   same_keyed (Some key) = refl
 
+  same_bound : (asked keyed : Bool) (class : ClassId) (signature : List ℕ)
+      → bound_plan asked keyed later class signature ≡ bound_plan asked keyed wanted class signature
+  same_bound false keyed class signature = refl
+  same_bound true keyed class signature = refl
+
   same_source : (class : ClassId) (signature : List ℕ)
       → need sight (source_plan later class signature) ≡ need sight (source_plan wanted class signature)
   same_source class signature =
       need_chained sight (asking source_in (Want.Fact (questions.SourceFile class)))
-      (λ source. keyed_plan (is_keyed later (key_by signature source)) class)
+      (λ source. keyed_plan (is_keyed later (key_by signature source)) later class signature)
       ∙ after_like (need sight (asking source_in (Want.Fact (questions.SourceFile class)))) _ _
-      (λ source. ap (λ keyed. need sight (keyed_plan keyed class)) (same_keyed (key_by signature source)))
+      (λ source. ap (λ keyed. need sight (keyed_plan keyed later class signature))
+      (same_keyed (key_by signature source))
+      ∙ ap (need sight) (same_bound (is_keyed wanted (key_by signature source) || is_named wanted signature None)
+      (is_keyed wanted (key_by signature source)) class signature))
       ∙ sym (need_chained sight (asking source_in (Want.Fact (questions.SourceFile class)))
-      (λ source. keyed_plan (is_keyed wanted (key_by signature source)) class))
+      (λ source. keyed_plan (is_keyed wanted (key_by signature source)) wanted class signature))
 
   same_class_plan : (class : ClassId) (loaded : Option Loaded)
       → need sight (class_plan later class loaded) ≡ need sight (class_plan wanted class loaded)

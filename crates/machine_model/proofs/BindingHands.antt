@@ -1,6 +1,6 @@
 -- What the item in hand may ask of classes, and where it is changed what is wished in them.
 use Rattle.std.proofs.Common.{◌≡◌, Bool, true, false, cond, not, ◌||◌, List, [], ◌∷◌, Option, Some, None, refl, sym}
-use Rattle.std.proofs.Common.{ap, ◌∙◌, arith, ◌++◌}
+use Rattle.std.proofs.Common.{ap, ◌∙◌, arith, ◌++◌, ℕ}
 use Rattle.std.specs.List.{AllByRecursion as All}
 use Rattle.class_tables.specs.Facts.{Known}
 use Rattle.class_tables.specs.Lookups.{found_in}
@@ -8,15 +8,17 @@ use Rattle.jdwp_values.specs.declared.id.ClassId.{ClassId}
 use Rattle.machine_model.specs.Facts.{fact_known}
 use Rattle.machine_model.specs.Names.{Attached, Choice, Classes, Command, Decides, Failure, Fresh, Gone, Item, Leaves}
 use Rattle.machine_model.specs.Names.{Lines, News, Part, Phase, Question, Replied, Sent, TellsNews, Want, a_composite}
-use Rattle.machine_model.specs.Names.{a_raw, a_request, class_facts, target_end}
+use Rattle.machine_model.specs.Names.{a_raw, a_request, class_facts, target_end, Functions, Stepped, Steps, Throws}
 use Rattle.machine_model.specs.Plans.{asks_for, question_of}
 use Rattle.machine_model.specs.Replying.{filled, waits_for, is_waiting}
-use Rattle.machine_model.specs.Rows.{chosen, failure_of, news_of, parts_by, parts_of, row_of, told_in, wanting}
+use Rattle.machine_model.specs.Rows.{chosen, failure_of, news_of, parts_by, parts_of, refused_with, row_of, stepped_by}
+use Rattle.machine_model.specs.Rows.{told_in, wanting}
 use Rattle.machine_model.specs.State.{Hand, State, has_waiting, is_empty, is_none, is_some}
+use Rattle.machine_model.specs.Stops.{surplus}
 use Rattle.machine_model.proofs.BindingGrows.{Grows, one_learnt, still_learnt}
 use Rattle.machine_model.proofs.BindingPlans.{IsLearnt, is_fact, is_listing}
 use Rattle.machine_model.proofs.KeyLaws.{is_one}
-use Rattle.machine_model.proofs.Tables.{is_updates, of_decided, told_alike}
+use Rattle.machine_model.proofs.Tables.{is_updates, of_decided, of_told, told_alike}
 use Rattle.machine_model.proofs.Testing.{IsTest}
 
 -- Parts ---------------------------------------------------------------------------------------------------------------
@@ -31,10 +33,11 @@ abbrev pub notes_classes : Part → Bool
 notes_classes (Part.Notes (Classes classes)) = true
 notes_classes _ = false
 
--- it replaces a list
-abbrev pub notes_lines : Part → Bool
-notes_lines (Part.Notes (Lines key path entries)) = true
-notes_lines _ = false
+-- it replaces a list, of a source or of functions
+abbrev pub notes_list : Part → Bool
+notes_list (Part.Notes (Lines key path entries)) = true
+notes_list (Part.Notes (Functions entries)) = true
+notes_list _ = false
 
 abbrev pub looks_first : List Part → Bool
 looks_first [] = false
@@ -62,13 +65,13 @@ first_note _ = None
 abbrev pub needs_watches : List Part → Bool
 needs_watches [] = true
 needs_watches (part ∷ parts) = cond (looks_classes part) true
-    (cond (is_updates part) (not (looks_ahead parts)) (cond (notes_lines part) false (needs_watches parts)))
+    (cond (is_updates part) (not (looks_ahead parts)) (cond (notes_list part) false (needs_watches parts)))
 
 -- Behind a list stand `updates` and a look-up of classes, which stands once; and classes are made known in front alone.
 abbrev pub is_placed : List Part → Bool
 is_placed [] = true
 is_placed (part ∷ parts) =
-    cond (cond (notes_lines part) (cond (needs_watches parts) false (binds_ahead parts)) true)
+    cond (cond (notes_list part) (cond (needs_watches parts) false (binds_ahead parts)) true)
     (cond (cond (looks_classes part) (looks_ahead parts) false) false (cond (has_note parts) false (is_placed parts)))
     false
 
@@ -85,13 +88,18 @@ placed_begun state target_end = grind arith
 placed_begun state (a_composite at composite) = grind arith
 placed_begun state (a_raw at body) = refl
 
-placed_rest : (choice : Choice) (rest : List Part) → is_placed (Part.Unfolds choice ∷ rest) ≡ true
+pub placed_rest : (choice : Choice) (rest : List Part) → is_placed (Part.Unfolds choice ∷ rest) ≡ true
     → is_placed rest ≡ true
 placed_rest choice rest is = grind (arith, is)
 
 none_behind : (choice : Choice) (rest : List Part) → is_placed (Part.Unfolds choice ∷ rest) ≡ true
     → has_note rest ≡ false
 none_behind choice rest is = grind (arith, is)
+
+placed_surplus : (stopped : Bool) (rest : List Part) → has_note rest ≡ false → is_placed rest ≡ true
+    → (has_note (surplus stopped ++ rest) ≡ false) × (is_placed (surplus stopped ++ rest) ≡ true)
+placed_surplus false rest none is = (none, is)
+placed_surplus true rest none is = (none, rw none is)
 
 placed_chosen : (choice : Choice) (state : State) (hand : Hand) (rest : List Part) → has_note rest ≡ false
     → is_placed rest ≡ true → is_placed (chosen choice state hand ++ rest) ≡ true
@@ -106,7 +114,15 @@ placed_chosen (TellsNews below) state hand rest none is =
         rw (told_alike has_note (λ news parts. refl) Attached news rest ∙ none) (by_news Attached news)
 placed_chosen Decides state hand rest none is =
     of_decided (λ (parts : List Part). is_placed (parts ++ rest) ≡ true) is (rw none is) (rw none is)
-    (λ stopping. rw none is) (λ stopping. rw none is) state hand.item
+    (λ stopped thrown halt. let (no_note, are_placed) = placed_surplus stopped rest none is in
+    of_told (λ (part : Part). is_placed (Part.Notes (Throws thrown) ∷ Part.Notes (Steps None) ∷ Part.Updates ∷ part
+    ∷ surplus stopped ++ rest) ≡ true) (λ stopping. rw no_note are_placed) (λ thread object. rw no_note are_placed) halt)
+    state hand.item
+placed_chosen Stepped state hand rest none is = by_code (refused_with hand.effect)
+  where
+    by_code : (code : Option ℕ) → is_placed (stepped_by code ++ rest) ≡ true
+    by_code None = rw none is
+    by_code (Some code) = rw none is
 placed_chosen (Leaves exits) state hand rest none is = grind (arith, is)
 
 pub placed_test : IsTest placed
@@ -130,6 +146,15 @@ begun_noted state (a_request request) = row_noted (failure_of (wanting request.c
 begun_noted state target_end = grind arith
 begun_noted state (a_composite at composite) = grind arith
 begun_noted state (a_raw at body) = refl
+
+-- where nothing is looked up any more all watches have to be set by now
+pub needs_none : (parts : List Part) → is_placed parts ≡ true → looks_ahead parts ≡ false → needs_watches parts ≡ true
+needs_none [] is none = refl
+needs_none (part ∷ parts) is none = grind (arith, is, none, needs_none parts, binds_later parts)
+  where
+    binds_later : (parts : List Part) → has_note parts ≡ false → binds_ahead parts ≡ looks_ahead parts
+    binds_later [] none = refl
+    binds_later (part ∷ parts) none = grind (arith, none, binds_later parts)
 
 -- Questions -----------------------------------------------------------------------------------------------------------
 

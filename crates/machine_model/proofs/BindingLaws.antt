@@ -15,7 +15,7 @@ use Rattle.machine_model.specs.Rows.{chosen, parts_of, taken}
 use Rattle.machine_model.specs.Runs.{Message, Run}
 use Rattle.machine_model.specs.State.{Hand, Machine, State, is_gone, fresh}
 use Rattle.machine_model.specs.Telling.{after_event, numbered_by}
-use Rattle.machine_model.proofs.BindingHands.{begun_noted, binds_ahead, placed, placed_test}
+use Rattle.machine_model.proofs.BindingHands.{begun_noted, binds_ahead, placed, placed_rest, placed_test}
 use Rattle.machine_model.proofs.RequestLaws.{IsDue, Settling, settles, settling, was_due}
 use Rattle.machine_model.proofs.RequestSteps.{flying_in, flying_of, near_before, numbered_wishes}
 use Rattle.machine_model.proofs.RequestSteps.{parts_left}
@@ -138,7 +138,7 @@ binding_on m next said near p s h (Moves.notes {hand} {note} {rest} free at) her
     notes_on note rest (clear_now m hand free near at.in_hand) (whole placed p at) (in_front h at)
 binding_on m next said near p s h (Moves.unfolds {hand} {choice} {rest} free at) here =
     passes_on m.state (chosen choice m.state hand ++ rest) free near p at (itself m.state) refl refl refl
-    (chosen_like choice m.state hand rest) h
+    (chosen_like choice m.state hand rest (placed_rest choice rest (whole placed p at))) h
 binding_on m next said near p s h (Moves.queues {hand} free is) here = queues_on hand (taken_out m h is)
 binding_on m next said near p s h (Moves.asks {hand} {want} {wants} free room is are) here =
     put_back (asked_hand want) is (subst (λ queue. Binding m.state hand.parts queue

@@ -15,11 +15,13 @@ use Rattle.machine_model.specs.Names.{Event, Finding}
 use Rattle.machine_model.specs.Names.{Outcome, Part, Replied, Sent}
 use Rattle.machine_model.specs.Names.{Want, all_threads}
 use Rattle.machine_model.specs.Names.{class_facts, classes_found, Guard, Handshake, IdSizes}
-use Rattle.machine_model.specs.Names.{container_children, thread_frames}
+use Rattle.machine_model.specs.Names.{container_children, exception_info, exception_text, thread_frames}
+use Rattle.machine_model.specs.Exceptions.{exception_plan, text_plan}
 use Rattle.machine_model.specs.Harmless.{is_harmless}
 use Rattle.machine_model.specs.Variables.{children_plan}
 use Rattle.machine_model.proofs.IdRows.{all_weak}
-use Rattle.machine_model.proofs.SafePlans.{children_safe, frames_safe, is_safe, threads_safe}
+use Rattle.machine_model.proofs.SafePlans.{children_safe, exception_safe, frames_safe, is_safe, threads_safe}
+use Rattle.machine_model.proofs.SafePlans.{thrown_safe}
 use Rattle.machine_model.specs.Outcomes.{result_of}
 use Rattle.machine_model.specs.Plans.{Need, fails, has, lacks, made_with, need, question_of, after}
 use Rattle.machine_model.specs.Plans.{asking, asks_for, Found, found_at, found_from, is_done, must_hear}
@@ -32,7 +34,8 @@ use Rattle.machine_model.proofs.BindingHands.{asks_listing, awaits_listing}
 use Rattle.machine_model.proofs.BindingHands.{binds_ahead, first_note, has_note, is_placed}
 use Rattle.machine_model.proofs.BindingHands.{looks_ahead, looks_classes}
 use Rattle.machine_model.proofs.BindingHands.{looks_first, needs_watches, none_awaits, none_queued, notes_classes}
-use Rattle.machine_model.proofs.BindingHands.{notes_lines, placed, queues_listing, was_listed}
+use Rattle.machine_model.proofs.BindingHands.{notes_list, placed, queues_listing, was_listed}
+use Rattle.machine_model.proofs.BindingFacts.{bound_alike, same_known}
 use Rattle.machine_model.proofs.BindingPlans.{IsLearnt, does_fail, known_wants, need_alone, need_holds}
 use Rattle.machine_model.proofs.BindingPlans.{is_listing, plan_lacks, wants_other}
 use Rattle.machine_model.specs.Frames.{frames_plan}
@@ -66,18 +69,26 @@ pub record Binding (state : State) (parts : List Part) (queue : List Want) (aske
 abbrev pub IsBinding : Machine → Type 0
 IsBinding m = Binding m.state (parts_left m.hand) (queue_in m.hand) (asked_in m.hand)
 
+-- the same is wanted, but for the step and the exceptions that stop
+abbrev pub wanted_as : Wanted → Wanted → Wanted
+wanted_as next wanted = record wanted { step = next.step; caught = next.caught; uncaught = next.uncaught }
+
 -- a state that is the same for classes, but for facts that were learnt
 pub record Same (next state : State) : Type 0 where
   pub unlisted : next.unlisted ≡ state.unlisted
-  pub wanted : next.wishes.wanted ≡ state.wishes.wanted
+  pub wanted : next.wishes.wanted ≡ wanted_as next.wishes.wanted state.wishes.wanted
   pub loaded : next.classes.loaded ≡ state.classes.loaded
   pub grows : Grows state.classes next.classes
+
+pub wanted_same : (next state : State) → next.wishes.wanted ≡ state.wishes.wanted
+    → next.wishes.wanted ≡ wanted_as next.wishes.wanted state.wishes.wanted
+wanted_same next state same = subst (λ (w : Wanted). w ≡ wanted_as w state.wishes.wanted) (sym same) refl
 
 pub as_before : (next state : State) → next.unlisted ≡ state.unlisted → next.wishes.wanted ≡ state.wishes.wanted
     → next.classes ≡ state.classes → Same next state
 as_before next state unlisted wanted classes = record {
   unlisted = unlisted;
-  wanted = wanted;
+  wanted = wanted_same next state wanted;
   loaded = ap (λ (known : Known). known.loaded) classes;
   grows = subst (Grows state.classes) (sym classes) (grows_itself state.classes);
 }
@@ -87,6 +98,8 @@ pub still_complete : (next state : State) (classes : List ClassId) → Same next
 still_complete next state classes same h = (
   same.unlisted ∙ h.0,
   ap (λ (wanted : Wanted). need (sight_alone next.classes) (known_plan wanted (found_in next.classes))) same.wanted
+      ∙ same_known (sight_alone next.classes) state.wishes.wanted state.wishes.wanted.classes next.wishes.wanted.step
+      next.wishes.wanted.caught next.wishes.wanted.uncaught (found_in next.classes)
       ∙ found_still state.classes next.classes same.grows same.loaded state.wishes.wanted classes h.1,
 )
 
@@ -97,8 +110,10 @@ still_bound next state same h =
       found = h.found;
       none_lacking = complete.1;
       bound = subst (λ (wanted : Wanted). All (IsBound next.classes wanted) h.found) (sym same.wanted)
+          (bound_alike next.classes state.wishes.wanted state.wishes.wanted.classes next.wishes.wanted.step
+          next.wishes.wanted.caught next.wishes.wanted.uncaught h.found
           (bound_still state.classes next.classes same.grows same.loaded state.wishes.wanted h.found h.none_lacking
-          h.bound);
+          h.bound));
     }
 
 -- nothing of the item in hand changes
@@ -137,7 +152,7 @@ quiet {queue} {asked} c is =
 
 -- the part is nothing to classes
 abbrev pub is_other : Part → Bool
-is_other part = cond (looks_classes part) false (cond (notes_classes part) false (not (notes_lines part)))
+is_other part = cond (looks_classes part) false (cond (notes_classes part) false (not (notes_list part)))
 
 pub front_none : (part : Part) (rest : List Part) → is_other part ≡ true → looks_first (part ∷ rest) ≡ false
 front_none part rest is = grind (arith, is)
@@ -167,15 +182,15 @@ pub no_note : (part : Part) (rest : List Part) (classes : List ClassId) → is_p
 no_note part rest classes is some =
     let no : true ≡ false = sym (note_had rest classes some) ∙ placed_note part rest is in cc
 
--- other parts are the same to classes
+-- other parts are the same to classes, and need no watches to be set that these don't
 pub record AreLike (now rest : List Part) : Type 0 where
   pub ahead : looks_ahead now ≡ looks_ahead rest
-  pub needs : needs_watches now ≡ needs_watches rest
+  pub needs : needs_watches now ≡ true → needs_watches rest ≡ true
   pub notes : has_note now ≡ has_note rest
   pub binds : binds_ahead now ≡ binds_ahead rest
 
 pub are_same : (parts : List Part) → AreLike parts parts
-are_same parts = record { ahead = refl; needs = refl; notes = refl; binds = refl }
+are_same parts = record { ahead = refl; needs = λ is. is; notes = refl; binds = refl }
 
 -- a part in front is done that is nothing to classes, and others stand in its place
 pub goes_by : {state : State} {queue : List Want} {asked : List Sent} (next : State) (part : Part) (rest now : List Part)
@@ -184,7 +199,7 @@ pub goes_by : {state : State} {queue : List Want} {asked : List Sent} (next : St
     → WatchesSet next.wishes)
     → Binding state (part ∷ rest) queue asked → Binding next now queue asked
 goes_by {state} {asked = asked} next part rest now same c other placed like sets h = record {
-  watches = λ needs. sets (sym like.needs ∙ needs) h.watches;
+  watches = λ needs. sets (like.needs needs) h.watches;
   learnt = still_learnt state.classes next.classes same.grows asked h.learnt;
   waits = λ is. quiet c is;
   ahead = λ asks. let none = like.ahead ∙ sym (ahead_rest part rest other) ∙ h.ahead asks
@@ -325,6 +340,10 @@ lacked_safe state hand (Part.Looks (thread_frames thread start levels) ∷ rest)
 lacked_safe state hand (Part.Looks (container_children thing filter start count) ∷ rest) none =
     plan_lacks is_safe (sight_of state hand) (children_plan state.options.shows_types thing filter start count)
     (children_safe state.options.shows_types thing filter start count)
+lacked_safe state hand (Part.Looks (exception_text thread object) ∷ rest) none =
+    plan_lacks is_safe (sight_of state hand) (text_plan object.0) (thrown_safe object.0)
+lacked_safe state hand (Part.Looks (exception_info thrown) ∷ rest) none =
+    plan_lacks is_safe (sight_of state hand) (exception_plan thrown) (exception_safe thrown)
 lacked_safe state hand (Part.Looks class_facts ∷ rest) none = cc
 lacked_safe state hand (Part.Awaits guard ∷ rest) none = guards guard
   where

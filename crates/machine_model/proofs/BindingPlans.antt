@@ -1,7 +1,8 @@
 -- What the look-up of classes asks: facts of classes alone, which are heard alike from what is known and from replies.
 use Rattle.std.proofs.Common.{◌≡◌, ℕ, suc, Bool, true, false, cond, not, List, [], ◌∷◌, Option, Some, None}
-use Rattle.std.proofs.Common.{refl, sym, ap, ◌∙◌}
+use Rattle.std.proofs.Common.{refl, sym, ap, ◌∙◌, ◌||◌}
 use Rattle.std.specs.List.{AllByRecursion as All}
+use Rattle.std.specs.Prelude.{filter}
 use Rattle.class_tables.specs.Facts.{Known}
 use Rattle.class_tables.specs.Lookups.{Lookups, found_in}
 use Rattle.class_tables.specs.Signatures.{package_in}
@@ -9,8 +10,8 @@ use Rattle.class_tables.specs.declared.loaded.Loaded.{Loaded}
 use Rattle.jdwp_commands.specs.declared.question.Question.TheVariants as questions
 use Rattle.jdwp_values.specs.declared.id.ClassId.{ClassId}
 use Rattle.machine_model.specs.Binding.{sight_alone}
-use Rattle.machine_model.specs.Classes.{class_plan, is_keyed, keyed_plan, known_plan, lines_plan, methods_plan}
-use Rattle.machine_model.specs.Classes.{package_plan, prepared_plan, watched_plan}
+use Rattle.machine_model.specs.Classes.{bound_plan, class_plan, counts, is_keyed, keyed_plan, known_plan, lines_plan}
+use Rattle.machine_model.specs.Classes.{methods_plan, package_plan, prepared_plan, watched_plan}
 use Rattle.machine_model.specs.Facts.{fact_known, methods_in, source_in}
 use Rattle.machine_model.specs.Names.{Answer, Question, Replied, Sent, Want, an_answer, an_error}
 use Rattle.machine_model.specs.Plans.{Found, Need, Plan, Sight, after, asking, asks_for, beside, chained, each}
@@ -21,7 +22,7 @@ use Rattle.machine_model.proofs.IdRows.{all_joined}
 use Rattle.machine_model.proofs.KeyLaws.{is_one}
 use Rattle.wish_sets.specs.Places.{key_by}
 use Rattle.wish_sets.specs.Wanted.{Wanted}
-use Rattle.wish_sets.specs.Wished.{is_watched}
+use Rattle.wish_sets.specs.Wished.{is_named, is_watched}
 use Rattle.machine_model.proofs.PlanIds.{after_like}
 
 -- Questions -----------------------------------------------------------------------------------------------------------
@@ -80,14 +81,22 @@ module _ (test : Want → Bool) where
   asks read want is = (is, λ heard. tt)
 
 -- the look-up of classes, once they are listed, wants facts alone
-keyed_wants : (keyed : Bool) (class : ClassId) → AllWants wants_fact (keyed_plan keyed class)
+bound_wants : (asked keyed : Bool) (wanted : Wanted) (class : ClassId) (signature : List ℕ)
+    → AllWants wants_fact (bound_plan asked keyed wanted class signature)
 unfolding AllWants
-keyed_wants false class = tt
-keyed_wants true class = chains wants_fact (asking methods_in (Want.Fact (questions.Methods class)))
-    (methods_plan class) (asks wants_fact methods_in (Want.Fact (questions.Methods class)) refl)
-    (λ methods. makes wants_fact (λ heard. class ∷ []) (each (lines_plan class) methods)
+bound_wants false keyed wanted class signature = tt
+bound_wants true keyed wanted class signature = chains wants_fact (asking methods_in (Want.Fact (questions.Methods class)))
+    (methods_plan keyed wanted class signature) (asks wants_fact methods_in (Want.Fact (questions.Methods class)) refl)
+    (λ methods. makes wants_fact (λ heard. class ∷ [])
+    (each (lines_plan class) (filter (counts keyed wanted signature) methods))
     (every wants_fact (lines_plan class)
-    (λ one. asks wants_fact (λ heard. heard) (Want.Fact (questions.LineTable class one.id)) refl) methods))
+    (λ one. asks wants_fact (λ heard. heard) (Want.Fact (questions.LineTable class one.id)) refl)
+    (filter (counts keyed wanted signature) methods)))
+
+keyed_wants : (keyed : Bool) (wanted : Wanted) (class : ClassId) (signature : List ℕ)
+    → AllWants wants_fact (keyed_plan keyed wanted class signature)
+keyed_wants keyed wanted class signature =
+    bound_wants (keyed || is_named wanted signature None) keyed wanted class signature
 
 class_wants : (wanted : Wanted) (class : ClassId) (loaded : Option Loaded)
     → AllWants wants_fact (class_plan wanted class loaded)
@@ -98,9 +107,9 @@ class_wants wanted class (Some loaded) = by_prepared loaded.prepared
     by_watched : (watched : Bool) → AllWants wants_fact (watched_plan watched wanted class loaded.signature)
     by_watched false = tt
     by_watched true = chains wants_fact (asking source_in (Want.Fact (questions.SourceFile class)))
-        (λ source. keyed_plan (is_keyed wanted (key_by loaded.signature source)) class)
+        (λ source. keyed_plan (is_keyed wanted (key_by loaded.signature source)) wanted class loaded.signature)
         (asks wants_fact source_in (Want.Fact (questions.SourceFile class)) refl)
-        (λ source. keyed_wants (is_keyed wanted (key_by loaded.signature source)) class)
+        (λ source. keyed_wants (is_keyed wanted (key_by loaded.signature source)) wanted class loaded.signature)
 
     by_package : (path : Option (List ℕ)) → AllWants wants_fact (package_plan wanted class loaded.signature path)
     by_package None = tt

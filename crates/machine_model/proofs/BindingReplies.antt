@@ -1,6 +1,7 @@
 -- What replies and notes keep of what binds breakpoints.
-use Rattle.std.proofs.Common.{◌≡◌, ℕ, Bool, true, false, ◌||◌, List, [], ◌∷◌, ◌++◌, Option, Some}
+use Rattle.std.proofs.Common.{◌≡◌, ℕ, Bool, true, false, not, ◌||◌, List, [], ◌∷◌, ◌++◌, Option, Some, None}
 use Rattle.std.proofs.Common.{refl, sym, ap, subst, ◌∙◌, arith, ◌⊎◌, inl, inr}
+use Rattle.std.specs.List.{AllByRecursion as All}
 use Rattle.class_tables.specs.Lookups.{found_in}
 use Rattle.jdwp_commands.specs.declared.question.Question.TheVariants as questions
 use Rattle.jdwp_values.specs.declared.id.ClassId.{ClassId}
@@ -10,36 +11,37 @@ use Rattle.machine_model.specs.Lookups.{classes_of, finished, found_for}
 use Rattle.machine_model.specs.Names.{Choice, Classes, Clear, Configured, Decides, Does, Effect, EntryHeld, Finding}
 use Rattle.machine_model.specs.Names.{Leaves, Lines, Lookup, Note, Options, Part, Question, Replied, Roots, Sent, Set}
 use Rattle.machine_model.specs.Names.{TellsNews, Want, all_threads, an_effect, class_facts}
-use Rattle.machine_model.specs.Names.{container_children, thread_frames}
+use Rattle.machine_model.specs.Names.{container_children, exception_info, exception_text, thread_frames, Attached, Fresh}
+use Rattle.machine_model.specs.Names.{Functions, Gone, Halt, Phase, Stepped, Steps, StopsAt, Throws, Thrown}
 use Rattle.machine_model.specs.Outcomes.{result_of}
 use Rattle.machine_model.specs.Plans.{Need, answer_in, need}
 use Rattle.machine_model.specs.Plans.{is_done}
 use Rattle.machine_model.specs.Replying.{IsReply, done_by, filled, is_waiting}
 use Rattle.machine_model.specs.Replying.{told_by, unless_failed}
 use Rattle.machine_model.specs.Requests.{Wishes, wishes_after}
-use Rattle.machine_model.specs.Rows.{chosen, news_of, noted}
+use Rattle.machine_model.specs.Rows.{chosen, leaves, news_of, noted, refused_with, stepped_by}
 use Rattle.machine_model.specs.State.{Hand, State, is_some}
+use Rattle.machine_model.specs.Stops.{hit_parts, surplus, told_part}
 use Rattle.machine_model.proofs.BindingFacts.{all_bound, fact_learnt, only_classes, same_known}
 use Rattle.machine_model.proofs.BindingGrows.{Grows, grows_itself, learnt_grows, learnt_loaded}
 use Rattle.machine_model.proofs.BindingHands.{asks_listing, asks_filled, awaited_is, awaits_listing, awaits_filled}
 use Rattle.machine_model.proofs.BindingHands.{binds_ahead, first_note, has_note, is_placed}
 use Rattle.machine_model.proofs.BindingHands.{learnt_filled, listed_asks, listed_filled, looks_ahead}
-use Rattle.machine_model.proofs.BindingHands.{looks_first, needs_watches}
+use Rattle.machine_model.proofs.BindingHands.{looks_first, needs_none, needs_watches, notes_list}
 use Rattle.machine_model.proofs.BindingHands.{queues_listing, was_listed}
-use Rattle.machine_model.proofs.BindingPlans.{is_fact, is_listing}
+use Rattle.machine_model.proofs.BindingPlans.{IsLearnt, is_fact, is_listing}
 use Rattle.machine_model.proofs.RequestLaws.{IsDue}
 use Rattle.machine_model.proofs.RequestSteps.{is_deed}
-use Rattle.machine_model.proofs.Tables.{decided_alike, starts_updates, told_alike}
-use Rattle.wish_sets.specs.Wanted.{Wanted, with_known}
+use Rattle.machine_model.proofs.Tables.{decided_alike, of_decided, of_told, starts_updates, told_alike}
+use Rattle.wish_sets.specs.Wanted.{Wanted, with_exceptions, with_known, with_step}
 use Rattle.wish_sets.specs.declared.wish.Wish.TheVariants as wishes
 use Rattle.machine_model.specs.Facts.{fact_known}
-use Rattle.wish_sets.specs.declared.entry.LineEntry.{LineEntry}
 use Rattle.machine_model.proofs.BindingWatches.{WatchesSet, due_unset, replied_set, known_set}
-use Rattle.machine_model.proofs.BindingWatches.{classes_alike}
+use Rattle.machine_model.proofs.BindingWatches.{classes_alike, watch_alike}
 use Rattle.machine_model.proofs.BindingParts.{IsComplete, Binding, Same, as_before, still_bound, still_complete}
 use Rattle.machine_model.proofs.BindingParts.{still_binding, IsClear, quiet}
 use Rattle.machine_model.proofs.BindingParts.{none_ahead, note_had, placed_note}
-use Rattle.machine_model.proofs.BindingParts.{AreLike, are_same, goes_by}
+use Rattle.machine_model.proofs.BindingParts.{AreLike, are_same, goes_by, wanted_same}
 use Rattle.machine_model.proofs.BindingParts.{itself, found_complete, unlisted_waits}
 
 -- Replies -------------------------------------------------------------------------------------------------------------
@@ -76,7 +78,8 @@ pub other_reply : (question : Question) (replied : Replied) (state : State) → 
     → Same (told_by question replied state) state
 other_reply question replied state is = record {
   unlisted = told_unlisted question replied state is;
-  wanted = ap (λ (w : Wishes). w.wanted) (told_wishes question replied state);
+  wanted = wanted_same (told_by question replied state) state
+      (ap (λ (w : Wishes). w.wanted) (told_wishes question replied state));
   loaded = told_loaded question replied state is;
   grows = told_grows question replied state;
 }
@@ -211,29 +214,64 @@ replies_on {state} {parts} {queue} {asked} effect replied due reply h = by_case 
 
 -- Parts that become others --------------------------------------------------------------------------------------------
 
-pub chosen_like : (choice : Choice) (state : State) (hand : Hand) (rest : List Part)
+none_behind : (rest : List Part) → is_placed rest ≡ true → not (looks_ahead rest) ≡ true → needs_watches rest ≡ true
+none_behind rest is none = needs_none rest is (by_test (looks_ahead rest) none)
+  where
+    by_test : (b : Bool) → not b ≡ true → b ≡ false
+    by_test true is = cc
+    by_test false is = refl
+
+-- the parts of a hit need the watches to be set only where nothing is looked up behind them
+hit_needs : (stopped : Bool) (thrown : List Thrown) (halt : Halt) (rest : List Part) → is_placed rest ≡ true
+    → needs_watches (hit_parts stopped thrown halt ++ rest) ≡ true → needs_watches rest ≡ true
+hit_needs stopped thrown halt rest is needs =
+    none_behind rest is (ap not (sym (ahead stopped halt)) ∙ needs)
+  where
+    by_surplus : (stopped : Bool) → looks_ahead (surplus stopped ++ rest) ≡ looks_ahead rest
+    by_surplus false = refl
+    by_surplus true = refl
+
+    ahead : (stopped : Bool) (halt : Halt)
+        → looks_ahead (told_part halt.cause halt.thread ∷ surplus stopped ++ rest) ≡ looks_ahead rest
+    ahead stopped halt = of_told (λ (part : Part). looks_ahead (part ∷ surplus stopped ++ rest) ≡ looks_ahead rest)
+        (λ stopping. by_surplus stopped) (λ thread object. by_surplus stopped) halt
+
+pub chosen_like : (choice : Choice) (state : State) (hand : Hand) (rest : List Part) → is_placed rest ≡ true
     → AreLike (chosen choice state hand ++ rest) rest
-chosen_like (TellsNews below) state hand rest =
+chosen_like (TellsNews below) state hand rest is =
     let news = news_of below state hand.item in record {
       ahead = told_alike looks_ahead (λ news parts. refl) state.phase news rest;
-      needs = told_alike needs_watches (λ news parts. refl) state.phase news rest;
+      needs = λ needs. sym (told_alike needs_watches (λ news parts. refl) state.phase news rest) ∙ needs;
       notes = told_alike has_note (λ news parts. refl) state.phase news rest;
       binds = told_alike binds_ahead (λ news parts. refl) state.phase news rest;
     }
-chosen_like Decides state hand rest = record {
-  ahead = decided_alike looks_ahead (λ stopping parts. refl) (λ parts. refl) (λ parts. refl) state hand.item rest;
-  needs = decided_alike needs_watches (λ stopping parts. refl) (λ parts. refl) (λ parts. refl) state hand.item rest;
-  notes = decided_alike has_note (λ stopping parts. refl) (λ parts. refl) (λ parts. refl) state hand.item rest;
-  binds = decided_alike binds_ahead (λ stopping parts. refl) (λ parts. refl) (λ parts. refl) state hand.item rest;
+chosen_like Decides state hand rest is = record {
+  ahead = decided_alike looks_ahead (λ thrown parts. refl) (λ stopping parts. refl) (λ thread object parts. refl)
+      (λ parts. refl) (λ parts. refl) state hand.item rest;
+  needs = of_decided (λ (parts : List Part). needs_watches (parts ++ rest) ≡ true → needs_watches rest ≡ true)
+      (λ needs. needs) (λ needs. needs) (λ needs. needs)
+      (λ stopped thrown halt. hit_needs stopped thrown halt rest is) state hand.item;
+  notes = decided_alike has_note (λ thrown parts. refl) (λ stopping parts. refl) (λ thread object parts. refl)
+      (λ parts. refl) (λ parts. refl) state hand.item rest;
+  binds = decided_alike binds_ahead (λ thrown parts. refl) (λ stopping parts. refl) (λ thread object parts. refl)
+      (λ parts. refl) (λ parts. refl) state hand.item rest;
 }
-chosen_like (Leaves exits) state hand rest =
-    record { ahead = grind arith; needs = grind arith; notes = grind arith; binds = grind arith }
+chosen_like Stepped state hand rest is = by_code (refused_with hand.effect)
+  where
+    by_code : (code : Option ℕ) → AreLike (stepped_by code ++ rest) rest
+    by_code None = record { ahead = refl; needs = λ needs. needs; notes = refl; binds = refl }
+    by_code (Some code) = record { ahead = refl; needs = none_behind rest is; notes = refl; binds = refl }
+chosen_like (Leaves exits) state hand rest is = by_phase state.phase
+  where
+    by_phase : (phase : Phase) → AreLike (leaves phase exits ++ rest) rest
+    by_phase Fresh = are_same rest
+    by_phase Attached = record { ahead = refl; needs = λ needs. needs; notes = refl; binds = refl }
+    by_phase Gone = are_same rest
 
--- behind a note of lines stands what binds them
-pub lines_behind : (key : Option (List ℕ)) (path : List ℕ) (entries : List LineEntry) (rest : List Part)
-    → is_placed (Part.Notes (Lines key path entries) ∷ rest) ≡ true
+-- behind a note of a list stands what binds it
+pub list_behind : (part : Part) (rest : List Part) → notes_list part ≡ true → is_placed (part ∷ rest) ≡ true
     → (needs_watches rest ≡ false) × (binds_ahead rest ≡ true) × (has_note rest ≡ false)
-lines_behind key path entries rest is = (grind (arith, is), grind (arith, is), grind (arith, is))
+list_behind part rest lists is = (grind (arith, lists, is), grind (arith, lists, is), grind (arith, lists, is))
 
 pub looks_once : (rest : List Part) → is_placed (Part.Looks class_facts ∷ rest) ≡ true → looks_ahead rest ≡ false
 looks_once rest is = grind (arith, is)
@@ -241,19 +279,22 @@ looks_once rest is = grind (arith, is)
 pub none_noted : (parts : List Part) (classes : List ClassId) → has_note parts ≡ false → ¬ (first_note parts ≡ Some classes)
 none_noted parts classes none some = let no : true ≡ false = sym (note_had parts classes some) ∙ none in cc
 
-pub lines_on : {state : State} {queue : List Want} {asked : List Sent} (key : Option (List ℕ))
-    (path : List ℕ) (entries : List LineEntry) (rest : List Part) → IsClear queue asked → is_placed (Part.Notes (Lines key path entries) ∷ rest) ≡ true
-    → Binding state (Part.Notes (Lines key path entries) ∷ rest) queue asked
-    → Binding (noted (Lines key path entries) state) rest queue asked
-lines_on key path entries rest c is h = let (needs, binds, none) = lines_behind key path entries rest is in record {
-  watches = λ so. absurd (let no : false ≡ true = sym needs ∙ so in cc);
-  learnt = h.learnt;
-  waits = λ so. quiet c so;
-  ahead = λ asks. let ahead : looks_ahead rest ≡ false = h.ahead asks in ahead ∙ sym (none_ahead rest ahead);
-  listed = h.listed;
-  noted = λ classes some. absurd (none_noted rest classes none some);
-  bound = λ so. absurd (let no : true ≡ false = sym binds ∙ so in cc);
-}
+-- a list is replaced, and what is known of classes stays
+pub lists_on : {state : State} {queue : List Want} {asked : List Sent} (next : State) (part : Part) (rest : List Part)
+    → notes_list part ≡ true → next.classes ≡ state.classes → next.unlisted ≡ state.unlisted → IsClear queue asked
+    → is_placed (part ∷ rest) ≡ true → looks_ahead (part ∷ rest) ≡ looks_ahead rest
+    → looks_first (part ∷ rest) ≡ false → Binding state (part ∷ rest) queue asked → Binding next rest queue asked
+lists_on {asked = asked} next part rest lists classes unlisted c is ahead first h =
+    let (needs, binds, none) = list_behind part rest lists is in record {
+      watches = λ so. absurd (let no : false ≡ true = sym needs ∙ so in cc);
+      learnt = subst (λ known. All (IsLearnt known) asked) (sym classes) h.learnt;
+      waits = λ so. quiet c so;
+      ahead = λ asks. let none_is : looks_ahead rest ≡ false = sym ahead ∙ h.ahead asks ∙ first in
+          none_is ∙ sym (none_ahead rest none_is);
+      listed = λ so. h.listed (sym unlisted ∙ so);
+      noted = λ those some. absurd (none_noted rest those none some);
+      bound = λ so. absurd (let no : true ≡ false = sym binds ∙ so in cc);
+    }
 
 pub classes_on : {state : State} {queue : List Want} {asked : List Sent} (classes : List ClassId) (rest : List Part)
     → IsClear queue asked → is_placed (Part.Notes (Classes classes) ∷ rest) ≡ true
@@ -274,7 +315,8 @@ classes_on {state} classes rest c is h = record {
         ap (λ (wanted : Wanted). need (sight_alone state.classes) (known_plan wanted (found_in state.classes)))
         (only_classes (found_in state.classes) classes state.wishes.wanted)
         ∙ same_known (sight_alone state.classes) state.wishes.wanted
-        (with_known (found_in state.classes) classes state.wishes.wanted).classes (found_in state.classes)
+        (with_known (found_in state.classes) classes state.wishes.wanted).classes state.wishes.wanted.step
+        state.wishes.wanted.caught state.wishes.wanted.uncaught (found_in state.classes)
         ∙ complete.1;
     bound = all_bound state.classes classes state.wishes.wanted;
   };
@@ -299,7 +341,26 @@ notes_on {state} Configured rest c is h =
     goes_by (noted Configured state) (Part.Notes Configured) rest rest
     (as_before (noted Configured state) state refl refl refl) c refl is (are_same rest)
     (λ needs w. w needs) h
-notes_on (Lines key path entries) rest c is h = lines_on key path entries rest c is h
+notes_on {state} (Throws thrown) rest c is h =
+    goes_by (noted (Throws thrown) state) (Part.Notes (Throws thrown)) rest rest
+    (as_before (noted (Throws thrown) state) state refl refl refl) c refl is (are_same rest)
+    (λ needs w. w needs) h
+notes_on {state} (StopsAt caught uncaught) rest c is h =
+    goes_by (noted (StopsAt caught uncaught) state) (Part.Notes (StopsAt caught uncaught)) rest rest
+    (record { unlisted = refl; wanted = refl; loaded = refl; grows = grows_itself state.classes }) c refl is
+    (are_same rest) (λ needs w. known_set state.wishes (with_exceptions caught uncaught state.wishes.wanted)
+    (watch_alike state.wishes.wanted.classes state.wishes.wanted.step caught uncaught state.wishes.wanted) (w needs)) h
+notes_on {state} (Steps step) rest c is h =
+    goes_by (noted (Steps step) state) (Part.Notes (Steps step)) rest rest
+    (record { unlisted = refl; wanted = refl; loaded = refl; grows = grows_itself state.classes }) c refl is
+    (are_same rest) (λ needs w. known_set state.wishes (with_step step state.wishes.wanted)
+    (watch_alike state.wishes.wanted.classes step state.wishes.wanted.caught state.wishes.wanted.uncaught
+    state.wishes.wanted) (w needs)) h
+notes_on {state} (Lines key path entries) rest c is h =
+    lists_on (noted (Lines key path entries) state) (Part.Notes (Lines key path entries)) rest refl refl refl c is refl
+    refl h
+notes_on {state} (Functions entries) rest c is h =
+    lists_on (noted (Functions entries) state) (Part.Notes (Functions entries)) rest refl refl refl c is refl refl h
 notes_on (Classes classes) rest c is h = classes_on classes rest c is h
 
 -- a look-up that is done
@@ -310,15 +371,23 @@ pub finds_on : {state : State} (hand : Hand) (lookup : Lookup) (found : Need Fin
     → Binding state (finished lookup (result_of found) state ++ rest) hand.queue hand.asked
 finds_on {state} hand all_threads found rest c is needs done h =
     goes_by state (Part.Looks all_threads) rest (finished all_threads (result_of found) state ++ rest) (itself state) c
-    refl is (record { ahead = refl; needs = refl; notes = refl; binds = refl }) (λ so w. w so) h
+    refl is (record { ahead = refl; needs = λ so. so; notes = refl; binds = refl }) (λ so w. w so) h
 finds_on {state} hand (thread_frames thread start levels) found rest c is needs done h =
     goes_by state (Part.Looks (thread_frames thread start levels)) rest
     (finished (thread_frames thread start levels) (result_of found) state ++ rest) (itself state) c
-    refl is (record { ahead = refl; needs = refl; notes = refl; binds = refl }) (λ so w. w so) h
+    refl is (record { ahead = refl; needs = λ so. so; notes = refl; binds = refl }) (λ so w. w so) h
 finds_on {state} hand (container_children thing filter start count) found rest c is needs done h =
     goes_by state (Part.Looks (container_children thing filter start count)) rest
     (finished (container_children thing filter start count) (result_of found) state ++ rest) (itself state) c
-    refl is (record { ahead = refl; needs = refl; notes = refl; binds = refl }) (λ so w. w so) h
+    refl is (record { ahead = refl; needs = λ so. so; notes = refl; binds = refl }) (λ so w. w so) h
+finds_on {state} hand (exception_text thread object) found rest c is needs done h =
+    goes_by state (Part.Looks (exception_text thread object)) rest
+    (finished (exception_text thread object) (result_of found) state ++ rest) (itself state) c
+    refl is (record { ahead = refl; needs = λ so. so; notes = refl; binds = refl }) (λ so w. w so) h
+finds_on {state} hand (exception_info thrown) found rest c is needs done h =
+    goes_by state (Part.Looks (exception_info thrown)) rest
+    (finished (exception_info thrown) (result_of found) state ++ rest) (itself state) c
+    refl is (record { ahead = refl; needs = λ so. so; notes = refl; binds = refl }) (λ so w. w so) h
 finds_on {state} hand class_facts found rest c is needs done h = record {
   watches = λ so. h.watches refl;
   learnt = h.learnt;

@@ -1,8 +1,8 @@
--- Of each class that is found all facts are known, so that it stays bound whatever else is learnt.
+-- Of each class that is found all is known that its breakpoints stand by, so that they stay bound whatever else is learnt.
 use Rattle.std.proofs.Common.{◌≡◌, Bool, true, false, List, [], ◌∷◌, Option, Some, None, refl, sym, ap, subst, ◌∙◌}
-use Rattle.std.proofs.Common.{option_map, ℕ}
+use Rattle.std.proofs.Common.{option_map, ℕ, ◌||◌}
 use Rattle.std.specs.Option.{option_flatten}
-use Rattle.std.specs.Prelude.{map}
+use Rattle.std.specs.Prelude.{filter, map}
 use Rattle.std.specs.List.{AllByRecursion as All}
 use Rattle.class_tables.specs.Facts.{Known, same_class, same_method}
 use Rattle.class_tables.specs.Lookups.{found_in}
@@ -11,12 +11,11 @@ use Rattle.class_tables.specs.Tables.{under}
 use Rattle.class_tables.specs.declared.loaded.Loaded.{Loaded}
 use Rattle.jdwp_commands.specs.declared.answer.Answer.TheVariants as answers
 use Rattle.jdwp_commands.specs.declared.question.Question.TheVariants as questions
-use Rattle.jdwp_values.specs.declared.class.LineTable.{LineTable}
 use Rattle.jdwp_values.specs.declared.class.Method.{Method}
 use Rattle.jdwp_values.specs.declared.id.ClassId.{ClassId}
 use Rattle.machine_model.specs.Binding.{IsBound, sight_alone}
-use Rattle.machine_model.specs.Classes.{class_plan, is_keyed, keyed_plan, known_plan, lines_plan, methods_plan}
-use Rattle.machine_model.specs.Classes.{package_plan, prepared_plan, source_plan, watched_plan}
+use Rattle.machine_model.specs.Classes.{bound_plan, class_plan, counts, is_keyed, keyed_plan, known_plan, lines_plan}
+use Rattle.machine_model.specs.Classes.{methods_plan, package_plan, prepared_plan, source_plan, watched_plan}
 use Rattle.machine_model.specs.Facts.{fact_known, methods_in, source_in}
 use Rattle.machine_model.specs.Names.{Answer, Question, Want}
 use Rattle.machine_model.specs.Plans.{Need, Plan, after, asking, beside, chained, each, fact_heard, fails, has}
@@ -24,25 +23,27 @@ use Rattle.machine_model.specs.Plans.{joined, lacks, made_with, need}
 use Rattle.machine_model.specs.State.{is_some}
 use Rattle.machine_model.proofs.BindingFacts.{is_mapped}
 use Rattle.machine_model.proofs.BindingGrows.{Grows}
+use Rattle.machine_model.proofs.BindingPlaces.{HasLines, as_found, same_places}
 use Rattle.machine_model.proofs.IdRows.{all_joined}
 use Rattle.machine_model.proofs.PlanIds.{need_chained, need_made}
 use Rattle.wish_sets.specs.Places.{key_by}
+use Rattle.wish_sets.specs.Places.{places_in}
 use Rattle.wish_sets.specs.Wanted.{Wanted, class_found, facts_found, method_found, methods_found}
-use Rattle.wish_sets.specs.Wished.{is_watched}
+use Rattle.wish_sets.specs.Wished.{is_named, is_watched}
 use Rattle.wish_sets.specs.declared.facts.KnownClass.{KnownClass}
-use Rattle.wish_sets.specs.declared.facts.KnownMethod.{KnownMethod}
 
 -- What is known of a class that is found ------------------------------------------------------------------------------
 
-abbrev HasLines : Known → ClassId → Method → Type 0
-HasLines known class one = is_some (under same_method (class, one.id) known.lines) ≡ true
-
--- its source, its methods, and the lines of each of them
-record IsSeen (known : Known) (class : ClassId) : Type 0 where
+-- that it is listed, its source, its methods, and the lines of each of them that counts
+record IsSeen (known : Known) (wanted : Wanted) (class : ClassId) : Type 0 where
+  loaded : Loaded
+  source : Option (List ℕ)
   methods : List Method
-  has_source : is_some (under same_class class known.sources) ≡ true
+  has_loaded : under same_class class known.loaded ≡ Some loaded
+  has_source : under same_class class known.sources ≡ Some source
   has_methods : under same_class class known.methods ≡ Some methods
-  has_lines : All (HasLines known class) methods
+  has_lines : All (HasLines known class)
+      (filter (counts (is_keyed wanted (key_by loaded.signature source)) wanted loaded.signature) methods)
 
 -- what a value of a need is like
 abbrev Has : {A : Type 0} → (A → Type 0) → Need A → Type 0
@@ -129,136 +130,131 @@ module _ (known : Known) where
   methods_heard (Some methods) heard is =
       let one : Some (answers.Methods methods) ≡ heard = cc in ap (λ heard. Some (methods_in heard)) one
 
-  keyed_row : (keyed : Bool) (class : ClassId) → is_some (under same_class class known.sources) ≡ true
-      → Row (All (IsSeen known)) (keyed_plan keyed class)
-  unfolding need
-  keyed_row false class source = tt
-  keyed_row true class source =
-      chains (λ (methods : List Method). under same_class class known.methods ≡ Some methods) (All (IsSeen known))
-      (asking methods_in (Want.Fact (questions.Methods class))) (methods_plan class)
-      (asks_fact (λ (methods : List Method). under same_class class known.methods ≡ Some methods) methods_in
-      (questions.Methods class) (λ heard is. methods_heard (under same_class class known.methods) heard is))
-      (λ methods is. makes (λ (those : List (Option Answer)). All (HasLines known class) methods × All Any those)
-      (All (IsSeen known)) (λ heard. class ∷ []) (each (lines_plan class) methods)
-      (every (HasLines known class) Any (lines_plan class) (lines_row class) methods)
-      (λ those h. (record { methods = methods; has_source = source; has_methods = is; has_lines = h.0 }, tt)))
+  source_heard : (found : Option (Option (List ℕ))) (heard : Option Answer)
+      → option_map (option_map answers.SourceFile) found ≡ Some heard → found ≡ Some (source_in heard)
+  source_heard None heard is = cc
+  source_heard (Some None) heard is =
+      let one : None ≡ heard = cc in ap (λ heard. Some (source_in heard)) one
+  source_heard (Some (Some file)) heard is =
+      let one : Some (answers.SourceFile file) ≡ heard = cc in ap (λ heard. Some (source_in heard)) one
 
-  source_row : (wanted : Wanted) (class : ClassId) (signature : List ℕ)
-      → Row (All (IsSeen known)) (source_plan wanted class signature)
-  source_row wanted class signature =
-      chains (λ (source : Option (List ℕ)). is_some (under same_class class known.sources) ≡ true) (All (IsSeen known))
-      (asking source_in (Want.Fact (questions.SourceFile class)))
-      (λ source. keyed_plan (is_keyed wanted (key_by signature source)) class)
-      (asks_fact (λ (source : Option (List ℕ)). is_some (under same_class class known.sources) ≡ true) source_in
-      (questions.SourceFile class)
-      (λ heard is. sym (is_mapped _ (under same_class class known.sources)) ∙ ap is_some is))
-      (λ source is. keyed_row (is_keyed wanted (key_by signature source)) class is)
+  module _ (wanted : Wanted) (class : ClassId) (loaded : Loaded)
+      (is_loaded : under same_class class known.loaded ≡ Some loaded) where
+    bound_row : (asked : Bool) (source : Option (List ℕ)) → under same_class class known.sources ≡ Some source
+        → Row (All (IsSeen known wanted))
+        (bound_plan asked (is_keyed wanted (key_by loaded.signature source)) wanted class loaded.signature)
+    unfolding need
+    bound_row false source has_source = tt
+    bound_row true source has_source = let keyed = is_keyed wanted (key_by loaded.signature source) in
+        chains (λ (methods : List Method). under same_class class known.methods ≡ Some methods)
+        (All (IsSeen known wanted)) (asking methods_in (Want.Fact (questions.Methods class)))
+        (methods_plan keyed wanted class loaded.signature)
+        (asks_fact (λ (methods : List Method). under same_class class known.methods ≡ Some methods) methods_in
+        (questions.Methods class) (λ heard is. methods_heard (under same_class class known.methods) heard is))
+        (λ methods is. makes (λ (those : List (Option Answer)). All (HasLines known class)
+        (filter (counts keyed wanted loaded.signature) methods) × All Any those)
+        (All (IsSeen known wanted)) (λ heard. class ∷ [])
+        (each (lines_plan class) (filter (counts keyed wanted loaded.signature) methods))
+        (every (HasLines known class) Any (lines_plan class) (lines_row class)
+        (filter (counts keyed wanted loaded.signature) methods))
+        (λ those h. (
+          record {
+            loaded = loaded;
+            source = source;
+            methods = methods;
+            has_loaded = is_loaded;
+            has_source = has_source;
+            has_methods = is;
+            has_lines = h.0;
+          },
+          tt,
+        )))
+
+    source_row : Row (All (IsSeen known wanted)) (source_plan wanted class loaded.signature)
+    source_row =
+        chains (λ (source : Option (List ℕ)). under same_class class known.sources ≡ Some source)
+        (All (IsSeen known wanted)) (asking source_in (Want.Fact (questions.SourceFile class)))
+        (λ source. keyed_plan (is_keyed wanted (key_by loaded.signature source)) wanted class loaded.signature)
+        (asks_fact (λ (source : Option (List ℕ)). under same_class class known.sources ≡ Some source) source_in
+        (questions.SourceFile class) (λ heard is. source_heard (under same_class class known.sources) heard is))
+        (λ source is. bound_row
+        (is_keyed wanted (key_by loaded.signature source) || is_named wanted loaded.signature None) source is)
 
   class_row : (wanted : Wanted) (class : ClassId) (loaded : Option Loaded)
-      → Row (All (IsSeen known)) (class_plan wanted class loaded)
+      → under same_class class known.loaded ≡ loaded → Row (All (IsSeen known wanted)) (class_plan wanted class loaded)
   unfolding need
-  class_row wanted class None = tt
-  class_row wanted class (Some loaded) = by_prepared loaded.prepared
+  class_row wanted class None listed = tt
+  class_row wanted class (Some loaded) listed = by_prepared loaded.prepared
     where
-      by_watched : (watched : Bool) → Row (All (IsSeen known)) (watched_plan watched wanted class loaded.signature)
+      by_watched : (watched : Bool)
+          → Row (All (IsSeen known wanted)) (watched_plan watched wanted class loaded.signature)
       by_watched false = tt
-      by_watched true = source_row wanted class loaded.signature
+      by_watched true = source_row wanted class loaded listed
 
       by_package : (path : Option (List ℕ))
-          → Row (All (IsSeen known)) (package_plan wanted class loaded.signature path)
+          → Row (All (IsSeen known wanted)) (package_plan wanted class loaded.signature path)
       by_package None = tt
       by_package (Some path) = by_watched (is_watched wanted path)
 
       by_prepared : (prepared : Bool)
-          → Row (All (IsSeen known)) (prepared_plan prepared wanted class loaded.signature)
+          → Row (All (IsSeen known wanted)) (prepared_plan prepared wanted class loaded.signature)
       by_prepared false = tt
       by_prepared true = by_package (package_in loaded.signature)
 
-  seen_joined : (lists : List (List ClassId)) → All (All (IsSeen known)) lists → All (IsSeen known) (joined lists)
-  seen_joined [] h = tt
-  seen_joined (classes ∷ lists) h = all_joined (IsSeen known) classes (joined lists) h.0 (seen_joined lists h.1)
+  seen_joined : (wanted : Wanted) (lists : List (List ClassId)) → All (All (IsSeen known wanted)) lists
+      → All (IsSeen known wanted) (joined lists)
+  seen_joined wanted [] h = tt
+  seen_joined wanted (classes ∷ lists) h =
+      all_joined (IsSeen known wanted) classes (joined lists) h.0 (seen_joined wanted lists h.1)
 
   all_seen : (wanted : Wanted) (classes : List ClassId)
-      → need (sight_alone known) (known_plan wanted (found_in known)) ≡ has classes → All (IsSeen known) classes
-  all_seen wanted classes is = subst (Has (All (IsSeen known))) is
-      (makes (λ (lists : List (List ClassId)). All Any (found_in known).order × All (All (IsSeen known)) lists)
-      (All (IsSeen known)) joined
+      → need (sight_alone known) (known_plan wanted (found_in known)) ≡ has classes → All (IsSeen known wanted) classes
+  all_seen wanted classes is = subst (Has (All (IsSeen known wanted))) is
+      (makes (λ (lists : List (List ClassId)). All Any (found_in known).order × All (All (IsSeen known wanted)) lists)
+      (All (IsSeen known wanted)) joined
       (each (λ class. class_plan wanted class ((found_in known).loaded class)) (found_in known).order)
-      (every Any (All (IsSeen known)) (λ class. class_plan wanted class ((found_in known).loaded class))
-      (λ class. and_any (All (IsSeen known))
+      (every Any (All (IsSeen known wanted)) (λ class. class_plan wanted class ((found_in known).loaded class))
+      (λ class. and_any (All (IsSeen known wanted))
       (need (sight_alone known) (class_plan wanted class ((found_in known).loaded class)))
-      (class_row wanted class ((found_in known).loaded class))) (found_in known).order)
-      (λ lists h. seen_joined lists h.1))
+      (class_row wanted class ((found_in known).loaded class) refl)) (found_in known).order)
+      (λ lists h. seen_joined wanted lists h.1))
 
--- What is found of it -------------------------------------------------------------------------------------------------
-
-option_alike : {A B : Type 0} (f g : A → B) → ((a : A) → f a ≡ g a) → (found : Option A)
-    → option_map f found ≡ option_map g found
-option_alike f g like None = refl
-option_alike f g like (Some a) = ap Some (like a)
+-- A class that is bound stays so --------------------------------------------------------------------------------------
 
 module _ (known now : Known) (grows : Grows known now) where
-  same_lines : (class : ClassId) (one : Method) → HasLines known class one
-      → method_found (found_in now) class one ≡ method_found (found_in known) class one
-  same_lines class one some = by_lines (under same_method (class, one.id) known.lines) refl some
-    where
-      by_lines : (lines : Option (Option LineTable)) → under same_method (class, one.id) known.lines ≡ lines
-          → is_some lines ≡ true → method_found (found_in now) class one ≡ method_found (found_in known) class one
-      by_lines None is some = cc
-      by_lines (Some table) is some =
-          ap (λ (lines : Option (Option LineTable)).
-          record { id = one.id; name = one.name; lines = option_flatten lines })
-          (grows.lines (class, one.id) table is ∙ sym is)
-
-  same_methods : (class : ClassId) (methods : List Method) → All (HasLines known class) methods
-      → map (method_found (found_in now) class) methods ≡ map (method_found (found_in known) class) methods
-  same_methods class [] h = refl
-  same_methods class (one ∷ methods) h =
-      ap (λ (first : KnownMethod). first ∷ map (method_found (found_in now) class) methods) (same_lines class one h.0)
-      ∙ ap (λ (others : List KnownMethod). method_found (found_in known) class one ∷ others)
-      (same_methods class methods h.1)
-
-  same_source : (class : ClassId) → is_some (under same_class class known.sources) ≡ true
-      → under same_class class now.sources ≡ under same_class class known.sources
-  same_source class some = by_source (under same_class class known.sources) refl some
-    where
-      by_source : (source : Option (Option (List ℕ))) → under same_class class known.sources ≡ source
-          → is_some source ≡ true → under same_class class now.sources ≡ source
-      by_source None is some = cc
-      by_source (Some source) is some = grows.sources class source is
-
-  same_facts : (class : ClassId) → IsSeen known class → (loaded : Loaded)
-      → facts_found (found_in now) class loaded ≡ facts_found (found_in known) class loaded
-  same_facts class s loaded =
-      ap (λ (source : Option (Option (List ℕ))). as_found source (methods_found (found_in now) class
-      (under same_class class now.methods))) (same_source class s.has_source)
-      ∙ ap (as_found (under same_class class known.sources))
-      (ap (methods_found (found_in now) class) (grows.methods class s.methods s.has_methods)
-      ∙ same_methods class s.methods s.has_lines
-      ∙ sym (ap (methods_found (found_in known) class) s.has_methods))
-    where
-      as_found : Option (Option (List ℕ)) → List KnownMethod → KnownClass
-      as_found source methods = record {
-        tag = loaded.tag;
-        signature = loaded.signature;
-        prepared = loaded.prepared;
-        source = option_flatten source;
-        methods = methods;
-      }
-
-  -- a class that is bound stays so
-  one_bound : now.loaded ≡ known.loaded → (wanted : Wanted) (class : ClassId) → IsSeen known class
+  one_bound : now.loaded ≡ known.loaded → (wanted : Wanted) (class : ClassId) → IsSeen known wanted class
       → IsBound known wanted class → IsBound now wanted class
-  one_bound loaded wanted class seen h facts is = h facts (sym same ∙ is)
+  one_bound loaded wanted class seen h facts is =
+      let before = h (found known) (found_is known seen.has_loaded seen.has_source seen.has_methods) in record {
+        held = before.held;
+        is_held = before.is_held;
+        same_places = ap (λ (facts : KnownClass). places_in wanted (class, facts)) same
+            ∙ same_places known now grows wanted class seen.loaded seen.source seen.methods seen.has_lines ∙ before.same_places;
+      }
     where
-      same : class_found (found_in now) class ≡ class_found (found_in known) class
-      same = option_alike (facts_found (found_in now) class) (facts_found (found_in known) class)
-          (same_facts class seen) (under same_class class now.loaded)
-          ∙ ap (λ (entries : List (ClassId × Loaded)). option_map (facts_found (found_in known) class)
-          (under same_class class entries)) loaded
+      found : Known → KnownClass
+      found k = as_found seen.loaded seen.source (map (method_found (found_in k) class) seen.methods)
 
-  each_bound : now.loaded ≡ known.loaded → (wanted : Wanted) (classes : List ClassId) → All (IsSeen known) classes
-      → All (IsBound known wanted) classes → All (IsBound now wanted) classes
+      found_is : (k : Known) → under same_class class k.loaded ≡ Some seen.loaded
+          → under same_class class k.sources ≡ Some seen.source → under same_class class k.methods ≡ Some seen.methods
+          → class_found (found_in k) class ≡ Some (found k)
+      found_is k has_loaded has_source has_methods =
+          ap (option_map (facts_found (found_in k) class)) has_loaded
+          ∙ ap (λ (source : Option (Option (List ℕ))). Some (as_found seen.loaded (option_flatten source)
+          (methods_found (found_in k) class (under same_class class k.methods)))) has_source
+          ∙ ap (λ (methods : Option (List Method)). Some (as_found seen.loaded seen.source
+          (methods_found (found_in k) class methods))) has_methods
+
+      now_is : class_found (found_in now) class ≡ Some (found now)
+      now_is = found_is now
+          (ap (λ (entries : List (ClassId × Loaded)). under same_class class entries) loaded ∙ seen.has_loaded)
+          (grows.sources class seen.source seen.has_source) (grows.methods class seen.methods seen.has_methods)
+
+      same : facts ≡ found now
+      same = let both : Some facts ≡ Some (found now) = sym is ∙ now_is in cc
+
+  each_bound : now.loaded ≡ known.loaded → (wanted : Wanted) (classes : List ClassId)
+      → All (IsSeen known wanted) classes → All (IsBound known wanted) classes → All (IsBound now wanted) classes
   each_bound loaded wanted [] seen h = tt
   each_bound loaded wanted (class ∷ classes) seen h =
       (one_bound loaded wanted class seen.0 h.0, each_bound loaded wanted classes seen.1 h.1)

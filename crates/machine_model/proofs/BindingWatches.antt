@@ -29,6 +29,7 @@ use Rattle.wish_sets.specs.Wanted.{Wanted, nothing_wanted, with_known}
 use Rattle.wish_sets.specs.Wished.{stepping, stops, thrown, watched, wished}
 use Rattle.wish_sets.specs.declared.facts.KnownClass.{KnownClass}
 use Rattle.wish_sets.specs.Wishes.{rewished}
+use Rattle.wish_sets.specs.declared.wish.StepWish.{StepWish}
 use Rattle.wish_sets.specs.declared.wish.Wish.{Wish}
 use Rattle.wish_sets.specs.declared.wish.Wish.TheVariants as wishes
 
@@ -73,7 +74,7 @@ replied_set sizes w parts effect replied due reply same h path asked =
         let stays = other_stays sizes w parts effect replied (wishes.Watch path) due reply before is in
         h path before (sym stays.0 ∙ u.0, sym stays.1 ∙ u.1)
 
--- classes that are made known change no watch
+-- what is wanted changes, and which watches are wished doesn't
 pub known_set : (w : Wishes) (wanted : Wanted) → (wished_alike : (path : List ℕ)
     → has_wish (wished wanted) (wishes.Watch path) ≡ has_wish (wished w.wanted) (wishes.Watch path)) → WatchesSet w
     → WatchesSet (rewished wanted w)
@@ -100,23 +101,43 @@ without_mid it first mid third last none =
     ∙ ap (λ b. b || has_wish third it) (has-append it first mid ∙ ap (λ b. has_wish first it || b) none
     ∙ or_false (has_wish first it)))
 
-pub watch_alike : (classes : List (ClassId × KnownClass)) (wanted : Wanted) (path : List ℕ)
-    → has_wish (wished (record wanted { classes = classes })) (wishes.Watch path)
-    ≡ has_wish (wished wanted) (wishes.Watch path)
-watch_alike classes wanted path =
+-- nor on the step and the exceptions that stop
+no_thrown : (path : List ℕ) (caught uncaught : Bool) → has_wish (thrown caught uncaught) (wishes.Watch path) ≡ false
+no_thrown path true uncaught = refl
+no_thrown path false true = refl
+no_thrown path false false = refl
+
+no_step : (path : List ℕ) (step : Option StepWish) → has_wish (stepping step) (wishes.Watch path) ≡ false
+no_step path None = refl
+no_step path (Some step) = refl
+
+abbrev watches_of : Wanted → List Wish
+watches_of wanted = wishes.ThreadStart ∷ wishes.ThreadDeath ∷ map wishes.Watch (watched wanted)
+
+only_watches : (wanted : Wanted) (path : List ℕ)
+    → has_wish (wished wanted) (wishes.Watch path) ≡ has_wish (watches_of wanted) (wishes.Watch path)
+only_watches wanted path =
     let it = wishes.Watch path in
-    let first = wishes.ThreadStart ∷ wishes.ThreadDeath ∷ map wishes.Watch (watched wanted) in
-    let later = record wanted { classes = classes } in
-    wished_has later it
-    ∙ without_mid it first (stops later) (thrown wanted.caught wanted.uncaught) (stepping wanted.step)
-    (no_stop path (places later))
-    ∙ sym (without_mid it first (stops wanted) (thrown wanted.caught wanted.uncaught) (stepping wanted.step)
-    (no_stop path (places wanted)))
-    ∙ sym (wished_has wanted it)
+    wished_has wanted it
+    ∙ without_mid it (watches_of wanted) (stops wanted) (thrown wanted.caught wanted.uncaught) (stepping wanted.step)
+    (no_stop path (places wanted))
+    ∙ ap (λ b. (has_wish (watches_of wanted) it || b) || has_wish (stepping wanted.step) it)
+    (no_thrown path wanted.caught wanted.uncaught)
+    ∙ ap (λ b. (has_wish (watches_of wanted) it || false) || b) (no_step path wanted.step)
+    ∙ or_false (has_wish (watches_of wanted) it || false) ∙ or_false (has_wish (watches_of wanted) it)
+
+pub watch_alike : (classes : List (ClassId × KnownClass)) (step : Option StepWish) (caught uncaught : Bool)
+    (wanted : Wanted) (path : List ℕ)
+    → has_wish (wished (record wanted { classes = classes; step = step; caught = caught; uncaught = uncaught }))
+    (wishes.Watch path) ≡ has_wish (wished wanted) (wishes.Watch path)
+watch_alike classes step caught uncaught wanted path =
+    only_watches (record wanted { classes = classes; step = step; caught = caught; uncaught = uncaught }) path
+    ∙ sym (only_watches wanted path)
 
 pub classes_alike : (known : Known) (classes : List ClassId) (wanted : Wanted) (path : List ℕ)
     → has_wish (wished (with_known (found_in known) classes wanted)) (wishes.Watch path)
     ≡ has_wish (wished wanted) (wishes.Watch path)
 classes_alike known classes wanted path =
     ap (λ (w : Wanted). has_wish (wished w) (wishes.Watch path)) (only_classes (found_in known) classes wanted)
-    ∙ watch_alike (with_known (found_in known) classes wanted).classes wanted path
+    ∙ watch_alike (with_known (found_in known) classes wanted).classes wanted.step wanted.caught wanted.uncaught wanted
+    path

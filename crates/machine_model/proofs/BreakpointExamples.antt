@@ -63,7 +63,7 @@ abbrev sets : ℕ → List SourceBreakpoint → Request
 sets seq breakpoints = request seq (SetBreakpoints (record { path = source; breakpoints = breakpoints }))
 
 abbrev shown : ℕ → ℕ → BreakpointStatus → Breakpoint
-shown id line standing = record { id = id; line = line; status = standing }
+shown id line standing = record { id = id; line = Some line; status = standing }
 
 abbrev lists : Request → List Breakpoint → Message
 lists asked breakpoints = responds asked (outcomes.Success (shapes.Breakpoints breakpoints))
@@ -103,12 +103,12 @@ loaded tag class signature status =
     record { tag = tag; class = record { 0 = class }; signature = signature; status = status }
 
 -- a class of the package, one of another, an array, one that isn't prepared, and a hidden one without a source
-abbrev classes : List LoadedClass
+abbrev pub classes : List LoadedClass
 classes = loaded tags.Class 16 (codes "La/F;") (pos 7) ∷ loaded tags.Class 17 (codes "Lb/G;") (pos 7)
     ∷ loaded tags.Array 18 (codes "[La/F;") (pos 0) ∷ loaded tags.Class 19 (codes "La/H;") (pos 1)
     ∷ loaded tags.Interface 20 (codes "La/F$1.0x1f;") (pos 3) ∷ []
 
-abbrev class : ℕ → ClassId
+abbrev pub class : ℕ → ClassId
 class id = record { 0 = id }
 
 abbrev with_classes : Machine
@@ -121,7 +121,7 @@ unfolding due wanted load_of newly_lacked next_change wished need chained made_w
     lossy_after is_utf8
 asks_sources = refl
 
-abbrev says_of : Question → Answer → Machine → Machine
+abbrev pub says_of : Question → Answer → Machine → Machine
 says_of question answer m = drive 8 (answered m (a_question question) (an_answer answer))
 
 abbrev with_sources : Machine
@@ -136,7 +136,7 @@ unfolding due wanted load_of newly_lacked next_change wished need chained made_w
     lossy_after is_utf8
 asks_methods = refl
 
-abbrev method : ℕ → Method
+abbrev pub method : ℕ → Method
 method id = record { id = record { 0 = id }; name = codes "m"; signature = codes "()V"; bits = pos 1 }
 
 abbrev with_methods : Machine
@@ -151,7 +151,7 @@ unfolding due wanted load_of newly_lacked next_change wished need chained made_w
     lossy_after is_utf8
 asks_lines = refl
 
-abbrev line : ℕ → ℕ → Line
+abbrev pub line : ℕ → ℕ → Line
 line index number = record { index = index; line = pos number }
 
 -- a native method has no lines

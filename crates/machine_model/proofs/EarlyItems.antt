@@ -25,6 +25,7 @@ use Rattle.machine_model.proofs.Standing.{asked_in}
 use Rattle.machine_model.proofs.Stepping.{IsAt, Moves, Skips, by_runs}
 use Rattle.machine_model.proofs.Tables.{chosen_is, decided_alike, finished_is, has_attach, plain_attach, told_alike}
 use Rattle.machine_model.proofs.Testing.{IsTest, Passed, same_noted, same_numbered, same_replied, tested, whole}
+use Rattle.machine_model.specs.Names.{Stepped}
 
 -- The test ------------------------------------------------------------------------------------------------------------
 
@@ -58,7 +59,9 @@ chosen_greets : (choice : Choice) (state : State) (hand : Hand) (rest : List Par
 chosen_greets (TellsNews below) state hand rest is =
     told_alike greets_first (λ news parts. refl) state.phase (news_of below state hand.item) rest ∙ is
 chosen_greets Decides state hand rest is =
-    decided_alike greets_first (λ stopping parts. refl) (λ parts. refl) (λ parts. refl) state hand.item rest ∙ is
+    decided_alike greets_first (λ thrown parts. refl) (λ stopping parts. refl) (λ thread object parts. refl)
+    (λ parts. refl) (λ parts. refl) state hand.item rest ∙ is
+chosen_greets Stepped state hand rest is = grind (arith, is)
 chosen_greets (Leaves exits) state hand rest is = grind (arith, is)
 
 greets_test : IsTest greets_to_attach

@@ -53,7 +53,7 @@ changes effect = Message.sends (an_effect effect)
 abbrev pub responds : Request → outcomes.the_data → Message
 responds request outcome = Message.tells (response_to request outcome)
 
-abbrev succeeds : Request → Message
+abbrev pub succeeds : Request → Message
 succeeds request = responds request (outcomes.Success shapes.Nothing)
 
 -- Attach --------------------------------------------------------------------------------------------------------------

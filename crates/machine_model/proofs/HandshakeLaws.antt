@@ -7,6 +7,7 @@ use Rattle.machine_model.specs.Names.{a_question, an_effect}
 use Rattle.machine_model.specs.Pending.{has_such, have_handshake, is_greeted, is_greets}
 use Rattle.machine_model.specs.Replying.{given_up, hand_replied, is_failed, replied_machine, replied_to, unless_failed}
 use Rattle.machine_model.specs.Rows.{chosen, gone_parts, has_response, parts_of}
+use Rattle.machine_model.specs.Names.{Stepped}
 use Rattle.machine_model.specs.Runs.{Message}
 use Rattle.machine_model.specs.State.{Hand, Machine, State, is_attached, is_empty, left}
 use Rattle.machine_model.proofs.QuietLaws.{lacking_hand}
@@ -22,6 +23,7 @@ needs (Part.Looks lookup) = true
 needs (Part.Awaits IdSizes) = true
 needs Part.Updates = true
 needs (Part.Tells Initialized) = true
+needs (Part.Unfolds Stepped) = true
 needs _ = false
 
 abbrev is_handshake : Part → Bool
@@ -42,8 +44,8 @@ begun_behind : (state : State) (item : Item) → is_attached state.phase ≡ fal
 begun_behind state item is = grind (arith, is)
 
 chosen_none : (choice : Choice) (state : State) (hand : Hand) → is_attached state.phase ≡ false
-    → need_none (chosen choice state hand) ≡ true
-chosen_none choice state hand is = grind (arith, is)
+    → needs (Part.Unfolds choice) ≡ false → need_none (chosen choice state hand) ≡ true
+chosen_none choice state hand is free = grind (arith, is, free)
 
 gone_behind : (responds : Bool) (item : Item) → behind_handshake (gone_parts responds item) ≡ true
 gone_behind responds item = grind arith
@@ -204,13 +206,13 @@ behind_on m next said h (Moves.unfolds {hand} {choice} {rest} free at) =
     by_both (has_handshake m.state) (is_attached m.state.phase) refl (grind (arith, h, at.in_hand, at.parts))
   where
     by_both : (both attached : Bool) → is_attached m.state.phase ≡ attached
-        → behind_both both attached (cond (behind_handshake rest) (is_empty hand.queue) false) ≡ true
+        → behind_both both attached (cond (behind_handshake (Part.Unfolds choice ∷ rest)) (is_empty hand.queue) false) ≡ true
         → behind_both both attached (cond (behind_handshake (chosen choice m.state hand ++ rest))
         (is_empty hand.queue) false) ≡ true
     by_both true attached is h = refl
     by_both false true is h = cc
     by_both false false is h =
-        rw (behind_joined (chosen choice m.state hand) rest (chosen_none choice m.state hand is) (grind (arith, h)))
+        rw (behind_joined (chosen choice m.state hand) rest (chosen_none choice m.state hand is (grind (arith, h))) (grind (arith, h)))
         (grind (arith, h))
 behind_on m next said h (Moves.queues {hand} free is) =
     now_behind next (lacking_both m hand h is (lacking_hand m hand free is))

@@ -1,13 +1,14 @@
--- Nothing is asked of null: each question was lacking, and nothing that a part lacks asks so.
+-- Nothing is asked of null: each question was lacking, and nothing that a part lacks asks so; and no step of null is set.
 use Rattle.std.proofs.Common.{◌≡◌, ◌&&◌, ◌⊎◌, Bool, true, false, List, [], ◌∷◌, ◌++◌, refl, sym, ap, subst, ◌∙◌, inl, inr}
 use Rattle.std.specs.List.{AllByRecursion as All}
 use Rattle.class_tables.specs.Lookups.{found_in}
 use Rattle.jdwp_commands.specs.declared.question.Question.TheVariants as questions
 use Rattle.machine_model.specs.Classes.{classes_plan}
 use Rattle.machine_model.specs.Due.{lacked_by}
-use Rattle.machine_model.specs.Harmless.{is_harmless}
+use Rattle.machine_model.specs.Harmless.{is_harmless, is_harmless_command}
 use Rattle.machine_model.specs.Lookups.{sight_of}
-use Rattle.machine_model.specs.Names.{Finding, Part, Question, Want, a_question, class_facts, classes_found}
+use Rattle.machine_model.specs.Names.{Finding, Part, Question, TargetCommand, Want, a_question, an_effect, class_facts}
+use Rattle.machine_model.specs.Names.{classes_found}
 use Rattle.machine_model.specs.Plans.{Plan, lacking, made_with, need, question_of}
 use Rattle.machine_model.specs.Questions.{AreLacked, IsLacked, is_question}
 use Rattle.machine_model.specs.Runs.{Message, Run}
@@ -16,6 +17,7 @@ use Rattle.machine_model.proofs.BindingHands.{looks_first}
 use Rattle.machine_model.proofs.BindingParts.{lacked_safe}
 use Rattle.machine_model.proofs.BindingPlans.{asks, is_fact, known_wants, makes, plan_lacks, wants_fact}
 use Rattle.machine_model.proofs.BindingPlans.{wants_other}
+use Rattle.machine_model.proofs.HarmlessSteps.{effects_harmless}
 use Rattle.machine_model.proofs.IdLaws.{last_or_not}
 use Rattle.machine_model.proofs.IdRows.{all_weak}
 use Rattle.machine_model.proofs.QuestionLaws.{are_lacked}
@@ -105,7 +107,8 @@ all_harmless messages before after question (AreLacked.asks {messages = earlier}
         let one : question_of want ≡ question = cc in sym (ap is_harmless one) ∙ was_lacked lacked
     by_place (inr (rest, there)) behind = behind rest there
 
-pub harmless : (messages before after : List Message) (m : Machine) (question : Question) → Run messages m
-    → messages ≡ before ++ Message.sends (a_question question) ∷ after → is_harmless question ≡ true
-harmless messages before after m question r is =
+pub harmless : (messages before after : List Message) (m : Machine) (command : TargetCommand) → Run messages m
+    → messages ≡ before ++ Message.sends command ∷ after → is_harmless_command command ≡ true
+harmless messages before after m (a_question question) r is =
     all_harmless messages before after question (are_lacked messages m r) is
+harmless messages before after m (an_effect effect) r is = effects_harmless messages before after m effect r is

@@ -21,14 +21,18 @@ use Rattle.machine_model.specs.Replying.{given_up, hand_replied}
 use Rattle.machine_model.specs.Requests.{Wishes, effect_due, effect_of}
 use Rattle.machine_model.specs.Rows.{chosen, end_parts, gone_parts, has_response, leaves, news_of, request_parts}
 use Rattle.machine_model.specs.State.{Hand, Machine, State, is_attached, is_empty, is_gone, knowing}
-use Rattle.machine_model.specs.Stops.{decided, decided_by, events_in, has_start, hits_in, stop_among}
+use Rattle.machine_model.specs.Stops.{decided, decided_by, events_in, has_start, hits_in, stop_among, surplus, thrown_in}
+use Rattle.machine_model.specs.Stops.{told_part}
+use Rattle.machine_model.specs.Names.{Halt, Stepped, ThreadId, Thrown, by_step, exception_info}
+use Rattle.machine_model.specs.Rows.{refused_with}
 use Rattle.suspend_ledger.specs.Suspensions.{suspensions_by}
 use Rattle.wish_sets.specs.Wishes.{WishChange, clears, next_change, sets}
-use Rattle.machine_model.proofs.HoldingParts.{IsHolding, hit_in, is_hit, may_all, may_do_so, may_front, may_stop}
-use Rattle.machine_model.proofs.HoldingParts.{stop_hit}
+use Rattle.machine_model.proofs.HoldingParts.{IsHolding, may_all, may_do_so, may_front, may_stop}
 use Rattle.machine_model.proofs.Stepping.{IsAt, Skips}
 use Rattle.machine_model.proofs.Tables.{free_once, told_alike}
 use Rattle.machine_model.proofs.Testing.{passed}
+use Rattle.machine_model.specs.Names.{HaltCause, by_exception, exception_text}
+use Rattle.machine_model.specs.Rows.{stepped_by}
 
 pub held_front : {m : Machine} {hand : Hand} {part : Part} {rest : List Part} → IsAt m hand part rest
     → held_in m.state m.hand ≡ held_with m.state.stopped m.state.entry (owed_in m.state.stopped (part ∷ rest))
@@ -96,10 +100,17 @@ given_owes None = refl
 given_owes (Some hand) = gone_owes false (has_response hand.parts) hand.item
 
 pub found_owes : (stopped : Bool) (lookup : Lookup) (result : Result Finding) (state : State) (rest : List Part)
-    → owed_in stopped (finished lookup result state ++ rest) ≡ owed_in stopped rest
+    → owed_in stopped (finished lookup result state ++ rest) ≡ owed_in stopped (Part.Looks lookup ∷ rest)
 found_owes stopped all_threads result state rest = refl
 found_owes stopped (thread_frames thread start levels) result state rest = refl
 found_owes stopped (container_children thing filter start count) result state rest = refl
+found_owes stopped (exception_text thread object) result state rest = by_stop stopped
+  where
+    by_stop : (stopped : Bool) → owed_in stopped (finished (exception_text thread object) result state ++ rest)
+        ≡ owed_in stopped (Part.Looks (exception_text thread object) ∷ rest)
+    by_stop true = refl
+    by_stop false = refl
+found_owes stopped (exception_info thrown) result state rest = refl
 found_owes stopped class_facts result state rest = refl
 
 -- what is decided on a composite's suspension is one of three: a stop holds it, the entry does, or it is undone
@@ -107,20 +118,20 @@ decided_owes : (state : State) (item : Item) → is_attached state.phase ≡ tru
     → owed_in state.stopped (decided state item ++ []) ≡ 1
 decided_owes state item attached = rw attached
     (by_stop state.stopped state.configured state.entry (has_start (events_in item))
-    (stop_among state.wishes (hits_in state.wishes (events_in item))) (stop_hit state.wishes (events_in item)))
+    (thrown_in state.wishes (events_in item)) (stop_among state.wishes (hits_in state.wishes (events_in item))))
   where
-    by_cause : (cause : StopCause) → is_hit cause ≡ true → begins false cause ≡ true
-    by_cause (Hit at) is = refl
-    by_cause by_client is = cc
+    by_halt : (stopped : Bool) (cause : HaltCause) (thread : ThreadId)
+        → owed_in stopped (told_part cause thread ∷ surplus stopped) ≡ 1
+    by_halt stopped cause thread = grind arith
 
-    by_stop : (stopped configured entry starts : Bool) (stop : Option Stopping) → hit_in stop ≡ true
-        → owed_in stopped (decided_by stopped (cond configured false (cond entry false starts)) stop ++ []) ≡ 1
-    by_stop stopped true entry starts None is = refl
-    by_stop stopped false true starts None is = refl
-    by_stop stopped false false true None is = refl
-    by_stop stopped false false false None is = refl
-    by_stop true configured entry starts (Some stopping) is = refl
-    by_stop false configured entry starts (Some stopping) is = rw (by_cause stopping.cause is) refl
+    by_stop : (stopped configured entry starts : Bool) (thrown : List Thrown) (stop : Option Halt)
+        → owed_in stopped (decided_by stopped (cond configured false (cond entry false starts)) thrown stop ++ []) ≡ 1
+    by_stop stopped true entry starts thrown None = refl
+    by_stop stopped false true starts thrown None = refl
+    by_stop stopped false false true thrown None = refl
+    by_stop stopped false false false thrown None = refl
+    by_stop true configured entry starts thrown (Some halt) = by_halt true halt.cause halt.thread
+    by_stop false configured entry starts thrown (Some halt) = by_halt false halt.cause halt.thread
 
 pub chosen_owes : {m : Machine} {hand : Hand} {choice : Choice} {rest : List Part} → IsHolding m
     → IsAt m hand (Part.Unfolds choice) rest
@@ -136,6 +147,16 @@ chosen_owes {m} {hand} {choice = Leaves exits} {rest} h at = by_phase m.state.ph
     by_phase Attached true = refl
     by_phase Attached false = refl
     by_phase Gone exits = refl
+chosen_owes {m} {hand} {choice = Stepped} {rest} h at =
+    by_rest rest m.state.stopped (refused_with hand.effect) (may_front h at)
+  where
+    by_rest : (rest : List Part) (stopped : Bool) (code : Option ℕ)
+        → may_all m.state.phase stopped m.state.entry (Part.Unfolds Stepped ∷ rest) ≡ true
+        → owed_in stopped (stepped_by code ++ rest) ≡ owed_in stopped rest
+    by_rest [] stopped None is = refl
+    by_rest [] stopped (Some code) is = refl
+    by_rest (part ∷ rest) true code is = cc
+    by_rest (part ∷ rest) false code is = cc
 chosen_owes {m} {hand} {choice = Decides} {rest} h at = by_rest rest (is_attached m.state.phase) refl (may_front h at)
   where
     by_rest : (rest : List Part) (attached : Bool) → is_attached m.state.phase ≡ attached
@@ -289,11 +310,20 @@ stop_held {m} {stopping = stopping} {rest} h at =
     first true others is = refl
     first false others is = cc
 
+    by_hit : (stopped entry : Bool) (owed held : ℕ) → held ≡ held_with stopped entry (cond (not stopped) (owed + 1) owed)
+        → (held_with true entry owed ≡ held) × (nat_lt 0 held ≡ true)
+    by_hit true entry owed held is = (sym is, grind (arith, is))
+    by_hit false entry owed held is = (omega (arith, is), grind (arith, is))
+
     by_cause : (cause : StopCause) (stopped entry : Bool) (owed held : ℕ) → may_stop cause stopped rest ≡ true
         → held ≡ held_with stopped entry (cond (begins stopped cause) (owed + 1) owed)
         → (held_with true entry owed ≡ held) × (nat_lt 0 held ≡ true)
-    by_cause (Hit at) true entry owed held may is = (sym is, grind (arith, is))
-    by_cause (Hit at) false entry owed held may is = (omega (arith, is), grind (arith, is))
+    by_cause (Hit at) true entry owed held may is = by_hit true entry owed held is
+    by_cause (Hit at) false entry owed held may is = by_hit false entry owed held is
+    by_cause (by_exception text) true entry owed held may is = by_hit true entry owed held is
+    by_cause (by_exception text) false entry owed held may is = by_hit false entry owed held is
+    by_cause by_step true entry owed held may is = by_hit true entry owed held is
+    by_cause by_step false entry owed held may is = by_hit false entry owed held is
     by_cause by_client true entry owed held may is = (sym is, grind (arith, is))
     by_cause by_client false entry owed held may is = cc
 

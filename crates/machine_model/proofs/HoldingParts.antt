@@ -28,12 +28,16 @@ use Rattle.machine_model.specs.Rows.{request_parts}
 use Rattle.machine_model.specs.Runs.{Message, Run}
 use Rattle.machine_model.specs.State.{Hand, Machine, State, is_attached, is_empty, is_gone}
 use Rattle.machine_model.specs.Stops.{decided, decided_by, events_in, first_of, has_start, hit_by, hits_in, is_at_line}
-use Rattle.machine_model.specs.Stops.{is_live, stop_among}
+use Rattle.machine_model.specs.Stops.{stop_among, surplus, thrown_in, told_part}
+use Rattle.machine_model.specs.Names.{Halt, StopsAt, Steps, Throws, Thrown, by_step, exception_info}
+use Rattle.machine_model.specs.Rows.{refused_with, stepped_by}
 use Rattle.machine_model.specs.Telling.{after_event, attached_from, numbered_by}
 use Rattle.wish_sets.specs.Wishes.{Wishes}
 use Rattle.machine_model.proofs.Stepping.{IsAt, Moves, Skips, by_moves, by_runs}
 use Rattle.machine_model.proofs.Tables.{free, free_once, told_alike}
 use Rattle.machine_model.proofs.Testing.{Passed, same_numbered, same_replied, tested, whole}
+use Rattle.machine_model.specs.Names.{Functions, HaltCause, Stepped, by_exception, exception_text}
+use Rattle.std.proofs.Common.{ℕ}
 
 -- What a part needs, and what it leaves -------------------------------------------------------------------------------
 
@@ -71,6 +75,8 @@ only_resumes _ = false
 -- a hit that is told in a stop is a surplus, and a pause is told in its stop
 abbrev pub may_stop : StopCause → Bool → List Part → Bool
 may_stop (Hit at) stopped rest = cond stopped (only_resumes rest) true
+may_stop (by_exception text) stopped rest = cond stopped (only_resumes rest) true
+may_stop by_step stopped rest = cond stopped (only_resumes rest) true
 may_stop by_client stopped rest = stopped
 
 abbrev may_tell_so : Event → Bool → List Part → Bool
@@ -94,16 +100,23 @@ abbrev may_note : Note → Bool → Bool
 may_note EntryHeld entry = not entry
 may_note _ entry = true
 
-abbrev may_choose : Choice → Phase → List Part → Bool
-may_choose (TellsNews below) phase rest = true
-may_choose Decides phase rest = cond (is_attached phase) (is_empty rest) false
-may_choose (Leaves exits) phase rest = true
+abbrev may_choose : Choice → Phase → Bool → List Part → Bool
+may_choose (TellsNews below) phase stopped rest = true
+may_choose Decides phase stopped rest = cond (is_attached phase) (is_empty rest) false
+may_choose Stepped phase stopped rest = cond stopped (is_empty rest) false
+may_choose (Leaves exits) phase stopped rest = true
+
+-- what was thrown is told as a hit is
+abbrev may_look : Lookup → Bool → List Part → Bool
+may_look (exception_text thread object) stopped rest = cond stopped (only_resumes rest) true
+may_look _ stopped rest = true
 
 abbrev may_part : Phase → Bool → Bool → Part → List Part → Bool
 may_part phase stopped entry (Part.Tells event) rest = may_tell_so event stopped rest
 may_part phase stopped entry (Part.Sends deed) rest = may_do_so deed stopped entry
 may_part phase stopped entry (Part.Notes note) rest = may_note note entry
-may_part phase stopped entry (Part.Unfolds choice) rest = may_choose choice phase rest
+may_part phase stopped entry (Part.Unfolds choice) rest = may_choose choice phase stopped rest
+may_part phase stopped entry (Part.Looks lookup) rest = may_look lookup stopped rest
 may_part phase stopped entry _ rest = true
 
 -- each part may be done where the parts before it were
@@ -143,97 +156,41 @@ begun_may state (a_raw at body) = refl
 
 found_may : (phase : Phase) (stopped entry : Bool) (lookup : Lookup) (result : Result Finding) (state : State)
     (rest : List Part)
-    → may_all phase stopped entry (finished lookup result state ++ rest) ≡ may_all phase stopped entry rest
+    → may_all phase stopped entry (finished lookup result state ++ rest)
+    ≡ may_all phase stopped entry (Part.Looks lookup ∷ rest)
 found_may phase stopped entry all_threads result state rest = refl
 found_may phase stopped entry (thread_frames thread start levels) result state rest = refl
 found_may phase stopped entry (container_children thing filter start count) result state rest = refl
+found_may phase stopped entry (exception_text thread object) result state rest = by_stop stopped
+  where
+    by_stop : (stopped : Bool) → may_all phase stopped entry (finished (exception_text thread object) result state ++ rest)
+        ≡ may_all phase stopped entry (Part.Looks (exception_text thread object) ∷ rest)
+    by_stop true = refl
+    by_stop false = refl
+found_may phase stopped entry (exception_info thrown) result state rest = refl
 found_may phase stopped entry class_facts result state rest = refl
-
--- a stop that a composite tells is a hit
-abbrev pub is_hit : StopCause → Bool
-is_hit (Hit at) = true
-is_hit by_client = false
-
-abbrev all_hits : List Stopping → Bool
-all_hits [] = true
-all_hits (hit ∷ hits) = cond (is_hit hit.cause) (all_hits hits) false
-
-abbrev pub hit_in : Option Stopping → Bool
-hit_in None = true
-hit_in (Some stopping) = is_hit stopping.cause
-
-hits_hit : (w : Wishes) (events : List ATargetEvent) → all_hits (hits_in w events) ≡ true
-hits_hit w [] = refl
-hits_hit w (event ∷ events) = by_event event (hits_hit w events)
-  where
-    by_live : (live : Bool) (thread : ThreadId) (at : Location) → all_hits (hits_in w events) ≡ true
-        → all_hits (cond live (record { cause = Hit at; thread = thread } ∷ []) [] ++ hits_in w events) ≡ true
-    by_live true thread at h = h
-    by_live false thread at h = h
-
-    by_event : (event : ATargetEvent) → all_hits (hits_in w events) ≡ true
-        → all_hits (hit_by w event ++ hits_in w events) ≡ true
-    by_event (happened.Breakpoint request thread at) h = by_live (is_live w request) thread at h
-    by_event _ h = h
-
-found_hit : (test : Stopping → Bool) (hits : List Stopping) → all_hits hits ≡ true → hit_in (find test hits) ≡ true
-found_hit test [] is = refl
-found_hit test (hit ∷ hits) is = by_test (test hit) (found_hit test hits)
-  where
-    both : (first others : Bool) → cond first others false ≡ true → (first ≡ true) × (others ≡ true)
-    both true others is = (refl, is)
-    both false others is = cc
-
-    by_test : (found : Bool) → (all_hits hits ≡ true → hit_in (find test hits) ≡ true)
-        → hit_in (cond found (Some hit) (find test hits)) ≡ true
-    by_test true h = (both (is_hit hit.cause) (all_hits hits) is).0
-    by_test false h = h (both (is_hit hit.cause) (all_hits hits) is).1
-
-pub stop_hit : (w : Wishes) (events : List ATargetEvent) → hit_in (stop_among w (hits_in w events)) ≡ true
-stop_hit w events =
-    either (find (λ hit. is_at_line w hit.cause) (hits_in w events)) (first_of (hits_in w events))
-    (found_hit (λ hit. is_at_line w hit.cause) (hits_in w events) (hits_hit w events))
-    (first (hits_in w events) (hits_hit w events))
-  where
-    first : (hits : List Stopping) → all_hits hits ≡ true → hit_in (first_of hits) ≡ true
-    first [] is = refl
-    first (hit ∷ hits) is = by_bools (is_hit hit.cause) (all_hits hits) is
-      where
-        by_bools : (one others : Bool) → cond one others false ≡ true → one ≡ true
-        by_bools true others is = refl
-        by_bools false others is = cc
-
-    either : (one other : Option Stopping) → hit_in one ≡ true → hit_in other ≡ true
-        → hit_in (option_or one other) ≡ true
-    either None other is also = also
-    either (Some stopping) other is also = is
 
 -- What is decided fits: the entry is held once, and a stop is told by a hit.
 decided_may : (phase : Phase) (state : State) (item : Item)
     → may_all phase state.stopped state.entry (decided state item ++ []) ≡ true
 decided_may phase state item =
     by_stop (is_attached state.phase) state.stopped state.entry state.configured (has_start (events_in item))
-    (stop_among state.wishes (hits_in state.wishes (events_in item))) (stop_hit state.wishes (events_in item))
+    (thrown_in state.wishes (events_in item)) (stop_among state.wishes (hits_in state.wishes (events_in item)))
   where
-    first_stop : (cause : StopCause) → is_hit cause ≡ true → may_stop cause false [] ≡ true
-    first_stop (Hit at) is = refl
-    first_stop by_client is = cc
+    by_halt : (stopped entry : Bool) (cause : HaltCause) (thread : ThreadId)
+        → may_all phase stopped entry (told_part cause thread ∷ surplus stopped) ≡ true
+    by_halt stopped entry cause thread = grind arith
 
-    surplus : (cause : StopCause) → is_hit cause ≡ true
-        → may_stop cause true (Part.Sends (Resume of_composite) ∷ []) ≡ true
-    surplus (Hit at) is = refl
-    surplus by_client is = cc
-
-    by_stop : (attached stopped entry configured starts : Bool) (stop : Option Stopping) → hit_in stop ≡ true
+    by_stop : (attached stopped entry configured starts : Bool) (thrown : List Thrown) (stop : Option Halt)
         → may_all phase stopped entry
-        (cond attached (decided_by stopped (cond configured false (cond entry false starts)) stop) [] ++ []) ≡ true
-    by_stop false stopped entry configured starts stop is = refl
-    by_stop true stopped entry true starts None is = refl
-    by_stop true stopped true false starts None is = refl
-    by_stop true stopped false false true None is = refl
-    by_stop true stopped false false false None is = refl
-    by_stop true true entry configured starts (Some stopping) is = rw (surplus stopping.cause is) refl
-    by_stop true false entry configured starts (Some stopping) is = rw (first_stop stopping.cause is) refl
+        (cond attached (decided_by stopped (cond configured false (cond entry false starts)) thrown stop) [] ++ []) ≡ true
+    by_stop false stopped entry configured starts thrown stop = refl
+    by_stop true stopped entry true starts thrown None = refl
+    by_stop true stopped true false starts thrown None = refl
+    by_stop true stopped false false true thrown None = refl
+    by_stop true stopped false false false thrown None = refl
+    by_stop true true entry configured starts thrown (Some halt) = by_halt true entry halt.cause halt.thread
+    by_stop true false entry configured starts thrown (Some halt) = by_halt false entry halt.cause halt.thread
 
 chosen_may : (choice : Choice) (state : State) (hand : Hand) (rest : List Part)
     → may_all state.phase state.stopped state.entry (Part.Unfolds choice ∷ rest) ≡ true
@@ -257,6 +214,16 @@ chosen_may Decides state hand (part ∷ rest) is = none (is_attached state.phase
         → may_all state.phase state.stopped state.entry (decided state hand.item ++ part ∷ rest) ≡ true
     none true is = cc
     none false is = cc
+chosen_may Stepped state hand rest is = by_rest rest state.stopped (refused_with hand.effect) is
+  where
+    by_rest : (rest : List Part) (stopped : Bool) (code : Option ℕ)
+        → may_all state.phase stopped state.entry (Part.Unfolds Stepped ∷ rest) ≡ true
+        → may_all state.phase stopped state.entry (stepped_by code ++ rest) ≡ true
+    by_rest [] true None is = refl
+    by_rest [] true (Some code) is = refl
+    by_rest [] false code is = cc
+    by_rest (part ∷ rest) true code is = cc
+    by_rest (part ∷ rest) false code is = cc
 
 -- In runs -------------------------------------------------------------------------------------------------------------
 
@@ -308,6 +275,10 @@ note_may_all Configured state rest is = is
 note_may_all (Options options) state rest is = is
 note_may_all (Roots roots) state rest is = is
 note_may_all (Lines key path entries) state rest is = is
+note_may_all (Functions entries) state rest is = is
+note_may_all (StopsAt caught uncaught) state rest is = is
+note_may_all (Steps step) state rest is = is
+note_may_all (Throws thrown) state rest is = is
 note_may_all (Classes classes) state rest is = is
 
 replied_may : (state : State) (command : TargetCommand) (replied : Replied) (hand : Option Hand)
@@ -429,6 +400,10 @@ lost_on m next said f h (Moves.notes {note = Configured} free at) = h
 lost_on m next said f h (Moves.notes {note = Options options} free at) = h
 lost_on m next said f h (Moves.notes {note = Roots roots} free at) = h
 lost_on m next said f h (Moves.notes {note = Lines key path entries} free at) = h
+lost_on m next said f h (Moves.notes {note = Functions entries} free at) = h
+lost_on m next said f h (Moves.notes {note = StopsAt caught uncaught} free at) = h
+lost_on m next said f h (Moves.notes {note = Steps step} free at) = h
+lost_on m next said f h (Moves.notes {note = Throws thrown} free at) = h
 lost_on m next said f h (Moves.notes {note = Classes classes} free at) = h
 lost_on m next said f h (Moves.answers {question} {replied} is waits reply stays) =
     rw (

@@ -24,14 +24,18 @@ use Rattle.wish_sets.specs.Wishes.{EventRequest, clears, is_missing, is_surplus,
 use Rattle.wish_sets.specs.declared.wish.Wish.{Wish}
 use Rattle.machine_model.proofs.IdRows.{all_weak, plain_fits}
 use Rattle.machine_model.proofs.ItemIds.{HandStands, Waits, waiting_on}
-use Rattle.machine_model.proofs.ThreadIds.{ItemStands, TellStands}
+use Rattle.machine_model.proofs.HitIds.{ItemStands}
+use Rattle.machine_model.proofs.ThreadIds.{TellStands}
+use Rattle.machine_model.specs.Names.{Configured, EntryHeld, Functions, Options, Roots, Steps, StopsAt, Throws, Thrown}
+use Rattle.machine_model.specs.Names.{an_exception, exception_info, exception_text}
 use Rattle.machine_model.specs.Names.{Body, Capabilities, Continued, Failed, Nothing, ShownVariable, breakpoint_list}
 use Rattle.machine_model.specs.Names.{container_children, frame_list, scope_list, variable_list}
 use Rattle.stop_refs.specs.declared.thing.FrameThing.{FrameThing}
 use Rattle.stop_refs.specs.declared.thing.Thing.{Thing}
 use Rattle.stop_refs.specs.declared.thing.Thing.TheVariants as things
 use Rattle.machine_model.proofs.PlanIds.{IsAskable, IsAsked, IsReplied, IsWanted, OfNamed, OfThread, OnSome, is_sizes}
-use Rattle.machine_model.proofs.PlanIds.{OfClass, OfFrameThing, OfShownFrame, OfShownVariable, OfThing}
+use Rattle.machine_model.proofs.PlanIds.{OfClass, OfFrameThing, OfObject, OfShownFrame, OfShownVariable, OfThing, OfThrown}
+use Rattle.std.specs.Prelude.{zero, suc}
 use Rattle.machine_model.proofs.Standing.{IsKept, Near, OfBody, PartStands, asked_in, at_front, ids_said, left_in, queue_in}
 use Rattle.machine_model.proofs.StandingReplies.{queued_near, sizes_is}
 use Rattle.machine_model.proofs.StandingWalk.{kept_on}
@@ -48,6 +52,13 @@ module _ (P Q : Id → Type 0) (k : (id : Id) → P id → Q id) where
 
   weak_frame : (one : FrameThing) → OfFrameThing P one → OfFrameThing Q one
   weak_frame one h = (k _ h.0, k _ h.1, k _ h.2, k _ h.3)
+
+  weak_object : (id : ℕ) → OfObject P id → OfObject Q id
+  weak_object zero h = tt
+  weak_object (suc id) h = k (object (suc id)) h
+
+  weak_thrown : (thrown : Thrown) → OfThrown P thrown → OfThrown Q thrown
+  weak_thrown thrown h = (k _ h.0, weak_object thrown.object.0 h.1)
 
   weak_thing : (thing : Thing) → OfThing P thing → OfThing Q thing
   weak_thing (things.Frame one) h = weak_frame one h
@@ -72,14 +83,20 @@ module _ (P Q : Id → Type 0) (k : (id : Id) → P id → Q id) where
   weak_body Capabilities h = tt
   weak_body (breakpoint_list rooted listed) h = tt
   weak_body Continued h = tt
+  weak_body (an_exception id mode) h = tt
 
   weak_part : (part : Part) → PartStands P part → PartStands Q part
   weak_part (Part.Responds (Success body)) h = weak_body body h
   weak_part (Part.Responds (Failed failure)) h = tt
   weak_part (Part.Notes (Lines key path entries)) h = h
+  weak_part (Part.Notes (Functions entries)) h = h
+  weak_part (Part.Notes (Steps None)) h = tt
+  weak_part (Part.Notes (Steps (Some step))) h = k (object step.thread.0) h
   weak_part (Part.Looks all_threads) h = tt
   weak_part (Part.Looks (thread_frames thread start levels)) h = k (object thread.0) h
   weak_part (Part.Looks (container_children thing filter start count)) h = weak_thing thing h
+  weak_part (Part.Looks (exception_text thread one)) h = weak_object one.0 h
+  weak_part (Part.Looks (exception_info thrown)) h = weak_object thrown.object.0 h
   weak_part (Part.Looks class_facts) h = tt
   weak_part (Part.Notes (Classes classes)) h = all_weak (OfClass P) (OfClass Q) (λ one. k _) classes h
   weak_part _ h = tt
@@ -138,6 +155,7 @@ weak_waits P Q k m w near = record {
   held = by_hand m.hand (w near).held;
   threads = all_weak (OfThread P) (OfThread Q) (λ thread. k (object thread.0)) m.state.threads (w near).threads;
   things = all_weak (OfThing P) (OfThing Q) (weak_thing P Q k) m.state.numbers.things (w near).things;
+  thrown = all_weak (OfThrown P) (OfThrown Q) (weak_thrown P Q k) m.state.thrown (w near).thrown;
 }
   where
     each : (item : Item) → ItemStands P item → ItemStands Q item
@@ -154,10 +172,24 @@ weak_waits P Q k m w near = record {
     tells (Part.Tells Terminated) h = tt
     tells (Part.Responds outcome) h = tt
     tells (Part.Sends deed) h = tt
-    tells (Part.Looks lookup) h = tt
+    tells (Part.Looks (exception_text thread one)) h = k (object thread.0) h
+    tells (Part.Looks all_threads) h = tt
+    tells (Part.Looks (thread_frames thread start levels)) h = tt
+    tells (Part.Looks (container_children thing filter start count)) h = tt
+    tells (Part.Looks (exception_info thrown)) h = tt
+    tells (Part.Looks class_facts) h = tt
     tells (Part.Awaits guard) h = tt
     tells Part.Updates h = tt
-    tells (Part.Notes note) h = tt
+    tells (Part.Notes (Throws thrown)) h = all_weak (OfThrown P) (OfThrown Q) (weak_thrown P Q k) thrown h
+    tells (Part.Notes (Options options)) h = tt
+    tells (Part.Notes (Roots roots)) h = tt
+    tells (Part.Notes (Lines key path entries)) h = tt
+    tells (Part.Notes (Functions entries)) h = tt
+    tells (Part.Notes (StopsAt caught uncaught)) h = tt
+    tells (Part.Notes (Steps step)) h = tt
+    tells (Part.Notes (Classes classes)) h = tt
+    tells (Part.Notes EntryHeld) h = tt
+    tells (Part.Notes Configured) h = tt
     tells (Part.Unfolds choice) h = tt
     tells (Part.Ends finish) h = tt
 
@@ -204,7 +236,7 @@ pub always_kept : {P : List Message → Id → Type 0} → IsIdTest P → {messa
     → Run messages m → IsKept (P messages) messages m
 always_kept {P} t r =
     (by_moves {Holds = λ (messages : List Message) (m : Machine). Standing (P messages) messages m} (record {
-      starts = record { waits = λ near. record { waiting = tt; held = tt; threads = tt; things = tt }; kept = none_yet (P []) };
+      starts = record { waits = λ near. record { waiting = tt; held = tt; threads = tt; things = tt; thrown = tt }; kept = none_yet (P []) };
       moves = λ messages m next said s move. kept_next t messages m next said s move;
     }) r).kept
 
@@ -221,13 +253,14 @@ clear_may : (P : Id → Type 0) (sized : Bool) (wish : Wish) (request : ℕ) →
     (Clear wish request))
 clear_may P sized wish request = record { ids = tt; sized_first = refl; fits = λ used h. (tt, (tt, tt)) }
 
-effect_may : (P : Id → Type 0) (w : Wishes) (effect : Effect) → AreWished P w.wanted → effect_due w ≡ Some effect
+effect_may : (P : Id → Type 0) (w : Wishes) (effect : Effect) → P (class 0) → AreWished P w.wanted
+    → effect_due w ≡ Some effect
     → MaySend P true (an_effect effect)
 unfolding next_change
-effect_may P w effect h due =
+effect_may P w effect null h due =
     by_found (find (is_surplus (wished w.wanted)) w.installed)
     (find (is_missing w.installed w.refused) (wished w.wanted)) due
-    (find_some (SetMay P) (is_missing w.installed w.refused) (wished w.wanted) (wished_may P w.wanted h))
+    (find_some (SetMay P) (is_missing w.installed w.refused) (wished w.wanted) (wished_may P w.wanted null h))
   where
     by_found : (cleared : Option EventRequest) (set : Option Wish)
         → option_map effect_of (option_or (option_map clears cleared) (option_map sets set)) ≡ Some effect
@@ -258,10 +291,10 @@ question_may P sized question q = record {
 
 -- a command that is sent may be sent, and the target isn't gone
 pub sends_may : {P : Id → Type 0} {messages : List Message} {m next : Machine} (command : TargetCommand)
-    → IsKept P messages m
+    → P (class 0) → IsKept P messages m
     → Moves m (Some (Message.sends command)) next → (is_gone m.state.phase ≡ false) × MaySend P
     (is_some m.state.sizes) command
-sends_may {P} {messages} {m} command k move = by_move command (Some (Message.sends command)) refl move
+sends_may {P} {messages} {m} command null k move = by_move command (Some (Message.sends command)) refl move
   where
     by_move : {next : Machine} (command : TargetCommand) (said : Option Message) → said ≡ Some (Message.sends command)
         → Moves m said next → (is_gone m.state.phase ≡ false) × MaySend P (is_some m.state.sizes) command
@@ -279,7 +312,7 @@ sends_may {P} {messages} {m} command k move = by_move command (Some (Message.sen
           near,
           subst (λ command. MaySend P (is_some m.state.sizes) command) same
               (subst (λ sized. MaySend P sized (an_effect effect)) (sym sized)
-              (effect_may P m.state.wishes effect n.wanted due)),
+              (effect_may P m.state.wishes effect null n.wanted due)),
         )
     by_move command said is (Moves.asks {want = want} {wants} free room held are) =
         let same : a_question (question_of want) ≡ command = cc in
@@ -330,7 +363,7 @@ pub all_sent : {P : List Message → Id → Type 0} {Good : List Message → Tar
 all_sent {P} {Good} t good r = by_moves {Holds = Sends P Good} (record {
   starts = record {
     stands = record {
-      waits = λ near. record { waiting = tt; held = tt; threads = tt; things = tt };
+      waits = λ near. record { waiting = tt; held = tt; threads = tt; things = tt; thrown = tt };
       kept = none_yet (P []);
     };
     sent = none_sent;
@@ -356,7 +389,7 @@ all_sent {P} {Good} t good r = by_moves {Holds = Sends P Good} (record {
         by_place : ((messages ≡ before) × (message ≡ Message.sends command))
             ⊎ ((rest : List Message) × (messages ≡ before ++ Message.sends command ∷ rest)) → Good before command
         by_place (inl (same, it)) = subst (λ (earlier : List Message). Good earlier command) same
-            (let may = sends_may command h.stands.kept (subst (λ (message : Message). Moves m (Some message) next) it move) in
+            (let may = sends_may command (t.null messages) h.stands.kept (subst (λ (message : Message). Moves m (Some message) next) it move) in
             good messages m command h.stands.kept may.0 may.1)
         by_place (inr (rest, earlier)) = h.sent before rest command earlier
 

@@ -1,6 +1,6 @@
 -- The ids in composites that wait for their turn were read, and so those of the classes that are learnt then.
 use Rattle.std.proofs.Common.{◌≡◌, Bool, true, false, cond, List, [], ◌∷◌, ◌++◌, Option, Some, None, refl, subst, sym}
-use Rattle.std.proofs.Common.{option_map}
+use Rattle.std.proofs.Common.{option_map, arith}
 use Rattle.std.specs.List.{AllByRecursion as All, flat_map}
 use Rattle.class_tables.specs.Facts.{Known}
 use Rattle.jdwp_commands.specs.declared.listed.LoadedClass.{LoadedClass}
@@ -9,22 +9,28 @@ use Rattle.jdwp_events.specs.declared.event.Event.TheVariants as happened
 use Rattle.jdwp_events.specs.declared.kind.Policy.{Policy}
 use Rattle.jdwp_events.specs.declared.kind.Policy.TheVariants.{NoThread, EventThread, All as AllThreads}
 use Rattle.machine_model.specs.Composites.{has_death, learnt_by, learnt_in, prepared_by, prepared_in, prepared_under}
-use Rattle.machine_model.specs.Due.{Picked, asked_hand, passed_by, pick}
+use Rattle.machine_model.specs.Due.{Picked, after_deed, asked_hand, passed_by, pick}
 use Rattle.machine_model.specs.Ids.{Id, class, ids_of_event}
 use Rattle.machine_model.specs.Names.{Attached, Fresh, Gone, Item, Phase, a_composite, a_raw, a_request}
 use Rattle.machine_model.specs.Names.{Part, Replied, TargetCommand, ThreadId, Want, a_question, an_effect, target_end}
+use Rattle.machine_model.specs.Names.{Classes, Configured, Deed, Dispose, EntryHeld, Event, Exit, Functions, Initialized}
+use Rattle.machine_model.specs.Names.{Lines, Note, Options, Outcome, Resume, Roots, Steps, StopsAt, Suspend, Terminated}
+use Rattle.machine_model.specs.Names.{Throws, a_stop, of_composite, of_entry, of_stop, some_news}
 use Rattle.machine_model.specs.Runs.{Message}
 use Rattle.machine_model.specs.Outcomes.{result_of}
-use Rattle.machine_model.specs.Replying.{hand_replied}
-use Rattle.machine_model.specs.State.{Hand, Machine, is_gone, is_raw}
+use Rattle.machine_model.specs.Replying.{hand_replied, replied_to}
+use Rattle.machine_model.specs.Rows.{noted}
+use Rattle.machine_model.specs.State.{Hand, Machine, State, is_gone, is_raw}
+use Rattle.machine_model.specs.Telling.{after_event, numbered_by}
 use Rattle.machine_model.proofs.IdRows.{all_back, all_front, all_joined}
-use Rattle.machine_model.proofs.PlanIds.{AreKnown, OfThread}
+use Rattle.machine_model.proofs.PlanIds.{AreKnown, OfThread, OfThrown}
 use Rattle.machine_model.proofs.RequestSteps.{near_before}
 use Rattle.machine_model.proofs.Standing.{IsKept, at_front, ids_said}
 use Rattle.machine_model.proofs.StandingReplies.{loaded_known}
 use Rattle.machine_model.proofs.Stepping.{IsAt, Moves}
 use Rattle.machine_model.proofs.ThingIds.{AreThings, things_on}
-use Rattle.machine_model.proofs.ThreadIds.{ItemStands, TellStands, begun_tells, chosen_tells, event_threads, found_tells}
+use Rattle.machine_model.proofs.HitIds.{ItemStands}
+use Rattle.machine_model.proofs.ThreadIds.{NoteTells, TellStands, begun_tells, chosen_tells, event_threads, found_tells}
 use Rattle.machine_model.proofs.ThreadIds.{noted_threads, replied_threads, responded_threads, taken_threads}
 
 -- the ids of the item in hand pass, and of the threads that it tells
@@ -32,13 +38,14 @@ abbrev pub HandStands : (Id → Type 0) → Option Hand → Type 0
 HandStands P None = Unit {0}
 HandStands P (Some hand) = ItemStands P hand.item × All (TellStands P) hand.parts
 
--- while the target isn't gone, the ids in what waits and what is in hand pass, and those of threads that were told and
--- of what was told by numbers in the stop in hand
+-- while the target isn't gone, the ids in what waits and what is in hand pass, and those of threads that were told, of
+-- what was told by numbers in the stop in hand, and of what was thrown in it
 pub record AreItems (P : Id → Type 0) (m : Machine) : Type 0 where
   pub waiting : All (ItemStands P) m.waiting
   pub held : HandStands P m.hand
   pub threads : All (OfThread P) m.state.threads
   pub things : AreThings P m.state.numbers
+  pub thrown : All (OfThrown P) m.state.thrown
 
 abbrev pub Waits : (Id → Type 0) → Machine → Type 0
 Waits P m = is_gone m.state.phase ≡ false → AreItems P m
@@ -139,7 +146,7 @@ waits_on P m next said h here _ brought = h
 
 -- What is in hand ----------------------------------------------------------------------------------------------------
 
-in_front : {P : Id → Type 0} {m : Machine} {hand : Hand} {part : Part} {rest : List Part} → AreItems P m
+pub in_front : {P : Id → Type 0} {m : Machine} {hand : Hand} {part : Part} {rest : List Part} → AreItems P m
     → IsAt m hand part rest → ItemStands P hand.item × TellStands P part × All (TellStands P) rest
 in_front {P} {m} {hand} h at =
     let held = subst (λ (held : Option Hand). HandStands P held) at.in_hand h.held in
@@ -174,7 +181,7 @@ held_on P messages m next said h k here (Moves.responds {outcome = outcome} free
     ((f.0, f.2), responded_threads P outcome m.state stands h.threads)
 held_on P messages m next said h k here (Moves.finds {hand} {rest} {lookup} found free at is done) =
     let f = in_front h at in
-    ((f.0, found_tells P lookup (result_of found) m.state rest f.2), h.threads)
+    ((f.0, found_tells P lookup (result_of found) m.state rest f.1 f.2), h.threads)
 held_on P messages m next said h k here (Moves.passes_over free at why) =
     let f = in_front h at in ((f.0, f.2), h.threads)
 held_on P messages m next said h k here (Moves.tells {event = event} free at) =
@@ -204,6 +211,56 @@ held_on P messages m next said h k here (Moves.replies {effect} {replied} is fly
 held_on P messages m next said h k here (Moves.loses late away why) = cc
 held_on P messages m next said h k here _ = (h.held, h.threads)
 
+-- What was thrown ----------------------------------------------------------------------------------------------------
+
+event_thrown : (P : Id → Type 0) (event : Event) (state : State) → All (OfThrown P) state.thrown
+    → All (OfThrown P) (after_event event state).thrown
+event_thrown P Initialized state h = h
+event_thrown P (some_news news) state h = h
+event_thrown P (a_stop stopping) state h = h
+event_thrown P Terminated state h = tt
+
+deed_thrown : (P : Id → Type 0) (deed : Deed) (state : State) → All (OfThrown P) state.thrown
+    → All (OfThrown P) (after_deed deed state).thrown
+deed_thrown P Suspend state h = h
+deed_thrown P (Resume of_composite) state h = h
+deed_thrown P (Resume of_entry) state h = h
+deed_thrown P (Resume of_stop) state h = tt
+deed_thrown P Dispose state h = h
+deed_thrown P Exit state h = h
+
+note_thrown : (P : Id → Type 0) (note : Note) (state : State) → NoteTells P note → All (OfThrown P) state.thrown
+    → All (OfThrown P) (noted note state).thrown
+note_thrown P (Throws thrown) state k h = all_joined (OfThrown P) state.thrown thrown h k
+note_thrown P (Options options) state k h = h
+note_thrown P (Roots roots) state k h = h
+note_thrown P (Lines key path entries) state k h = h
+note_thrown P (Functions entries) state k h = h
+note_thrown P (StopsAt caught uncaught) state k h = h
+note_thrown P (Steps step) state k h = h
+note_thrown P (Classes classes) state k h = h
+note_thrown P EntryHeld state k h = h
+note_thrown P Configured state k h = h
+
+responded_thrown : (outcome : Outcome) (state : State) → (numbered_by outcome state).thrown ≡ state.thrown
+responded_thrown outcome state = grind arith
+
+replied_thrown : (command : TargetCommand) (replied : Replied) (state : State)
+    → (replied_to command replied state).thrown ≡ state.thrown
+replied_thrown command replied state = grind arith
+
+thrown_on : (P : Id → Type 0) (m next : Machine) (said : Option Message) → AreItems P m
+    → is_gone next.state.phase ≡ false → Moves m said next → All (OfThrown P) next.state.thrown
+thrown_on P m next said h here (Moves.responds {outcome = outcome} free at is) = rw (responded_thrown outcome m.state) h.thrown
+thrown_on P m next said h here (Moves.tells {event = event} free at) = event_thrown P event m.state h.thrown
+thrown_on P m next said h here (Moves.sends {deed = deed} free at is) = deed_thrown P deed m.state h.thrown
+thrown_on P m next said h here (Moves.notes {note = note} free at) =
+    note_thrown P note m.state (in_front h at).1 h.thrown
+thrown_on P m next said h here (Moves.answers {question} {replied} is waits reply last) =
+    rw (replied_thrown (a_question question) replied m.state) h.thrown
+thrown_on P m next said h here (Moves.loses late away why) = cc
+thrown_on P m next said h here _ = h.thrown
+
 pub waiting_on : (P : Id → Type 0) (messages : List Message) (m next : Machine) (said : Option Message) → Waits P m
     → IsKept P messages m → Moves m said next → (is_gone next.state.phase ≡ false → All P (ids_said said))
     → Waits P next
@@ -214,4 +271,5 @@ waiting_on P messages m next said h k moved brought here =
       held = held.0;
       threads = held.1;
       things = things_on P messages m next said items.things k here moved;
+      thrown = thrown_on P m next said items here moved;
     }

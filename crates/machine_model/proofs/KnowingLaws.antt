@@ -19,7 +19,7 @@ use Rattle.machine_model.specs.Names.{a_composite, a_question, a_raw, a_request,
 use Rattle.machine_model.specs.Names.{an_event, breakpoint_list, entry_verified, some_news, target_end, thread_changed}
 use Rattle.machine_model.specs.Names.{thread_list}
 use Rattle.machine_model.specs.Names.{frame_list}
-use Rattle.machine_model.specs.Names.{scope_list, variable_list}
+use Rattle.machine_model.specs.Names.{scope_list, variable_list, Steps, StopsAt, Throws}
 use Rattle.machine_model.specs.Replying.{IsReply, ended_with, hand_replied, is_end, replied_to, sizes_in, unlisted_by}
 use Rattle.machine_model.specs.Replying.{knows_fact, learnt, still_unlisted, wire}
 use Rattle.machine_model.proofs.BindingFacts.{is_mapped}
@@ -61,6 +61,7 @@ use Rattle.suspend_ledger.specs.Suspensions.{suspensions_by}
 use Rattle.machine_model.proofs.HoldingParts.{IsHolding, IsLost, holding, lost_flags, lost_held, numbered_entry}
 use Rattle.machine_model.proofs.HoldingParts.{numbered_stop, same_entry, same_stop}
 use Rattle.machine_model.specs.Lookups.{finished}
+use Rattle.machine_model.specs.Names.{Functions, an_exception}
 
 -- Replies -------------------------------------------------------------------------------------------------------------
 
@@ -152,6 +153,7 @@ response_view (Success Continued) m = refl
 response_view (Success (frame_list total frames)) m = refl
 response_view (Success (scope_list frame)) m = refl
 response_view (Success (variable_list shown)) m = refl
+response_view (Success (an_exception id mode)) m = refl
 response_view (Success (thread_list named)) m = refl
 response_view (Failed failure) m = refl
 
@@ -171,6 +173,18 @@ note_view m next hand (Roots roots) rest h at =
     (sym (held_front at)) (sym (dies_front at)) refl
 note_view m next hand (Lines key path entries) rest h at =
     held_as m (left (knowing m (noted (Lines key path entries) m.state)) hand rest)
+    (sym (held_front at)) (sym (dies_front at)) refl
+note_view m next hand (Functions entries) rest h at =
+    held_as m (left (knowing m (noted (Functions entries) m.state)) hand rest)
+    (sym (held_front at)) (sym (dies_front at)) refl
+note_view m next hand (StopsAt caught uncaught) rest h at =
+    held_as m (left (knowing m (noted (StopsAt caught uncaught) m.state)) hand rest)
+    (sym (held_front at)) (sym (dies_front at)) refl
+note_view m next hand (Steps step) rest h at =
+    held_as m (left (knowing m (noted (Steps step) m.state)) hand rest)
+    (sym (held_front at)) (sym (dies_front at)) refl
+note_view m next hand (Throws thrown) rest h at =
+    held_as m (left (knowing m (noted (Throws thrown) m.state)) hand rest)
     (sym (held_front at)) (sym (dies_front at)) refl
 note_view m next hand (Classes classes) rest h at =
     held_as m (left (knowing m (noted (Classes classes) m.state)) hand rest)
@@ -565,6 +579,7 @@ outcome_numbers numbers (Failed failure) state = no_numbers numbers state.thread
 outcome_numbers numbers (Success Nothing) state = no_numbers numbers state.threads
 outcome_numbers numbers (Success Capabilities) state = no_numbers numbers state.threads
 outcome_numbers numbers (Success Continued) state = no_numbers numbers state.threads
+outcome_numbers numbers (Success (an_exception id mode)) state = no_numbers numbers state.threads
 outcome_numbers numbers (Success (frame_list total frames)) state = no_numbers numbers state.threads
 outcome_numbers numbers (Success (scope_list frame)) state = no_numbers numbers state.threads
 outcome_numbers numbers (Success (variable_list shown)) state = no_numbers numbers state.threads
@@ -598,6 +613,10 @@ note_numbers numbers EntryHeld state = no_numbers numbers state.threads
 note_numbers numbers Configured state = no_numbers numbers state.threads
 note_numbers numbers (Roots roots) state = no_numbers numbers state.threads
 note_numbers numbers (Lines key path entries) state = no_numbers numbers state.threads
+note_numbers numbers (Functions entries) state = no_numbers numbers state.threads
+note_numbers numbers (StopsAt caught uncaught) state = no_numbers numbers state.threads
+note_numbers numbers (Steps step) state = no_numbers numbers state.threads
+note_numbers numbers (Throws thrown) state = no_numbers numbers state.threads
 note_numbers numbers (Classes classes) state = no_numbers numbers state.threads
 
 same_threads : (command : TargetCommand) (replied : Replied) (state : State)

@@ -11,6 +11,7 @@ use Rattle.machine_model.specs.Rows.{chosen, gone_parts, gone_row, gone_tail, ha
 use Rattle.machine_model.specs.Rows.{request_parts}
 use Rattle.machine_model.specs.State.{Hand, State, is_attached, is_none}
 use Rattle.machine_model.proofs.Tables.{of_decided, same}
+use Rattle.machine_model.specs.Names.{Stepped}
 
 -- What an item is for -------------------------------------------------------------------------------------------------
 
@@ -159,7 +160,8 @@ chosen_fits (TellsNews below) state hand aim responds ends leaves is =
     by_news Attached (one ∷ news) = rw is (by_news Attached news)
 chosen_fits Decides state hand aim responds ends leaves is =
     of_decided (λ (parts : List Part). fits_before aim responds ends leaves parts ≡ true) refl refl (rw is refl)
-    (λ stopping. rw is refl) (λ stopping. rw is refl) state hand.item
+    (λ stopped thrown halt. grind (arith, is)) state hand.item
+chosen_fits Stepped state hand aim responds ends leaves is = grind (arith, is)
 chosen_fits (Leaves exits) state hand aim responds ends leaves is = grind (arith, is)
 
 -- and leaves the target only in an attached session
@@ -179,7 +181,8 @@ chosen_attached (TellsNews below) state hand =
     by_news attached phase news = rw (none_sent phase news) refl
 chosen_attached Decides state hand =
     of_decided (λ (parts : List Part). sends_attached (is_attached state.phase) parts ≡ true) refl refl refl
-    (λ stopping. refl) (λ stopping. refl) state hand.item
+    (λ stopped thrown halt. grind arith) state hand.item
+chosen_attached Stepped state hand = grind arith
 chosen_attached (Leaves exits) state hand = grind arith
 
 -- where it does, if the choice was to
@@ -187,6 +190,7 @@ pub chosen_leaves : (choice : Choice) (state : State) (hand : Hand) → is_leave
     → is_attached state.phase ≡ true → has_part is_leave (chosen choice state hand) ≡ true
 chosen_leaves (TellsNews below) state hand is near = cc
 chosen_leaves Decides state hand is near = cc
+chosen_leaves Stepped state hand is near = cc
 chosen_leaves (Leaves exits) state hand is near = grind (arith, is, near)
 
 -- what a look-up becomes leaves no target

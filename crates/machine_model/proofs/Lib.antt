@@ -1,12 +1,15 @@
 mod Examples
 mod FrameExamples
+mod StepExamples
 mod StopExamples
 pub mod AskedLaws
+pub mod BareLaws
 pub mod BindingFacts
 pub mod BindingGrows
 pub mod BindingHands
 pub mod BindingLaws
 pub mod BindingParts
+pub mod BindingPlaces
 pub mod BindingPlans
 pub mod BindingReplies
 pub mod BindingSeen
@@ -17,7 +20,9 @@ pub mod EarlyItems
 pub mod EventLaws
 pub mod HandshakeLaws
 pub mod HarmlessLaws
+pub mod HarmlessSteps
 pub mod HeldLaws
+pub mod HitIds
 pub mod HoldingParts
 pub mod IdLaws
 pub mod IdRows
@@ -54,6 +59,7 @@ pub mod Standing
 pub mod StandingMoves
 pub mod StandingReplies
 pub mod StandingWalk
+pub mod StepLaws
 pub mod Stepping
 pub mod StopLaws
 pub mod SuspendLaws

@@ -29,14 +29,19 @@ use Rattle.machine_model.specs.Plans.{made_with, may_hear, must_hear, need, pair
 use Rattle.machine_model.specs.State.{State}
 use Rattle.machine_model.proofs.IdRows.{all_back, all_front, all_joined, is_short, none_in}
 use Rattle.class_tables.specs.declared.loaded.Loaded.{Loaded}
-use Rattle.machine_model.specs.Classes.{class_plan, classes_plan, is_keyed, keyed_plan, lines_plan, methods_plan}
-use Rattle.machine_model.specs.Classes.{package_plan, prepared_plan, source_plan, watched_plan}
+use Rattle.machine_model.specs.Classes.{bound_plan, class_plan, classes_plan, counts, is_keyed, keyed_plan, lines_plan}
+use Rattle.machine_model.specs.Classes.{methods_plan, package_plan, prepared_plan, source_plan, watched_plan}
+use Rattle.machine_model.specs.Exceptions.{exception_plan, heard_plan, mode_of, name_by, named_plan, text_by}
+use Rattle.machine_model.specs.Exceptions.{text_plan as text_of_exception}
+use Rattle.value_views.specs.Names.{class_name}
+use Rattle.machine_model.specs.Names.{Thrown, exception_found, exception_info, exception_text, text_found}
 use Rattle.class_tables.specs.Signatures.{package_in}
 use Rattle.wish_sets.specs.Places.{key_by}
 use Rattle.wish_sets.specs.Wanted.{Wanted}
-use Rattle.wish_sets.specs.Wished.{is_watched}
+use Rattle.wish_sets.specs.Wished.{is_named, is_watched}
+use Rattle.std.specs.Prelude.{codes, ◌||◌}
 use Rattle.machine_model.proofs.PlanIds.{Any, AreKnown, IsAsked, IsFound, IsGood, IsHeard, IsWanted, NeedStands}
-use Rattle.machine_model.proofs.PlanIds.{OfClass, OfFrameThing, OfLookup, OfMethod, OfNamed, OfShownFrame}
+use Rattle.machine_model.proofs.PlanIds.{OfClass, OfFrameThing, OfLookup, OfMethod, OfNamed, OfObject, OfShownFrame}
 use Rattle.machine_model.proofs.PlanIds.{OfShownVariable, OfThing, OfThread, OnSome, after_stands, beside_stands}
 use Rattle.machine_model.proofs.PlanIds.{fact_good, fact_some, found_some, need_chained, need_made, reply_heard}
 use Rattle.dap_messages.specs.declared.requests.Filter.{Filter}
@@ -169,29 +174,42 @@ module _ (P : Id → Type 0) (null : P (class 0)) (sight : Sight) (known : Known
   methods_heard (Some (answers.Methods (one ∷ others))) k = (k.0, methods_heard (Some (answers.Methods others)) k.1)
   methods_heard _ k = tt
 
+  kept_all : {A : Type 0} (Good : A → Type 0) (test : A → Bool) (list : List A) → All Good list
+      → All Good (filter test list)
+  kept_all Good test [] h = tt
+  kept_all {A} Good test (a ∷ list) h = by_test (test a) (kept_all Good test list h.1)
+    where
+      by_test : (is : Bool) → All Good (filter test list) → All Good (cond is (a ∷ filter test list) (filter test list))
+      by_test true rest = (h.0, rest)
+      by_test false rest = rest
+
   lines_row : (c : ClassId) → OfClass P c → (one : Method) → OfMethod P one → Row Any (lines_plan c one)
   lines_row c k one h = asks Any (λ heard. heard) (Want.Fact (questions.LineTable c one.id))
       (record { ids = (k, (h, tt)); plain = refl; first = refl }) (λ heard any. tt)
 
-  keyed_row : (keyed : Bool) (c : ClassId) → OfClass P c → Row (All (OfClass P)) (keyed_plan keyed c)
+  bound_row : (bound keyed : Bool) (wanted : Wanted) (c : ClassId) (signature : List ℕ) → OfClass P c
+      → Row (All (OfClass P)) (bound_plan bound keyed wanted c signature)
   unfolding need
-  keyed_row false c k = tt
-  keyed_row true c k =
+  bound_row false keyed wanted c signature k = tt
+  bound_row true keyed wanted c signature k =
       chains (All (OfMethod P)) (All (OfClass P)) (asking methods_in (Want.Fact (questions.Methods c)))
-      (methods_plan c)
+      (methods_plan keyed wanted c signature)
       (asks (All (OfMethod P)) methods_in (Want.Fact (questions.Methods c))
       (record { ids = (k, tt); plain = refl; first = refl }) methods_heard)
-      (λ methods h. makes (All Any) (All (OfClass P)) (λ heard. c ∷ []) (each (lines_plan c) methods)
-      (every (OfMethod P) Any (lines_plan c) (lines_row c k) methods h) (λ heard any. (k, tt)))
+      (λ methods h. let some = filter (counts keyed wanted signature) methods in
+      makes (All Any) (All (OfClass P)) (λ heard. c ∷ []) (each (lines_plan c) some)
+      (every (OfMethod P) Any (lines_plan c) (lines_row c k) some
+      (kept_all (OfMethod P) (counts keyed wanted signature) methods h)) (λ heard any. (k, tt)))
 
   source_row : (wanted : Wanted) (c : ClassId) (signature : List ℕ) → OfClass P c
       → Row (All (OfClass P)) (source_plan wanted c signature)
   source_row wanted c signature k =
       chains Any (All (OfClass P)) (asking source_in (Want.Fact (questions.SourceFile c)))
-      (λ source. keyed_plan (is_keyed wanted (key_by signature source)) c)
+      (λ source. keyed_plan (is_keyed wanted (key_by signature source)) wanted c signature)
       (asks Any source_in (Want.Fact (questions.SourceFile c))
       (record { ids = (k, tt); plain = refl; first = refl }) (λ heard any. tt))
-      (λ source any. keyed_row (is_keyed wanted (key_by signature source)) c k)
+      (λ source any. let keyed = is_keyed wanted (key_by signature source) in
+      bound_row (keyed || is_named wanted signature None) keyed wanted c signature k)
 
   class_row : (wanted : Wanted) (c : ClassId) (loaded : Option Loaded) → OfClass P c
       → Row (All (OfClass P)) (class_plan wanted c loaded)
@@ -464,15 +482,6 @@ module _ (P : Id → Type 0) (null : P (class 0)) (sight : Sight) (known : Known
   chain_fields_row c k = chains (All OfNumber) (All OfClassFields) (chain reach [] c.0) (each class_fields)
       (chain_row reach [] c.0 tt k) (every OfNumber OfClassFields class_fields class_fields_row)
 
-  kept_all : {A : Type 0} (Good : A → Type 0) (test : A → Bool) (list : List A) → All Good list
-      → All Good (filter test list)
-  kept_all Good test [] h = tt
-  kept_all {A} Good test (a ∷ list) h = by_test (test a) (kept_all Good test list h.1)
-    where
-      by_test : (is : Bool) → All Good (filter test list) → All Good (cond is (a ∷ filter test list) (filter test list))
-      by_test true rest = (h.0, rest)
-      by_test false rest = rest
-
   fields_stand : (c : ℕ) → OfNumber c → (met : List (List ℕ)) (fields : List Field) → All OfField fields
       → All OfFieldOf (of_fields c met fields)
   fields_stand c k met [] h = tt
@@ -692,6 +701,32 @@ module _ (P : Id → Type 0) (null : P (class 0)) (sight : Sight) (known : Known
       (λ children h. every OfTwo (OfShownVariable P) (child_plan types) (child_row types) children h))
       (λ shown good. good)
 
+  -- what was thrown, unless it is null
+  object_row_of : {A : Type 0} (Good : A → Type 0) (id : ℕ) (none : Plan A) (some : ℕ → Plan A) → OfObject P id
+      → Row Good none → ((id : ℕ) → P (object id) → Row Good (some id)) → Row Good (by_id id none some)
+  object_row_of Good zero none some k h rest = h
+  object_row_of Good (suc id) none some k h rest = rest (suc id) k
+
+  name_row : (heard : Option Answer) → IsHeard P heard → Row Any (text_by heard)
+  name_row (Some (answers.ObjectType tag c)) k = makes Any Any name_by (signature_of c) (signature_row c k.0) (λ name any. tt)
+  name_row _ k = gives_row Any None tt
+
+  named_row : (id : ℕ) → P (object id) → Row Any (named_plan id)
+  named_row id k = chains (IsHeard P) Any (heard_plan id) text_by
+      (asks (IsHeard P) (λ heard. heard) (Want.May (questions.ObjectType (record { 0 = id })))
+      (record { ids = (k, tt); plain = refl; first = refl }) (λ heard k. k)) name_row
+
+  exception_text_row : (id : ℕ) → OfObject P id → Row (IsGood P) (text_of_exception id)
+  exception_text_row id k = makes Any (IsGood P) text_found (by_id id (gives None) named_plan)
+      (object_row_of Any id (gives None) named_plan k (gives_row Any None tt) named_row) (λ text any. tt)
+
+  exception_row : (thrown : Thrown) → OfObject P thrown.object.0 → Row (IsGood P) (exception_plan thrown)
+  exception_row thrown k = let name = (λ (id : ℕ). made_with class_name (type_plan id)) in
+      makes Any (IsGood P) (λ id. exception_found id (mode_of thrown.caught))
+      (by_id thrown.object.0 (gives (codes "null")) name)
+      (object_row_of Any thrown.object.0 (gives (codes "null")) name k (gives_row Any (codes "null") tt)
+      (λ id k. makes Any Any class_name (type_plan id) (type_row id k) (λ name any. tt))) (λ id any. tt)
+
   -- all rows
   pub rows_stand : (lookup : Lookup) (state : State) → state.classes ≡ known → OfLookup P lookup
       → Row (IsGood P) (plan lookup state)
@@ -699,6 +734,8 @@ module _ (P : Id → Type 0) (null : P (class 0)) (sight : Sight) (known : Known
   rows_stand (thread_frames thread start levels) state same of = frames_row state thread of start levels
   rows_stand (container_children thing filter start count) state same of =
       children_row state.options.shows_types thing of filter start count
+  rows_stand (exception_text thread one) state same of = exception_text_row one.0 of
+  rows_stand (exception_info thrown) state same of = exception_row thrown of
   rows_stand class_facts state same of =
       subst (λ (k : Known). Row (IsGood P) (made_with classes_found
       (classes_plan state.unlisted state.wishes.wanted (found_in k)))) (sym same)

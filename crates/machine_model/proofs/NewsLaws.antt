@@ -25,13 +25,13 @@ use Rattle.machine_model.specs.Names.{Replied, Set, TellsNews, Terminated, a_com
 use Rattle.machine_model.specs.Names.{a_stop, all_threads, an_effect, an_event, class_facts, entry_verified, some_news}
 use Rattle.machine_model.specs.Names.{target_end, thread_changed}
 use Rattle.machine_model.specs.Names.{thread_frames}
-use Rattle.machine_model.specs.Names.{container_children}
+use Rattle.machine_model.specs.Names.{container_children, exception_info, exception_text, Stepped}
 use Rattle.machine_model.specs.Outcomes.{result_of}
 use Rattle.machine_model.specs.Plans.{Result}
 use Rattle.machine_model.specs.Replying.{given_up, told_by}
 use Rattle.machine_model.specs.Requests.{Wishes, wishes_after}
 use Rattle.machine_model.specs.Rows.{chosen, each_told, failure_of, gone_parts, has_response, news_of, noted}
-use Rattle.machine_model.specs.Rows.{parts_by, parts_of, row_of, told_in, wanting}
+use Rattle.machine_model.specs.Rows.{parts_by, parts_of, refused_with, row_of, stepped_by, told_in, wanting}
 use Rattle.machine_model.specs.Runs.{Allows, Message, Run, said}
 use Rattle.machine_model.specs.State.{Hand, Machine, State}
 use Rattle.machine_model.specs.Telling.{numbered_by}
@@ -41,8 +41,8 @@ use Rattle.machine_model.proofs.RequestSteps.{asked_left, flying_in, flying_of, 
 use Rattle.machine_model.proofs.Stepping.{IsAt, Loses, Moves, Skips, by_moves, by_runs, moved}
 use Rattle.machine_model.proofs.Tables.{decided_alike, starts_updates}
 use Rattle.wish_sets.proofs.OrderLaws.{sorted-fold}
-use Rattle.wish_sets.specs.Entries.{all_lines, is_verified, verified}
-use Rattle.wish_sets.specs.declared.entry.LineEntry.{LineEntry}
+use Rattle.wish_sets.specs.Entries.{all_entries, is_verified, verified}
+use Rattle.wish_sets.specs.declared.entry.VerifiedEntry.{VerifiedEntry}
 use Rattle.machine_model.specs.Stops.{decided}
 
 -- News that are left --------------------------------------------------------------------------------------------------
@@ -93,6 +93,8 @@ found_same : (lookup : Lookup) (result : Result Finding) (state : State) (rest :
 found_same all_threads result state rest = refl
 found_same (thread_frames thread start levels) result state rest = refl
 found_same (container_children thing filter start count) result state rest = refl
+found_same (exception_text thread object) result state rest = refl
+found_same (exception_info thrown) result state rest = refl
 found_same class_facts result state rest = refl
 
 given_untold : (ids : List ℕ) (w : Wishes) (hand : Option Hand) → AreNews ids w (parts_left (option_map given_up hand))
@@ -104,8 +106,8 @@ given_untold ids w (Some hand) = none_told ids w (given_up hand).parts (untold (
 
 -- What becomes news ---------------------------------------------------------------------------------------------------
 
-abbrev by_id : LineEntry → LineEntry → Ordering
-by_id = on (λ (entry : LineEntry). entry.id) nat_cmp
+abbrev by_id : VerifiedEntry → VerifiedEntry → Ordering
+by_id = on (λ (entry : VerifiedEntry). entry.id) nat_cmp
 
 -- an id that comes in front is another
 less_other : (one other : ℕ) → nat_cmp one other ≡ Less → (one == other) ≡ false
@@ -124,12 +126,12 @@ still_new ids id other differs none = by_test (has_id ids id)
     by_test true = none
     by_test false = has_behind ids id other differs none
 
-abbrev AreNew : List ℕ → List LineEntry → Type 0
-AreNew ids entries = All (λ (entry : LineEntry). has_id ids entry.id ≡ false) entries
+abbrev AreNew : List ℕ → List VerifiedEntry → Type 0
+AreNew ids entries = All (λ (entry : VerifiedEntry). has_id ids entry.id ≡ false) entries
 
 -- the others are as new once one is told
-others_new : (ids : List ℕ) (one : LineEntry) (entries : List LineEntry)
-    → All (λ (entry : LineEntry). by_id one entry ≡ Less) entries → AreNew ids entries
+others_new : (ids : List ℕ) (one : VerifiedEntry) (entries : List VerifiedEntry)
+    → All (λ (entry : VerifiedEntry). by_id one entry ≡ Less) entries → AreNew ids entries
     → AreNew (with_id ids one.id) entries
 others_new ids one [] above new = tt
 others_new ids one (entry ∷ entries) above new = (
@@ -138,7 +140,7 @@ others_new ids one (entry ∷ entries) above new = (
 )
 
 -- breakpoints that are told
-abbrev pub breakpoints_told : List LineEntry → List Part
+abbrev pub breakpoints_told : List VerifiedEntry → List Part
 breakpoints_told entries = each_told (map entry_verified entries)
 
 pub each_joined : (some others : List News) (rest : List Part)
@@ -162,7 +164,7 @@ changes_alike f each (a_composite at composite) rest = by_events composite.event
     by_events (happened.ThreadDeath request thread ∷ events) = each false thread _ ∙ by_events events
     by_events (_ ∷ events) = by_events events
 
-told_in_front : (w : Wishes) (ids : List ℕ) (entries : List LineEntry) (rest : List Part) → has_told rest ≡ false
+told_in_front : (w : Wishes) (ids : List ℕ) (entries : List VerifiedEntry) (rest : List Part) → has_told rest ≡ false
     → All (Contains (verified w)) entries → AreNew ids entries → IsStrictlySortedBy by_id entries
     → AreNews ids w (breakpoints_told entries ++ rest)
 unfolding IsStrictlySortedBy
@@ -174,7 +176,7 @@ told_in_front w ids (entry ∷ entries) rest none among new sorted = (
       (others_new ids entry entries sorted.0 new.1) sorted.1,
 )
 
-news_new : (below : ℕ) (ids : List ℕ) (entries : List LineEntry) → AreNew ids (filter (is_news below ids) entries)
+news_new : (below : ℕ) (ids : List ℕ) (entries : List VerifiedEntry) → AreNew ids (filter (is_news below ids) entries)
 news_new below ids [] = tt
 news_new below ids (entry ∷ entries) = by_test (is_news below ids entry) refl (news_new below ids entries)
   where
@@ -188,8 +190,8 @@ news_new below ids (entry ∷ entries) = by_test (is_news below ids entry) refl 
 
 verified_sorted : (w : Wishes) → IsStrictlySortedBy by_id (verified w)
 unfolding IsStrictlySortedBy
-verified_sorted w = sorted-fold (on_total (λ (entry : LineEntry). entry.id) nat_cmp_total) []
-    (filter (is_verified w) (all_lines w.wanted)) tt
+verified_sorted w = sorted-fold (on_total (λ (entry : VerifiedEntry). entry.id) nat_cmp_total) []
+    (filter (is_verified w) (all_entries w.wanted)) tt
 
 unfolded_news : (state : State) (below : ℕ) (item : Item) (phase : Phase) (rest : List Part)
     → has_told rest ≡ false → AreNews state.bound state.wishes (told_in phase (news_of below state item) ++ rest)
@@ -211,7 +213,15 @@ unfolded : (choice : Choice) (state : State) (hand : Hand) (rest : List Part) �
 unfolded (TellsNews below) state hand rest none = unfolded_news state below hand.item state.phase rest none
 unfolded Decides state hand rest none =
     none_told state.bound state.wishes (decided state hand.item ++ rest)
-    (decided_alike has_told (λ stopping parts. refl) (λ parts. refl) (λ parts. refl) state hand.item rest ∙ none)
+    (decided_alike has_told (λ thrown parts. refl) (λ stopping parts. refl) (λ thread object parts. refl)
+    (λ parts. refl) (λ parts. refl) state hand.item rest ∙ none)
+unfolded Stepped state hand rest none =
+    none_told state.bound state.wishes (stepped_by (refused_with hand.effect) ++ rest)
+    (by_code (refused_with hand.effect) ∙ none)
+  where
+    by_code : (code : Option ℕ) → has_told (stepped_by code ++ rest) ≡ has_told rest
+    by_code None = refl
+    by_code (Some code) = refl
 unfolded (Leaves exits) state hand rest none =
     none_told state.bound state.wishes (chosen (Leaves exits) state hand ++ rest) (grind (arith, none))
 

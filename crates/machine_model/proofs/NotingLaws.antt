@@ -25,6 +25,7 @@ use Rattle.machine_model.proofs.Stepping.{IsAt, Loses, Moves, Skips, by_runs, wi
 use Rattle.machine_model.proofs.Tables.{chosen_is, finished_is, has_joined, of_decided, once, once_in, responds_once}
 use Rattle.machine_model.proofs.Tables.{row_is}
 use Rattle.machine_model.proofs.Testing.{IsTest, Passed, same_noted, same_numbered, same_replied, tested, whole}
+use Rattle.machine_model.specs.Names.{Functions, Stepped, Steps, StopsAt, Throws}
 
 -- Lists of parts ------------------------------------------------------------------------------------------------------
 
@@ -95,8 +96,9 @@ chosen_none (TellsNews below) state hand = by_news state.phase (news_of below st
     by_news Attached [] = refl
     by_news Attached (one ∷ news) = by_news Attached news
 chosen_none Decides state hand =
-    of_decided (λ (parts : List Part). no_options parts ≡ true) refl refl refl (λ stopping. refl) (λ stopping. refl)
+    of_decided (λ (parts : List Part). no_options parts ≡ true) refl refl refl (λ stopped thrown halt. grind arith)
     state hand.item
+chosen_none Stepped state hand = grind arith
 chosen_none (Leaves exits) state hand = grind arith
 
 found_none : (lookup : Lookup) (result : Result Finding) (state : State)
@@ -358,6 +360,10 @@ noted_same (Roots roots) state rest last = refl
 noted_same EntryHeld state rest last = refl
 noted_same Configured state rest last = refl
 noted_same (Lines key path entries) state rest last = refl
+noted_same (Functions entries) state rest last = refl
+noted_same (StopsAt caught uncaught) state rest last = refl
+noted_same (Steps step) state rest last = refl
+noted_same (Throws thrown) state rest last = refl
 noted_same (Classes classes) state rest last = refl
 noted_same (Options options) state rest last = by_bool (has_response rest) last
   where

@@ -1,6 +1,6 @@
 -- What a look-up lacks is asked with ids that its sight has: once over plans, and by row what its plan says.
 use Rattle.std.proofs.Common.{◌≡◌, ℕ, suc, Bool, true, false, cond, not, List, [], ◌∷◌, Option, Some, None, refl}
-use Rattle.std.proofs.Common.{◌∙◌, option_map}
+use Rattle.std.proofs.Common.{◌∙◌, option_map, zero}
 use Rattle.std.specs.List.{AllByRecursion as All, flat_map}
 use Rattle.class_tables.specs.Facts.{Known, same_class}
 use Rattle.class_tables.specs.Lookups.{found_in}
@@ -19,7 +19,7 @@ use Rattle.machine_model.specs.Keys.{same_question}
 use Rattle.machine_model.specs.Names.{Answer, Finding, Lookup, NamedThread, Question, Replied, Sent, ThreadId, Want}
 use Rattle.machine_model.specs.Names.{all_threads, an_answer, an_error, threads_found, classes_found, class_facts}
 use Rattle.machine_model.specs.Names.{ShownFrame, ShownVariable, container_children, frames_found, thread_frames}
-use Rattle.machine_model.specs.Names.{variables_found}
+use Rattle.machine_model.specs.Names.{Thrown, exception_found, exception_info, exception_text, text_found, variables_found}
 use Rattle.machine_model.specs.Plans.{Found, Need, Plan, Sight, after, answer_in, asks_for, beside, chained}
 use Rattle.machine_model.specs.Plans.{fails, found_at, found_from, gives, has, heard_of, lacks}
 use Rattle.machine_model.specs.Plans.{made_with, need, pairs, question_of, wants}
@@ -241,6 +241,14 @@ need_made sight f (pairs p q rest) =
 abbrev pub OfThread : (Id → Type 0) → ThreadId → Type 0
 OfThread P thread = P (object thread.0)
 
+-- an object, unless it is null
+abbrev pub OfObject : (Id → Type 0) → ℕ → Type 0
+OfObject P zero = Unit {0}
+OfObject P (suc id) = P (object (suc id))
+
+abbrev pub OfThrown : (Id → Type 0) → Thrown → Type 0
+OfThrown P thrown = OfThread P thrown.thread × OfObject P thrown.object.0
+
 abbrev pub OfClass : (Id → Type 0) → ClassId → Type 0
 OfClass P c = P (class c.0)
 
@@ -273,10 +281,14 @@ IsGood P (threads_found named) = All (OfNamed P) named
 IsGood P (classes_found classes) = All (OfClass P) classes
 IsGood P (frames_found total frames) = All (OfShownFrame P) frames
 IsGood P (variables_found shown) = All (OfShownVariable P) shown
+IsGood P (text_found text) = Unit {0}
+IsGood P (exception_found name mode) = Unit {0}
 
 -- what a look-up is of
 abbrev pub OfLookup : (Id → Type 0) → Lookup → Type 0
 OfLookup P all_threads = Unit {0}
 OfLookup P (thread_frames thread start levels) = OfThread P thread
 OfLookup P (container_children thing filter start count) = OfThing P thing
+OfLookup P (exception_text thread one) = OfObject P one.0
+OfLookup P (exception_info thrown) = OfObject P thrown.object.0
 OfLookup P class_facts = Unit {0}

@@ -35,6 +35,7 @@ use Rattle.stop_refs.specs.Things.{same_thing}
 use Rattle.stop_refs.specs.declared.thing.Thing.{Thing}
 use Rattle.stop_refs.specs.declared.thing.Thing.TheVariants.{Frame as a_frame, Locals as some_locals}
 use Rattle.wish_sets.specs.Wishes.{WishChange, clears, next_change, sets}
+use Rattle.machine_model.specs.Names.{an_exception}
 
 -- Places --------------------------------------------------------------------------------------------------------------
 
@@ -262,6 +263,7 @@ responded_on request (Success Nothing) state h = aside state.numbers _ refl refl
 responded_on request (Success Capabilities) state h = aside state.numbers _ refl refl h
 responded_on request (Success (breakpoint_list rooted listed)) state h = aside state.numbers _ refl refl h
 responded_on request (Success Continued) state h = aside state.numbers _ refl refl h
+responded_on request (Success (an_exception id mode)) state h = aside state.numbers _ refl refl h
 responded_on request (Success (thread_list named)) state h = aside state.numbers _ refl refl h
 responded_on {messages} request (Success (frame_list total frames)) state h =
     by_things (things_of (frame_list total frames)) state.numbers _ refl

@@ -17,7 +17,8 @@ use Rattle.machine_model.specs.State.{Hand, Machine, State, is_attached, is_gone
 use Rattle.machine_model.proofs.RestLaws.{no_late}
 use Rattle.machine_model.proofs.SizeLaws.{is_idle}
 use Rattle.machine_model.proofs.Stepping.{IsAt, Moves, Skips, by_runs}
-use Rattle.machine_model.proofs.Tables.{are_followed, decided_alike, followed, followed_test, rewants, starts_updates}
+use Rattle.machine_model.proofs.Tables.{are_followed, followed, followed_test, rewants, starts_updates}
+use Rattle.machine_model.specs.Names.{Stepped}
 use Rattle.machine_model.proofs.Tables.{told_alike}
 use Rattle.machine_model.proofs.Testing.{same_noted, same_numbered, same_replied, Passed, passed_on, whole}
 use Rattle.machine_model.proofs.WishLemmas.{new_set_due, none_due_change}
@@ -108,8 +109,8 @@ chosen_needs : (attached : Bool) (choice : Choice) (state : State) (hand : Hand)
 chosen_needs attached (TellsNews below) state hand rest is =
     sym (told_alike (needs_set attached) (λ news parts. refl) state.phase
     (news_of below state hand.item) rest) ∙ is
-chosen_needs attached Decides state hand rest is =
-    sym (decided_alike (needs_set attached) (λ stopping parts. refl) (λ parts. refl) (λ parts. refl) state hand.item rest) ∙ is
+chosen_needs attached Decides state hand rest is = refl
+chosen_needs attached Stepped state hand rest is = refl
 chosen_needs attached (Leaves exits) state hand rest is = grind (arith, is)
 
 -- a part in front that isn't `updates` is done

@@ -5,7 +5,8 @@ use Rattle.machine_model.specs.Due.{asked_hand, clear, load_of}
 use Rattle.machine_model.specs.Lookups.{finished}
 use Rattle.machine_model.specs.Names.{Classes, Clear, Configured, Does, Doing, Effect, EntryHeld, Event, Lines, Note}
 use Rattle.machine_model.specs.Names.{Options, Outcome, Part, Phase, Question, Replied, Roots, Set, TargetCommand}
-use Rattle.machine_model.specs.Names.{Want, a_question, an_effect}
+use Rattle.machine_model.specs.Names.{Want, a_question, an_effect, Choice, Decides, Functions, Leaves, Stepped, Steps}
+use Rattle.machine_model.specs.Names.{StopsAt, TellsNews, Throws}
 use Rattle.machine_model.specs.Outcomes.{result_of}
 use Rattle.machine_model.specs.Replying.{IsReply, hand_replied, told_by}
 use Rattle.machine_model.specs.Requests.{effect_due, wishes_after}
@@ -17,7 +18,7 @@ use Rattle.machine_model.proofs.RestLaws.{is_free}
 use Rattle.machine_model.proofs.Stepping.{Moves}
 use Rattle.machine_model.proofs.Tables.{is_updates, attaches, rewants, starts_updates}
 use Rattle.machine_model.proofs.Testing.{same_noted, same_numbered, same_replied}
-use Rattle.wish_sets.specs.Wanted.{Wanted, with_known, with_lines}
+use Rattle.wish_sets.specs.Wanted.{Wanted, with_exceptions, with_functions, with_known, with_lines, with_step}
 use Rattle.wish_sets.specs.Wishes.{rewished}
 use Rattle.class_tables.specs.Lookups.{found_in}
 
@@ -111,6 +112,11 @@ noted_by EntryHeld state = Noted.leaves_all refl
 noted_by Configured state = Noted.leaves_all refl
 noted_by (Lines None path entries) state = Noted.leaves_all refl
 noted_by (Lines (Some key) path entries) state = Noted.rewishes (with_lines key entries state.wishes.wanted) refl refl
+noted_by (Functions entries) state = Noted.rewishes (with_functions entries state.wishes.wanted) refl refl
+noted_by (StopsAt caught uncaught) state =
+    Noted.rewishes (with_exceptions caught uncaught state.wishes.wanted) refl refl
+noted_by (Steps step) state = Noted.rewishes (with_step step state.wishes.wanted) refl refl
+noted_by (Throws thrown) state = Noted.leaves_all refl
 noted_by (Classes classes) state =
     Noted.rewishes (with_known (found_in state.classes) classes state.wishes.wanted) refl refl
 
@@ -139,11 +145,22 @@ is_deed (Does deed) = true
 is_deed (Set wish) = false
 is_deed (Clear wish request) = false
 
+-- by what is set it is decided how the item goes on
+abbrev pub is_choice : Choice → Bool
+is_choice (TellsNews below) = false
+is_choice Decides = true
+is_choice Stepped = true
+is_choice (Leaves exits) = false
+
+abbrev pub decides : Part → Bool
+decides (Part.Unfolds choice) = is_choice choice
+decides _ = false
+
 -- all that is wished has to be set by now: the session is attached, or it is before `updates`
 abbrev pub needs_set : Bool → List Part → Bool
 needs_set attached [] = attached
 needs_set attached (part ∷ parts) =
-    cond (is_updates part) false (cond (attaches part || rewants part) true (needs_set attached parts))
+    cond (is_updates part) false (cond (attaches part || rewants part || decides part) true (needs_set attached parts))
 
 -- What a move is to the event requests: nothing, where the parts that are left are the same, or no effect is in flight;
 -- something else is wanted, where all that was wished has to be set; an effect is sent, of `updates` the one that is

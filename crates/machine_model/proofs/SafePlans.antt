@@ -1,8 +1,11 @@
 -- Look-ups other than that of classes list no classes, and ask nothing of null: by row what its plan may want.
 use Rattle.std.proofs.Common.{◌==◌, ◌&&◌, ℕ, zero, suc, pos, Bool, true, false, List, [], ◌∷◌, ◌++◌, None, refl}
+use Rattle.std.proofs.Common.{Option, Some}
+use Rattle.std.specs.Prelude.{codes}
 use Rattle.std.specs.List.{list_any}
 use Rattle.dap_messages.specs.declared.requests.Filter.{Filter}
 use Rattle.dap_messages.specs.declared.requests.Filter.TheVariants.{Both, Indexed, Named}
+use Rattle.jdwp_commands.specs.declared.answer.Answer.TheVariants as answers
 use Rattle.jdwp_commands.specs.declared.listed.Frame.{Frame}
 use Rattle.jdwp_commands.specs.declared.listed.Slot.{Slot}
 use Rattle.jdwp_commands.specs.declared.question.Question.TheVariants as questions
@@ -15,14 +18,17 @@ use Rattle.machine_model.specs.Children.{fields_named, fields_plan, listed_varia
 use Rattle.machine_model.specs.Children.{name_plan as field_name_plan, object_fields, of_classes, of_field, reach}
 use Rattle.machine_model.specs.Children.{this_in, this_plan, variables_plan, visible_at, visible_plan, with_class}
 use Rattle.machine_model.specs.Children.{with_this}
+use Rattle.machine_model.specs.Exceptions.{exception_plan, heard_plan, mode_of, name_by, named_plan, text_by}
+use Rattle.machine_model.specs.Exceptions.{text_plan as thrown_text}
 use Rattle.machine_model.specs.Facts.{above_in, fields_in, signature_in}
 use Rattle.machine_model.specs.Frames.{count_from, count_in, counted_plan, frame_plan, frame_shown, frames_from}
 use Rattle.machine_model.specs.Frames.{frames_plan, lines_plan as lines_of, methods_plan as methods_of, shown_plan}
 use Rattle.machine_model.specs.Frames.{signature_plan as signature_of, source_plan as source_of}
 use Rattle.machine_model.specs.Harmless.{is_harmless}
 use Rattle.machine_model.specs.Lookups.{name_plan, names_plan, threads_in, threads_plan}
-use Rattle.machine_model.specs.Names.{ClassId, ThreadId, Want, frames_found, variables_found}
-use Rattle.machine_model.specs.Plans.{Plan, asking, both, chained, each, gives, question_of}
+use Rattle.machine_model.specs.Names.{Answer, ClassId, ThreadId, Thrown, Want, exception_found, frames_found, text_found}
+use Rattle.machine_model.specs.Names.{variables_found}
+use Rattle.machine_model.specs.Plans.{Plan, asking, both, chained, each, gives, made_with, question_of}
 use Rattle.machine_model.specs.State.{State}
 use Rattle.machine_model.specs.Values.{Declared, Valued, array_plan, array_seen, by_id, class_in, class_plan as class_of}
 use Rattle.machine_model.specs.Values.{declared_plan, element_of, element_plan, is_signature, length_in, length_plan}
@@ -33,6 +39,7 @@ use Rattle.machine_model.specs.Variables.{field_values, fields_of, fields_page, 
 use Rattle.machine_model.specs.Variables.{page, page_plan, shown_as, shown_plan as values_shown, slots_of, slots_plan}
 use Rattle.machine_model.specs.Variables.{values_in, with_known}
 use Rattle.machine_model.proofs.BindingPlans.{AllWants, asks, chains, every, makes, wants_other}
+use Rattle.value_views.specs.Names.{class_name}
 use Rattle.stop_refs.specs.declared.thing.FrameThing.{FrameThing}
 use Rattle.stop_refs.specs.declared.thing.Thing.{Thing}
 use Rattle.stop_refs.specs.declared.thing.Thing.TheVariants as things
@@ -148,6 +155,23 @@ seen_safe types v = by_value v.value
     by_value (values.Short x) = gives_safe _
     by_value (values.Boolean x) = gives_safe _
     by_value values.Void = gives_safe _
+
+-- What was thrown ------------------------------------------------------------------------------------------------------
+
+pub thrown_safe : (id : ℕ) → Safe (thrown_text id)
+thrown_safe id = makes is_safe text_found (by_id id (gives None) named_plan)
+    (by_id_safe id (gives None) named_plan (gives_safe None) (λ id. chains is_safe (heard_plan (suc id)) text_by
+    (asks is_safe (λ heard. heard) (Want.May (questions.ObjectType (record { 0 = suc id }))) refl) by_heard))
+  where
+    by_heard : (heard : Option Answer) → Safe (text_by heard)
+    by_heard (Some (answers.ObjectType tag class)) = makes is_safe name_by (signature_of class) (signature_safe class)
+    by_heard _ = gives_safe None
+
+pub exception_safe : (thrown : Thrown) → Safe (exception_plan thrown)
+exception_safe thrown = makes is_safe (λ id. exception_found id (mode_of thrown.caught))
+    (by_id thrown.object.0 (gives (codes "null")) (λ id. made_with class_name (type_plan id)))
+    (by_id_safe thrown.object.0 (gives (codes "null")) (λ id. made_with class_name (type_plan id))
+    (gives_safe (codes "null")) (λ id. makes is_safe class_name (type_plan (suc id)) (type_safe id)))
 
 -- Children ------------------------------------------------------------------------------------------------------------
 

@@ -205,6 +205,6 @@ are_spelled messages m r = record {
     is_due : (command : TargetCommand) → said (due false m).act ≡ Some (Message.sends command)
         → IsSpelled m.state.sizes command
     is_due command is =
-        let may = sends_may command all.stands.kept (moved (Allows.acts is)) in
+        let may = sends_may command (spelled.null messages) all.stands.kept (moved (Allows.acts is)) in
         subst (λ sizes. IsSpelled sizes command) (sym (all.stands.kept.sizes may.0))
         (may_spell messages m command all.stands.kept may.0 may.1)

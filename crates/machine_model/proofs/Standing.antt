@@ -8,16 +8,17 @@ use Rattle.jdwp_commands.specs.declared.question.Question.TheVariants as questio
 use Rattle.machine_model.specs.Ids.{Id, ids_given}
 use Rattle.machine_model.specs.Names.{Body, Classes, Failed, IdSizes, Initialized, Lines, Outcome, Part, Sent, Success}
 use Rattle.machine_model.specs.Names.{TargetCommand, Want, a_question, an_effect, frame_list, scope_list, thread_list}
-use Rattle.machine_model.specs.Names.{variable_list}
+use Rattle.machine_model.specs.Names.{variable_list, Functions, Steps}
 use Rattle.machine_model.specs.Plans.{question_of}
 use Rattle.machine_model.specs.Replying.{waits_for}
 use Rattle.machine_model.specs.Runs.{Message}
 use Rattle.machine_model.specs.Spelling.{all_sizes, first_sizes, sizes_by, sizes_replied}
 use Rattle.machine_model.specs.State.{State, Hand, Machine, SizesRead, is_attached, is_gone, is_some}
 use Rattle.machine_model.proofs.PlanIds.{AreKnown, IsAsked, IsWanted, OfClass, OfFrameThing, OfLookup, OfNamed}
-use Rattle.machine_model.proofs.PlanIds.{OfShownFrame, OfShownVariable, is_sizes}
+use Rattle.machine_model.proofs.PlanIds.{OfShownFrame, OfShownVariable, OnSome, is_sizes}
+use Rattle.machine_model.proofs.RequestSteps.{is_choice}
 use Rattle.machine_model.proofs.Stepping.{IsAt, with_said}
-use Rattle.machine_model.proofs.WishIds.{AreWished, IsShortKey}
+use Rattle.machine_model.proofs.WishIds.{AreWished, IsShortFunction, IsShortKey, OfStep}
 
 -- The item in hand ----------------------------------------------------------------------------------------------------
 
@@ -49,6 +50,8 @@ OfOutcome P (Failed failure) = Unit {0}
 abbrev pub PartStands : (Id → Type 0) → Part → Type 0
 PartStands P (Part.Responds outcome) = OfOutcome P outcome
 PartStands P (Part.Notes (Lines key path entries)) = IsShortKey key
+PartStands P (Part.Notes (Functions entries)) = All IsShortFunction entries
+PartStands P (Part.Notes (Steps step)) = OnSome (OfStep P) step
 PartStands P (Part.Looks lookup) = OfLookup P lookup
 PartStands P (Part.Notes (Classes classes)) = All (OfClass P) classes
 PartStands P _ = Unit {0}
@@ -59,6 +62,7 @@ abbrev pub needs_sizes : Part → Bool
 needs_sizes (Part.Looks lookup) = true
 needs_sizes Part.Updates = true
 needs_sizes (Part.Tells Initialized) = true
+needs_sizes (Part.Unfolds choice) = is_choice choice
 needs_sizes _ = false
 
 abbrev pub awaits_sizes : Part → Bool

@@ -32,16 +32,28 @@ use Rattle.machine_model.specs.Telling.{after_event, numbered_by}
 use Rattle.machine_model.proofs.IdRows.{all_joined}
 use Rattle.machine_model.proofs.LookupIds.{rows_stand}
 use Rattle.machine_model.proofs.PlanIds.{AreKnown, IsAsked, IsGood, NeedStands, OfFrameThing, OfLookup, OfThing, OfThread}
-use Rattle.machine_model.proofs.PlanIds.{OnSome}
+use Rattle.machine_model.proofs.PlanIds.{OfThrown, OnSome}
 use Rattle.machine_model.proofs.Stepping.{IsAt, Skips}
 use Rattle.machine_model.specs.Outcomes.{result_of}
 use Rattle.machine_model.proofs.Standing.{IsKept, Kept, Near, OfBody, OfOutcome, PartStands, Same, at_front, in_order}
 use Rattle.machine_model.proofs.Standing.{same_state}
 use Rattle.machine_model.proofs.Standing.{awaits_sizes, needs_sizes, stays}
-use Rattle.machine_model.proofs.Tables.{decided_alike, of_decided, told_alike}
+use Rattle.machine_model.proofs.HitIds.{ItemStands, OfCause, OfHalt, found_one, halt_stands}
+use Rattle.machine_model.proofs.Tables.{told_alike}
+use Rattle.machine_model.specs.Stops.{decided, decided_by, events_in, hits_in, holds_entry, stop_among, surplus}
+use Rattle.machine_model.specs.Stops.{thrown_in, told_part}
+use Rattle.dap_messages.specs.declared.requests.FunctionBreakpoint.{FunctionBreakpoint}
+use Rattle.machine_model.specs.Breakpoints.{functions_from}
+use Rattle.machine_model.specs.Names.{ExceptionInfo, Functions, Halt, HaltCause, Next, SetExceptionBreakpoints}
+use Rattle.machine_model.specs.Names.{SetFunctionBreakpoints, StepIn, StepOut, Stepped, Steps, StopsAt, Throws, Thrown}
+use Rattle.machine_model.specs.Names.{came_to, exception_found, exception_info, exception_text, has_stepped, text_found}
+use Rattle.machine_model.specs.Names.{threw}
+use Rattle.machine_model.specs.Rows.{exception_parts, refused_with, step_parts, stepped_by, thread_there, thrown_first}
+use Rattle.wish_sets.specs.declared.wish.Depth.{Depth}
+use Rattle.wish_sets.specs.declared.wish.Depth.TheVariants.{Into, Out, Over}
 use Rattle.machine_model.specs.Breakpoints.{behind_roots, key_of, longest_key, short_key, slashed}
 use Rattle.std.specs.Prelude.{ℕ, zero, suc, ◌-◌, ◌==◌, nat_le, nat_lt, length, slice_get, if◌then◌else◌}
-use Rattle.std.specs.Prelude.{Result, Ok, Err}
+use Rattle.std.specs.Prelude.{Result, Ok, Err, ◌+◌, ◌≤◌, option_and_then}
 use Rattle.stop_refs.specs.Numbers.{InHand, and_then, container, frame, next_in, or_unknown, refused_in, stop_with}
 use Rattle.stop_refs.specs.Numbers.{thing_with}
 use Rattle.stop_refs.specs.Things.{as_container, as_frame}
@@ -49,7 +61,8 @@ use Rattle.stop_refs.specs.declared.fault.RefFault.{RefFault}
 use Rattle.stop_refs.specs.declared.thing.FrameThing.{FrameThing}
 use Rattle.stop_refs.specs.declared.thing.Thing.{Thing}
 use Rattle.stop_refs.specs.declared.thing.Thing.TheVariants as things
-use Rattle.machine_model.proofs.WishIds.{AreWished, IsShortKey, classes_stand, lines_stand}
+use Rattle.machine_model.proofs.WishIds.{AreWished, IsShortFunction, IsShortKey, classes_stand, functions_stand}
+use Rattle.machine_model.proofs.WishIds.{lines_stand, step_stands}
 use Rattle.machine_model.specs.Composites.{composite_parts, has_death}
 
 -- Tables --------------------------------------------------------------------------------------------------------------
@@ -91,8 +104,23 @@ note_wished P EntryHeld state k facts h = h
 note_wished P Configured state k facts h = h
 note_wished P (Lines None path entries) state k facts h = h
 note_wished P (Lines (Some key) path entries) state k facts h = lines_stand P key entries state.wishes.wanted k h
+note_wished P (Functions entries) state k facts h = functions_stand P entries state.wishes.wanted k h
+note_wished P (StopsAt caught uncaught) state k facts h =
+    record { short = h.short; functions = h.functions; bound = h.bound; step = h.step }
+note_wished P (Steps step) state k facts h = step_stands P step state.wishes.wanted k h
+note_wished P (Throws thrown) state k facts h = h
 note_wished P (Classes classes) state k facts h =
     classes_stand P state.classes classes state.wishes.wanted k facts h
+
+-- what needs the sizes has them
+pub sized_by : (sized attached : Bool) (part : Part) (rest : List Part) → in_order sized attached (part ∷ rest) ≡ true
+    → awaits_sizes part ≡ false → needs_sizes part ≡ true → sized ≡ true
+sized_by true attached part rest h other needs = refl
+sized_by false true part rest h other needs = cc
+sized_by false false part rest h other needs = grind (arith, h, other, needs)
+
+pub in_any_order : (sized attached : Bool) (parts : List Part) → sized ≡ true → in_order sized attached parts ≡ true
+in_any_order sized attached parts is = rw is refl
 
 -- rows, results and choices
 row_order : (state : State) (sized : Bool) (command : Command) → in_order sized (is_attached state.phase) [] ≡ true
@@ -187,54 +215,99 @@ told_container P number numbers h = by_thing (thing_with number numbers) (told_t
     by_thing (Ok (things.Array one)) k = k
     by_thing (Err fault) k = tt
 
+functions_short : (id : ℕ) (functions : List FunctionBreakpoint) → All IsShortFunction (functions_from id functions)
+functions_short id [] = tt
+functions_short id (function ∷ functions) =
+    (by_length (nat_le (length function.name) longest_key) refl, functions_short (id + 1) functions)
+  where
+    by_length : (short : Bool) → nat_le (length function.name) longest_key ≡ short
+        → length (cond short function.name []) ≤ longest_key
+    by_length true is = grind (arith, is)
+    by_length false is = omega arith
+
+step_stand : (P : Id → Type 0) (depth : Depth) (threads : List ThreadId) (number : ℕ) → All (OfThread P) threads
+    → All (PartStands P) (step_parts depth (option_and_then thread_there (thread_with threads number)))
+step_stand P depth threads number told = by_thread (thread_with threads number) (told_thread P threads number told)
+  where
+    by_there : (thread : ThreadId) (none : Bool) → OfThread P thread
+        → All (PartStands P) (step_parts depth (cond none None (Some thread)))
+    by_there thread true k = (tt, tt)
+    by_there thread false k = (k, (tt, (tt, tt)))
+
+    by_thread : (found : Option ThreadId) → OnSome (OfThread P) found
+        → All (PartStands P) (step_parts depth (option_and_then thread_there found))
+    by_thread None k = (tt, tt)
+    by_thread (Some thread) k = by_there thread (thread.0 == 0) k
+
+thrown_stand : (P : Id → Type 0) (thrown : List Thrown) (thread : Option ThreadId) → All (OfThrown P) thrown
+    → All (PartStands P) (exception_parts (option_and_then (thrown_first thrown) thread))
+thrown_stand P thrown None h = (tt, tt)
+thrown_stand P thrown (Some thread) h =
+    by_thrown (thrown_first thrown thread) (found_one (OfThrown P) (λ one. one.thread.0 == thread.0) thrown h)
+  where
+    by_thrown : (found : Option Thrown) → OnSome (OfThrown P) found → All (PartStands P) (exception_parts found)
+    by_thrown None k = (tt, tt)
+    by_thrown (Some one) k = (k.1, tt)
+
 row_parts : (P : Id → Type 0) (command : Command) (state : State) → All (OfThread P) state.threads
-    → All (OfThing P) state.numbers.things
+    → All (OfThing P) state.numbers.things → All (OfThrown P) state.thrown
     → All (PartStands P) (row_of command state)
-row_parts P (Initialize arguments) state told told_things = (tt, (tt, tt))
-row_parts P (Attach arguments) state told told_things = (tt, (tt, (tt, (tt, (tt, (tt, tt))))))
-row_parts P ConfigurationDone state told told_things = by_entry state.entry
+row_parts P (Initialize arguments) state told told_things threw_them = (tt, (tt, tt))
+row_parts P (Attach arguments) state told told_things threw_them = (tt, (tt, (tt, (tt, (tt, (tt, tt))))))
+row_parts P ConfigurationDone state told told_things threw_them = by_entry state.entry
   where
     by_entry : (entry : Bool) → All (PartStands P) (configured_parts entry)
     by_entry true = (tt, (tt, (tt, tt)))
     by_entry false = (tt, (tt, tt))
-row_parts P (SetBreakpoints arguments) state told told_things =
+row_parts P (SetBreakpoints arguments) state told told_things threw_them =
     (key_is_short state.roots arguments.path, (tt, (tt, (tt, (tt, (tt, tt))))))
-row_parts P Threads state told told_things = (tt, tt)
-row_parts P (Continue arguments) state told told_things = by_thread (thread_with state.threads arguments.thread_id)
+row_parts P (SetFunctionBreakpoints arguments) state told told_things threw_them =
+    (functions_short state.next_entry arguments.breakpoints, (tt, (tt, (tt, (tt, (tt, tt))))))
+row_parts P (SetExceptionBreakpoints arguments) state told told_things threw_them = (tt, (tt, (tt, tt)))
+row_parts P Threads state told told_things threw_them = (tt, tt)
+row_parts P (Next arguments) state told told_things threw_them =
+    step_stand P Over state.threads arguments.thread_id told
+row_parts P (StepIn arguments) state told told_things threw_them =
+    step_stand P Into state.threads arguments.thread_id told
+row_parts P (StepOut arguments) state told told_things threw_them =
+    step_stand P Out state.threads arguments.thread_id told
+row_parts P (ExceptionInfo arguments) state told told_things threw_them =
+    thrown_stand P state.thrown (thread_with state.threads arguments.thread_id) threw_them
+row_parts P (Continue arguments) state told told_things threw_them = by_thread (thread_with state.threads arguments.thread_id)
   where
     by_thread : (thread : Option ThreadId) → All (PartStands P) (continue_parts thread)
     by_thread None = (tt, tt)
     by_thread (Some thread) = (tt, (tt, tt))
-row_parts P (Pause arguments) state told told_things = by_stop state.stopped (thread_with state.threads arguments.thread_id)
+row_parts P (Pause arguments) state told told_things threw_them = by_stop state.stopped (thread_with state.threads arguments.thread_id)
   where
     by_stop : (stopped : Bool) (thread : Option ThreadId) → All (PartStands P) (pause_parts stopped thread)
     by_stop stopped None = (tt, tt)
     by_stop true (Some thread) = (tt, tt)
-    by_stop false (Some thread) = (tt, (tt, (tt, tt)))
-row_parts P (StackTrace arguments) state told told_things = by_thread (thread_with state.threads arguments.thread_id)
+    by_stop false (Some thread) = (tt, (tt, (tt, (tt, (tt, tt)))))
+row_parts P (StackTrace arguments) state told told_things threw_them = by_thread (thread_with state.threads arguments.thread_id)
     (told_thread P state.threads arguments.thread_id told)
   where
     by_thread : (thread : Option ThreadId) → OnSome (OfThread P) thread
         → All (PartStands P) (stack_parts thread arguments)
     by_thread None k = (tt, tt)
     by_thread (Some thread) k = (k, tt)
-row_parts P (Scopes arguments) state told told_things = by_frame (frame arguments.frame_id state.numbers)
+row_parts P (Scopes arguments) state told told_things threw_them = by_frame (frame arguments.frame_id state.numbers)
     (told_frame P arguments.frame_id state.numbers told_things)
   where
     by_frame : (found : Result FrameThing RefFault) → OnFound (OfFrameThing P) found
         → All (PartStands P) (scopes_parts state.numbers found)
     by_frame (Ok one) k = (shown_good P state.numbers (scope_list one) k, tt)
     by_frame (Err fault) k = (tt, tt)
-row_parts P (Variables arguments) state told told_things = by_thing (container arguments.variables_reference state.numbers)
+row_parts P (Variables arguments) state told told_things threw_them = by_thing (container arguments.variables_reference state.numbers)
     (told_container P arguments.variables_reference state.numbers told_things)
   where
     by_thing : (found : Result Thing RefFault) → OnFound (OfThing P) found
         → All (PartStands P) (variables_parts arguments found)
     by_thing (Ok thing) k = (k, tt)
     by_thing (Err fault) k = (tt, tt)
-row_parts P (Disconnect arguments) state told told_things = (tt, (tt, (tt, tt)))
-row_parts P Unsupported state told told_things = (tt, tt)
-row_parts P (BadArguments name) state told told_things = (tt, tt)
+row_parts P (Disconnect arguments) state told told_things threw_them = (tt, (tt, (tt, tt)))
+row_parts P Unsupported state told told_things threw_them = (tt, tt)
+row_parts P (BadArguments name) state told told_things threw_them = (tt, tt)
 
 unless_fails : (P : Id → Type 0) (failure : Option Failure) (row : List Part) → All (PartStands P) row
     → All (PartStands P) (parts_by failure row)
@@ -242,15 +315,15 @@ unless_fails P (Some failure) row h = (tt, tt)
 unless_fails P None row h = h
 
 pub begun_parts : (P : Id → Type 0) (state : State) (item : Item) → All (OfThread P) state.threads
-    → All (OfThing P) state.numbers.things → All (PartStands P) (parts_of state item)
-begun_parts P state (a_request request) told told_things = unless_fails P (failure_of (wanting request.command) state)
-    (row_of request.command state) (row_parts P request.command state told told_things)
-begun_parts P state target_end told told_things = by_end state.terminated
+    → All (OfThing P) state.numbers.things → All (OfThrown P) state.thrown → All (PartStands P) (parts_of state item)
+begun_parts P state (a_request request) told told_things threw_them = unless_fails P (failure_of (wanting request.command) state)
+    (row_of request.command state) (row_parts P request.command state told told_things threw_them)
+begun_parts P state target_end told told_things threw_them = by_end state.terminated
   where
     by_end : (ended : Bool) → All (PartStands P) (parts_of (record state { terminated = ended }) target_end)
     by_end true = tt
     by_end false = (tt, tt)
-begun_parts P state (a_composite at composite) told told_things =
+begun_parts P state (a_composite at composite) told told_things threw_them =
     by_phase state.phase (has_death composite.events) composite.policy
   where
     by_phase : (phase : Phase) (dies : Bool) (policy : Policy)
@@ -263,20 +336,24 @@ begun_parts P state (a_composite at composite) told told_things =
     by_phase Attached false EventThread = (tt, tt)
     by_phase Attached false AllThreads = (tt, (tt, (tt, (tt, tt))))
     by_phase Gone dies policy = tt
-begun_parts P state (a_raw at body) told told_things = tt
+begun_parts P state (a_raw at body) told told_things threw_them = tt
 
 pub chosen_order : (choice : Choice) (state : State) (hand : Hand) (sized attached : Bool) (rest : List Part)
-    → in_order sized attached rest ≡ true → in_order sized attached (chosen choice state hand ++ rest) ≡ true
+    → in_order sized attached (Part.Unfolds choice ∷ rest) ≡ true
+    → in_order sized attached (chosen choice state hand ++ rest) ≡ true
 chosen_order (TellsNews below) state hand sized attached rest h =
     told_alike (in_order sized attached) (λ news parts. refl) state.phase
     (news_of below state hand.item) rest ∙ h
-chosen_order Decides state hand sized attached rest h =
-    decided_alike (in_order sized attached) (λ stopping parts. refl) (λ parts. refl) (λ parts. refl) state hand.item rest ∙ h
+chosen_order Decides state hand sized attached rest h = in_any_order sized attached (decided state hand.item ++ rest)
+    (sized_by sized attached (Part.Unfolds Decides) rest h refl refl)
+chosen_order Stepped state hand sized attached rest h =
+    in_any_order sized attached (stepped_by (refused_with hand.effect) ++ rest)
+    (sized_by sized attached (Part.Unfolds Stepped) rest h refl refl)
 chosen_order (Leaves exits) state hand sized attached rest h = grind (arith, h)
 
 pub chosen_parts : (P : Id → Type 0) (choice : Choice) (state : State) (hand : Hand) (rest : List Part)
-    → All (PartStands P) rest → All (PartStands P) (chosen choice state hand ++ rest)
-chosen_parts P (TellsNews below) state hand rest h =
+    → ItemStands P hand.item → All (PartStands P) rest → All (PartStands P) (chosen choice state hand ++ rest)
+chosen_parts P (TellsNews below) state hand rest item h =
     by_news state.phase (news_of below state hand.item)
   where
     by_news : (phase : Phase) (news : List News) → All (PartStands P) (told_in phase news ++ rest)
@@ -284,10 +361,33 @@ chosen_parts P (TellsNews below) state hand rest h =
     by_news Gone news = h
     by_news Attached [] = h
     by_news Attached (one ∷ news) = (tt, by_news Attached news)
-chosen_parts P Decides state hand rest h =
-    of_decided (λ (parts : List Part). All (PartStands P) (parts ++ rest)) h (tt, h) (tt, h) (λ stopping. (tt, h))
-    (λ stopping. (tt, (tt, h))) state hand.item
-chosen_parts P (Leaves exits) state hand rest h = by_phase state.phase
+chosen_parts P Decides state hand rest item h =
+    by_stop (is_attached state.phase) state.stopped (holds_entry state (events_in hand.item))
+    (thrown_in state.wishes (events_in hand.item))
+    (stop_among state.wishes (hits_in state.wishes (events_in hand.item))) (halt_stands P state.wishes hand.item item)
+  where
+    told : (cause : HaltCause) (thread : ThreadId) → OfCause P cause → PartStands P (told_part cause thread)
+    told (came_to at) thread k = tt
+    told (threw one) thread k = k
+    told has_stepped thread k = tt
+
+    by_surplus : (stopped : Bool) → All (PartStands P) (surplus stopped ++ rest)
+    by_surplus false = h
+    by_surplus true = (tt, h)
+
+    by_stop : (attached stopped holds : Bool) (thrown : List Thrown) (stop : Option Halt) → OnSome (OfHalt P) stop
+        → All (PartStands P) (cond attached (decided_by stopped holds thrown stop) [] ++ rest)
+    by_stop false stopped holds thrown stop hit = h
+    by_stop true stopped true thrown None hit = (tt, h)
+    by_stop true stopped false thrown None hit = (tt, h)
+    by_stop true stopped holds thrown (Some halt) hit =
+        (tt, (tt, (tt, (told halt.cause halt.thread hit.1, by_surplus stopped))))
+chosen_parts P Stepped state hand rest item h = by_code (refused_with hand.effect)
+  where
+    by_code : (code : Option ℕ) → All (PartStands P) (stepped_by code ++ rest)
+    by_code None = (tt, (tt, h))
+    by_code (Some code) = (tt, (tt, (tt, h)))
+chosen_parts P (Leaves exits) state hand rest item h = by_phase state.phase
   where
     by_phase : (phase : Phase) → All (PartStands P) (leaves phase exits ++ rest)
     by_phase Fresh = h
@@ -299,6 +399,8 @@ body_good P (threads_found named) h = h
 body_good P (classes_found classes) h = tt
 body_good P (frames_found total frames) h = h
 body_good P (variables_found shown) h = h
+body_good P (text_found text) h = tt
+body_good P (exception_found id mode) h = tt
 
 outcome_good : (P : Id → Type 0) (numbers : InHand) (found : Need Finding) → NeedStands P (IsGood P) found
     → OfOutcome P (outcome_by numbers (result_of found))
@@ -311,26 +413,22 @@ found_parts : (P : Id → Type 0) (lookup : Lookup) (found : Need Finding) (stat
 found_parts P all_threads (has finding) state h = (body_good P finding h, tt)
 found_parts P all_threads (fails fault) state h = (tt, tt)
 found_parts P all_threads (lacks want others) state h = (tt, tt)
+found_parts P (exception_text thread one) found state h = (tt, tt)
+found_parts P (exception_info thrown) (has finding) state h = (body_good P finding h, tt)
+found_parts P (exception_info thrown) (fails fault) state h = (tt, tt)
+found_parts P (exception_info thrown) (lacks want others) state h = (tt, tt)
 found_parts P (thread_frames thread start levels) found state h = (outcome_good P state.numbers found h, tt)
 found_parts P (container_children thing filter start count) found state h = (outcome_good P state.numbers found h, tt)
 found_parts P class_facts (has (threads_found named)) state h = (tt, tt)
 found_parts P class_facts (has (classes_found classes)) state h = (h, tt)
 found_parts P class_facts (has (frames_found total frames)) state h = (tt, tt)
 found_parts P class_facts (has (variables_found shown)) state h = (tt, tt)
+found_parts P class_facts (has (text_found text)) state h = (tt, tt)
+found_parts P class_facts (has (exception_found id mode)) state h = (tt, tt)
 found_parts P class_facts (fails fault) state h = (tt, tt)
 found_parts P class_facts (lacks want others) state h = (tt, tt)
 
 -- Parts that need the sizes -------------------------------------------------------------------------------------------
-
--- what needs the sizes has them
-pub sized_by : (sized attached : Bool) (part : Part) (rest : List Part) → in_order sized attached (part ∷ rest) ≡ true
-    → awaits_sizes part ≡ false → needs_sizes part ≡ true → sized ≡ true
-sized_by true attached part rest h other needs = refl
-sized_by false true part rest h other needs = cc
-sized_by false false part rest h other needs = grind (arith, h, other, needs)
-
-pub in_any_order : (sized attached : Bool) (parts : List Part) → sized ≡ true → in_order sized attached parts ≡ true
-in_any_order sized attached parts is = rw is refl
 
 pub skipped_order : {m : Machine} {hand : Hand} {part : Part} (rest : List Part) → Skips m hand part
     → in_order (is_some m.state.sizes) (is_attached m.state.phase) (part ∷ rest) ≡ true

@@ -1,5 +1,5 @@
 -- What each move keeps of the ids that stand in the machine: all moves.
-use Rattle.machine_model.proofs.ItemIds.{Waits, picked_stand, taken_stand}
+use Rattle.machine_model.proofs.ItemIds.{Waits, in_front, picked_stand, taken_stand}
 use Rattle.std.proofs.Common.{◌≡◌, ◌++◌, false, List, Option, refl, ap, ◌∙◌}
 use Rattle.std.specs.List.{AllByRecursion as All}
 use Rattle.machine_model.specs.Ids.{Id, class}
@@ -33,7 +33,7 @@ kept_on {P} messages m next said null w k (Moves.begins picked free none is) bro
             (picked_stand P (is_gone m.state.phase) m.waiting picked is (w near).waiting).0 n.classes;
         wanted = n.wanted;
         order = begun_order m.state (is_some m.state.sizes) picked.item n.order;
-        parts = begun_parts P m.state picked.item (w near).threads (w near).things;
+        parts = begun_parts P m.state picked.item (w near).threads (w near).things (w near).thrown;
         wants = tt;
         replies = tt;
       };
@@ -76,7 +76,7 @@ kept_on {P} messages m next said null w k (Moves.unfolds {hand} {choice} {rest} 
     (λ near n. record {
       wanted = n.wanted;
       order = chosen_order choice m.state hand (is_some m.state.sizes) (is_attached m.state.phase) rest n.order;
-      parts = chosen_parts P choice m.state hand rest n.parts.1;
+      parts = chosen_parts P choice m.state hand rest (in_front (w near) at).0 n.parts.1;
     })
 kept_on messages m next said null w k (Moves.queues free is) brought = queued_kept m null k free is
 kept_on messages m next said null w k (Moves.asks free room is are) brought = asked_kept m k is are

@@ -39,10 +39,10 @@ one = record { 0 = 1 }
 abbrev two : ThreadId
 two = record { 0 = 2 }
 
-abbrev tells_stop : StopReason → ℕ → Message
+abbrev pub tells_stop : StopReason → ℕ → Message
 tells_stop reason thread = Message.tells (an_event (events.Stopped (record { reason = reason; thread = thread })))
 
-abbrev does : Deed → Message
+abbrev pub does : Deed → Message
 does deed = changes (Does deed)
 
 -- a deed was done
@@ -54,30 +54,30 @@ fails asked failure = responds asked (outcomes.Failure failure)
 
 -- Hits ----------------------------------------------------------------------------------------------------------------
 
-abbrev running : Machine
+abbrev pub running : Machine
 running = drive 8 bound
 
 abbrev pub first_hit : Machine
 first_hit = happens (happened.Breakpoint 4 one (at 5) ∷ []) running
 
 -- the first hit begins a stop, and its suspension is kept
-stops : said_on 8 first_hit ≡ tells_stop (reasons.Breakpoint (1 ∷ [])) 1 ∷ []
+stops : said_on 12 first_hit ≡ tells_stop (reasons.Breakpoint (1 ∷ [])) 1 ∷ []
 unfolding due wanted load_of newly_lacked next_change wished need chained made_with each key_of chars encode lossy
     lossy_after is_utf8
 stops = refl
 
 abbrev pub stopped : Machine
-stopped = drive 8 first_hit
+stopped = drive 12 first_hit
 
 -- that of a second hit is undone
-stops_again : said_on 8 (happens (happened.Breakpoint 4 two (at 5) ∷ []) stopped)
+stops_again : said_on 12 (happens (happened.Breakpoint 4 two (at 5) ∷ []) stopped)
     ≡ tells_stop (reasons.Breakpoint (1 ∷ [])) 2 ∷ does (Resume of_composite) ∷ []
 unfolding due wanted load_of newly_lacked next_change wished need chained made_with each key_of chars encode lossy
     lossy_after is_utf8
 stops_again = refl
 
 -- a step and a hit at one place are one stop; a hit under no event request is none, nor is one where no breakpoint stands
-tells_once : said_on 8 (happens (happened.SingleStep 8 one (at 5) ∷ happened.Breakpoint 4 one (at 5) ∷ []) running)
+tells_once : said_on 12 (happens (happened.SingleStep 8 one (at 5) ∷ happened.Breakpoint 4 one (at 5) ∷ []) running)
     ≡ tells_stop (reasons.Breakpoint (1 ∷ [])) 1 ∷ []
 unfolding due wanted load_of newly_lacked next_change wished need chained made_with each key_of chars encode lossy
     lossy_after is_utf8
@@ -88,7 +88,7 @@ unfolding due wanted load_of newly_lacked next_change wished need chained made_w
     lossy_after is_utf8
 runs_on = refl
 
-elsewhere : said_on 8 (happens (happened.Breakpoint 4 one (at 7) ∷ []) running)
+elsewhere : said_on 12 (happens (happened.Breakpoint 4 one (at 7) ∷ []) running)
     ≡ tells_stop (reasons.FunctionBreakpoint []) 1 ∷ []
 unfolding due wanted load_of newly_lacked next_change wished need chained made_with each key_of chars encode lossy
     lossy_after is_utf8

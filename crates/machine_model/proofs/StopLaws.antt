@@ -1,10 +1,10 @@
--- A stop is told of a breakpoint that was hit and stands, or that the client asked for.
+-- A stop is told of what halted a thread, or that the client asked for.
 use Rattle.std.proofs.Common.{◌≡◌, ℕ, Bool, true, false, cond, not, ◌||◌, List, [], ◌∷◌, ◌++◌, Option, Some, None}
-use Rattle.std.proofs.Common.{refl, sym, ap, subst, ◌∙◌, option_map, arith}
+use Rattle.std.proofs.Common.{refl, sym, ap, subst, ◌∙◌, option_map, arith, append_assoc, append-nil}
 use Rattle.std.specs.List.{AllByRecursion as All}
 use Rattle.std.specs.Option.{option_or}
 use Rattle.std.specs.Prelude as prelude
-use Rattle.std.specs.Prelude.{find, Ok, Err}
+use Rattle.std.specs.Prelude.{find, Ok, Err, option_and_then}
 use Rattle.stop_refs.specs.Numbers.{container, frame}
 use Rattle.stop_refs.specs.declared.fault.RefFault.{RefFault}
 use Rattle.stop_refs.specs.declared.thing.FrameThing.{FrameThing}
@@ -14,98 +14,95 @@ use Rattle.dap_messages.specs.declared.told.StopReason.TheVariants as reasons
 use Rattle.dap_messages.specs.declared.told.Stopped.{Stopped}
 use Rattle.jdwp_events.specs.declared.event.Event.{Event as ATargetEvent}
 use Rattle.jdwp_events.specs.declared.event.Event.TheVariants as happened
+use Rattle.jdwp_events.specs.declared.kind.EventKind.TheVariants as kinds
 use Rattle.jdwp_events.specs.declared.kind.Policy.{Policy}
 use Rattle.jdwp_events.specs.declared.kind.Policy.TheVariants.{NoThread, EventThread, All as AllThreads}
+use Rattle.jdwp_values.specs.declared.id.ObjectId.{ObjectId}
+use Rattle.machine_model.specs.Children.{object_named}
 use Rattle.machine_model.specs.Composites.{composite_parts, has_death}
 use Rattle.machine_model.specs.Due.{Load, asked_hand, busy, can_read, clear, due, hand_load, load_of, newly_lacked}
 use Rattle.machine_model.specs.Due.{wanted}
-use Rattle.machine_model.specs.Lookups.{finished}
-use Rattle.machine_model.specs.Names.{Act, Attach, Attached, BadArguments, Choice, Clear, Command, ConfigurationDone}
-use Rattle.machine_model.specs.Names.{Continue, Decides, Deed, Disconnect, Does, Effect, Event, Failure, Finding}
-use Rattle.machine_model.specs.Names.{Fresh, Gone, Hit, Initialize, Initialized, Item, Leaves, Location, Lookup, News}
-use Rattle.machine_model.specs.Names.{Part, Pause, Phase, Replied, Resume, Set, SetBreakpoints, StopCause}
-use Rattle.machine_model.specs.Names.{Stopping, TargetCommand, TellsNews, Terminated, ThreadId, Threads, Unsupported}
-use Rattle.machine_model.specs.Names.{Want, a_composite, a_question, a_raw, a_request, a_stop, all_threads, an_effect}
-use Rattle.machine_model.specs.Names.{an_event, by_client, class_facts, entry_verified, of_composite, some_news}
-use Rattle.machine_model.specs.Names.{target_end, thread_changed}
-use Rattle.machine_model.specs.Names.{thread_frames}
-use Rattle.machine_model.specs.Names.{StackTrace}
-use Rattle.machine_model.specs.Names.{Scopes, Variables, container_children}
+use Rattle.machine_model.specs.Lookups.{finished, found_for, text_of}
+use Rattle.machine_model.specs.Names.{Act, Attach, Attached, BadArguments, Choice, Command, ConfigurationDone}
+use Rattle.machine_model.specs.Names.{Continue, Decides, Deed, Disconnect, Does, Event, ExceptionInfo, Failure, Finding}
+use Rattle.machine_model.specs.Names.{Fresh, Gone, Halt, HaltCause, Hit, Initialize, Initialized, Item, Leaves, Lookup}
+use Rattle.machine_model.specs.Names.{News, Next, Part, Pause, Phase, Replied, Resume, Scopes, SetBreakpoints}
+use Rattle.machine_model.specs.Names.{SetExceptionBreakpoints, SetFunctionBreakpoints, StackTrace, StepIn, StepOut}
+use Rattle.machine_model.specs.Names.{Stepped, StopCause, Stopping, TargetCommand, TellsNews, Terminated, ThreadId}
+use Rattle.machine_model.specs.Names.{Threads, Thrown, Unsupported, Variables, Want, a_composite, a_question, a_raw}
+use Rattle.machine_model.specs.Names.{a_request, a_stop, all_threads, an_effect, an_event, by_client, by_exception}
+use Rattle.machine_model.specs.Names.{by_step, came_to, class_facts, container_children, entry_verified}
+use Rattle.machine_model.specs.Names.{exception_info, exception_text, has_stepped, of_composite, some_news, target_end}
+use Rattle.machine_model.specs.Names.{thread_changed, thread_frames, threw}
 use Rattle.machine_model.specs.Outcomes.{result_of}
-use Rattle.machine_model.specs.Plans.{Result}
+use Rattle.machine_model.specs.Plans.{Need, is_done}
 use Rattle.machine_model.specs.Replying.{given_up, hand_replied}
-use Rattle.machine_model.specs.Requests.{Wishes, wishes_after}
-use Rattle.machine_model.specs.Rows.{chosen, configured_parts, continue_parts, end_parts, failure_of, gone_parts, gone_row}
-use Rattle.machine_model.specs.Rows.{gone_tail, has_response, leaves, news_of, noted, parts_by, parts_of, pause_parts}
-use Rattle.machine_model.specs.Rows.{request_parts, row_of, thread_with, told_in, wanting}
-use Rattle.machine_model.specs.Rows.{scopes_parts, stack_parts, variables_parts}
+use Rattle.machine_model.specs.Requests.{Wishes}
+use Rattle.machine_model.specs.Rows.{chosen, configured_parts, continue_parts, end_parts, exception_parts, failure_of}
+use Rattle.machine_model.specs.Rows.{gone_parts, gone_row, gone_tail, has_response, leaves, news_of, parts_by, parts_of}
+use Rattle.machine_model.specs.Rows.{pause_parts, refused_with, request_parts, row_of, scopes_parts, stack_parts}
+use Rattle.machine_model.specs.Rows.{step_parts, stepped_by, stepped_thread, thread_with, thrown_first, told_in}
+use Rattle.machine_model.specs.Rows.{variables_parts, wanting}
 use Rattle.machine_model.specs.Runs.{Allows, Message, Run, said}
 use Rattle.machine_model.specs.State.{Hand, Machine, State, is_attached, is_gone, knowing, left}
-use Rattle.machine_model.specs.Stopping.{HasHit, IsStop, IsToldAs}
-use Rattle.machine_model.specs.Stops.{decided_by, events_in, first_of, hit_by, hits_in, holds_entry, is_at_line, is_live}
-use Rattle.machine_model.specs.Stops.{stop_among}
+use Rattle.machine_model.specs.Stopping.{HasHalted, IsHalt, IsHit, IsStop, IsToldAs, IsToldOf, WasHalted, WasNamed}
+use Rattle.machine_model.specs.Stops.{decided, decided_by, events_in, first_of, first_with, hit_by, hits_in, holds_entry}
+use Rattle.machine_model.specs.Stops.{is_at_line, is_breakpoint, is_live, is_thrown, stop_among, surplus, thrown_in}
+use Rattle.machine_model.specs.Stops.{told_part}
 use Rattle.machine_model.specs.Suspending.{IsBoundFirst}
 use Rattle.machine_model.specs.Telling.{after_event, reason_told}
-use Rattle.machine_model.proofs.BindingParts.{event_wishes}
+use Rattle.wish_sets.specs.declared.wish.Depth.{Depth}
+use Rattle.wish_sets.specs.declared.wish.Depth.TheVariants.{Into, Out, Over}
 use Rattle.machine_model.proofs.HoldingParts.{holding, may_all, may_front, may_stop, only_resumes}
-use Rattle.machine_model.proofs.NewsLaws.{quiet}
-use Rattle.machine_model.proofs.QuietLaws.{near_flies}
-use Rattle.machine_model.proofs.RequestLaws.{IsDue, settling, was_due}
-use Rattle.machine_model.proofs.RequestSteps.{flying_in, flying_of, learnt_wishes, numbered_wishes, parts_left}
-use Rattle.machine_model.proofs.Stepping.{IsAt, Loses, Moves, by_runs, moved}
-use Rattle.machine_model.proofs.SuspendLaws.{bound_at_stop}
-use Rattle.machine_model.proofs.Tables.{free as free_test, free_once, of_decided, starts_updates, told_alike}
-use Rattle.machine_model.proofs.Testing.{IsTest, Passed, passed, tested, whole}
+use Rattle.machine_model.proofs.RequestSteps.{decides}
 use Rattle.machine_model.proofs.RestLaws.{is_free}
+use Rattle.machine_model.proofs.Stepping.{IsAt, Loses, Moves, by_runs, moved, with_said}
+use Rattle.machine_model.proofs.SuspendLaws.{bound_at_choice, bound_at_stop}
+use Rattle.machine_model.proofs.Tables.{free as free_test, free_once}
+use Rattle.machine_model.proofs.Testing.{tested, whole}
 
 -- Hits ----------------------------------------------------------------------------------------------------------------
 
--- what is hit among some events is hit among more
-one_before : (w : Wishes) (event : ATargetEvent) (events : List ATargetEvent) (stopping : Stopping)
-    → HasHit w events stopping → HasHit w (event ∷ events) stopping
-one_before w event events stopping h = record {
+-- what halted among some events halted among more
+one_before : (w : Wishes) (event : ATargetEvent) (events : List ATargetEvent) (halt : Halt) → HasHalted w events halt
+    → HasHalted w (event ∷ events) halt
+one_before w event events halt h = record {
   before = event ∷ h.before;
+  event = h.event;
   after = h.after;
-  request = h.request;
-  at = h.at;
   events_are = ap (λ (all : List ATargetEvent). event ∷ all) h.events_are;
-  cause = h.cause;
-  installed = h.installed;
+  is_halt = h.is_halt;
 }
 
-all_before : (w : Wishes) (event : ATargetEvent) (events : List ATargetEvent) (hits : List Stopping)
-    → All (HasHit w events) hits → All (HasHit w (event ∷ events)) hits
+all_before : (w : Wishes) (event : ATargetEvent) (events : List ATargetEvent) (hits : List Halt)
+    → All (HasHalted w events) hits → All (HasHalted w (event ∷ events)) hits
 all_before w event events [] h = tt
 all_before w event events (hit ∷ hits) h =
     (one_before w event events hit h.0, all_before w event events hits h.1)
 
-hits_are : (w : Wishes) (events : List ATargetEvent) → All (HasHit w events) (hits_in w events)
+hits_are : (w : Wishes) (events : List ATargetEvent) → All (HasHalted w events) (hits_in w events)
 hits_are w [] = tt
 hits_are w (event ∷ events) = by_event event (all_before w event events (hits_in w events) (hits_are w events))
   where
-    by_live : (request : ℕ) (thread : ThreadId) (at : Location) (live : Bool) → is_live w request ≡ live
-        → All (HasHit w (happened.Breakpoint request thread at ∷ events)) (hits_in w events)
-        → All (HasHit w (happened.Breakpoint request thread at ∷ events))
-        (cond live (record { cause = Hit at; thread = thread } ∷ []) [] ++ hits_in w events)
-    by_live request thread at true is h = (
-      record {
-        before = [];
-        after = events;
-        request = request;
-        at = at;
-        events_are = refl;
-        cause = refl;
-        installed = is;
-      },
-      h,
-    )
-    by_live request thread at false is h = h
+    by_live : (event : ATargetEvent) (halt : Halt) (live : Bool) → (live ≡ true → IsHalt w event halt)
+        → All (HasHalted w (event ∷ events)) (hits_in w events)
+        → All (HasHalted w (event ∷ events)) (cond live (halt ∷ []) [] ++ hits_in w events)
+    by_live event halt true is h =
+        (record { before = []; event = event; after = events; events_are = refl; is_halt = is refl }, h)
+    by_live event halt false is h = h
 
-    by_event : (event : ATargetEvent) → All (HasHit w (event ∷ events)) (hits_in w events)
-        → All (HasHit w (event ∷ events)) (hit_by w event ++ hits_in w events)
-    by_event (happened.Breakpoint request thread at) h = by_live request thread at (is_live w request) refl h
-    by_event (happened.SingleStep request thread at) h = h
-    by_event (happened.Exception request thread at exception catch) h = h
+    by_event : (event : ATargetEvent) → All (HasHalted w (event ∷ events)) (hits_in w events)
+        → All (HasHalted w (event ∷ events)) (hit_by w event ++ hits_in w events)
+    by_event (happened.Breakpoint request thread at) h =
+        by_live (happened.Breakpoint request thread at) (record { cause = came_to at; thread = thread })
+        (is_live w kinds.Breakpoint request) (λ is. IsHalt.at_breakpoint is) h
+    by_event (happened.SingleStep request thread at) h =
+        by_live (happened.SingleStep request thread at) (record { cause = has_stepped; thread = thread })
+        (is_live w kinds.SingleStep request) (λ is. IsHalt.at_step is) h
+    by_event (happened.Exception request thread at exception catch) h =
+        by_live (happened.Exception request thread at exception catch)
+        (record { cause = threw (record { 0 = object_named exception }); thread = thread })
+        (is_live w kinds.Exception request) (λ is. IsHalt.at_exception is) h
     by_event (happened.ThreadStart request thread) h = h
     by_event (happened.ThreadDeath request thread) h = h
     by_event (happened.ClassPrepare request thread tag class signature status) h = h
@@ -113,12 +110,11 @@ hits_are w (event ∷ events) = by_event event (all_before w event events (hits_
     by_event (happened.VMDeath request) h = h
 
 -- what holds of all holds of the one that is picked
-abbrev OfSome : (P : Stopping → Type 0) → Option Stopping → Type 0
+abbrev OfSome : (P : Halt → Type 0) → Option Halt → Type 0
 OfSome P None = Unit {0}
-OfSome P (Some stopping) = P stopping
+OfSome P (Some halt) = P halt
 
-found_of : (P : Stopping → Type 0) (test : Stopping → Bool) (hits : List Stopping) → All P hits
-    → OfSome P (find test hits)
+found_of : (P : Halt → Type 0) (test : Halt → Bool) (hits : List Halt) → All P hits → OfSome P (find test hits)
 found_of P test [] h = tt
 found_of P test (hit ∷ hits) h = by_test (test hit) (found_of P test hits h.1)
   where
@@ -126,20 +122,21 @@ found_of P test (hit ∷ hits) h = by_test (test hit) (found_of P test hits h.1)
     by_test true others = h.0
     by_test false others = others
 
-told_hit : (w : Wishes) (events : List ATargetEvent) → OfSome (HasHit w events) (stop_among w (hits_in w events))
-told_hit w events =
-    either (find (λ hit. is_at_line w hit.cause) (hits_in w events)) (first_of (hits_in w events))
-    (found_of (HasHit w events) (λ hit. is_at_line w hit.cause) (hits_in w events) (hits_are w events))
-    (first (hits_in w events) (hits_are w events))
+told_halt : (P : Halt → Type 0) (w : Wishes) (hits : List Halt) → All P hits → OfSome P (stop_among w hits)
+told_halt P w hits h = with_test (is_at_line w) _ (with_test is_breakpoint _ (with_test is_thrown _ (first hits h)))
   where
-    first : (hits : List Stopping) → All (HasHit w events) hits → OfSome (HasHit w events) (first_of hits)
+    first : (hits : List Halt) → All P hits → OfSome P (first_of hits)
     first [] h = tt
     first (hit ∷ hits) h = h.0
 
-    either : (one other : Option Stopping) → OfSome (HasHit w events) one → OfSome (HasHit w events) other
-        → OfSome (HasHit w events) (option_or one other)
+    either : (one other : Option Halt) → OfSome P one → OfSome P other → OfSome P (option_or one other)
     either None other h also = also
-    either (Some stopping) other h also = h
+    either (Some halt) other h also = h
+
+    with_test : (test : HaltCause → Bool) (other : Option Halt) → OfSome P other
+        → OfSome P (first_with test hits other)
+    with_test test other also =
+        either (find (λ hit. test hit.cause) hits) other (found_of P (λ hit. test hit.cause) hits h) also
 
 -- What an item is still to tell ---------------------------------------------------------------------------------------
 
@@ -152,215 +149,206 @@ is_pause (a_request request) = is_pause_command request.command
 is_pause _ = false
 
 -- why it may tell of a stop
-abbrev StopOf : Wishes → Item → Stopping → StopCause → Type 0
-StopOf w item stopping (Hit at) = HasHit w (events_in item) stopping
-StopOf w item stopping by_client = is_pause item ≡ true
+abbrev StopOf : List Message → Item → Stopping → StopCause → Type 0
+StopOf messages item stopping (Hit at) = IsHit messages item stopping
+StopOf messages item stopping (by_exception text) = IsHit messages item stopping
+StopOf messages item stopping by_step = IsHit messages item stopping
+StopOf messages item stopping by_client = is_pause item ≡ true
 
-abbrev EventTells : Wishes → Item → Event → Type 0
-EventTells w item Initialized = Unit {0}
-EventTells w item (some_news news) = Unit {0}
-EventTells w item (a_stop stopping) = StopOf w item stopping stopping.cause
-EventTells w item Terminated = Unit {0}
+abbrev EventTells : List Message → Item → Event → Type 0
+EventTells messages item Initialized = Unit {0}
+EventTells messages item (some_news news) = Unit {0}
+EventTells messages item (a_stop stopping) = StopOf messages item stopping stopping.cause
+EventTells messages item Terminated = Unit {0}
 
-abbrev PartTells : Wishes → Item → Part → Type 0
-PartTells w item (Part.Tells event) = EventTells w item event
-PartTells w item (Part.Responds outcome) = Unit {0}
-PartTells w item (Part.Sends deed) = Unit {0}
-PartTells w item (Part.Looks lookup) = Unit {0}
-PartTells w item (Part.Awaits guard) = Unit {0}
-PartTells w item Part.Updates = Unit {0}
-PartTells w item (Part.Notes note) = Unit {0}
-PartTells w item (Part.Unfolds choice) = Unit {0}
-PartTells w item (Part.Ends finish) = Unit {0}
+-- what was thrown is looked up to be told
+abbrev LookTells : List Message → Item → Lookup → Type 0
+LookTells messages item (exception_text thread object) =
+    WasHalted messages item (record { cause = threw object; thread = thread })
+LookTells messages item _ = Unit {0}
 
-abbrev HandTells : Wishes → Option Hand → Type 0
-HandTells w None = Unit {0}
-HandTells w (Some hand) = All (PartTells w hand.item) hand.parts
+abbrev PartTells : List Message → Item → Part → Type 0
+PartTells messages item (Part.Tells event) = EventTells messages item event
+PartTells messages item (Part.Responds outcome) = Unit {0}
+PartTells messages item (Part.Sends deed) = Unit {0}
+PartTells messages item (Part.Looks lookup) = LookTells messages item lookup
+PartTells messages item (Part.Awaits guard) = Unit {0}
+PartTells messages item Part.Updates = Unit {0}
+PartTells messages item (Part.Notes note) = Unit {0}
+PartTells messages item (Part.Unfolds choice) = Unit {0}
+PartTells messages item (Part.Ends finish) = Unit {0}
 
--- A hit is told at once ------------------------------------------------------------------------------------------------
+abbrev HandTells : List Message → Option Hand → Type 0
+HandTells messages None = Unit {0}
+HandTells messages (Some hand) = All (PartTells messages hand.item) hand.parts
 
-abbrev is_hit_cause : StopCause → Bool
-is_hit_cause (Hit at) = true
-is_hit_cause by_client = false
+-- More messages -------------------------------------------------------------------------------------------------------
 
-abbrev is_hit_event : Event → Bool
-is_hit_event (a_stop stopping) = is_hit_cause stopping.cause
-is_hit_event _ = false
+module _ (messages more : List Message) (item : Item) where
+  halted_still : {halt : Halt} → WasHalted messages item halt → WasHalted (messages ++ more) item halt
+  halted_still h = record {
+    earlier = h.earlier;
+    later = h.later ++ more;
+    there = h.there;
+    hand = h.hand;
+    messages_are = ap (λ (all : List Message). all ++ more) h.messages_are ∙ append_assoc h.earlier h.later more;
+    run = h.run;
+    is_held = h.is_held;
+    is_item = h.is_item;
+    bound = h.bound;
+    has_halted = h.has_halted;
+  }
 
-abbrev is_hit_part : Part → Bool
-is_hit_part (Part.Tells event) = is_hit_event event
-is_hit_part _ = false
+  named_still : {thread : ThreadId} {object : ObjectId} {text : Option (List ℕ)}
+      → WasNamed messages item thread object text → WasNamed (messages ++ more) item thread object text
+  named_still h = record {
+    earlier = h.earlier;
+    later = h.later ++ more;
+    there = h.there;
+    hand = h.hand;
+    messages_are = ap (λ (all : List Message). all ++ more) h.messages_are ∙ append_assoc h.earlier h.later more;
+    run = h.run;
+    is_held = h.is_held;
+    is_item = h.is_item;
+    done = h.done;
+    text_is = h.text_is;
+  }
 
-abbrev has_hit : List Part → Bool
-has_hit [] = false
-has_hit (part ∷ parts) = is_hit_part part || has_hit parts
+  told_still : {halt : Halt} {stopping : Stopping} → IsToldOf messages item halt stopping
+      → IsToldOf (messages ++ more) item halt stopping
+  told_still IsToldOf.of_breakpoint = IsToldOf.of_breakpoint
+  told_still (IsToldOf.of_exception named) = IsToldOf.of_exception (named_still named)
+  told_still IsToldOf.of_step = IsToldOf.of_step
 
-abbrev hit_first : List Part → Bool
-hit_first [] = true
-hit_first (part ∷ parts) = not (has_hit parts)
+  hit_still : {stopping : Stopping} → IsHit messages item stopping → IsHit (messages ++ more) item stopping
+  hit_still h =
+      record { halt = h.halt; was_halted = halted_still h.was_halted; is_told_of = told_still h.is_told_of }
 
-abbrev hits_first : Bool → List Part → Bool
-hits_first gone parts = hit_first parts
+  cause_still : (stopping : Stopping) (cause : StopCause) → StopOf messages item stopping cause
+      → StopOf (messages ++ more) item stopping cause
+  cause_still stopping (Hit at) h = hit_still h
+  cause_still stopping (by_exception text) h = hit_still h
+  cause_still stopping by_step h = hit_still h
+  cause_still stopping by_client h = h
 
-none_first : (parts : List Part) → has_hit parts ≡ false → hit_first parts ≡ true
-none_first [] is = refl
-none_first (part ∷ parts) is = grind (arith, is)
+  event_still : (event : Event) → EventTells messages item event → EventTells (messages ++ more) item event
+  event_still Initialized h = tt
+  event_still (some_news news) h = tt
+  event_still (a_stop stopping) h = cause_still stopping stopping.cause h
+  event_still Terminated h = tt
 
-row_none : (state : State) (command : Command) → has_hit (request_parts command state) ≡ false
-row_none state command = grind arith
+  look_still : (lookup : Lookup) → LookTells messages item lookup → LookTells (messages ++ more) item lookup
+  look_still (exception_text thread object) h = halted_still h
+  look_still all_threads h = tt
+  look_still (thread_frames thread start levels) h = tt
+  look_still (container_children thing filter start count) h = tt
+  look_still (exception_info thrown) h = tt
+  look_still class_facts h = tt
 
-begun_none : (state : State) (item : Item) → has_hit (parts_of state item) ≡ false
-begun_none state (a_request request) = row_none state request.command
-begun_none state target_end = grind arith
-begun_none state (a_composite at composite) = grind arith
-begun_none state (a_raw at body) = refl
+  part_still : (part : Part) → PartTells messages item part → PartTells (messages ++ more) item part
+  part_still (Part.Tells event) h = event_still event h
+  part_still (Part.Responds outcome) h = tt
+  part_still (Part.Sends deed) h = tt
+  part_still (Part.Looks lookup) h = look_still lookup h
+  part_still (Part.Awaits guard) h = tt
+  part_still Part.Updates h = tt
+  part_still (Part.Notes note) h = tt
+  part_still (Part.Unfolds choice) h = tt
+  part_still (Part.Ends finish) h = tt
 
-found_none : (lookup : Lookup) (result : Result Finding) (state : State) (rest : List Part)
-    → has_hit (finished lookup result state ++ rest) ≡ has_hit rest
-found_none all_threads result state rest = refl
-found_none (thread_frames thread start levels) result state rest = refl
-found_none (container_children thing filter start count) result state rest = refl
-found_none class_facts result state rest = refl
+  parts_still : (parts : List Part) → All (PartTells messages item) parts
+      → All (PartTells (messages ++ more) item) parts
+  parts_still [] h = tt
+  parts_still (part ∷ parts) h = (part_still part h.0, parts_still parts h.1)
 
-behind_none : (part : Part) (rest : List Part) → hit_first (part ∷ rest) ≡ true → has_hit rest ≡ false
-behind_none part rest is = by_bool (has_hit rest) is
-  where
-    by_bool : (has : Bool) → not has ≡ true → has ≡ false
-    by_bool true is = cc
-    by_bool false is = refl
-
-chosen_first : (choice : Choice) (state : State) (hand : Hand) (rest : List Part)
-    → hit_first (Part.Unfolds choice ∷ rest) ≡ true → hit_first (chosen choice state hand ++ rest) ≡ true
-chosen_first (TellsNews below) state hand rest is =
-    none_first (chosen (TellsNews below) state hand ++ rest)
-    (told_alike has_hit (λ news parts. refl) state.phase (news_of below state hand.item) rest
-    ∙ behind_none (Part.Unfolds (TellsNews below)) rest is)
-chosen_first (Leaves exits) state hand rest is =
-    none_first (chosen (Leaves exits) state hand ++ rest)
-    (by_phase state.phase ∙ behind_none (Part.Unfolds (Leaves exits)) rest is)
-  where
-    by_phase : (phase : Phase) → has_hit (leaves phase exits ++ rest) ≡ has_hit rest
-    by_phase Fresh = refl
-    by_phase Attached = refl
-    by_phase Gone = refl
-chosen_first Decides state hand rest is =
-    of_decided (λ (parts : List Part). hit_first (parts ++ rest) ≡ true)
-    (none_first rest (behind_none (Part.Unfolds Decides) rest is)) is is (λ stopping. is) (λ stopping. is) state hand.item
-
-first_test : IsTest hits_first
-first_test = record {
-  none = λ gone. refl;
-  tail = λ gone part rest is. none_first rest (behind_none part rest is);
-  begins = λ state item. none_first (parts_of state item) (begun_none state item);
-  unfolds = chosen_first;
-  finds = λ lookup result state rest is.
-      none_first (finished lookup result state ++ rest)
-      (found_none lookup result state rest ∙ behind_none (Part.Looks lookup) rest is);
-  gives_up = λ responds item. none_first (gone_parts responds item) (given_none responds item);
-}
-  where
-    given_none : (responds : Bool) (item : Item) → has_hit (gone_parts responds item) ≡ false
-    given_none responds item = grind arith
-
--- where no hit is left to tell, it doesn't matter what stands
-still_tells : (w now : Wishes) (item : Item) (parts : List Part) → has_hit parts ≡ false
-    → All (PartTells w item) parts → All (PartTells now item) parts
-still_tells w now item [] none h = tt
-still_tells w now item (part ∷ parts) none h = (
-  by_part part (none_of (is_hit_part part) (has_hit parts) none).0 h.0,
-  still_tells w now item parts (none_of (is_hit_part part) (has_hit parts) none).1 h.1,
-)
-  where
-    none_of : (one others : Bool) → (one || others) ≡ false → (one ≡ false) × (others ≡ false)
-    none_of true others is = cc
-    none_of false others is = (refl, is)
-
-    by_cause : (stopping : Stopping) (cause : StopCause) → is_hit_cause cause ≡ false
-        → StopOf w item stopping cause → StopOf now item stopping cause
-    by_cause stopping (Hit at) is h = cc
-    by_cause stopping by_client is h = h
-
-    by_event : (event : Event) → is_hit_event event ≡ false → EventTells w item event → EventTells now item event
-    by_event Initialized is h = tt
-    by_event (some_news news) is h = tt
-    by_event (a_stop stopping) is h = by_cause stopping stopping.cause is h
-    by_event Terminated is h = tt
-
-    by_part : (part : Part) → is_hit_part part ≡ false → PartTells w item part → PartTells now item part
-    by_part (Part.Tells event) is h = by_event event is h
-    by_part (Part.Responds outcome) is h = tt
-    by_part (Part.Sends deed) is h = tt
-    by_part (Part.Looks lookup) is h = tt
-    by_part (Part.Awaits guard) is h = tt
-    by_part Part.Updates is h = tt
-    by_part (Part.Notes note) is h = tt
-    by_part (Part.Unfolds choice) is h = tt
-    by_part (Part.Ends finish) is h = tt
+pub tells_still : (messages more : List Message) (hand : Option Hand) → HandTells messages hand
+    → HandTells (messages ++ more) hand
+tells_still messages more None h = tt
+tells_still messages more (Some hand) h = parts_still messages more hand.item hand.parts h
 
 -- The tables ----------------------------------------------------------------------------------------------------------
 
-row_tells : (w : Wishes) (item : Item) (command : Command) (state : State)
-    → (is_pause_command command ≡ true → is_pause item ≡ true) → All (PartTells w item) (row_of command state)
-row_tells w item (Initialize arguments) state is = (tt, (tt, tt))
-row_tells w item (Attach arguments) state is = (tt, (tt, (tt, (tt, (tt, (tt, tt))))))
-row_tells w item ConfigurationDone state is = by_entry state.entry
+step_tells : (messages : List Message) (item : Item) (depth : Depth) (thread : Option ThreadId)
+    → All (PartTells messages item) (step_parts depth thread)
+step_tells messages item depth None = (tt, tt)
+step_tells messages item depth (Some thread) = (tt, (tt, (tt, tt)))
+
+row_tells : (messages : List Message) (item : Item) (command : Command) (state : State)
+    → (is_pause_command command ≡ true → is_pause item ≡ true) → All (PartTells messages item) (row_of command state)
+row_tells messages item (Initialize arguments) state is = (tt, (tt, tt))
+row_tells messages item (Attach arguments) state is = (tt, (tt, (tt, (tt, (tt, (tt, tt))))))
+row_tells messages item ConfigurationDone state is = by_entry state.entry
   where
-    by_entry : (entry : Bool) → All (PartTells w item) (configured_parts entry)
+    by_entry : (entry : Bool) → All (PartTells messages item) (configured_parts entry)
     by_entry true = (tt, (tt, (tt, tt)))
     by_entry false = (tt, (tt, tt))
-row_tells w item (SetBreakpoints arguments) state is = (tt, (tt, (tt, (tt, (tt, (tt, tt))))))
-row_tells w item Threads state is = (tt, tt)
-row_tells w item (Continue arguments) state is = by_thread (thread_with state.threads arguments.thread_id)
+row_tells messages item (SetBreakpoints arguments) state is = (tt, (tt, (tt, (tt, (tt, (tt, tt))))))
+row_tells messages item (SetFunctionBreakpoints arguments) state is = (tt, (tt, (tt, (tt, (tt, (tt, tt))))))
+row_tells messages item (SetExceptionBreakpoints arguments) state is = (tt, (tt, (tt, tt)))
+row_tells messages item Threads state is = (tt, tt)
+row_tells messages item (Next arguments) state is =
+    step_tells messages item Over (stepped_thread state arguments.thread_id)
+row_tells messages item (StepIn arguments) state is =
+    step_tells messages item Into (stepped_thread state arguments.thread_id)
+row_tells messages item (StepOut arguments) state is =
+    step_tells messages item Out (stepped_thread state arguments.thread_id)
+row_tells messages item (ExceptionInfo arguments) state is =
+    by_thrown (option_and_then (thrown_first state.thrown) (thread_with state.threads arguments.thread_id))
   where
-    by_thread : (thread : Option ThreadId) → All (PartTells w item) (continue_parts thread)
+    by_thrown : (thrown : Option Thrown) → All (PartTells messages item) (exception_parts thrown)
+    by_thrown None = (tt, tt)
+    by_thrown (Some thrown) = (tt, tt)
+row_tells messages item (Continue arguments) state is = by_thread (thread_with state.threads arguments.thread_id)
+  where
+    by_thread : (thread : Option ThreadId) → All (PartTells messages item) (continue_parts thread)
     by_thread None = (tt, tt)
     by_thread (Some thread) = (tt, (tt, tt))
-row_tells w item (Pause arguments) state is =
+row_tells messages item (Pause arguments) state is =
     by_stop state.stopped (thread_with state.threads arguments.thread_id) (is refl)
   where
     by_stop : (stopped : Bool) (thread : Option ThreadId) → is_pause item ≡ true
-        → All (PartTells w item) (pause_parts stopped thread)
+        → All (PartTells messages item) (pause_parts stopped thread)
     by_stop stopped None is = (tt, tt)
     by_stop true (Some thread) is = (tt, tt)
-    by_stop false (Some thread) is = (tt, (tt, (is, tt)))
-row_tells w item (StackTrace arguments) state is = by_thread (thread_with state.threads arguments.thread_id)
+    by_stop false (Some thread) is = (tt, (tt, (tt, (tt, (is, tt)))))
+row_tells messages item (StackTrace arguments) state is = by_thread (thread_with state.threads arguments.thread_id)
   where
-    by_thread : (thread : Option ThreadId) → All (PartTells w item) (stack_parts thread arguments)
+    by_thread : (thread : Option ThreadId) → All (PartTells messages item) (stack_parts thread arguments)
     by_thread None = (tt, tt)
     by_thread (Some thread) = (tt, tt)
-row_tells w item (Scopes arguments) state is = by_frame (frame arguments.frame_id state.numbers)
+row_tells messages item (Scopes arguments) state is = by_frame (frame arguments.frame_id state.numbers)
   where
-    by_frame : (found : prelude.Result FrameThing RefFault) → All (PartTells w item) (scopes_parts state.numbers found)
+    by_frame : (found : prelude.Result FrameThing RefFault) → All (PartTells messages item) (scopes_parts state.numbers found)
     by_frame (Ok one) = (tt, tt)
     by_frame (Err fault) = (tt, tt)
-row_tells w item (Variables arguments) state is = by_thing (container arguments.variables_reference state.numbers)
+row_tells messages item (Variables arguments) state is = by_thing (container arguments.variables_reference state.numbers)
   where
-    by_thing : (found : prelude.Result Thing RefFault) → All (PartTells w item) (variables_parts arguments found)
+    by_thing : (found : prelude.Result Thing RefFault) → All (PartTells messages item) (variables_parts arguments found)
     by_thing (Ok thing) = (tt, tt)
     by_thing (Err fault) = (tt, tt)
-row_tells w item (Disconnect arguments) state is = (tt, (tt, (tt, tt)))
-row_tells w item Unsupported state is = (tt, tt)
-row_tells w item (BadArguments name) state is = (tt, tt)
+row_tells messages item (Disconnect arguments) state is = (tt, (tt, (tt, tt)))
+row_tells messages item Unsupported state is = (tt, tt)
+row_tells messages item (BadArguments name) state is = (tt, tt)
 
-unless_fails : (w : Wishes) (item : Item) (failure : Option Failure) (row : List Part) → All (PartTells w item) row
-    → All (PartTells w item) (parts_by failure row)
-unless_fails w item (Some failure) row h = (tt, tt)
-unless_fails w item None row h = h
+unless_fails : (messages : List Message) (item : Item) (failure : Option Failure) (row : List Part) → All (PartTells messages item) row
+    → All (PartTells messages item) (parts_by failure row)
+unless_fails messages item (Some failure) row h = (tt, tt)
+unless_fails messages item None row h = h
 
-begun_tells : (w : Wishes) (state : State) (item : Item) → All (PartTells w item) (parts_of state item)
-begun_tells w state (a_request request) =
-    unless_fails w (a_request request) (failure_of (wanting request.command) state) (row_of request.command state)
-    (row_tells w (a_request request) request.command state (λ is. is))
-begun_tells w state target_end = by_end state.terminated
+begun_tells : (messages : List Message) (state : State) (item : Item) → All (PartTells messages item) (parts_of state item)
+begun_tells messages state (a_request request) =
+    unless_fails messages (a_request request) (failure_of (wanting request.command) state) (row_of request.command state)
+    (row_tells messages (a_request request) request.command state (λ is. is))
+begun_tells messages state target_end = by_end state.terminated
   where
-    by_end : (told : Bool) → All (PartTells w target_end) (end_parts told)
+    by_end : (told : Bool) → All (PartTells messages target_end) (end_parts told)
     by_end true = tt
     by_end false = (tt, tt)
-begun_tells w state (a_composite at composite) =
+begun_tells messages state (a_composite at composite) =
     by_phase state.phase (has_death composite.events) composite.policy
   where
     by_phase : (phase : Phase) (dies : Bool) (policy : Policy)
-        → All (PartTells w (a_composite at composite)) (composite_parts phase dies policy at state.next_entry)
+        → All (PartTells messages (a_composite at composite)) (composite_parts phase dies policy at state.next_entry)
     by_phase Fresh dies policy = tt
     by_phase Attached true NoThread = (tt, tt)
     by_phase Attached true EventThread = (tt, tt)
@@ -369,60 +357,131 @@ begun_tells w state (a_composite at composite) =
     by_phase Attached false EventThread = (tt, tt)
     by_phase Attached false AllThreads = (tt, (tt, (tt, (tt, tt))))
     by_phase Gone dies policy = tt
-begun_tells w state (a_raw at body) = tt
+begun_tells messages state (a_raw at body) = tt
 
-found_tells : (w : Wishes) (item : Item) (lookup : Lookup) (result : Result Finding) (state : State) (rest : List Part)
-    → All (PartTells w item) rest → All (PartTells w item) (finished lookup result state ++ rest)
-found_tells w item all_threads result state rest h = (tt, h)
-found_tells w item (thread_frames thread start levels) result state rest h = (tt, h)
-found_tells w item (container_children thing filter start count) result state rest h = (tt, h)
-found_tells w item class_facts result state rest h = (tt, h)
+found_tells : {messages : List Message} {m : Machine} {hand : Hand} → Run messages m → m.hand ≡ Some hand
+    → (lookup : Lookup) (found : Need Finding) → found_for lookup m.state hand ≡ found → is_done found ≡ true
+    → (rest : List Part) → LookTells messages hand.item lookup → All (PartTells messages hand.item) rest
+    → All (PartTells messages hand.item) (finished lookup (result_of found) m.state ++ rest)
+found_tells r is all_threads found needs done rest looks h = (tt, h)
+found_tells r is (thread_frames thread start levels) found needs done rest looks h = (tt, h)
+found_tells r is (container_children thing filter start count) found needs done rest looks h = (tt, h)
+found_tells {messages} {m} {hand} r is (exception_text thread object) found needs done rest looks h = (
+  record {
+    halt = record { cause = threw object; thread = thread };
+    was_halted = looks;
+    is_told_of = IsToldOf.of_exception (record {
+      earlier = messages;
+      later = [];
+      there = m;
+      hand = hand;
+      messages_are = sym (append-nil messages);
+      run = r;
+      is_held = is;
+      is_item = refl;
+      done = ap is_done needs ∙ done;
+      text_is = ap (λ (found : Need Finding). text_of (result_of found)) (sym needs);
+    });
+  },
+  h,
+)
+found_tells r is (exception_info thrown) found needs done rest looks h = (tt, h)
+found_tells r is class_facts found needs done rest looks h = (tt, h)
 
-stop_of : (w : Wishes) (item : Item) (stopping : Stopping) → HasHit w (events_in item) stopping
-    → StopOf w item stopping stopping.cause
-stop_of w item stopping h = subst (λ (cause : StopCause). StopOf w item stopping cause) (sym h.cause) h
-
-chosen_tells : (choice : Choice) (state : State) (hand : Hand) (rest : List Part)
-    → All (PartTells state.wishes hand.item) rest
-    → All (PartTells state.wishes hand.item) (chosen choice state hand ++ rest)
-chosen_tells (TellsNews below) state hand rest h = by_news state.phase (news_of below state hand.item)
+-- what is decided of a composite tells of what halted a thread in it
+decided_tells : {messages : List Message} {m : Machine} {hand : Hand} → Run messages m → m.hand ≡ Some hand
+    → IsBoundFirst m.state → (rest : List Part) → All (PartTells messages hand.item) rest
+    → All (PartTells messages hand.item) (decided m.state hand.item ++ rest)
+decided_tells {messages} {m} {hand} r is bound rest h =
+    by_stop (is_attached m.state.phase) m.state.stopped (holds_entry m.state (events_in hand.item))
+    (thrown_in m.state.wishes (events_in hand.item))
+    (stop_among m.state.wishes (hits_in m.state.wishes (events_in hand.item)))
+    (told_halt (HasHalted m.state.wishes (events_in hand.item)) m.state.wishes
+    (hits_in m.state.wishes (events_in hand.item)) (hits_are m.state.wishes (events_in hand.item)))
   where
-    by_news : (phase : Phase) (news : List News)
-        → All (PartTells state.wishes hand.item) (told_in phase news ++ rest)
+    was : (halt : Halt) → HasHalted m.state.wishes (events_in hand.item) halt → WasHalted messages hand.item halt
+    was halt has_halted = record {
+      earlier = messages;
+      later = [];
+      there = m;
+      hand = hand;
+      messages_are = sym (append-nil messages);
+      run = r;
+      is_held = is;
+      is_item = refl;
+      bound = bound;
+      has_halted = has_halted;
+    }
+
+    told : (cause : HaltCause) (thread : ThreadId)
+        → HasHalted m.state.wishes (events_in hand.item) (record { cause = cause; thread = thread })
+        → PartTells messages hand.item (told_part cause thread)
+    told (came_to at) thread halted = record {
+      halt = record { cause = came_to at; thread = thread };
+      was_halted = was _ halted;
+      is_told_of = IsToldOf.of_breakpoint;
+    }
+    told (threw object) thread halted = was _ halted
+    told has_stepped thread halted = record {
+      halt = record { cause = has_stepped; thread = thread };
+      was_halted = was _ halted;
+      is_told_of = IsToldOf.of_step;
+    }
+
+    by_surplus : (stopped : Bool) → All (PartTells messages hand.item) (surplus stopped ++ rest)
+    by_surplus false = h
+    by_surplus true = (tt, h)
+
+    by_stop : (attached stopped holds : Bool) (thrown : List Thrown) (stop : Option Halt)
+        → OfSome (HasHalted m.state.wishes (events_in hand.item)) stop
+        → All (PartTells messages hand.item) (cond attached (decided_by stopped holds thrown stop) [] ++ rest)
+    by_stop false stopped holds thrown stop hit = h
+    by_stop true stopped true thrown None hit = (tt, h)
+    by_stop true stopped false thrown None hit = (tt, h)
+    by_stop true stopped holds thrown (Some halt) hit =
+        (tt, (tt, (tt, (told halt.cause halt.thread hit, by_surplus stopped))))
+
+chosen_tells : {messages : List Message} {m : Machine} {hand : Hand} → Run messages m → m.hand ≡ Some hand
+    → (choice : Choice) (rest : List Part) → (decides (Part.Unfolds choice) ≡ true → IsBoundFirst m.state)
+    → All (PartTells messages hand.item) rest
+    → All (PartTells messages hand.item) (chosen choice m.state hand ++ rest)
+chosen_tells {messages} {m} {hand} r is (TellsNews below) rest bound h =
+    by_news m.state.phase (news_of below m.state hand.item)
+  where
+    by_news : (phase : Phase) (news : List News) → All (PartTells messages hand.item) (told_in phase news ++ rest)
     by_news Fresh news = h
     by_news Gone news = h
     by_news Attached [] = h
     by_news Attached (one ∷ news) = (tt, by_news Attached news)
-chosen_tells (Leaves exits) state hand rest h = by_phase state.phase
+chosen_tells {messages} {m} {hand} r is (Leaves exits) rest bound h = by_phase m.state.phase
   where
-    by_phase : (phase : Phase) → All (PartTells state.wishes hand.item) (leaves phase exits ++ rest)
+    by_phase : (phase : Phase) → All (PartTells messages hand.item) (leaves phase exits ++ rest)
     by_phase Fresh = h
     by_phase Attached = (tt, h)
     by_phase Gone = h
-chosen_tells Decides state hand rest h =
-    by_stop (is_attached state.phase) state.stopped (holds_entry state (events_in hand.item))
-    (stop_among state.wishes (hits_in state.wishes (events_in hand.item)))
-    (told_hit state.wishes (events_in hand.item))
+chosen_tells r is Decides rest bound h = decided_tells r is (bound refl) rest h
+chosen_tells {messages} {m} {hand} r is Stepped rest bound h = by_code (refused_with hand.effect)
   where
-    by_stop : (attached stopped holds : Bool) (stop : Option Stopping)
-        → OfSome (HasHit state.wishes (events_in hand.item)) stop
-        → All (PartTells state.wishes hand.item) (cond attached (decided_by stopped holds stop) [] ++ rest)
-    by_stop false stopped holds stop hit = h
-    by_stop true stopped true None hit = (tt, h)
-    by_stop true stopped false None hit = (tt, h)
-    by_stop true false holds (Some stopping) hit = (stop_of state.wishes hand.item stopping hit, h)
-    by_stop true true holds (Some stopping) hit = (stop_of state.wishes hand.item stopping hit, (tt, h))
+    by_code : (code : Option ℕ) → All (PartTells messages hand.item) (stepped_by code ++ rest)
+    by_code None = (tt, (tt, h))
+    by_code (Some code) = (tt, (tt, (tt, h)))
 
-given_tells : (w : Wishes) (hand : Option Hand) → HandTells w (option_map given_up hand)
-given_tells w None = tt
-given_tells w (Some hand) = by_item (has_response hand.parts) hand.item
+given_tells : (messages : List Message) (hand : Option Hand) → HandTells messages (option_map given_up hand)
+given_tells messages None = tt
+given_tells messages (Some hand) = by_item (has_response hand.parts) hand.item
   where
-    by_row : (item : Item) (command : Command) → All (PartTells w item) (gone_row command)
+    by_row : (item : Item) (command : Command) → All (PartTells messages item) (gone_row command)
     by_row item (Disconnect arguments) = (tt, (tt, tt))
     by_row item (Initialize arguments) = (tt, tt)
     by_row item (Attach arguments) = (tt, tt)
     by_row item ConfigurationDone = (tt, tt)
     by_row item (SetBreakpoints arguments) = (tt, tt)
+    by_row item (SetFunctionBreakpoints arguments) = (tt, tt)
+    by_row item (SetExceptionBreakpoints arguments) = (tt, tt)
+    by_row item (Next arguments) = (tt, tt)
+    by_row item (StepIn arguments) = (tt, tt)
+    by_row item (StepOut arguments) = (tt, tt)
+    by_row item (ExceptionInfo arguments) = (tt, tt)
     by_row item Threads = (tt, tt)
     by_row item (Continue arguments) = (tt, tt)
     by_row item (Pause arguments) = (tt, tt)
@@ -432,12 +491,18 @@ given_tells w (Some hand) = by_item (has_response hand.parts) hand.item
     by_row item Unsupported = (tt, tt)
     by_row item (BadArguments name) = (tt, tt)
 
-    by_tail : (item : Item) (command : Command) → All (PartTells w item) (gone_tail command)
+    by_tail : (item : Item) (command : Command) → All (PartTells messages item) (gone_tail command)
     by_tail item (Disconnect arguments) = (tt, tt)
     by_tail item (Initialize arguments) = tt
     by_tail item (Attach arguments) = tt
     by_tail item ConfigurationDone = tt
     by_tail item (SetBreakpoints arguments) = tt
+    by_tail item (SetFunctionBreakpoints arguments) = tt
+    by_tail item (SetExceptionBreakpoints arguments) = tt
+    by_tail item (Next arguments) = tt
+    by_tail item (StepIn arguments) = tt
+    by_tail item (StepOut arguments) = tt
+    by_tail item (ExceptionInfo arguments) = tt
     by_tail item Threads = tt
     by_tail item (Continue arguments) = tt
     by_tail item (Pause arguments) = tt
@@ -447,7 +512,7 @@ given_tells w (Some hand) = by_item (has_response hand.parts) hand.item
     by_tail item Unsupported = tt
     by_tail item (BadArguments name) = tt
 
-    by_item : (responds : Bool) (item : Item) → All (PartTells w item) (gone_parts responds item)
+    by_item : (responds : Bool) (item : Item) → All (PartTells messages item) (gone_parts responds item)
     by_item true (a_request request) = by_row (a_request request) request.command
     by_item false (a_request request) = by_tail (a_request request) request.command
     by_item responds (a_composite at composite) = tt
@@ -456,133 +521,109 @@ given_tells w (Some hand) = by_item (has_response hand.parts) hand.item
 
 -- In runs -------------------------------------------------------------------------------------------------------------
 
-abbrev IsStopping : Machine → Type 0
-IsStopping m = HandTells m.state.wishes m.hand
+stops_front : (messages : List Message) {m : Machine} {hand : Hand} {part : Part} {rest : List Part}
+    → HandTells messages m.hand → IsAt m hand part rest → All (PartTells messages hand.item) (part ∷ rest)
+stops_front messages {m} {hand} h at =
+    subst (λ (parts : List Part). All (PartTells messages hand.item) parts) at.parts
+    (subst (λ (held : Option Hand). HandTells messages held) at.in_hand h)
 
-stops_front : {m : Machine} {hand : Hand} {part : Part} {rest : List Part} → IsStopping m → IsAt m hand part rest
-    → All (PartTells m.state.wishes hand.item) (part ∷ rest)
-stops_front {m} {hand} h at = subst (λ (parts : List Part). All (PartTells m.state.wishes hand.item) parts) at.parts
-    (subst (λ (held : Option Hand). HandTells m.state.wishes held) at.in_hand h)
+replied_tells : (messages : List Message) (command : TargetCommand) (replied : Replied) (hand : Option Hand)
+    → HandTells messages hand → HandTells messages (option_map (hand_replied command replied) hand)
+replied_tells messages command replied None h = tt
+replied_tells messages (a_question question) replied (Some hand) h = h
+replied_tells messages (an_effect effect) replied (Some hand) h = h
 
-same_wishes : {w now : Wishes} (hand : Option Hand) → now ≡ w → HandTells w hand → HandTells now hand
-same_wishes hand is h = subst (λ (w : Wishes). HandTells w hand) (sym is) h
+asked_tells : (messages : List Message) (want : Want) (hand : Option Hand) → HandTells messages hand
+    → HandTells messages (option_map (asked_hand want) hand)
+asked_tells messages want None h = tt
+asked_tells messages want (Some hand) h = h
 
-replied_tells : (w : Wishes) (command : TargetCommand) (replied : Replied) (hand : Option Hand)
-    → HandTells w hand → HandTells w (option_map (hand_replied command replied) hand)
-replied_tells w command replied None h = tt
-replied_tells w (a_question question) replied (Some hand) h = h
-replied_tells w (an_effect effect) replied (Some hand) h = h
-
-asked_tells : (w : Wishes) (want : Want) (hand : Option Hand) → HandTells w hand
-    → HandTells w (option_map (asked_hand want) hand)
-asked_tells w want None h = tt
-asked_tells w want (Some hand) h = h
-
--- an event request that is set or cleared stands before all hits
-settled_tells : (m : Machine) (hand : Hand) (effect : Effect) (replied : Replied) → m.hand ≡ Some hand
-    → Passed hits_first m → IsDue m.state.wishes (parts_left m.hand) (Some effect) → IsStopping m
-    → HandTells (wishes_after effect replied m.state.wishes) (Some hand)
-settled_tells m hand effect replied is f due h = by_effect effect due
-  where
-    told : HandTells m.state.wishes (Some hand)
-    told = subst (λ (held : Option Hand). HandTells m.state.wishes held) is h
-
-    first : hit_first hand.parts ≡ true
-    first = subst (λ (held : Option Hand). passed hits_first (is_gone m.state.phase) held ≡ true) is f
-
-    none : (parts : List Part) → hit_first parts ≡ true → starts_updates parts ≡ true → has_hit parts ≡ false
-    none [] is starts = cc
-    none (part ∷ parts) is starts = grind (arith, is, starts)
-
-    starts : starts_updates (parts_left m.hand) ≡ true → starts_updates hand.parts ≡ true
-    starts at = subst (λ (held : Option Hand). starts_updates (parts_left held) ≡ true) is at
-
-    by_effect : (effect : Effect) → IsDue m.state.wishes (parts_left m.hand) (Some effect)
-        → HandTells (wishes_after effect replied m.state.wishes) (Some hand)
-    by_effect (Does deed) due = told
-    by_effect (Set wish) due = still_tells m.state.wishes (wishes_after (Set wish) replied m.state.wishes) hand.item
-        hand.parts (none hand.parts first (starts (due refl).1)) told
-    by_effect (Clear wish request) due =
-        still_tells m.state.wishes (wishes_after (Clear wish request) replied m.state.wishes) hand.item
-        hand.parts (none hand.parts first (starts (due refl).1)) told
-
-stopping_on : (messages : List Message) (m next : Machine) (said : Option Message) → Run messages m → IsStopping m
-    → Moves m said next → IsStopping next
-stopping_on messages m next said r h (Moves.begins picked free none is) = begun_tells m.state.wishes m.state picked.item
+-- what the next one tells is what could be told before its message
+stopping_on : (messages : List Message) (m next : Machine) (said : Option Message) → Run messages m
+    → HandTells messages m.hand → Moves m said next → HandTells messages next.hand
+stopping_on messages m next said r h (Moves.begins picked free none is) = begun_tells messages m.state picked.item
 stopping_on messages m next said r h (Moves.drops free is none) = tt
-stopping_on messages m next said r h (Moves.responds {hand} {rest} {outcome = outcome} free at is) =
-    same_wishes (Some (record hand { parts = rest })) (numbered_wishes outcome m.state) (stops_front h at).1
+stopping_on messages m next said r h (Moves.responds free at is) = (stops_front messages h at).1
 stopping_on messages m next said r h (Moves.finds {hand} {rest} {lookup} found free at needs done) =
-    found_tells m.state.wishes hand.item lookup (result_of found) m.state rest (stops_front h at).1
-stopping_on messages m next said r h (Moves.passes_over free at why) = (stops_front h at).1
-stopping_on messages m next said r h (Moves.tells {hand} {rest} {event} free at) =
-    same_wishes (Some (record hand { parts = rest })) (event_wishes event m.state) (stops_front h at).1
-stopping_on messages m next said r h (Moves.sends free at near) = (stops_front h at).1
-stopping_on messages m next said r h (Moves.updates free at is near) = stops_front h at
+    let front = stops_front messages h at in found_tells r at.in_hand lookup found needs done rest front.0 front.1
+stopping_on messages m next said r h (Moves.passes_over free at why) = (stops_front messages h at).1
+stopping_on messages m next said r h (Moves.tells free at) = (stops_front messages h at).1
+stopping_on messages m next said r h (Moves.sends free at near) = (stops_front messages h at).1
+stopping_on messages m next said r h (Moves.updates free at is near) = stops_front messages h at
 stopping_on messages m next said r h (Moves.greets free at is near) = h
-stopping_on messages m next said r h (Moves.notes {hand} {note} {rest} free at) =
-    still_tells m.state.wishes (noted note m.state).wishes hand.item rest
-    (behind_none (Part.Notes note) rest (whole hits_first (tested first_test r) at)) (stops_front h at).1
+stopping_on messages m next said r h (Moves.notes free at) = (stops_front messages h at).1
 stopping_on messages m next said r h (Moves.unfolds {hand} {choice} {rest} free at) =
-    chosen_tells choice m.state hand rest (stops_front h at).1
+    chosen_tells r at.in_hand choice rest (λ is. bound_at_choice r at is) (stops_front messages h at).1
 stopping_on messages m next said r h (Moves.queues free is) =
-    subst (λ (held : Option Hand). HandTells m.state.wishes held) is h
+    subst (λ (held : Option Hand). HandTells messages held) is h
 stopping_on messages m next said r h (Moves.asks {want = want} free room is are) =
-    asked_tells m.state.wishes want m.hand h
+    asked_tells messages want m.hand h
 stopping_on messages m next said r h (Moves.hears read is) = h
 stopping_on messages m next said r h (Moves.greeted read is) = h
 stopping_on messages m next said r h (Moves.answers {question} {replied} is waits reply stays) =
-    same_wishes (option_map (hand_replied (a_question question) replied) m.hand) (learnt_wishes question replied m.state)
-    (replied_tells m.state.wishes (a_question question) replied m.hand h)
-stopping_on messages m next said r h (Moves.replies {effect} {replied} {hand} is flies reply stays) =
-    let near = near_flies m hand effect (quiet r) is flies in
-    let due = was_due m effect (settling r near).awaited (ap flying_in is ∙ ap flying_of flies) in
-    let now = settled_tells m hand effect replied is (tested first_test r) due h in
-    replied_tells (wishes_after effect replied m.state.wishes) (an_effect effect) replied m.hand
-    (subst (λ (held : Option Hand). HandTells (wishes_after effect replied m.state.wishes) held) (sym is) now)
+    replied_tells messages (a_question question) replied m.hand h
+stopping_on messages m next said r h (Moves.replies {effect} {replied} is flies reply stays) =
+    replied_tells messages (an_effect effect) replied m.hand h
 stopping_on messages m next said r h (Moves.late before after is reply) = h
 stopping_on messages m next said r h (Moves.ends gone) = h
-stopping_on messages m next said r h (Moves.loses late near why) = given_tells m.state.wishes m.hand
+stopping_on messages m next said r h (Moves.loses late near why) = given_tells messages m.hand
 stopping_on messages m next said r h (Moves.comes read sized taken) = h
 stopping_on messages m next said r h (Moves.keeps is) = h
 stopping_on messages m next said r h (Moves.reads before after read is none taken) = h
 
-always_stopping : {messages : List Message} {m : Machine} → Run messages m → IsStopping m
-always_stopping r = by_runs {Holds = λ (messages : List Message) (m : Machine). IsStopping m} (record {
+said_tells : (messages : List Message) (said : Option Message) (hand : Option Hand) → HandTells messages hand
+    → HandTells (with_said messages said) hand
+said_tells messages None hand h = h
+said_tells messages (Some message) hand h = tells_still messages (message ∷ []) hand h
+
+always_stopping : {messages : List Message} {m : Machine} → Run messages m → HandTells messages m.hand
+always_stopping r = by_runs {Holds = λ (messages : List Message) (m : Machine). HandTells messages m.hand} (record {
   starts = tt;
-  moves = λ messages m next said before h moved after. stopping_on messages m next said before h moved;
+  moves = λ messages m next said before h moved after.
+      said_tells messages said next.hand (stopping_on messages m next said before h moved);
 }) r
 
 -- The law -------------------------------------------------------------------------------------------------------------
 
 -- only a composite has hits
-no_hit : {A : Type 0} {w : Wishes} {stopping : Stopping} → HasHit w [] stopping → A
-no_hit {A} h = by_list h.before _ h.after h.events_are
+no_halt : {A : Type 0} {w : Wishes} {halt : Halt} → HasHalted w [] halt → A
+no_halt {A} h = by_list h.before h.event h.after h.events_are
   where
     by_list : (before : List ATargetEvent) (event : ATargetEvent) (after : List ATargetEvent)
         → [] ≡ before ++ event ∷ after → A
     by_list [] event after is = cc
     by_list (first ∷ before) event after is = cc
 
-told_stop : (m : Machine) (hand : Hand) (stopping : Stopping) (stop : Stopped) → m.hand ≡ Some hand
-    → IsToldAs m.state stopping stop → IsBoundFirst m.state → (item : Item) → hand.item ≡ item
-    → HasHit m.state.wishes (events_in item) stopping → IsStop m stop
-told_stop m hand stopping stop is told bound (a_request request) item hit = no_hit hit
-told_stop m hand stopping stop is told bound (a_composite at composite) item hit =
-    IsStop.by_hit stopping is item hit told bound
-told_stop m hand stopping stop is told bound (a_raw at body) item hit = no_hit hit
-told_stop m hand stopping stop is told bound target_end item hit = no_hit hit
+no_hit : {A : Type 0} {messages : List Message} {item : Item} {stopping : Stopping} → events_in item ≡ []
+    → IsHit messages item stopping → A
+no_hit none hit = no_halt (subst (λ (events : List ATargetEvent). HasHalted hit.was_halted.there.state.wishes events
+    hit.halt) none hit.was_halted.has_halted)
 
-asked_stop : (m : Machine) (hand : Hand) (stop : Stopped) → m.hand ≡ Some hand → stop.reason ≡ reasons.Pause
-    → m.state.stopped ≡ true → (item : Item) → hand.item ≡ item → is_pause item ≡ true → IsStop m stop
-asked_stop m hand stop is reason stopped (a_request request) item pauses = by_command request.command refl pauses
+told_stop : (messages : List Message) (m : Machine) (hand : Hand) (stopping : Stopping) (stop : Stopped)
+    → m.hand ≡ Some hand → IsToldAs m.state stopping stop → IsBoundFirst m.state → (item : Item) → hand.item ≡ item
+    → IsHit messages hand.item stopping → IsStop messages m stop
+told_stop messages m hand stopping stop is told bound (a_request request) item hit = no_hit (ap events_in item) hit
+told_stop messages m hand stopping stop is told bound (a_composite at composite) item hit =
+    IsStop.by_hit stopping is item hit told bound
+told_stop messages m hand stopping stop is told bound (a_raw at body) item hit = no_hit (ap events_in item) hit
+told_stop messages m hand stopping stop is told bound target_end item hit = no_hit (ap events_in item) hit
+
+asked_stop : (messages : List Message) (m : Machine) (hand : Hand) (stop : Stopped) → m.hand ≡ Some hand → stop.reason ≡ reasons.Pause
+    → m.state.stopped ≡ true → (item : Item) → hand.item ≡ item → is_pause item ≡ true → IsStop messages m stop
+asked_stop messages m hand stop is reason stopped (a_request request) item pauses = by_command request.command refl pauses
   where
-    by_command : (command : Command) → request.command ≡ command → is_pause_command command ≡ true → IsStop m stop
+    by_command : (command : Command) → request.command ≡ command → is_pause_command command ≡ true → IsStop messages m stop
     by_command (Pause arguments) same pauses = IsStop.by_pause is item same reason stopped
     by_command (Initialize arguments) same pauses = cc
     by_command (Attach arguments) same pauses = cc
     by_command ConfigurationDone same pauses = cc
     by_command (SetBreakpoints arguments) same pauses = cc
+    by_command (SetFunctionBreakpoints arguments) same pauses = cc
+    by_command (SetExceptionBreakpoints arguments) same pauses = cc
+    by_command (Next arguments) same pauses = cc
+    by_command (StepIn arguments) same pauses = cc
+    by_command (StepOut arguments) same pauses = cc
+    by_command (ExceptionInfo arguments) same pauses = cc
     by_command Threads same pauses = cc
     by_command (Continue arguments) same pauses = cc
     by_command (StackTrace arguments) same pauses = cc
@@ -591,18 +632,18 @@ asked_stop m hand stop is reason stopped (a_request request) item pauses = by_co
     by_command (Disconnect arguments) same pauses = cc
     by_command Unsupported same pauses = cc
     by_command (BadArguments name) same pauses = cc
-asked_stop m hand stop is reason stopped (a_composite at composite) item pauses = cc
-asked_stop m hand stop is reason stopped (a_raw at body) item pauses = cc
-asked_stop m hand stop is reason stopped target_end item pauses = cc
+asked_stop messages m hand stop is reason stopped (a_composite at composite) item pauses = cc
+asked_stop messages m hand stop is reason stopped (a_raw at body) item pauses = cc
+asked_stop messages m hand stop is reason stopped target_end item pauses = cc
 
 stop_at : {messages : List Message} (m next : Machine) (said : Option Message) (stop : Stopped) → Run messages m
-    → said ≡ Some (Message.tells (an_event (events.Stopped stop))) → Moves m said next → IsStop m stop
+    → said ≡ Some (Message.tells (an_event (events.Stopped stop))) → Moves m said next → IsStop messages m stop
 stop_at m next said stop r is (Moves.tells {event = Initialized} free at) = cc
 stop_at m next said stop r is (Moves.tells {event = some_news (entry_verified entry)} free at) = cc
 stop_at m next said stop r is (Moves.tells {event = some_news (thread_changed started thread)} free at) = cc
 stop_at m next said stop r is (Moves.tells {event = Terminated} free at) = cc
-stop_at m next said stop r is (Moves.tells {hand} {rest} {event = a_stop stopping} free at) =
-    by_cause stopping.cause refl (stops_front (always_stopping r) at).0 (first_may (may_front (holding r) at))
+stop_at {messages} m next said stop r is (Moves.tells {hand} {rest} {event = a_stop stopping} free at) =
+    by_cause stopping.cause refl (stops_front messages (always_stopping r) at).0 (first_may (may_front (holding r) at))
   where
     told : IsToldAs m.state stopping stop
     told = cc
@@ -618,12 +659,16 @@ stop_at m next said stop r is (Moves.tells {hand} {rest} {event = a_stop stoppin
     reason_is : stop.reason ≡ reason_told stopping.cause (after_event (a_stop stopping) m.state)
     reason_is = cc
 
-    by_cause : (cause : StopCause) → stopping.cause ≡ cause → StopOf m.state.wishes hand.item stopping cause
-        → may_stop cause m.state.stopped rest ≡ true → IsStop m stop
-    by_cause (Hit place) same hit may =
-        told_stop m hand stopping stop at.in_hand told (bound_at_stop r at) hand.item refl hit
+    by_hit : IsHit messages hand.item stopping → IsStop messages m stop
+    by_hit hit = told_stop messages m hand stopping stop at.in_hand told (bound_at_stop r at) hand.item refl hit
+
+    by_cause : (cause : StopCause) → stopping.cause ≡ cause → StopOf messages hand.item stopping cause
+        → may_stop cause m.state.stopped rest ≡ true → IsStop messages m stop
+    by_cause (Hit place) same hit may = by_hit hit
+    by_cause (by_exception text) same hit may = by_hit hit
+    by_cause by_step same hit may = by_hit hit
     by_cause by_client same pauses may =
-        asked_stop m hand stop at.in_hand (reason_is ∙ ap (λ (cause : StopCause).
+        asked_stop messages m hand stop at.in_hand (reason_is ∙ ap (λ (cause : StopCause).
         reason_told cause (after_event (a_stop stopping) m.state)) same) may hand.item refl pauses
 stop_at m next said stop r is (Moves.loses late near Loses.by_end) = cc
 stop_at m next said stop r is (Moves.loses late near (Loses.by_question held waits reply last)) = cc
@@ -699,11 +744,18 @@ surplus_at m next said stop r stopped hit is (Moves.tells {hand} {rest} {event =
         (record { in_hand = refl; parts = refl }))
     by_rest _ same only = cc
 
+    by_hit : cond m.state.stopped (only_resumes rest) true ≡ true
+        → (due false (left (knowing m (after_event (a_stop stopping) m.state)) hand rest)).act
+        ≡ Act.Sends (Does (Resume of_composite))
+    by_hit may = by_rest rest refl
+        (sym (ap (λ (stopped : Bool). cond stopped (only_resumes rest) true) stopped) ∙ may)
+
     by_cause : (cause : StopCause) → stopping.cause ≡ cause → may_stop cause m.state.stopped rest ≡ true
         → (due false (left (knowing m (after_event (a_stop stopping) m.state)) hand rest)).act
         ≡ Act.Sends (Does (Resume of_composite))
-    by_cause (Hit place) same may = by_rest rest refl
-        (sym (ap (λ (stopped : Bool). cond stopped (only_resumes rest) true) stopped) ∙ may)
+    by_cause (Hit place) same may = by_hit may
+    by_cause (by_exception text) same may = by_hit may
+    by_cause by_step same may = by_hit may
     by_cause by_client same may =
         absurd (hit (reason_is ∙ ap (λ (cause : StopCause). reason_told cause (after_event (a_stop stopping) m.state))
         same))
@@ -720,6 +772,6 @@ undoes_surplus messages m stop r stopped hit is =
     surplus_at m (due false m).next _ stop r stopped hit refl (moved (Allows.acts (ap said is)))
 
 pub tells_stops : (messages : List Message) (m : Machine) (stop : Stopped) → Run messages m
-    → (due false m).act ≡ Act.Tells (an_event (events.Stopped stop)) → IsStop m stop
+    → (due false m).act ≡ Act.Tells (an_event (events.Stopped stop)) → IsStop messages m stop
 tells_stops messages m stop r is =
     stop_at m (due false m).next _ stop r refl (moved (Allows.acts (ap said is)))

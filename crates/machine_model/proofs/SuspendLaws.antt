@@ -2,7 +2,7 @@
 use Rattle.std.proofs.Common.{◌≡◌, Bool, true, false, cond, List, [], ◌∷◌, ◌++◌, Option, Some, None, refl, ap, subst}
 use Rattle.std.proofs.Common.{◌∙◌, option_map, arith, ℕ}
 use Rattle.machine_model.specs.Due.{asked_hand, due}
-use Rattle.machine_model.specs.Knowing.{held_in, held_with, may_send, view_of}
+use Rattle.machine_model.specs.Knowing.{held_in, held_with, lookup_stops, may_send, view_of}
 use Rattle.machine_model.specs.Lookups.{finished}
 use Rattle.machine_model.specs.Names.{Act, Attached, Choice, Command, Configured, Decides, Deed, Does, EntryHeld}
 use Rattle.machine_model.specs.Names.{Event, Failure, Finding, Item, Leaves, Lookup, Note, Part, Phase, Replied}
@@ -10,7 +10,7 @@ use Rattle.machine_model.specs.Names.{Resume, Stopping, Suspension, TargetComman
 use Rattle.machine_model.specs.Names.{a_question, a_raw, a_request, a_stop, all_threads, an_effect, class_facts}
 use Rattle.machine_model.specs.Names.{of_composite, of_entry, of_stop, target_end}
 use Rattle.machine_model.specs.Names.{thread_frames}
-use Rattle.machine_model.specs.Names.{container_children}
+use Rattle.machine_model.specs.Names.{container_children, exception_info, exception_text, HaltCause, Stepped, ThreadId}
 use Rattle.machine_model.specs.Outcomes.{result_of}
 use Rattle.machine_model.specs.Plans.{Result}
 use Rattle.machine_model.specs.Replying.{hand_replied}
@@ -29,11 +29,12 @@ use Rattle.machine_model.proofs.SizeLaws.{parts_in}
 use Rattle.machine_model.proofs.Stepping.{IsAt, Loses, Moves, by_runs, moved}
 use Rattle.machine_model.proofs.Tables.{free, free_once, of_decided, told_alike}
 use Rattle.machine_model.proofs.Testing.{IsTest, Passed, same_noted, same_numbered, same_replied, tested, whole}
-use Rattle.machine_model.specs.Stops.{decided}
+use Rattle.machine_model.specs.Stops.{decided, surplus, told_part}
+use Rattle.machine_model.specs.Rows.{refused_with, stepped_by}
 use Rattle.machine_model.specs.Pending.{bit}
 use Rattle.machine_model.proofs.BindingHands.{binds_ahead}
 use Rattle.std.specs.Prelude.{◌+◌}
-use Rattle.machine_model.proofs.RequestSteps.{needs_set}
+use Rattle.machine_model.proofs.RequestSteps.{decides, is_choice, needs_set}
 
 -- Behind a Resume nothing more is set or bound ----------------------------------------------------------------------
 
@@ -41,7 +42,9 @@ use Rattle.machine_model.proofs.RequestSteps.{needs_set}
 abbrev is_resume : Part → Bool
 is_resume (Part.Sends (Resume suspension)) = true
 is_resume (Part.Tells (a_stop stopping)) = true
+is_resume (Part.Looks lookup) = lookup_stops lookup
 is_resume (Part.Unfolds Decides) = true
+is_resume (Part.Unfolds Stepped) = true
 is_resume _ = false
 
 -- a note that changes nothing of event requests
@@ -86,12 +89,13 @@ chosen_last : (choice : Choice) (state : State) (hand : Hand) (rest : List Part)
 chosen_last (TellsNews below) state hand rest is =
     told_alike resume_last (λ news parts. refl) state.phase (news_of below state hand.item) rest ∙ is
 chosen_last Decides state hand rest is = let last = rest_last (Part.Unfolds Decides) rest is in
-    of_decided (λ (parts : List Part). resume_last (parts ++ rest) ≡ true) last last is (λ stopping. is)
-    (λ stopping. twice (are_calm rest) (resume_last rest) is) state hand.item
+    of_decided (λ (parts : List Part). resume_last (parts ++ rest) ≡ true) last last is
+    (λ stopped thrown halt. by_stop stopped halt.cause halt.thread) state hand.item
   where
-    twice : (calm last : Bool) → cond calm last false ≡ true → cond calm (cond calm last false) false ≡ true
-    twice true last is = is
-    twice false last is = cc
+    by_stop : (stopped : Bool) (cause : HaltCause) (thread : ThreadId)
+        → resume_last (told_part cause thread ∷ surplus stopped ++ rest) ≡ true
+    by_stop stopped cause thread = grind (arith, is)
+chosen_last Stepped state hand rest is = grind (arith, is)
 chosen_last (Leaves exits) state hand rest is = grind (arith, is)
 
 last_test : IsTest ends_resumed
@@ -148,10 +152,12 @@ rest_resumed : (phase : Phase) (part : Part) (rest : List Part) → resumes_atta
 rest_resumed phase part rest is = grind (arith, is)
 
 found_same : (lookup : Lookup) (result : Result Finding) (state : State) (rest : List Part)
-    → has_resume (finished lookup result state ++ rest) ≡ has_resume rest
+    → has_resume (finished lookup result state ++ rest) ≡ has_resume (Part.Looks lookup ∷ rest)
 found_same all_threads result state rest = refl
 found_same (thread_frames thread start levels) result state rest = refl
 found_same (container_children thing filter start count) result state rest = refl
+found_same (exception_text thread object) result state rest = refl
+found_same (exception_info thrown) result state rest = refl
 found_same class_facts result state rest = refl
 
 chosen_resumed : (choice : Choice) (state : State) (hand : Hand) (rest : List Part)
@@ -166,6 +172,14 @@ chosen_resumed Decides state hand rest is =
     there true attached has is = refl
     there false attached true is = is
     there false attached false is = refl
+chosen_resumed Stepped state hand rest is =
+    attached_there (is_gone state.phase) (is_attached state.phase) (has_resume (stepped_by (refused_with hand.effect) ++ rest)) is
+  where
+    attached_there : (gone attached has : Bool) → cond gone true attached ≡ true
+        → cond gone true (cond has attached true) ≡ true
+    attached_there true attached has is = refl
+    attached_there false attached true is = is
+    attached_there false attached false is = refl
 chosen_resumed (Leaves exits) state hand rest is = grind (arith, is)
 
 event_resumed : (event : Event) (state : State) (rest : List Part) → resumes_attached state.phase rest ≡ true
@@ -190,8 +204,7 @@ resumed_on m next said h (Moves.drops {hand} free is none) =
 resumed_on m next said h (Moves.responds {rest = rest} {outcome = outcome} free at is) =
     rw (same_numbered outcome m.state) (rest_resumed m.state.phase (Part.Responds outcome) rest (at_front h at))
 resumed_on m next said h (Moves.finds {rest = rest} {lookup} found free at needs done) =
-    rw (found_same lookup (result_of found) m.state rest)
-    (rest_resumed m.state.phase (Part.Looks lookup) rest (at_front h at))
+    rw (found_same lookup (result_of found) m.state rest) (at_front h at)
 resumed_on m next said h (Moves.passes_over {part = part} {rest} free at why) =
     rest_resumed m.state.phase part rest (at_front h at)
 resumed_on m next said h (Moves.tells {rest = rest} {event} free at) =
@@ -246,30 +259,52 @@ bound_at m hand (Resume held) suspension rest s b t h near at is =
     }
 bound_at m hand deed suspension rest s b t h near at is = cc
 
--- a stop is told
+-- a stop is told, or it is decided on the suspension of a composite, or on a step
+abbrev stands_bound : Part → Bool
+stands_bound (Part.Tells (a_stop stopping)) = true
+stands_bound (Part.Unfolds choice) = is_choice choice
+stands_bound _ = false
+
+stands_near : (gone : Bool) (part : Part) (rest : List Part) → stands_bound part ≡ true
+    → free_once gone (part ∷ rest) ≡ true → gone ≡ false
+stands_near gone part rest is free = grind (arith, is, free)
+
+stands_calm : (part : Part) (rest : List Part) → stands_bound part ≡ true → resume_last (part ∷ rest) ≡ true
+    → are_calm rest ≡ true
+stands_calm part rest is last = grind (arith, is, last)
+
+stands_there : (phase : Phase) (part : Part) (rest : List Part) → stands_bound part ≡ true → is_gone phase ≡ false
+    → resumes_attached phase (part ∷ rest) ≡ true → is_attached phase ≡ true
+stands_there phase part rest is near there = grind (arith, is, near, there)
+
+stands_needs : (attached : Bool) (part : Part) (rest : List Part) → stands_bound part ≡ true
+    → needs_set attached rest ≡ true → needs_set attached (part ∷ rest) ≡ true
+stands_needs attached part rest is needs = grind (arith, is, needs)
+
+stands_binds : (part : Part) (rest : List Part) → stands_bound part ≡ true → binds_ahead rest ≡ false
+    → binds_ahead (part ∷ rest) ≡ false
+stands_binds part rest is none = grind (arith, is, none)
+
+bound_front : {messages : List Message} {m : Machine} {hand : Hand} {part : Part} {rest : List Part} → Run messages m
+    → IsAt m hand part rest → stands_bound part ≡ true → IsBoundFirst m.state
+bound_front {m = m} {hand} {part} {rest} r at is =
+    let near = stands_near (is_gone m.state.phase) part rest is (whole free_once (tested free r) at) in
+    let calm = stands_calm part rest is (whole ends_resumed (tested last_test r) at) in
+    record {
+      none_due = front_set m hand part rest (settling r near).set at
+          (stands_needs (is_attached m.state.phase) part rest is (calm_set (is_attached m.state.phase) rest calm
+          (stands_there m.state.phase part rest is near (at_front (resumed r) at))));
+      bound = (in_front (binding r near) at).bound (stands_binds part rest is (calm_binds rest calm));
+    }
+
 pub bound_at_stop : {messages : List Message} {m : Machine} {hand : Hand} {stopping : Stopping} {rest : List Part}
     → Run messages m → IsAt m hand (Part.Tells (a_stop stopping)) rest → IsBoundFirst m.state
-bound_at_stop {m = m} {hand} {stopping} {rest} r at =
-    let near = near_stop (is_gone m.state.phase) _ (whole free_once (tested free r) at) in
-    let calm = stop_calm (are_calm rest) (resume_last rest) (whole ends_resumed (tested last_test r) at) in
-    record {
-      none_due = front_set m hand (Part.Tells (a_stop stopping)) rest (settling r near).set at
-          (calm_set (is_attached m.state.phase) rest calm
-          (stop_there (is_gone m.state.phase) (is_attached m.state.phase) near (at_front (resumed r) at)));
-      bound = (in_front (binding r near) at).bound (calm_binds rest calm);
-    }
-  where
-    near_stop : (gone others : Bool) → cond (cond gone false true) others false ≡ true → gone ≡ false
-    near_stop true others is = cc
-    near_stop false others is = refl
+bound_at_stop r at = bound_front r at refl
 
-    stop_calm : (calm last : Bool) → cond calm last false ≡ true → calm ≡ true
-    stop_calm true last is = refl
-    stop_calm false last is = cc
-
-    stop_there : (gone attached : Bool) → gone ≡ false → cond gone true attached ≡ true → attached ≡ true
-    stop_there true attached near is = cc
-    stop_there false attached near is = is
+pub bound_at_choice : {messages : List Message} {m : Machine} {hand : Hand} {choice : Choice} {rest : List Part}
+    → Run messages m → IsAt m hand (Part.Unfolds choice) rest → decides (Part.Unfolds choice) ≡ true
+    → IsBoundFirst m.state
+bound_at_choice r at is = bound_front r at is
 
 resume_at : (m next : Machine) (said : Option Message) (suspension : Suspension) → Settling m → IsBinding m
     → Passed ends_resumed m → IsResumed m → said ≡ Some (Message.sends (an_effect (Does (Resume suspension))))

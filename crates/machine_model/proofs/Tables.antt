@@ -5,13 +5,17 @@ use Rattle.machine_model.specs.Lookups.{finished, lookup_responds}
 use Rattle.machine_model.specs.Names.{Attached, Choice, Classes, Command, Decides, EntryHeld, Failure, Finding, Fresh}
 use Rattle.machine_model.specs.Names.{Gone, Initialized, Item, Leaves, Lines, Lookup, News, Note, Part, Phase, Resume}
 use Rattle.machine_model.specs.Names.{Stopping, TellsNews, Terminated, a_composite, a_raw, a_request, a_stop}
-use Rattle.machine_model.specs.Names.{class_facts, of_composite, some_news, target_end}
+use Rattle.machine_model.specs.Names.{by_step, came_to, class_facts, exception_text, has_stepped, of_composite, some_news}
+use Rattle.machine_model.specs.Names.{target_end, threw, Functions, Halt, HaltCause, Hit, Stepped, Steps, StopsAt, ThreadId}
+use Rattle.machine_model.specs.Names.{Throws, Thrown}
+use Rattle.jdwp_values.specs.declared.id.ObjectId.{ObjectId}
 use Rattle.machine_model.specs.Plans.{Result}
 use Rattle.machine_model.specs.Rows.{choice_responds, chosen, each_told, failure_of, gone_parts, has_response, news_of}
 use Rattle.machine_model.specs.Rows.{is_response, told_in, parts_by, parts_of, request_parts, row_of, wanting}
 use Rattle.machine_model.specs.State.{Hand, State, is_attached, is_gone}
 use Rattle.machine_model.proofs.Testing.{IsTest, gone_behind}
-use Rattle.machine_model.specs.Stops.{decided, decided_by, events_in, hits_in, holds_entry, stop_among}
+use Rattle.machine_model.specs.Stops.{decided, decided_by, events_in, hit_parts, hits_in, holds_entry, stop_among}
+use Rattle.machine_model.specs.Stops.{surplus, thrown_in, told_part}
 use Rattle.machine_model.specs.Knowing.{is_last}
 
 -- Tests of parts ------------------------------------------------------------------------------------------------------
@@ -48,6 +52,9 @@ attaches _ = false
 -- it changes what is wanted, or becomes what does
 abbrev pub rewants : Part → Bool
 rewants (Part.Notes (Lines key path entries)) = true
+rewants (Part.Notes (Functions entries)) = true
+rewants (Part.Notes (StopsAt caught uncaught)) = true
+rewants (Part.Notes (Steps step)) = true
 rewants (Part.Notes (Classes classes)) = true
 rewants (Part.Looks class_facts) = true
 rewants _ = false
@@ -86,9 +93,9 @@ abbrev pub is_row : List Part → Bool
 is_row parts =
     cond (has_response parts) (cond (once_in parts) (cond (has_attach parts) (has_updates parts) true) false) false
 
--- parts that stand in any place: they set nothing, and turn no phase
+-- parts that stand in any place: they turn no phase
 abbrev pub is_plain : Part → Bool
-is_plain part = cond (is_updates part) false (cond (attaches part) false (not (is_last part)))
+is_plain part = cond (attaches part) false (not (is_last part))
 
 abbrev pub are_plain : List Part → Bool
 are_plain [] = true
@@ -106,31 +113,51 @@ row_sound failure command state = grind arith
 
 -- what holds of each decision on a suspension
 pub of_decided : (P : List Part → Type 0) → P [] → P (Part.Notes EntryHeld ∷ [])
-    → P (Part.Sends (Resume of_composite) ∷ []) → ((stopping : Stopping) → P (Part.Tells (a_stop stopping) ∷ []))
-    → ((stopping : Stopping) → P (Part.Tells (a_stop stopping) ∷ Part.Sends (Resume of_composite) ∷ []))
+    → P (Part.Sends (Resume of_composite) ∷ [])
+    → ((stopped : Bool) (thrown : List Thrown) (halt : Halt) → P (hit_parts stopped thrown halt))
     → (state : State) (item : Item) → P (decided state item)
-of_decided P none holds resumes stops goes_on state item =
+of_decided P none holds resumes stops state item =
     by_phase (is_attached state.phase) state.stopped (holds_entry state (events_in item))
-    (stop_among state.wishes (hits_in state.wishes (events_in item)))
+    (thrown_in state.wishes (events_in item)) (stop_among state.wishes (hits_in state.wishes (events_in item)))
   where
-    by_phase : (attached stopped held : Bool) (stop : Option Stopping)
-        → P (cond attached (decided_by stopped held stop) [])
-    by_phase false stopped held stop = none
-    by_phase true stopped true None = holds
-    by_phase true stopped false None = resumes
-    by_phase true false held (Some stopping) = stops stopping
-    by_phase true true held (Some stopping) = goes_on stopping
+    by_phase : (attached stopped held : Bool) (thrown : List Thrown) (stop : Option Halt)
+        → P (cond attached (decided_by stopped held thrown stop) [])
+    by_phase false stopped held thrown stop = none
+    by_phase true stopped true thrown None = holds
+    by_phase true stopped false thrown None = resumes
+    by_phase true stopped held thrown (Some halt) = stops stopped thrown halt
+
+-- what holds of each part that tells of a stop
+pub of_told : (P : Part → Type 0) → ((stopping : Stopping) → P (Part.Tells (a_stop stopping)))
+    → ((thread : ThreadId) (object : ObjectId) → P (Part.Looks (exception_text thread object))) → (halt : Halt)
+    → P (told_part halt.cause halt.thread)
+of_told P tells looks halt = by_cause halt.cause
+  where
+    by_cause : (cause : HaltCause) → P (told_part cause halt.thread)
+    by_cause (came_to at) = tells (record { cause = Hit at; thread = halt.thread })
+    by_cause (threw object) = looks halt.thread object
+    by_cause has_stepped = tells (record { cause = by_step; thread = halt.thread })
 
 -- and it changes nothing to what its parts change nothing to
 pub decided_alike : {A : Type 0} (f : List Part → A)
+    → ((thrown : List Thrown) (parts : List Part)
+    → f (Part.Notes (Throws thrown) ∷ Part.Notes (Steps None) ∷ Part.Updates ∷ parts) ≡ f parts)
     → ((stopping : Stopping) (parts : List Part) → f (Part.Tells (a_stop stopping) ∷ parts) ≡ f parts)
+    → ((thread : ThreadId) (object : ObjectId) (parts : List Part)
+    → f (Part.Looks (exception_text thread object) ∷ parts) ≡ f parts)
     → ((parts : List Part) → f (Part.Sends (Resume of_composite) ∷ parts) ≡ f parts)
     → ((parts : List Part) → f (Part.Notes EntryHeld ∷ parts) ≡ f parts)
     → (state : State) (item : Item) (rest : List Part) → f (decided state item ++ rest) ≡ f rest
-decided_alike f stops resumes holds state item rest =
+decided_alike f clears stops looks resumes holds state item rest =
     of_decided (λ (parts : List Part). f (parts ++ rest) ≡ f rest) refl (holds rest) (resumes rest)
-    (λ stopping. stops stopping rest)
-    (λ stopping. stops stopping (Part.Sends (Resume of_composite) ∷ rest) ∙ resumes rest) state item
+    (λ stopped thrown halt. clears thrown (told_part halt.cause halt.thread ∷ surplus stopped ++ rest)
+    ∙ of_told (λ (part : Part). f (part ∷ surplus stopped ++ rest) ≡ f (surplus stopped ++ rest))
+    (λ stopping. stops stopping (surplus stopped ++ rest)) (λ thread object. looks thread object (surplus stopped ++ rest))
+    halt ∙ by_surplus stopped) state item
+  where
+    by_surplus : (stopped : Bool) → f (surplus stopped ++ rest) ≡ f rest
+    by_surplus false = refl
+    by_surplus true = resumes rest
 
 told_plain : (news : List News) → are_plain (each_told news) ≡ true
 told_plain [] = refl
@@ -154,8 +181,9 @@ chosen_block (TellsNews below) state hand =
     by_phase Attached news = rw (told_once news, told_silent news) (told_plain news)
     by_phase Gone news = refl
 chosen_block Decides state hand =
-    of_decided (λ (parts : List Part). is_block false parts ≡ true) refl refl refl (λ stopping. refl)
-    (λ stopping. refl) state hand.item
+    of_decided (λ (parts : List Part). is_block false parts ≡ true) refl refl refl (λ stopped thrown halt. grind arith)
+    state hand.item
+chosen_block Stepped state hand = grind arith
 chosen_block (Leaves exits) state hand = grind arith
 
 pub finished_block : (lookup : Lookup) (result : Result Finding) (state : State)
@@ -251,11 +279,6 @@ plain_free : (parts : List Part) → are_plain parts ≡ true → free_once fals
 plain_free [] is = refl
 plain_free (part ∷ parts) is = grind (arith, plain_free parts)
 
-pub plain_updates : (parts rest : List Part) → are_plain parts ≡ true
-    → has_updates (parts ++ rest) ≡ has_updates rest
-plain_updates [] rest is = refl
-plain_updates (part ∷ parts) rest is = grind (arith, plain_updates parts rest)
-
 pub plain_attach : (parts rest : List Part) → are_plain parts ≡ true → has_attach (parts ++ rest) ≡ has_attach rest
 plain_attach [] rest is = refl
 plain_attach (part ∷ parts) rest is = grind (arith, plain_attach parts rest)
@@ -289,10 +312,18 @@ free_begun state target_end = grind arith
 free_begun state (a_composite at composite) = grind arith
 free_begun state (a_raw at body) = refl
 
+front_free : (gone : Bool) (part : Part) (rest : List Part) → free_once gone (part ∷ rest) ≡ true
+    → cond gone (is_free part) true ≡ true
+front_free gone part rest is = first (cond gone (is_free part) true) _ is
+  where
+    first : (one others : Bool) → cond one others false ≡ true → one ≡ true
+    first true others is = refl
+    first false others is = cc
+
 chosen_free : (choice : Choice) (state : State) (hand : Hand) (gone : Bool) → is_gone state.phase ≡ gone
-    → free_once gone (chosen choice state hand) ≡ true
-chosen_free choice state hand true is = grind (arith, is)
-chosen_free choice state hand false is = plain_free (chosen choice state hand) (chosen_is choice state hand).plain
+    → cond gone (is_free (Part.Unfolds choice)) true ≡ true → free_once gone (chosen choice state hand) ≡ true
+chosen_free choice state hand true is free = grind (arith, is, free)
+chosen_free choice state hand false is free = plain_free (chosen choice state hand) (chosen_is choice state hand).plain
 
 free_tail : (gone : Bool) (part : Part) (rest : List Part) → free_once gone (part ∷ rest) ≡ true
     → free_once (gone_behind part gone) rest ≡ true
@@ -316,7 +347,8 @@ free = record {
   begins = free_begun;
   unfolds = λ choice state hand rest is.
       free_joined (is_gone state.phase) (chosen choice state hand) rest (chosen_is choice state hand).plain
-      (chosen_free choice state hand (is_gone state.phase) refl) (same_gone (is_gone state.phase) choice rest is);
+      (chosen_free choice state hand (is_gone state.phase) refl (front_free (is_gone state.phase) (Part.Unfolds choice) rest is))
+      (same_gone (is_gone state.phase) choice rest is);
   finds = λ lookup result state rest is.
       found_free (is_gone state.phase) lookup (finished lookup result state) rest
       (finished_is lookup result state).plain is;
@@ -384,7 +416,9 @@ followed_chosen : (choice : Choice) (state : State) (hand : Hand) (rest : List P
 followed_chosen (TellsNews below) state hand rest is =
     told_alike are_followed (λ news parts. refl) state.phase (news_of below state hand.item) rest ∙ is
 followed_chosen Decides state hand rest is =
-    decided_alike are_followed (λ stopping parts. refl) (λ parts. refl) (λ parts. refl) state hand.item rest ∙ is
+    decided_alike are_followed (λ thrown parts. refl) (λ stopping parts. refl) (λ thread object parts. refl)
+    (λ parts. refl) (λ parts. refl) state hand.item rest ∙ is
+followed_chosen Stepped state hand rest is = grind (arith, is)
 followed_chosen (Leaves exits) state hand rest is = grind (arith, is)
 
 pub followed_test : IsTest followed

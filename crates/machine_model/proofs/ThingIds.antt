@@ -24,6 +24,7 @@ use Rattle.stop_refs.specs.Numbers.{InHand, with_thing}
 use Rattle.stop_refs.specs.Things.{same_thing}
 use Rattle.stop_refs.specs.declared.thing.Thing.{Thing}
 use Rattle.stop_refs.specs.declared.thing.Thing.TheVariants.{Frame as a_frame, Locals as some_locals}
+use Rattle.machine_model.specs.Names.{an_exception}
 
 -- what was told in a stop passes
 abbrev pub AreThings : (Id → Type 0) → InHand → Type 0
@@ -71,6 +72,7 @@ responded_things P (Success Nothing) state k h = h
 responded_things P (Success Capabilities) state k h = h
 responded_things P (Success (breakpoint_list rooted listed)) state k h = h
 responded_things P (Success Continued) state k h = h
+responded_things P (Success (an_exception id mode)) state k h = h
 responded_things P (Success (thread_list named)) state k h = h
 responded_things P (Success (frame_list total frames)) state k h =
     some_more P (things_of (frame_list total frames)) state.numbers (of_frames P frames k) h

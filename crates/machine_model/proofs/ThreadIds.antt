@@ -28,17 +28,25 @@ use Rattle.machine_model.specs.Rows.{chosen, configured_parts, continue_parts, e
 use Rattle.machine_model.specs.Rows.{leaves, news_of, noted, parts_by, parts_of, pause_parts, row_of, stack_parts}
 use Rattle.machine_model.specs.Rows.{taken, thread_with, told_in, wanting, gone_parts, gone_row, gone_tail}
 use Rattle.machine_model.specs.State.{Hand, State, is_attached}
-use Rattle.machine_model.specs.Stops.{decided_by, events_in, holds_entry, first_of, hit_by, hits_in, is_at_line, is_live, stop_among}
+use Rattle.machine_model.specs.Stops.{decided_by, events_in, holds_entry, hits_in, stop_among, surplus, thrown_in}
+use Rattle.machine_model.specs.Stops.{told_part}
+use Rattle.machine_model.proofs.HitIds.{ItemStands, OfHalt, all_thrown, each_event, halt_stands}
+use Rattle.machine_model.specs.Names.{ExceptionInfo, Halt, HaltCause, Next, SetExceptionBreakpoints, StepIn, StepOut}
+use Rattle.machine_model.specs.Names.{SetFunctionBreakpoints, Stepped, Throws, Thrown, an_exception, came_to}
+use Rattle.machine_model.specs.Names.{exception_info, exception_text, has_stepped, threw}
+use Rattle.machine_model.specs.Rows.{exception_parts, refused_with, step_parts, stepped_by, stepped_thread, thrown_first}
+use Rattle.wish_sets.specs.declared.wish.Depth.{Depth}
+use Rattle.wish_sets.specs.declared.wish.Depth.TheVariants.{Into, Out, Over}
 use Rattle.machine_model.specs.Telling.{after_event, is_among, numbered_by, with_thread, with_threads}
 use Rattle.machine_model.proofs.IdRows.{all_back, all_front, all_joined}
-use Rattle.machine_model.proofs.PlanIds.{OfNamed, OfThread, OnSome}
+use Rattle.machine_model.proofs.PlanIds.{OfNamed, OfThread, OfThrown, OnSome}
 use Rattle.machine_model.proofs.Standing.{PartStands}
 use Rattle.machine_model.proofs.StandingMoves.{told_thread}
 use Rattle.wish_sets.specs.Wishes.{Wishes}
 use Rattle.machine_model.specs.Names.{Scopes, Variables}
 use Rattle.machine_model.specs.Rows.{scopes_parts, variables_parts}
 use Rattle.std.specs.Prelude as prelude
-use Rattle.std.specs.Prelude.{Ok, Err}
+use Rattle.std.specs.Prelude.{Ok, Err, option_and_then, ℕ}
 use Rattle.stop_refs.specs.Numbers.{container, frame}
 use Rattle.stop_refs.specs.declared.fault.RefFault.{RefFault}
 use Rattle.stop_refs.specs.declared.thing.FrameThing.{FrameThing}
@@ -56,9 +64,20 @@ OfEvent P (some_news news) = OfNews P news
 OfEvent P (a_stop stopping) = OfThread P stopping.thread
 OfEvent P Terminated = Unit {0}
 
+-- what was thrown is looked up to be told, and is written down
+abbrev pub LookTells : (Id → Type 0) → Lookup → Type 0
+LookTells P (exception_text thread one) = OfThread P thread
+LookTells P _ = Unit {0}
+
+abbrev pub NoteTells : (Id → Type 0) → Note → Type 0
+NoteTells P (Throws thrown) = All (OfThrown P) thrown
+NoteTells P _ = Unit {0}
+
 -- the thread that a part tells passes
 abbrev pub TellStands : (Id → Type 0) → Part → Type 0
 TellStands P (Part.Tells event) = OfEvent P event
+TellStands P (Part.Looks lookup) = LookTells P lookup
+TellStands P (Part.Notes note) = NoteTells P note
 TellStands P _ = Unit {0}
 
 -- Threads that are told -----------------------------------------------------------------------------------------------
@@ -88,6 +107,7 @@ responded_threads P (Success (frame_list total frames)) state k h = h
 responded_threads P (Success (scope_list frame)) state k h = h
 responded_threads P (Success (variable_list shown)) state k h = h
 responded_threads P (Success Continued) state k h = h
+responded_threads P (Success (an_exception id mode)) state k h = h
 responded_threads P (Success (thread_list named)) state k h = some_more P state.threads named k h
 
 -- behind an event
@@ -117,6 +137,10 @@ replied_threads command replied state = grind arith
 
 -- Rows ----------------------------------------------------------------------------------------------------------------
 
+step_tells : (P : Id → Type 0) (depth : Depth) (thread : Option ThreadId) → All (TellStands P) (step_parts depth thread)
+step_tells P depth None = (tt, tt)
+step_tells P depth (Some thread) = (tt, (tt, (tt, tt)))
+
 row_tells : (P : Id → Type 0) (command : Command) (state : State) → All (OfThread P) state.threads
     → All (TellStands P) (row_of command state)
 row_tells P (Initialize arguments) state told = (tt, (tt, tt))
@@ -127,7 +151,18 @@ row_tells P ConfigurationDone state told = by_entry state.entry
     by_entry true = (tt, (tt, (tt, tt)))
     by_entry false = (tt, (tt, tt))
 row_tells P (SetBreakpoints arguments) state told = (tt, (tt, (tt, (tt, (tt, (tt, tt))))))
+row_tells P (SetFunctionBreakpoints arguments) state told = (tt, (tt, (tt, (tt, (tt, (tt, tt))))))
+row_tells P (SetExceptionBreakpoints arguments) state told = (tt, (tt, (tt, tt)))
 row_tells P Threads state told = (tt, tt)
+row_tells P (Next arguments) state told = step_tells P Over (stepped_thread state arguments.thread_id)
+row_tells P (StepIn arguments) state told = step_tells P Into (stepped_thread state arguments.thread_id)
+row_tells P (StepOut arguments) state told = step_tells P Out (stepped_thread state arguments.thread_id)
+row_tells P (ExceptionInfo arguments) state told =
+    by_thrown (option_and_then (thrown_first state.thrown) (thread_with state.threads arguments.thread_id))
+  where
+    by_thrown : (thrown : Option Thrown) → All (TellStands P) (exception_parts thrown)
+    by_thrown None = (tt, tt)
+    by_thrown (Some thrown) = (tt, tt)
 row_tells P (Continue arguments) state told = by_thread (thread_with state.threads arguments.thread_id)
   where
     by_thread : (thread : Option ThreadId) → All (TellStands P) (continue_parts thread)
@@ -140,7 +175,7 @@ row_tells P (Pause arguments) state told = by_stop state.stopped (thread_with st
         → All (TellStands P) (pause_parts stopped thread)
     by_stop stopped None k = (tt, tt)
     by_stop true (Some thread) k = (tt, tt)
-    by_stop false (Some thread) k = (tt, (tt, (k, tt)))
+    by_stop false (Some thread) k = (tt, (tt, (tt, (tt, (k, tt)))))
 row_tells P (StackTrace arguments) state told = by_thread (thread_with state.threads arguments.thread_id)
   where
     by_thread : (thread : Option ThreadId) → All (TellStands P) (stack_parts thread arguments)
@@ -190,32 +225,15 @@ begun_tells P state (a_composite at composite) told =
 begun_tells P state (a_raw at body) told = tt
 
 pub found_tells : (P : Id → Type 0) (lookup : Lookup) (result : Result Finding) (state : State) (rest : List Part)
-    → All (TellStands P) rest → All (TellStands P) (finished lookup result state ++ rest)
-found_tells P all_threads result state rest h = (tt, h)
-found_tells P (thread_frames thread start levels) result state rest h = (tt, h)
-found_tells P (container_children thing filter start count) result state rest h = (tt, h)
-found_tells P class_facts result state rest h = (tt, h)
+    → LookTells P lookup → All (TellStands P) rest → All (TellStands P) (finished lookup result state ++ rest)
+found_tells P all_threads result state rest k h = (tt, h)
+found_tells P (thread_frames thread start levels) result state rest k h = (tt, h)
+found_tells P (container_children thing filter start count) result state rest k h = (tt, h)
+found_tells P (exception_text thread one) result state rest k h = (k, h)
+found_tells P (exception_info thrown) result state rest k h = (tt, h)
+found_tells P class_facts result state rest k h = (tt, h)
 
 -- What a composite tells ----------------------------------------------------------------------------------------------
-
-abbrev pub ItemStands : (Id → Type 0) → Item → Type 0
-ItemStands P (a_composite at composite) = All P (ids_of_composite composite)
-ItemStands P _ = Unit {0}
-
-events_stand : (P : Id → Type 0) (item : Item) → ItemStands P item → All P (flat_map ids_of_event (events_in item))
-events_stand P (a_request request) h = tt
-events_stand P (a_composite at composite) h = h
-events_stand P (a_raw at body) h = tt
-events_stand P target_end h = tt
-
--- of each event what is told passes
-each_event : {A : Type 0} (P : Id → Type 0) (Good : A → Type 0) (f : ATargetEvent → List A)
-    → ((event : ATargetEvent) → All P (ids_of_event event) → All Good (f event)) → (events : List ATargetEvent)
-    → All P (flat_map ids_of_event events) → All Good (flat_map f events)
-each_event P Good f k [] h = tt
-each_event P Good f k (event ∷ events) h = all_joined Good (f event) (flat_map f events)
-    (k event (all_front P (ids_of_event event) (flat_map ids_of_event events) h))
-    (each_event P Good f k events (all_back P (ids_of_event event) (flat_map ids_of_event events) h))
 
 change_stands : (P : Id → Type 0) (event : ATargetEvent) → All P (ids_of_event event)
     → All (OfNews P) (change_told event)
@@ -229,44 +247,6 @@ changes_stand P (a_composite at composite) h =
     each_event P (OfNews P) change_told (change_stands P) composite.events h
 changes_stand P (a_raw at body) h = tt
 changes_stand P target_end h = tt
-
-abbrev OfStopping : (Id → Type 0) → Stopping → Type 0
-OfStopping P stopping = OfThread P stopping.thread
-
-hit_stands : (P : Id → Type 0) (wishes : Wishes) (event : ATargetEvent) → All P (ids_of_event event)
-    → All (OfStopping P) (hit_by wishes event)
-hit_stands P wishes (happened.Breakpoint request thread at) h = by_live (is_live wishes request)
-  where
-    by_live : (live : Bool) → All (OfStopping P) (cond live (record { cause = Hit at; thread = thread } ∷ []) [])
-    by_live true = (h.0, tt)
-    by_live false = tt
-hit_stands P wishes _ h = tt
-
-found_one : {A : Type 0} (Good : A → Type 0) (test : A → Bool) (list : List A) → All Good list
-    → OnSome Good (find test list)
-found_one Good test [] h = tt
-found_one {A} Good test (a ∷ others) h = by_test (test a) (found_one Good test others h.1)
-  where
-    by_test : (is : Bool) → OnSome Good (find test others) → OnSome Good (cond is (Some a) (find test others))
-    by_test true rest = h.0
-    by_test false rest = rest
-
-either_one : {A : Type 0} (Good : A → Type 0) (one other : Option A) → OnSome Good one → OnSome Good other
-    → OnSome Good (option_or one other)
-either_one Good None other h k = k
-either_one Good (Some a) other h k = h
-
-first_one : (P : Id → Type 0) (hits : List Stopping) → All (OfStopping P) hits → OnSome (OfStopping P) (first_of hits)
-first_one P [] h = tt
-first_one P (hit ∷ hits) h = h.0
-
-told_hit : (P : Id → Type 0) (wishes : Wishes) (events : List ATargetEvent) → All P (flat_map ids_of_event events)
-    → OnSome (OfStopping P) (stop_among wishes (hits_in wishes events))
-told_hit P wishes events h =
-    let hits = each_event P (OfStopping P) (hit_by wishes) (hit_stands P wishes) events h in
-    either_one (OfStopping P) (find (λ hit. is_at_line wishes hit.cause) (hits_in wishes events))
-    (first_of (hits_in wishes events)) (found_one (OfStopping P) _ (hits_in wishes events) hits)
-    (first_one P (hits_in wishes events) hits)
 
 -- Choices -------------------------------------------------------------------------------------------------------------
 
@@ -294,16 +274,30 @@ chosen_tells P (Leaves exits) state hand rest item h = by_phase state.phase
     by_phase Gone = h
 chosen_tells P Decides state hand rest item h =
     by_stop (is_attached state.phase) state.stopped (holds_entry state (events_in hand.item))
-    (stop_among state.wishes (hits_in state.wishes (events_in hand.item)))
-    (told_hit P state.wishes (events_in hand.item) (events_stand P hand.item item))
+    (thrown_in state.wishes (events_in hand.item)) (all_thrown P state.wishes hand.item item)
+    (stop_among state.wishes (hits_in state.wishes (events_in hand.item))) (halt_stands P state.wishes hand.item item)
   where
-    by_stop : (attached stopped holds : Bool) (stop : Option Stopping) → OnSome (OfStopping P) stop
-        → All (TellStands P) (cond attached (decided_by stopped holds stop) [] ++ rest)
-    by_stop false stopped holds stop hit = h
-    by_stop true stopped true None hit = (tt, h)
-    by_stop true stopped false None hit = (tt, h)
-    by_stop true false holds (Some stopping) hit = (hit, h)
-    by_stop true true holds (Some stopping) hit = (hit, (tt, h))
+    told : (cause : HaltCause) (thread : ThreadId) → OfThread P thread → TellStands P (told_part cause thread)
+    told (came_to at) thread k = k
+    told (threw one) thread k = k
+    told has_stepped thread k = k
+
+    by_surplus : (stopped : Bool) → All (TellStands P) (surplus stopped ++ rest)
+    by_surplus false = h
+    by_surplus true = (tt, h)
+
+    by_stop : (attached stopped holds : Bool) (thrown : List Thrown) → All (OfThrown P) thrown → (stop : Option Halt)
+        → OnSome (OfHalt P) stop → All (TellStands P) (cond attached (decided_by stopped holds thrown stop) [] ++ rest)
+    by_stop false stopped holds thrown k stop hit = h
+    by_stop true stopped true thrown k None hit = (tt, h)
+    by_stop true stopped false thrown k None hit = (tt, h)
+    by_stop true stopped holds thrown k (Some halt) hit =
+        (k, (tt, (tt, (told halt.cause halt.thread hit.0, by_surplus stopped))))
+chosen_tells P Stepped state hand rest item h = by_code (refused_with hand.effect)
+  where
+    by_code : (code : Option ℕ) → All (TellStands P) (stepped_by code ++ rest)
+    by_code None = (tt, (tt, h))
+    by_code (Some code) = (tt, (tt, (tt, h)))
 
 -- An item that is given up --------------------------------------------------------------------------------------------
 

@@ -5,14 +5,17 @@ use Rattle.std.proofs.lemmas.List.Folds.{list_any-append}
 use Rattle.std.specs.List.{flat_map, list_any}
 use Rattle.dap_messages.specs.declared.requests.SourceBreakpoint.{SourceBreakpoint}
 use Rattle.jdwp_values.specs.declared.id.ClassId.{ClassId}
-use Rattle.machine_model.specs.Breakpoints.{entry_of, has_id, key_of, numbered_from}
+use Rattle.dap_messages.specs.declared.requests.FunctionBreakpoint.{FunctionBreakpoint}
+use Rattle.machine_model.specs.Breakpoints.{entry_of, function_listed, functions_from, has_id, key_of, numbered_from}
 use Rattle.machine_model.specs.Names.{Attach, BadArguments, Classes, Command, ConfigurationDone, Configured, Continue}
 use Rattle.machine_model.specs.Names.{Disconnect, EntryHeld, Failure, Initialize, Item, Lines, ListedBreakpoint, Note}
 use Rattle.machine_model.specs.Names.{Options, Part, Pause, Phase, Roots, SetBreakpoints, Success, TellsNews, ThreadId}
 use Rattle.machine_model.specs.Names.{Threads, Unsupported, a_composite, a_raw, a_request, breakpoint_list}
 use Rattle.machine_model.specs.Names.{class_facts, entry_verified, some_news, target_end}
-use Rattle.machine_model.specs.Names.{Scopes, StackTrace, Variables}
-use Rattle.std.specs.Prelude.{Result, Ok, Err}
+use Rattle.machine_model.specs.Names.{Scopes, StackTrace, Variables, ExceptionInfo, Functions, Next}
+use Rattle.machine_model.specs.Names.{SetExceptionBreakpoints, SetFunctionBreakpoints, StepIn, StepOut, Steps}
+use Rattle.machine_model.specs.Names.{StopsAt, Throws, Thrown}
+use Rattle.std.specs.Prelude.{Result, Ok, Err, option_and_then}
 use Rattle.stop_refs.specs.Numbers.{container, frame}
 use Rattle.stop_refs.specs.declared.fault.RefFault.{RefFault}
 use Rattle.stop_refs.specs.declared.thing.FrameThing.{FrameThing}
@@ -21,31 +24,52 @@ use Rattle.machine_model.specs.Knowing.{is_fresh}
 use Rattle.machine_model.specs.Requests.{Wishes}
 use Rattle.machine_model.specs.Rows.{breakpoint_parts, configured_parts, continue_parts, end_parts, failure_of}
 use Rattle.machine_model.specs.Rows.{if_attached, noted, parts_by, parts_of, pause_parts, row_of, thread_with, wanting}
-use Rattle.machine_model.specs.Rows.{scopes_parts, stack_parts, variables_parts}
+use Rattle.machine_model.specs.Rows.{exception_parts, scopes_parts, stack_parts}
+use Rattle.machine_model.specs.Rows.{step_parts, stepped_thread, thrown_first, variables_parts}
 use Rattle.machine_model.specs.State.{State}
 use Rattle.class_tables.specs.Lookups.{Lookups, found_in}
 use Rattle.class_tables.specs.Tables.{put}
-use Rattle.wish_sets.specs.Wanted.{Wanted, with_class, with_known, with_lines}
+use Rattle.wish_sets.specs.Wanted.{Wanted, with_class, with_exceptions, with_functions, with_known, with_lines}
+use Rattle.wish_sets.specs.Wanted.{with_step}
+use Rattle.wish_sets.specs.Entries.{has_location}
+use Rattle.wish_sets.specs.Places.{places}
+use Rattle.wish_sets.specs.Wishes.{is_installed, is_missing, rewished}
+use Rattle.wish_sets.specs.declared.entry.FunctionEntry.{FunctionEntry}
 use Rattle.wish_sets.specs.declared.entry.LineEntry.{LineEntry}
-use Rattle.machine_model.proofs.VerifiedLaws.{both, is_it, is_listed, is_placed, is_shown, or_right}
+use Rattle.wish_sets.specs.declared.wish.Depth.{Depth}
+use Rattle.wish_sets.specs.declared.wish.Depth.TheVariants.{Into, Out, Over}
+use Rattle.machine_model.proofs.BareLaws.{bare_rewished, is_bare}
+use Rattle.machine_model.proofs.VerifiedLaws.{both, function_mark, is_it, is_listed, is_placed, is_shown, line_mark}
+use Rattle.machine_model.proofs.VerifiedLaws.{line_marks, marks, or_right}
 
 -- Parts ---------------------------------------------------------------------------------------------------------------
 
--- it changes what is verified, or becomes what does
-abbrev pub changes : Part → Bool
-changes Part.Updates = true
-changes (Part.Looks class_facts) = true
-changes (Part.Notes (Lines key path entries)) = true
-changes (Part.Notes (Classes classes)) = true
-changes _ = false
+-- it changes where breakpoints are bound, or becomes what does
+abbrev pub rebinds : Part → Bool
+rebinds (Part.Looks class_facts) = true
+rebinds (Part.Notes (Lines key path entries)) = true
+rebinds (Part.Notes (Functions entries)) = true
+rebinds (Part.Notes (Classes classes)) = true
+rebinds _ = false
 
-abbrev pub is_lines : Part → Bool
-is_lines (Part.Notes (Lines key path entries)) = true
-is_lines _ = false
+-- Something may be verified by it: where a location is bare, by the event requests that are set.
+abbrev pub verifies : Bool → Part → Bool
+verifies bare Part.Updates = bare
+verifies bare part = rebinds part
 
-abbrev pub has_lines : List Part → Bool
-has_lines [] = false
-has_lines (part ∷ parts) = cond (is_lines part) true (has_lines parts)
+-- whether a location may be bare behind it
+abbrev pub bare_behind : Bool → Part → Bool
+bare_behind bare Part.Updates = false
+bare_behind bare part = bare || rebinds part
+
+abbrev pub is_list : Part → Bool
+is_list (Part.Notes (Lines key path entries)) = true
+is_list (Part.Notes (Functions entries)) = true
+is_list _ = false
+
+abbrev pub has_lists : List Part → Bool
+has_lists [] = false
+has_lists (part ∷ parts) = cond (is_list part) true (has_lists parts)
 
 abbrev pub is_asked : Item → Bool
 is_asked (a_request request) = true
@@ -53,15 +77,10 @@ is_asked (a_composite at composite) = false
 is_asked (a_raw at body) = false
 is_asked target_end = false
 
-known_lists : (known : Lookups) (classes : List ClassId) (wanted : Wanted)
-    → (with_known known classes wanted).lists ≡ wanted.lists
-known_lists known [] wanted = refl
-known_lists known (class ∷ classes) wanted = known_lists known classes (with_class known class wanted)
-
-known_functions : (known : Lookups) (classes : List ClassId) (wanted : Wanted)
-    → (with_known known classes wanted).functions ≡ wanted.functions
-known_functions known [] wanted = refl
-known_functions known (class ∷ classes) wanted = known_functions known classes (with_class known class wanted)
+known_marks : (known : Lookups) (classes : List ClassId) (wanted : Wanted)
+    → marks (with_known known classes wanted) ≡ marks wanted
+known_marks known [] wanted = refl
+known_marks known (class ∷ classes) wanted = known_marks known classes (with_class known class wanted)
 
 module _ (id : ℕ) where
   -- What is left tells of it ------------------------------------------------------------------------------------------
@@ -78,53 +97,75 @@ module _ (id : ℕ) where
   will_tell asked [] = false
   will_tell asked (part ∷ parts) = tells_it asked part || will_tell asked parts
 
-  -- behind each such part the breakpoint is told
-  abbrev pub covers : Bool → List Part → Bool
-  covers asked [] = true
-  covers asked (part ∷ parts) = cond (cond (changes part) (will_tell asked parts) true) (covers asked parts) false
+  -- behind each part that may verify it the breakpoint is told
+  abbrev pub covers : Bool → Bool → List Part → Bool
+  covers asked bare [] = true
+  covers asked bare (part ∷ parts) =
+      cond (cond (verifies bare part) (will_tell asked parts) true) (covers asked (bare_behind bare part) parts) false
 
-  -- a list that is to be written down stands in front; its breakpoints get the next ids, and are told behind it
+  -- so it is where no location is bare
+  pub calmer : (asked bare : Bool) (parts : List Part) → covers asked true parts ≡ true → covers asked bare parts ≡ true
+  calmer asked bare [] is = refl
+  calmer asked true (part ∷ parts) is = is
+  calmer asked false (Part.Updates ∷ parts) is = (both (will_tell asked parts) (covers asked false parts) is).1
+  calmer asked false (part ∷ parts) is = by_test (rebinds part) is (calmer asked false parts)
+    where
+      by_test : (binds : Bool) → cond (cond binds (will_tell asked parts) true) (covers asked true parts) false ≡ true
+          → (covers asked true parts ≡ true → covers asked false parts ≡ true)
+          → cond (cond binds (will_tell asked parts) true) (covers asked binds parts) false ≡ true
+      by_test true is again = is
+      by_test false is again = again is
+
+  -- What is written down numbers these breakpoints, so many: they get the next ids, and are told behind it.
+  abbrev pub Numbers : Bool → Phase → ℕ → List (ℕ × Bool) → ℕ → List Part → Type 0
+  Numbers asked phase next those count rest =
+      (has_lists rest ≡ false) × (is_fresh phase ≡ false) × (list_any (is_it id) those ≡ true
+      → (nat_lt id (next + count) ≡ true) × (will_tell asked rest ≡ true) × (covers asked true rest ≡ true))
+
+  -- a list that is to be written down stands in front
   abbrev pub AreNoted : Bool → Phase → ℕ → List Part → Type 0
   AreNoted asked phase next [] = Unit {0}
   AreNoted asked phase next (Part.Notes (Lines (Some key) path entries) ∷ rest) =
-      (has_lines rest ≡ false) × (is_fresh phase ≡ false) × (list_any (is_it id) entries ≡ true
-      → (nat_lt id (next + length entries) ≡ true) × (will_tell asked rest ≡ true) × (covers asked rest ≡ true))
-  AreNoted asked phase next (_ ∷ rest) = has_lines rest ≡ false
+      Numbers asked phase next (map line_mark entries) (length entries) rest
+  AreNoted asked phase next (Part.Notes (Functions entries) ∷ rest) =
+      Numbers asked phase next (map function_mark entries) (length entries) rest
+  AreNoted asked phase next (_ ∷ rest) = has_lists rest ≡ false
 
-  pub none_noted : (asked : Bool) (phase : Phase) (next : ℕ) (parts : List Part) → has_lines parts ≡ false
+  pub none_noted : (asked : Bool) (phase : Phase) (next : ℕ) (parts : List Part) → has_lists parts ≡ false
       → AreNoted asked phase next parts
   none_noted asked phase next [] is = tt
   none_noted asked phase next (Part.Notes (Lines key path entries) ∷ rest) is = cc
+  none_noted asked phase next (Part.Notes (Functions entries) ∷ rest) is = cc
   none_noted asked phase next (_ ∷ rest) is = is
 
   -- Of the breakpoint: where it is verified, the client was told, or what is left tells it; and what is left tells it
   -- behind all that may verify it.
-  pub record Covers (asked : Bool) (w : Wishes) (phase : Phase) (next : ℕ) (ids : List ℕ) (parts : List Part) : Type 0 where
-    pub functions : w.wanted.functions ≡ []
+  pub record Covers (asked : Bool) (w : Wishes) (phase : Phase) (next : ℕ) (ids : List ℕ) (parts : List Part)
+      : Type 0 where
     pub early : is_fresh phase ≡ true → is_listed id w.wanted ≡ false
     pub below : is_listed id w.wanted ≡ true → nat_lt id next ≡ true
     pub noted : AreNoted asked phase next parts
-    pub covered : is_listed id w.wanted ≡ true → covers asked parts ≡ true
+    pub covered : is_listed id w.wanted ≡ true → covers asked (is_bare id w) parts ≡ true
     pub told : is_listed id w.wanted ≡ true → is_placed id w ≡ true → (has_id ids id || will_tell asked parts) ≡ true
 
-  pub covers_rest : (asked : Bool) (part : Part) (rest : List Part) → covers asked (part ∷ rest) ≡ true
-      → covers asked rest ≡ true
-  covers_rest asked part rest is =
-      (both (cond (changes part) (will_tell asked rest) true) (covers asked rest) is).1
+  pub covers_rest : (asked bare : Bool) (part : Part) (rest : List Part) → covers asked bare (part ∷ rest) ≡ true
+      → covers asked (bare_behind bare part) rest ≡ true
+  covers_rest asked bare part rest is =
+      (both (cond (verifies bare part) (will_tell asked rest) true) (covers asked (bare_behind bare part) rest) is).1
 
   -- a part is done that told the breakpoint, or doesn't tell it
   pub passes : {asked : Bool} {w : Wishes} {phase : Phase} {next : ℕ} {ids : List ℕ} (now : Phase) (known : List ℕ)
-      (part : Part) (rest : List Part) → Covers asked w phase next ids (part ∷ rest) → has_lines rest ≡ false
-      → (is_fresh now ≡ true → is_fresh phase ≡ true)
+      (part : Part) (rest : List Part) → Covers asked w phase next ids (part ∷ rest) → has_lists rest ≡ false
+      → bare_behind (is_bare id w) part ≡ is_bare id w → (is_fresh now ≡ true → is_fresh phase ≡ true)
       → (is_listed id w.wanted ≡ true → is_placed id w ≡ true → (has_id ids id || tells_it asked part) ≡ true
       → has_id known id ≡ true)
       → Covers asked w now next known rest
-  passes {asked} {w} {phase} {next} {ids} now known part rest c none fresh tells = record {
-    functions = c.functions;
+  passes {asked} {w} {phase} {next} {ids} now known part rest c none bare fresh tells = record {
     early = λ is. c.early (fresh is);
     below = c.below;
     noted = none_noted asked now next rest none;
-    covered = λ is. covers_rest asked part rest (c.covered is);
+    covered = λ is. sym (ap (λ b. covers asked b rest) bare)
+        ∙ covers_rest asked (is_bare id w) part rest (c.covered is);
     told = λ is placed. by_bools (has_id ids id) (tells_it asked part) (will_tell asked rest) (has_id known id)
         (c.told is placed) (tells is placed);
   }
@@ -135,25 +176,30 @@ module _ (id : ℕ) where
 
   -- a part is done that tells nothing
   pub skips : {asked : Bool} {w : Wishes} {phase : Phase} {next : ℕ} {ids : List ℕ} (now : Phase) (part : Part)
-      (rest : List Part) → Covers asked w phase next ids (part ∷ rest) → has_lines rest ≡ false
-      → (is_fresh now ≡ true → is_fresh phase ≡ true) → tells_it asked part ≡ false
-      → Covers asked w now next ids rest
-  skips {asked} {ids = ids} now part rest c none fresh silent =
-      passes now ids part rest c none fresh (λ is placed known. by_bools (has_id ids id) (tells_it asked part) known silent)
+      (rest : List Part) → Covers asked w phase next ids (part ∷ rest) → has_lists rest ≡ false
+      → bare_behind (is_bare id w) part ≡ is_bare id w → (is_fresh now ≡ true → is_fresh phase ≡ true)
+      → tells_it asked part ≡ false → Covers asked w now next ids rest
+  skips {asked} {ids = ids} now part rest c none bare fresh silent =
+      passes now ids part rest c none bare fresh
+      (λ is placed known. by_bools (has_id ids id) (tells_it asked part) known silent)
     where
       by_bools : (was tells : Bool) → (was || tells) ≡ true → tells ≡ false → was ≡ true
       by_bools was tells is none = grind (arith, is, none)
+
+  -- a location is as bare behind a part that changes nothing
+  pub as_bare : (bare : Bool) → (bare || false) ≡ bare
+  as_bare bare = grind arith
 
   -- Rows --------------------------------------------------------------------------------------------------------------
 
   row_covers : (failure : Option Failure) (command : Command) (state : State) → nat_lt id state.next_entry ≡ true
       → is_fresh state.phase ≡ false → failure_of (wanting command) state ≡ failure
-      → covers true (parts_by failure (row_of command state)) ≡ true
+      → covers true false (parts_by failure (row_of command state)) ≡ true
   row_covers None (Attach arguments) state is near same = grind (arith, near, same)
   row_covers failure command state is near same = grind (arith, is)
 
   begun_covers : (state : State) (item : Item) → nat_lt id state.next_entry ≡ true → is_fresh state.phase ≡ false
-      → covers (is_asked item) (parts_of state item) ≡ true
+      → covers (is_asked item) false (parts_of state item) ≡ true
   begun_covers state (a_request request) is near =
       row_covers (failure_of (wanting request.command) state) request.command state is near refl
   begun_covers state target_end is near = grind arith
@@ -161,26 +207,90 @@ module _ (id : ℕ) where
   begun_covers state (a_raw at body) is near = refl
 
   -- the breakpoints of a list are told in its response
-  shown_in : (from_one : Bool) (listed : List ListedBreakpoint)
-      → list_any (is_it id) (map (entry_of from_one) listed) ≡ list_any (is_shown id) listed
-  shown_in from_one [] = refl
-  shown_in from_one (one ∷ listed) = ap (λ b. is_shown id one || b) (shown_in from_one listed)
+  lines_shown : (from_one : Bool) (listed : List ListedBreakpoint)
+      → list_any (is_it id) (map line_mark (map (entry_of from_one) listed)) ≡ list_any (is_shown id) listed
+  lines_shown from_one [] = refl
+  lines_shown from_one (one ∷ listed) = ap (λ b. is_shown id one || b) (lines_shown from_one listed)
 
-  -- they have the next ids
-  below_next : (from_one : Bool) (next : ℕ) (those : List SourceBreakpoint)
-      → list_any (is_it id) (map (entry_of from_one) (numbered_from next those)) ≡ true
-      → nat_lt id (next + length (map (entry_of from_one) (numbered_from next those))) ≡ true
-  below_next from_one next [] is = cc
-  below_next from_one next (one ∷ those) is =
-      by_tests (next == id) refl one.plain (length (map (entry_of from_one) (numbered_from (next + 1) those))) is
-      (below_next from_one (next + 1) those)
+  functions_shown : (entries : List FunctionEntry)
+      → list_any (is_it id) (map function_mark entries) ≡ list_any (is_shown id) (map function_listed entries)
+  functions_shown [] = refl
+  functions_shown (one ∷ entries) = ap (λ b. is_it id (function_mark one) || b) (functions_shown entries)
+
+  -- breakpoints that have the next ids
+  abbrev marks_from : ℕ → List Bool → List (ℕ × Bool)
+  marks_from next [] = []
+  marks_from next (plain ∷ others) = (next, plain) ∷ marks_from (next + 1) others
+
+  below_next : (next : ℕ) (plains : List Bool) → list_any (is_it id) (marks_from next plains) ≡ true
+      → nat_lt id (next + length plains) ≡ true
+  below_next next [] is = cc
+  below_next next (plain ∷ others) is =
+      by_tests (next == id) refl plain (length others) is (below_next (next + 1) others)
     where
       by_tests : (same : Bool) → (next == id) ≡ same → (plain : Bool) (count : ℕ)
-          → (cond same plain false || list_any (is_it id) (map (entry_of from_one) (numbered_from (next + 1) those))) ≡ true
-          → (list_any (is_it id) (map (entry_of from_one) (numbered_from (next + 1) those)) ≡ true
-          → nat_lt id (next + 1 + count) ≡ true) → nat_lt id (next + suc count) ≡ true
+          → (cond same plain false || list_any (is_it id) (marks_from (next + 1) others)) ≡ true
+          → (list_any (is_it id) (marks_from (next + 1) others) ≡ true → nat_lt id (next + 1 + count) ≡ true)
+          → nat_lt id (next + suc count) ≡ true
       by_tests true same plain count is again = grind (arith, same)
       by_tests false same plain count is again = let less = again is in grind (arith, less)
+
+  -- those of a source, and functions
+  abbrev plains_in : List SourceBreakpoint → List Bool
+  plains_in those = map (λ (one : SourceBreakpoint). one.plain) those
+
+  lines_marked : (from_one : Bool) (next : ℕ) (those : List SourceBreakpoint)
+      → map line_mark (map (entry_of from_one) (numbered_from next those)) ≡ marks_from next (plains_in those)
+  lines_marked from_one next [] = refl
+  lines_marked from_one next (one ∷ those) =
+      ap (λ others. (next, one.plain) ∷ others) (lines_marked from_one (next + 1) those)
+
+  lines_counted : (from_one : Bool) (next : ℕ) (those : List SourceBreakpoint)
+      → length (plains_in those) ≡ length (map (entry_of from_one) (numbered_from next those))
+  lines_counted from_one next [] = refl
+  lines_counted from_one next (one ∷ those) = ap suc (lines_counted from_one (next + 1) those)
+
+  abbrev plains_of : List FunctionBreakpoint → List Bool
+  plains_of those = map (λ (one : FunctionBreakpoint). one.plain) those
+
+  functions_marked : (next : ℕ) (those : List FunctionBreakpoint)
+      → map function_mark (functions_from next those) ≡ marks_from next (plains_of those)
+  functions_marked next [] = refl
+  functions_marked next (one ∷ those) = ap (λ others. (next, one.plain) ∷ others) (functions_marked (next + 1) those)
+
+  functions_counted : (next : ℕ) (those : List FunctionBreakpoint)
+      → length (plains_of those) ≡ length (functions_from next those)
+  functions_counted next [] = refl
+  functions_counted next (one ∷ those) = ap suc (functions_counted (next + 1) those)
+
+  -- behind the note of a list stands all that tells it
+  numbers : (phase : Phase) (next count : ℕ) (those : List (ℕ × Bool)) (plains : List Bool)
+      (listed : List ListedBreakpoint) → is_fresh phase ≡ false → those ≡ marks_from next plains
+      → length plains ≡ count → list_any (is_it id) those ≡ list_any (is_shown id) listed
+      → Numbers true phase next those count (Part.Updates ∷ Part.Looks class_facts ∷ Part.Updates
+      ∷ Part.Unfolds (TellsNews next) ∷ Part.Responds (Success (breakpoint_list true listed)) ∷ [])
+  numbers phase next count those plains listed near marked counted shown = (
+    refl,
+    near,
+    λ is.
+        let last = tells (list_any (is_shown id) listed) (nat_lt id next) (sym shown ∙ is) in (
+          sym (ap (λ count. nat_lt id (next + count)) counted)
+              ∙ below_next next plains (sym (ap (list_any (is_it id)) marked) ∙ is),
+          last,
+          rw last refl,
+        ),
+  )
+    where
+      tells : (shown less : Bool) → shown ≡ true → (less || (shown || false)) ≡ true
+      tells shown less is = grind (arith, is)
+
+  step_noted : (phase : Phase) (next : ℕ) (depth : Depth) (thread : Option ThreadId)
+      → AreNoted true phase next (step_parts depth thread)
+  step_noted phase next depth None = refl
+  step_noted phase next depth (Some thread) = refl
+
+  near_phase : (phase : Phase) → if_attached phase ≡ None → is_fresh phase ≡ false
+  near_phase phase is = grind (arith, is)
 
   row_noted : (failure : Option Failure) (command : Command) (state : State)
       → failure_of (wanting command) state ≡ failure
@@ -194,32 +304,40 @@ module _ (id : ℕ) where
       by_entry true = refl
       by_entry false = refl
   row_noted None (SetBreakpoints arguments) state same =
-      by_key (key_of state.roots arguments.path) (near state.phase same)
+      by_key (key_of state.roots arguments.path) (near_phase state.phase same)
     where
-      near : (phase : Phase) → if_attached phase ≡ None → is_fresh phase ≡ false
-      near phase is = grind (arith, is)
-
       listed : List ListedBreakpoint
       listed = numbered_from state.next_entry arguments.breakpoints
-
-      tells : (shown less : Bool) → shown ≡ true → (less || (shown || false)) ≡ true
-      tells shown less is = grind (arith, is)
 
       by_key : (key : Option (List ℕ)) → is_fresh state.phase ≡ false
           → AreNoted true state.phase state.next_entry (breakpoint_parts state.options.lines_from_one key
           arguments.path listed state.next_entry)
       by_key None near = refl
-      by_key (Some key) near = (
-        refl,
-        near,
-        λ is.
-            let shown = sym (shown_in state.options.lines_from_one listed) ∙ is in
-            let last = tells (list_any (is_shown id) listed) (nat_lt id state.next_entry) shown in (
-              below_next state.options.lines_from_one state.next_entry arguments.breakpoints is,
-              last,
-              rw last refl,
-            ),
-      )
+      by_key (Some key) near =
+          let from_one = state.options.lines_from_one in
+          numbers state.phase state.next_entry (length (map (entry_of from_one) listed))
+          (map line_mark (map (entry_of from_one) listed)) (plains_in arguments.breakpoints) listed near
+          (lines_marked from_one state.next_entry arguments.breakpoints)
+          (lines_counted from_one state.next_entry arguments.breakpoints) (lines_shown from_one listed)
+  row_noted None (SetFunctionBreakpoints arguments) state same =
+      let entries = functions_from state.next_entry arguments.breakpoints in
+      numbers state.phase state.next_entry (length entries) (map function_mark entries)
+      (plains_of arguments.breakpoints) (map function_listed entries) (near_phase state.phase same)
+      (functions_marked state.next_entry arguments.breakpoints)
+      (functions_counted state.next_entry arguments.breakpoints) (functions_shown entries)
+  row_noted None (SetExceptionBreakpoints arguments) state same = refl
+  row_noted None (Next arguments) state same =
+      step_noted state.phase state.next_entry Over (stepped_thread state arguments.thread_id)
+  row_noted None (StepIn arguments) state same =
+      step_noted state.phase state.next_entry Into (stepped_thread state arguments.thread_id)
+  row_noted None (StepOut arguments) state same =
+      step_noted state.phase state.next_entry Out (stepped_thread state arguments.thread_id)
+  row_noted None (ExceptionInfo arguments) state same =
+      by_thrown (option_and_then (thrown_first state.thrown) (thread_with state.threads arguments.thread_id))
+    where
+      by_thrown : (thrown : Option Thrown) → AreNoted true state.phase state.next_entry (exception_parts thrown)
+      by_thrown None = refl
+      by_thrown (Some thrown) = refl
   row_noted None Threads state same = refl
   row_noted None (Continue arguments) state same = by_thread (thread_with state.threads arguments.thread_id)
     where
@@ -261,22 +379,24 @@ module _ (id : ℕ) where
   begun_noted state target_end = none_noted false state.phase state.next_entry (end_parts state.terminated)
       (none state.terminated)
     where
-      none : (told : Bool) → has_lines (end_parts told) ≡ false
+      none : (told : Bool) → has_lists (end_parts told) ≡ false
       none told = grind arith
   begun_noted state (a_composite at composite) =
       none_noted false state.phase state.next_entry (parts_of state (a_composite at composite)) (grind arith)
   begun_noted state (a_raw at body) = tt
 
   pub begun : (state : State) (item : Item)
+      → (is_listed id state.wishes.wanted ≡ true → is_bare id state.wishes ≡ false)
       → Covers false state.wishes state.phase state.next_entry state.bound []
       → Covers (is_asked item) state.wishes state.phase state.next_entry state.bound (parts_of state item)
-  begun state item c = record {
-    functions = c.functions;
+  begun state item calm c = record {
     early = c.early;
     below = c.below;
     noted = begun_noted state item;
-    covered = λ is. begun_covers state item (c.below is) (not_fresh (is_fresh state.phase) is c.early);
-    told = λ is placed. by_bools (has_id state.bound id) (will_tell (is_asked item) (parts_of state item)) (c.told is placed);
+    covered = λ is. ap (λ b. covers (is_asked item) b (parts_of state item)) (calm is)
+        ∙ begun_covers state item (c.below is) (not_fresh (is_fresh state.phase) is c.early);
+    told = λ is placed. by_bools (has_id state.bound id) (will_tell (is_asked item) (parts_of state item))
+        (c.told is placed);
   }
     where
       not_fresh : (fresh : Bool) → is_listed id state.wishes.wanted ≡ true
@@ -290,16 +410,23 @@ module _ (id : ℕ) where
   -- Notes -------------------------------------------------------------------------------------------------------------
 
   -- what is listed then is of the list that is put, or was listed
-  put_listed : (key : List ℕ) (entries : List LineEntry) (lists : List (List ℕ × List LineEntry))
-      → list_any (is_it id) (flat_map (λ (list : List ℕ × List LineEntry). list.1) (put bytes_eq key entries lists)) ≡ true
-      → (list_any (is_it id) entries || list_any (is_it id) (flat_map (λ (list : List ℕ × List LineEntry). list.1) lists)) ≡ true
-  put_listed key entries [] is = sym (list_any-append (is_it id) entries []) ∙ is
-  put_listed key entries (list ∷ lists) is =
-      ap (λ b. list_any (is_it id) entries || b) (list_any-append (is_it id) list.1 (all lists))
-      ∙ by_test (bytes_eq key list.0) is (put_listed key entries lists)
+  put_lists : (key : List ℕ) (entries : List LineEntry) (lists : List (List ℕ × List LineEntry))
+      → list_any (is_it id) (flat_map line_marks (put bytes_eq key entries lists)) ≡ true
+      → (list_any (is_it id) (map line_mark entries) || list_any (is_it id) (flat_map line_marks lists)) ≡ true
+  put_lists key entries [] is = sym (list_any-append (is_it id) (map line_mark entries) []) ∙ is
+  put_lists key entries (list ∷ lists) is =
+      ap (λ b. list_any (is_it id) (map line_mark entries) || b)
+      (list_any-append (is_it id) (line_marks list) (flat_map line_marks lists))
+      ∙ by_test (bytes_eq key list.0) is (put_lists key entries lists)
     where
-      all : List (List ℕ × List LineEntry) → List LineEntry
-      all lists = flat_map (λ (list : List ℕ × List LineEntry). list.1) lists
+      new : Bool
+      new = list_any (is_it id) (map line_mark entries)
+
+      here : Bool
+      here = list_any (is_it id) (line_marks list)
+
+      there : Bool
+      there = list_any (is_it id) (flat_map line_marks lists)
 
       replaced : (a b c : Bool) → (a || c) ≡ true → (a || (b || c)) ≡ true
       replaced a b c is = grind (arith, is)
@@ -308,69 +435,153 @@ module _ (id : ℕ) where
       behind a b c d is again = grind (arith, is, again)
 
       by_test : (same : Bool)
-          → list_any (is_it id) (all (cond same ((list.0, entries) ∷ lists) (list ∷ put bytes_eq key entries lists))) ≡ true
-          → (list_any (is_it id) (all (put bytes_eq key entries lists)) ≡ true
-          → (list_any (is_it id) entries || list_any (is_it id) (all lists)) ≡ true)
-          → (list_any (is_it id) entries || (list_any (is_it id) list.1 || list_any (is_it id) (all lists))) ≡ true
+          → list_any (is_it id) (flat_map line_marks (cond same ((list.0, entries) ∷ lists)
+          (list ∷ put bytes_eq key entries lists))) ≡ true
+          → (list_any (is_it id) (flat_map line_marks (put bytes_eq key entries lists)) ≡ true
+          → (new || there) ≡ true) → (new || (here || there)) ≡ true
       by_test true is again =
-          replaced (list_any (is_it id) entries) (list_any (is_it id) list.1) (list_any (is_it id) (all lists))
-          (sym (list_any-append (is_it id) entries (all lists)) ∙ is)
+          replaced new here there
+          (sym (list_any-append (is_it id) (map line_mark entries) (flat_map line_marks lists)) ∙ is)
       by_test false is again =
-          behind (list_any (is_it id) entries) (list_any (is_it id) list.1) (list_any (is_it id) (all lists))
-          (list_any (is_it id) (all (put bytes_eq key entries lists)))
-          (sym (list_any-append (is_it id) list.1 (all (put bytes_eq key entries lists))) ∙ is) again
+          behind new here there (list_any (is_it id) (flat_map line_marks (put bytes_eq key entries lists)))
+          (sym (list_any-append (is_it id) (line_marks list) (flat_map line_marks (put bytes_eq key entries lists)))
+          ∙ is) again
+
+  put_listed : (key : List ℕ) (entries : List LineEntry) (wanted : Wanted)
+      → is_listed id (with_lines key entries wanted) ≡ true
+      → (list_any (is_it id) (map line_mark entries) || is_listed id wanted) ≡ true
+  put_listed key entries wanted is =
+      ap (λ b. list_any (is_it id) (map line_mark entries) || b)
+      (list_any-append (is_it id) (flat_map line_marks wanted.lists) (map function_mark wanted.functions))
+      ∙ in_turn (list_any (is_it id) (map line_mark entries)) (list_any (is_it id) (flat_map line_marks wanted.lists))
+      (list_any (is_it id) (map function_mark wanted.functions))
+      (list_any (is_it id) (flat_map line_marks (put bytes_eq key entries wanted.lists)))
+      (sym (list_any-append (is_it id) (flat_map line_marks (put bytes_eq key entries wanted.lists))
+      (map function_mark wanted.functions)) ∙ is) (put_lists key entries wanted.lists)
+    where
+      in_turn : (a b c d : Bool) → (d || c) ≡ true → (d ≡ true → (a || b) ≡ true) → (a || (b || c)) ≡ true
+      in_turn a b c d is h = grind (arith, is, h)
+
+  functions_put : (entries : List FunctionEntry) (wanted : Wanted)
+      → is_listed id (with_functions entries wanted) ≡ true
+      → (list_any (is_it id) (map function_mark entries) || is_listed id wanted) ≡ true
+  functions_put entries wanted is =
+      ap (λ b. list_any (is_it id) (map function_mark entries) || b)
+      (list_any-append (is_it id) (flat_map line_marks wanted.lists) (map function_mark wanted.functions))
+      ∙ in_turn (list_any (is_it id) (map function_mark entries))
+      (list_any (is_it id) (flat_map line_marks wanted.lists))
+      (list_any (is_it id) (map function_mark wanted.functions))
+      (sym (list_any-append (is_it id) (flat_map line_marks wanted.lists) (map function_mark entries)) ∙ is)
+    where
+      in_turn : (a b c : Bool) → (b || a) ≡ true → (a || (b || c)) ≡ true
+      in_turn a b c is = grind (arith, is)
 
   later : (next count : ℕ) → nat_lt id next ≡ true → nat_lt id (next + count) ≡ true
   later next count is = grind (arith, is)
+
+  -- behind a note by which breakpoints are bound anew the breakpoint is told
+  rebound : (asked bare : Bool) (note : Note) (rest : List Part) → rebinds (Part.Notes note) ≡ true
+      → covers asked bare (Part.Notes note ∷ rest) ≡ true
+      → (will_tell asked rest ≡ true) × (covers asked true rest ≡ true)
+  rebound asked bare note rest binds is = by_tests bare (rebinds (Part.Notes note)) binds is
+    where
+      by_tests : (bare binds : Bool) → binds ≡ true
+          → cond (cond binds (will_tell asked rest) true) (covers asked (bare || binds) rest) false ≡ true
+          → (will_tell asked rest ≡ true) × (covers asked true rest ≡ true)
+      by_tests true true binds is = both (will_tell asked rest) (covers asked true rest) is
+      by_tests false true binds is = both (will_tell asked rest) (covers asked true rest) is
+      by_tests bare false binds is = cc
+
+  -- a list is written down
+  list_noted : {asked : Bool} {w : Wishes} {phase : Phase} {next : ℕ} {ids : List ℕ} (note : Note) (now : Wanted)
+      (those : List (ℕ × Bool)) (count : ℕ) (rest : List Part) → rebinds (Part.Notes note) ≡ true
+      → (is_listed id now ≡ true → (list_any (is_it id) those || is_listed id w.wanted) ≡ true)
+      → Numbers asked phase next those count rest → Covers asked w phase next ids (Part.Notes note ∷ rest)
+      → Covers asked (rewished now w) phase (next + count) ids rest
+  list_noted {asked} {w} {phase} {next} {ids} note now those count rest changes listed n c = record {
+    early = λ is. let no = n.1 in cc;
+    below = λ is. by_list (nat_lt id (next + count)) is (λ new. (n.2 new).0) (λ old. later next count (c.below old));
+    noted = none_noted asked phase (next + count) rest n.0;
+    covered = λ is. calmer asked (is_bare id (rewished now w)) rest
+        (by_list (covers asked true rest) is (λ new. (n.2 new).2) (λ old. (was_told old).1));
+    told = λ is placed. or_right (has_id ids id) (will_tell asked rest)
+        (by_list (will_tell asked rest) is (λ new. (n.2 new).1) (λ old. (was_told old).0));
+  }
+    where
+      either : (new old b : Bool) → (new || old) ≡ true → (new ≡ true → b ≡ true) → (old ≡ true → b ≡ true) → b ≡ true
+      either new old b is one other = grind (arith, is, one, other)
+
+      by_list : (b : Bool) → is_listed id now ≡ true → (list_any (is_it id) those ≡ true → b ≡ true)
+          → (is_listed id w.wanted ≡ true → b ≡ true) → b ≡ true
+      by_list b is one other = either (list_any (is_it id) those) (is_listed id w.wanted) b (listed is) one other
+
+      was_told : is_listed id w.wanted ≡ true → (will_tell asked rest ≡ true) × (covers asked true rest ≡ true)
+      was_told old = rebound asked (is_bare id w) note rest changes (c.covered old)
+
+  -- something else is wanted, and of breakpoints what was
+  others_noted : {asked : Bool} {w : Wishes} {phase : Phase} {next : ℕ} {ids : List ℕ} (now : Wanted) (note : Note)
+      (rest : List Part) → rebinds (Part.Notes note) ≡ false → marks now ≡ marks w.wanted → places now ≡ places w.wanted
+      → has_lists rest ≡ false → Covers asked w phase next ids (Part.Notes note ∷ rest)
+      → Covers asked (rewished now w) phase next ids rest
+  others_noted {asked} {w} {phase} {next} {ids} now note rest binds those at none c =
+      let listed = ap (list_any (is_it id)) those in record {
+        early = λ is. listed ∙ c.early is;
+        below = λ is. c.below (sym listed ∙ is);
+        noted = none_noted asked phase next rest none;
+        covered = λ is. ap (λ b. covers asked b rest) (still_bare ∙ sym (as_bare (is_bare id w))
+            ∙ ap (λ b. is_bare id w || b) (sym binds))
+            ∙ covers_rest asked (is_bare id w) (Part.Notes note) rest (c.covered (sym listed ∙ is));
+        told = λ is placed. c.told (sym listed ∙ is)
+            (sym (ap (λ those. has_location those id (is_installed w.installed)) at) ∙ placed);
+      }
+    where
+      still_bare : is_bare id (rewished now w) ≡ is_bare id w
+      still_bare = bare_rewished id now w ∙ ap (λ those. has_location those id (is_missing w.installed w.refused)) at
 
   pub noted_covers : {asked : Bool} (note : Note) (state : State) (rest : List Part)
       → Covers asked state.wishes state.phase state.next_entry state.bound (Part.Notes note ∷ rest)
       → Covers asked (noted note state).wishes (noted note state).phase (noted note state).next_entry
       (noted note state).bound rest
   noted_covers (Options options) state rest c =
-      skips state.phase (Part.Notes (Options options)) rest c c.noted (λ fresh. fresh) refl
+      skips state.phase (Part.Notes (Options options)) rest c c.noted (as_bare (is_bare id state.wishes))
+      (λ fresh. fresh) refl
   noted_covers (Roots roots) state rest c =
-      skips state.phase (Part.Notes (Roots roots)) rest c c.noted (λ fresh. fresh) refl
+      skips state.phase (Part.Notes (Roots roots)) rest c c.noted (as_bare (is_bare id state.wishes))
+      (λ fresh. fresh) refl
+  noted_covers (Throws thrown) state rest c =
+      skips state.phase (Part.Notes (Throws thrown)) rest c c.noted (as_bare (is_bare id state.wishes))
+      (λ fresh. fresh) refl
   noted_covers EntryHeld state rest c =
-      skips state.phase (Part.Notes EntryHeld) rest c c.noted (λ fresh. fresh) refl
+      skips state.phase (Part.Notes EntryHeld) rest c c.noted (as_bare (is_bare id state.wishes)) (λ fresh. fresh) refl
   noted_covers Configured state rest c =
-      skips state.phase (Part.Notes Configured) rest c c.noted (λ fresh. fresh) refl
+      skips state.phase (Part.Notes Configured) rest c c.noted (as_bare (is_bare id state.wishes)) (λ fresh. fresh) refl
+  noted_covers (StopsAt caught uncaught) state rest c =
+      others_noted (with_exceptions caught uncaught state.wishes.wanted) (StopsAt caught uncaught) rest refl refl refl
+      c.noted c
+  noted_covers (Steps step) state rest c =
+      others_noted (with_step step state.wishes.wanted) (Steps step) rest refl refl refl c.noted c
   noted_covers {asked} (Lines None path entries) state rest c = record {
-    functions = c.functions;
     early = c.early;
     below = λ is. later state.next_entry (length entries) (c.below is);
     noted = none_noted asked state.phase (state.next_entry + length entries) rest c.noted;
-    covered = λ is. covers_rest asked (Part.Notes (Lines None path entries)) rest (c.covered is);
+    covered = λ is. calmer asked (is_bare id state.wishes) rest
+        (rebound asked (is_bare id state.wishes) (Lines None path entries) rest refl (c.covered is)).1;
     told = c.told;
   }
-  noted_covers {asked} (Lines (Some key) path entries) state rest c = record {
-    functions = c.functions;
-    early = λ is. let no = c.noted.1 in cc;
-    below = λ is. by_list (nat_lt id (state.next_entry + length entries)) is (λ new. (c.noted.2 new).0)
-        (λ old. later state.next_entry (length entries) (c.below old));
-    noted = none_noted asked state.phase (state.next_entry + length entries) rest c.noted.0;
-    covered = λ is. by_list (covers asked rest) is (λ new. (c.noted.2 new).2)
-        (λ old. covers_rest asked (Part.Notes (Lines (Some key) path entries)) rest (c.covered old));
-    told = λ is placed. or_right (has_id state.bound id) (will_tell asked rest) (by_list (will_tell asked rest) is
-        (λ new. (c.noted.2 new).1) (λ old. (both (will_tell asked rest) (covers asked rest) (c.covered old)).0));
-  }
-    where
-      either : (new old b : Bool) → (new || old) ≡ true → (new ≡ true → b ≡ true) → (old ≡ true → b ≡ true) → b ≡ true
-      either new old b is one other = grind (arith, is, one, other)
-
-      by_list : (b : Bool) → is_listed id (with_lines key entries state.wishes.wanted) ≡ true
-          → (list_any (is_it id) entries ≡ true → b ≡ true) → (is_listed id state.wishes.wanted ≡ true → b ≡ true) → b ≡ true
-      by_list b is one other =
-          either (list_any (is_it id) entries) (is_listed id state.wishes.wanted) b
-          (put_listed key entries state.wishes.wanted.lists is) one other
+  noted_covers (Lines (Some key) path entries) state rest c =
+      list_noted (Lines (Some key) path entries) (with_lines key entries state.wishes.wanted) (map line_mark entries)
+      (length entries) rest refl (put_listed key entries state.wishes.wanted) c.noted c
+  noted_covers (Functions entries) state rest c =
+      list_noted (Functions entries) (with_functions entries state.wishes.wanted) (map function_mark entries)
+      (length entries) rest refl (functions_put entries state.wishes.wanted) c.noted c
   noted_covers {asked} (Classes classes) state rest c =
-      let same = ap (λ lists. list_any (is_it id) (flat_map (λ (list : List ℕ × List LineEntry). list.1) lists))
-      (known_lists (found_in state.classes) classes state.wishes.wanted) in record {
-        functions = known_functions (found_in state.classes) classes state.wishes.wanted ∙ c.functions;
+      let known = with_known (found_in state.classes) classes state.wishes.wanted in
+      let same = ap (list_any (is_it id)) (known_marks (found_in state.classes) classes state.wishes.wanted) in record {
         early = λ is. same ∙ c.early is;
         below = λ is. c.below (sym same ∙ is);
         noted = none_noted asked state.phase state.next_entry rest c.noted;
-        covered = λ is. covers_rest asked (Part.Notes (Classes classes)) rest (c.covered (sym same ∙ is));
+        covered = λ is. calmer asked (is_bare id (rewished known state.wishes)) rest
+            (rebound asked (is_bare id state.wishes) (Classes classes) rest refl (c.covered (sym same ∙ is))).1;
         told = λ is placed. or_right (has_id state.bound id) (will_tell asked rest)
-            (both (will_tell asked rest) (covers asked rest) (c.covered (sym same ∙ is))).0;
+            (rebound asked (is_bare id state.wishes) (Classes classes) rest refl (c.covered (sym same ∙ is))).0;
       }

@@ -1,6 +1,6 @@
 -- The ids and texts that stand in what is wanted: those of an event request that is wished pass, and it has a spelling.
 use Rattle.std.proofs.Common.{◌≡◌, ◌≤◌, ◌<◌, ◌*◌, ◌^◌, ℕ, zero, suc, Bool, true, false, cond, List, [], ◌∷◌, ◌++◌}
-use Rattle.std.proofs.Common.{length, Option, Some, None, refl, arith, option_map, length-append}
+use Rattle.std.proofs.Common.{length, Option, Some, None, refl, arith, option_map, length-append, ◌||◌}
 use Rattle.std.proofs.Common.{◌-◌}
 use Rattle.std.specs.Prelude.{ℤ, filter, find, filter_map, fold, map, if◌then◌else◌, not, bytes_eq}
 use Rattle.std.specs.List.{AllByRecursion as All, before_last, flat_map, suffix_len, cons_option}
@@ -17,25 +17,31 @@ use Rattle.jdwp_values.specs.declared.id.ClassId.{ClassId}
 use Rattle.jdwp_values.specs.declared.location.Location.{Location}
 use Rattle.jdwp_values.specs.declared.sizes.IdSizes.{IdSizes}
 use Rattle.machine_model.specs.Breakpoints.{longest_key}
-use Rattle.machine_model.specs.Ids.{Id, class, ids_asked, ids_of, method}
+use Rattle.jdwp_values.specs.declared.id.ThreadId.{ThreadId}
+use Rattle.machine_model.specs.Ids.{Id, class, ids_asked, ids_of, method, object}
 use Rattle.machine_model.specs.Names.{Set, TargetCommand, an_effect}
 use Rattle.machine_model.specs.Replying.{wire}
 use Rattle.machine_model.specs.State.{is_empty}
 use Rattle.machine_model.proofs.IdRows.{FitsId, all_flat, all_joined, all_weak}
 use Rattle.machine_model.proofs.PlanIds.{AreKnown, OfClass, OnSome, put_key, under_some}
 use Rattle.wish_sets.proofs.OrderLaws.{each-insert}
-use Rattle.wish_sets.specs.Names.{dotted, is_slash, key_parts, package_name, has_class, package_named}
+use Rattle.wish_sets.specs.Names.{dotted, is_dot, is_slash, key_parts, method_named, names_class, package_name}
+use Rattle.wish_sets.specs.Names.{has_class, package_named}
 use Rattle.wish_sets.specs.Order.{wish_cmp}
 use Rattle.wish_sets.specs.declared.place.Place.{Place}
 use Rattle.wish_sets.specs.Places.{entry_places, is_of_key, key_of, line_location, line_locations, list_places}
-use Rattle.wish_sets.specs.Places.{location_at, places, places_in, function_places}
+use Rattle.wish_sets.specs.Places.{code_start, function_locations, function_places, location_at, method_location}
+use Rattle.wish_sets.specs.Places.{places, places_in}
 use Rattle.wish_sets.specs.Requests.{package_pattern}
 use Rattle.wish_sets.specs.Wanted.{Wanted, facts_found, method_found, methods_found, nothing_wanted}
-use Rattle.wish_sets.specs.Wanted.{put_known, with_class, with_known, with_lines}
+use Rattle.wish_sets.specs.Wanted.{put_known, with_class, with_functions, with_known, with_lines, with_step}
 use Rattle.wish_sets.specs.Wished.{all_wished, has_entries, stepping, stops, thrown, watched, wished}
+use Rattle.wish_sets.specs.declared.entry.FunctionEntry.{FunctionEntry}
 use Rattle.wish_sets.specs.declared.entry.LineEntry.{LineEntry}
 use Rattle.wish_sets.specs.declared.facts.KnownClass.{KnownClass}
 use Rattle.wish_sets.specs.declared.facts.KnownMethod.{KnownMethod}
+use Rattle.wish_sets.specs.declared.wish.Depth.{Depth}
+use Rattle.wish_sets.specs.declared.wish.StepWish.{StepWish}
 use Rattle.wish_sets.specs.declared.wish.Wish.{Wish}
 use Rattle.wish_sets.specs.declared.wish.Wish.TheVariants as wishes
 use Rattle.std.specs.BTreeSet.{insert_key}
@@ -57,23 +63,27 @@ pub record IsBound (P : Id → Type 0) (known : ClassId × KnownClass) : Type 0 
   pub itself : P (class known.0.0)
   pub methods : All (λ (one : KnownMethod). P (method one.id.0)) known.1.methods
 
--- Keys are short, and the ids of classes pass; functions, exceptions and steps are wished of nothing yet.
+-- a function has a short name, too
+abbrev pub IsShortFunction : FunctionEntry → Type 0
+IsShortFunction entry = IsShort entry.name
+
+-- a step is one of a thread whose id passes
+abbrev pub OfStep : (Id → Type 0) → StepWish → Type 0
+OfStep P step = P (object step.thread.0)
+
+-- Keys and the names of functions are short, and the ids of classes and of the thread that steps pass.
 pub record AreWished (P : Id → Type 0) (wanted : Wanted) : Type 0 where
   pub short : All (λ (list : List ℕ × List LineEntry). IsShort list.0) wanted.lists
+  pub functions : All IsShortFunction wanted.functions
   pub bound : All (IsBound P) wanted.classes
-  pub no_functions : wanted.functions ≡ []
-  pub none_caught : wanted.caught ≡ false
-  pub none_uncaught : wanted.uncaught ≡ false
-  pub no_step : wanted.step ≡ None
+  pub step : OnSome (OfStep P) wanted.step
 
 pub nothing_wished : (P : Id → Type 0) → AreWished P nothing_wanted
 nothing_wished P = record {
   short = tt;
   bound = tt;
-  no_functions = refl;
-  none_caught = refl;
-  none_uncaught = refl;
-  no_step = refl;
+  functions = tt;
+  step = tt;
 }
 
 pub weak_wished : (P Q : Id → Type 0) → ((id : Id) → P id → Q id) → (wanted : Wanted) → AreWished P wanted
@@ -85,11 +95,13 @@ weak_wished P Q k wanted h = record {
         itself = k _ b.itself;
         methods = all_weak _ _ (λ one. k _) known.1.methods b.methods;
       }) wanted.classes h.bound;
-  no_functions = h.no_functions;
-  none_caught = h.none_caught;
-  none_uncaught = h.none_uncaught;
-  no_step = h.no_step;
+  functions = h.functions;
+  step = by_step wanted.step h.step;
 }
+  where
+    by_step : (step : Option StepWish) → OnSome (OfStep P) step → OnSome (OfStep Q) step
+    by_step None h = tt
+    by_step (Some step) h = k (object step.thread.0) h
 
 -- a list of breakpoints is replaced
 pub lines_stand : (P : Id → Type 0) (key : List ℕ) (entries : List LineEntry) (wanted : Wanted) → IsShort key
@@ -97,11 +109,21 @@ pub lines_stand : (P : Id → Type 0) (key : List ℕ) (entries : List LineEntry
 lines_stand P key entries wanted short h = record {
   short = put_key IsShort bytes_eq key entries wanted.lists short h.short;
   bound = h.bound;
-  no_functions = h.no_functions;
-  none_caught = h.none_caught;
-  none_uncaught = h.none_uncaught;
-  no_step = h.no_step;
+  functions = h.functions;
+  step = h.step;
 }
+
+-- functions are replaced
+pub functions_stand : (P : Id → Type 0) (entries : List FunctionEntry) (wanted : Wanted) → All IsShortFunction entries
+    → AreWished P wanted → AreWished P (with_functions entries wanted)
+functions_stand P entries wanted short h =
+    record { short = h.short; functions = short; bound = h.bound; step = h.step }
+
+-- the step in flight is another
+pub step_stands : (P : Id → Type 0) (step : Option StepWish) (wanted : Wanted) → OnSome (OfStep P) step
+    → AreWished P wanted → AreWished P (with_step step wanted)
+step_stands P step wanted stands h =
+    record { short = h.short; functions = h.functions; bound = h.bound; step = stands }
 
 -- Classes that are made known -----------------------------------------------------------------------------------------
 
@@ -135,10 +157,8 @@ module _ (P : Id → Type 0) where
   class_stands known c wanted k facts h = record {
     short = h.short;
     bound = by_loaded ((found_in known).loaded c);
-    no_functions = h.no_functions;
-    none_caught = h.none_caught;
-    none_uncaught = h.none_uncaught;
-    no_step = h.no_step;
+    functions = h.functions;
+    step = h.step;
   }
     where
       by_loaded : (loaded : Option Loaded)
@@ -231,6 +251,13 @@ name_short key short =
     let most = lossy_short 0 (dotted (before_last is_slash key)) in
     omega (arith, same, fewer, most, short)
 
+-- and that of a function's
+function_short : (entry : FunctionEntry) → IsShort entry.name → length (package_named entry.name) ≤ 3 * longest_key
+function_short entry short =
+    let class = before_short is_dot entry.name in
+    let fewer = before_short is_dot (before_last is_dot entry.name) in
+    omega (arith, class, fewer, short)
+
 pattern_short : (path : List ℕ) → length path ≤ 3 * longest_key → length (package_pattern path) < 2 ^ 31
 pattern_short [] short = omega arith
 pattern_short (byte ∷ bytes) short = let is = length-append (byte ∷ bytes) (46 ∷ 42 ∷ []) in omega (arith, short, is)
@@ -295,6 +322,26 @@ stop_may P at h = record {
   );
 }
 
+thrown_may : (P : Id → Type 0) (caught uncaught : Bool) → P (class 0) → SetMay P (wishes.Thrown caught uncaught)
+thrown_may P caught uncaught null = record {
+  ids = (null, tt);
+  sized_first = refl;
+  fits = λ used k. (
+    tt,
+    (tt, ((record { count = omega arith; each = ((k.0, (tt, (tt, tt))), tt) }, refl), tt)),
+  );
+}
+
+step_may : (P : Id → Type 0) (thread : ThreadId) (depth : Depth) → P (object thread.0) → SetMay P (wishes.Step thread depth)
+step_may P thread depth h = record {
+  ids = (h, tt);
+  sized_first = refl;
+  fits = λ used k. (
+    tt,
+    (tt, ((record { count = omega arith; each = ((k.0, (tt, (tt, tt))), tt) }, refl), tt)),
+  );
+}
+
 -- What is wished ------------------------------------------------------------------------------------------------------
 
 module _ (P : Id → Type 0) where
@@ -322,12 +369,36 @@ module _ (P : Id → Type 0) where
   list_stands known h list = all_when OfPlace (is_of_key list.0 (key_of known.1)) _
       (flat_each OfPlace (entry_places known.0 known.1) (entry_stands known h) list.1)
 
-  places_stand : (wanted : Wanted) → wanted.functions ≡ [] → (known : ClassId × KnownClass) → IsBound P known
+  method_stands : (known : ClassId × KnownClass) → IsBound P known → (name : List ℕ) (one : KnownMethod)
+      → P (method one.id.0) → OnSome (OfLocation P) (method_location known.0 known.1 name one)
+  method_stands known h name one k = by_name (bytes_eq name one.name) (code_start one.lines)
+    where
+      by_name : (named : Bool) (start : Option ℕ) → OnSome (OfLocation P)
+          (if named then option_map (location_at known.0 known.1 one.id) start else None)
+      by_name false start = tt
+      by_name true None = tt
+      by_name true (Some index) = (h.itself, k)
+
+  named_stand : (known : ClassId × KnownClass) → IsBound P known → (name : List ℕ)
+      → All (OfLocation P) (function_locations known.0 known.1 name)
+  named_stand known h name = all_when (OfLocation P) (names_class known.1.signature name) _
+      (all_found (λ (one : KnownMethod). P (method one.id.0)) (OfLocation P)
+      (method_location known.0 known.1 (method_named name)) (method_stands known h (method_named name))
+      known.1.methods h.methods)
+
+  function_stands : (known : ClassId × KnownClass) → IsBound P known → (entry : FunctionEntry)
+      → All OfPlace (function_places known.0 known.1 entry)
+  function_stands known h entry = all_when OfPlace entry.plain _
+      (all_map (OfLocation P) OfPlace _ (λ at k. k) (function_locations known.0 known.1 entry.name)
+      (named_stand known h entry.name))
+
+  places_stand : (wanted : Wanted) (known : ClassId × KnownClass) → IsBound P known
       → All OfPlace (places_in wanted known)
-  places_stand wanted none known h = all_when OfPlace known.1.prepared _
+  places_stand wanted known h = all_when OfPlace known.1.prepared _
       (all_joined OfPlace (flat_map (list_places known.0 known.1) wanted.lists)
       (flat_map (function_places known.0 known.1) wanted.functions)
-      (flat_each OfPlace (list_places known.0 known.1) (list_stands known h) wanted.lists) (rw none tt))
+      (flat_each OfPlace (list_places known.0 known.1) (list_stands known h) wanted.lists)
+      (flat_each OfPlace (function_places known.0 known.1) (function_stands known h) wanted.functions))
 
   watches_stand : (wanted : Wanted) → AreWished P wanted → All (SetMay P) (map wishes.Watch (watched wanted))
   watches_stand wanted h = all_map (λ (path : List ℕ). length path ≤ 3 * longest_key) (SetMay P) wishes.Watch
@@ -339,17 +410,27 @@ module _ (P : Id → Type 0) where
       (λ list. package_name (key_parts list.0).package_path) (λ list short. name_short list.0 short)
       (filter has_entries wanted.lists)
       (all_kept (λ (list : List ℕ × List LineEntry). IsShort list.0) has_entries wanted.lists h.short))
-      (rw h.no_functions tt))
+      (all_map IsShortFunction (λ (path : List ℕ). length path ≤ 3 * longest_key) (λ entry. package_named entry.name)
+      function_short (filter (λ entry. has_class entry.name) wanted.functions)
+      (all_kept IsShortFunction (λ entry. has_class entry.name) wanted.functions h.functions)))
 
   stops_stand : (wanted : Wanted) → AreWished P wanted → All (SetMay P) (stops wanted)
   stops_stand wanted h = all_map OfPlace (SetMay P) (λ place. wishes.Stop place.at) (λ place k. stop_may P place.at k)
       (places wanted)
-      (all_flat (IsBound P) OfPlace (places_in wanted) (places_stand wanted h.no_functions) wanted.classes h.bound)
+      (all_flat (IsBound P) OfPlace (places_in wanted) (places_stand wanted) wanted.classes h.bound)
+
+  thrown_stand : (caught uncaught : Bool) → P (class 0) → All (SetMay P) (thrown caught uncaught)
+  thrown_stand caught uncaught null =
+      all_when (SetMay P) (caught || uncaught) _ (thrown_may P caught uncaught null, tt)
+
+  step_stand : (step : Option StepWish) → OnSome (OfStep P) step → All (SetMay P) (stepping step)
+  step_stand None h = tt
+  step_stand (Some step) h = (step_may P step.thread step.depth h, tt)
 
   -- each event request that is wished may be set
-  pub wished_may : (wanted : Wanted) → AreWished P wanted → All (SetMay P) (wished wanted)
+  pub wished_may : (wanted : Wanted) → P (class 0) → AreWished P wanted → All (SetMay P) (wished wanted)
   unfolding wished
-  wished_may wanted h = fold_in (SetMay P) [] (all_wished wanted) tt (
+  wished_may wanted null h = fold_in (SetMay P) [] (all_wished wanted) tt (
     start_may P,
     (
       death_may P,
@@ -358,6 +439,6 @@ module _ (P : Id → Type 0) where
           (all_joined (SetMay P) (map wishes.Watch (watched wanted) ++ stops wanted)
           (thrown wanted.caught wanted.uncaught)
           (all_joined (SetMay P) (map wishes.Watch (watched wanted)) (stops wanted) (watches_stand wanted h)
-          (stops_stand wanted h)) (rw (h.none_caught, h.none_uncaught) tt)) (rw h.no_step tt),
+          (stops_stand wanted h)) (thrown_stand wanted.caught wanted.uncaught null)) (step_stand wanted.step h.step),
     ),
   )

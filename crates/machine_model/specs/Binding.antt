@@ -12,6 +12,7 @@ use Rattle.machine_model.specs.Plans.{Sight, has, need}
 use Rattle.machine_model.specs.Rest.{IsAtRest}
 use Rattle.machine_model.specs.Runs.{Message, Run}
 use Rattle.machine_model.specs.State.{Machine, State}
+use Rattle.wish_sets.specs.Places.{places_in}
 use Rattle.wish_sets.specs.Wanted.{Wanted, class_found}
 use Rattle.wish_sets.specs.declared.facts.KnownClass.{KnownClass}
 
@@ -19,14 +20,22 @@ use Rattle.wish_sets.specs.declared.facts.KnownClass.{KnownClass}
 abbrev pub sight_alone : Known → Sight
 sight_alone known = record { classes = found_in known; asked = [] }
 
--- of a class all that is known was made known to the event requests
+-- The event requests hold facts of a class by which its breakpoints stand at just the places at which these facts put
+-- them.
+pub record HasPlaces (wanted : Wanted) (class : ClassId) (facts : KnownClass) : Type 0 where
+  pub held : KnownClass
+  pub is_held : under same_class class wanted.classes ≡ Some held
+  pub same_places : places_in wanted (class, facts) ≡ places_in wanted (class, held)
+
+-- The breakpoints of a class stand at just the places at which all that is known of it puts them.
 abbrev pub IsBound : Known → Wanted → ClassId → Type 0
 IsBound known wanted class = (facts : KnownClass) → class_found (found_in known) class ≡ Some facts
-    → under same_class class wanted.classes ≡ Some facts
+    → HasPlaces wanted class facts
 
 -- All classes were listed since the last watch was set. Of each class that is prepared in a watched package the source
--- is known, and of each whose source is listed the methods and their lines; these are the classes that are found. Each
--- of them was made known with all of that.
+-- is known, and of each whose source is listed, or that a function names, the methods; of these the lines, of one whose
+-- source isn't listed the lines of those that a function names. These are the classes that are found. In each of them
+-- breakpoints are bound at just the places that all that is known of it gives.
 pub record AreBound (unlisted : Bool) (wanted : Wanted) (known : Known) : Type 0 where
   pub listed : unlisted ≡ false
   pub found : List ClassId

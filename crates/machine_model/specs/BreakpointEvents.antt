@@ -11,11 +11,11 @@ use Rattle.machine_model.specs.Rest.{IsAtRest}
 use Rattle.machine_model.specs.Runs.{Message, Run}
 use Rattle.machine_model.specs.State.{Machine, State}
 use Rattle.wish_sets.specs.Entries.{verified}
-use Rattle.wish_sets.specs.declared.entry.LineEntry.{LineEntry}
+use Rattle.wish_sets.specs.declared.entry.VerifiedEntry.{VerifiedEntry}
 
 -- it tells of a breakpoint that is verified, and that the client wasn't told to be
 pub record IsNews (state : State) (told : Breakpoint) : Type 0 where
-  pub entry : LineEntry
+  pub entry : VerifiedEntry
   pub is_told : told ≡ verified_told state.options.lines_from_one entry
   pub is_verified : Contains (verified state.wishes) entry
   pub is_new : has_id state.bound entry.id ≡ false

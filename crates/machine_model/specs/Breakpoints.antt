@@ -1,10 +1,12 @@
 -- Breakpoints as a client lists them: the key of their source, their ids, and how each is told (DAP specification,
 -- SetBreakpoints request; Types, Source, SourceBreakpoint and Breakpoint).
 use Rattle.std.specs.Prelude.{ℕ, ℤ, pos, ◌+◌, ◌-◌, ◌==◌, ◌∷◌, ◌++◌, ◌||◌, Bool, true, false, not, cond, List, []}
-use Rattle.std.specs.Prelude.{take, drop, min, nat_le, bytes_eq, filter, map, length, Option, None, Some}
+use Rattle.std.specs.Prelude.{take, drop, min, nat_le, bytes_eq, filter, map, length, Option, None, Some, option_map}
+use Rattle.std.specs.Prelude.{unwrap_or}
 use Rattle.std.specs.Int.{cast_unsigned, w32}
 use Rattle.std.specs.Option.{option_or}
 use Rattle.std.specs.Str.{chars, encode_utf8_all}
+use Rattle.dap_messages.specs.declared.requests.FunctionBreakpoint.{FunctionBreakpoint}
 use Rattle.dap_messages.specs.declared.requests.SourceBreakpoint.{SourceBreakpoint}
 use Rattle.dap_messages.specs.declared.told.Breakpoint.{Breakpoint}
 use Rattle.dap_messages.specs.declared.told.BreakpointStatus.{BreakpointStatus}
@@ -12,11 +14,13 @@ use Rattle.dap_messages.specs.declared.told.BreakpointStatus.TheVariants as stat
 use Rattle.machine_model.specs.Names.{ListedBreakpoint}
 use Rattle.machine_model.specs.Requests.{Wishes}
 use Rattle.wish_sets.specs.Entries.{state_of, verified}
-use Rattle.wish_sets.specs.Wanted.{with_lines}
+use Rattle.wish_sets.specs.Wanted.{with_functions, with_lines}
 use Rattle.wish_sets.specs.Wishes.{rewished}
 use Rattle.wish_sets.specs.declared.entry.EntryState.{EntryState}
 use Rattle.wish_sets.specs.declared.entry.EntryState.TheVariants.{Verified, Refused, Waiting}
+use Rattle.wish_sets.specs.declared.entry.FunctionEntry.{FunctionEntry}
 use Rattle.wish_sets.specs.declared.entry.LineEntry.{LineEntry}
+use Rattle.wish_sets.specs.declared.entry.VerifiedEntry.{VerifiedEntry}
 
 -- The key of a source -------------------------------------------------------------------------------------------------
 
@@ -65,11 +69,11 @@ key_of roots path = short_key (behind_roots roots (slashed path))
 
 -- Ids and lines -------------------------------------------------------------------------------------------------------
 
--- the breakpoints of a list, with ids from this one on (DAP specification, Types, Breakpoint, id)
+-- the breakpoints of a source, with ids from this one on (DAP specification, Types, Breakpoint, id)
 abbrev pub numbered_from : ℕ → List SourceBreakpoint → List ListedBreakpoint
 numbered_from id [] = []
 numbered_from id (breakpoint ∷ breakpoints) =
-    record { id = id; line = breakpoint.line; plain = breakpoint.plain } ∷ numbered_from (id + 1) breakpoints
+    record { id = id; line = Some breakpoint.line; plain = breakpoint.plain } ∷ numbered_from (id + 1) breakpoints
 
 -- the greatest line (JDWP, Method command set, LineTable, lineNumber)
 abbrev pub last_line : ℕ
@@ -80,15 +84,35 @@ abbrev pub target_line : Bool → ℕ → ℕ
 target_line true line = min line last_line
 target_line false line = min (line + 1) last_line
 
--- a breakpoint as it is wished
+-- a breakpoint of a source as it is wished
 abbrev pub entry_of : Bool → ListedBreakpoint → LineEntry
 entry_of from_one listed =
-    record { id = listed.id; line = pos (target_line from_one listed.line); plain = listed.plain }
+    record { id = listed.id; line = pos (target_line from_one (unwrap_or listed.line 0)); plain = listed.plain }
 
 -- the list of a source replaces the one that was there; without a key nothing is kept
 abbrev pub lines_wished : Option (List ℕ) → List LineEntry → Wishes → Wishes
 lines_wished None entries wishes = wishes
 lines_wished (Some key) entries wishes = rewished (with_lines key entries wishes.wanted) wishes
+
+-- Functions -----------------------------------------------------------------------------------------------------------
+
+-- a longer name names nothing
+abbrev pub short_name : List ℕ → List ℕ
+short_name name = cond (nat_le (length name) longest_key) name []
+
+-- functions to stop in, with ids from this one on (DAP specification, SetFunctionBreakpoints request)
+abbrev pub functions_from : ℕ → List FunctionBreakpoint → List FunctionEntry
+functions_from id [] = []
+functions_from id (function ∷ functions) =
+    record { id = id; name = short_name function.name; plain = function.plain } ∷ functions_from (id + 1) functions
+
+-- one of a function has no line
+abbrev pub function_listed : FunctionEntry → ListedBreakpoint
+function_listed entry = record { id = entry.id; line = None; plain = entry.plain }
+
+-- the functions replace those that were there
+abbrev pub functions_wished : List FunctionEntry → Wishes → Wishes
+functions_wished entries wishes = rewished (with_functions entries wishes.wanted) wishes
 
 -- How they are told ---------------------------------------------------------------------------------------------------
 
@@ -134,11 +158,11 @@ with_told ids (breakpoint ∷ breakpoints) =
     with_told (cond (is_verified breakpoint.status) (with_id ids breakpoint.id) ids) breakpoints
 
 -- a breakpoint is news, where its id is below this one and the client doesn't know that it is verified
-abbrev pub is_news : ℕ → List ℕ → LineEntry → Bool
+abbrev pub is_news : ℕ → List ℕ → VerifiedEntry → Bool
 is_news below ids entry = cond (nat_le below entry.id) false (not (has_id ids entry.id))
 
 -- those that are verified, which is news, in order of their ids
-abbrev pub newly_verified : ℕ → List ℕ → Wishes → List LineEntry
+abbrev pub newly_verified : ℕ → List ℕ → Wishes → List VerifiedEntry
 newly_verified below ids wishes = filter (is_news below ids) (verified wishes)
 
 -- a line as the client counts it
@@ -147,6 +171,6 @@ client_line true line = cast_unsigned w32 line
 client_line false line = cast_unsigned w32 line - 1
 
 -- a breakpoint that is verified, as it is told (DAP specification, Events, Breakpoint)
-abbrev pub verified_told : Bool → LineEntry → Breakpoint
+abbrev pub verified_told : Bool → VerifiedEntry → Breakpoint
 verified_told from_one entry =
-    record { id = entry.id; line = client_line from_one entry.line; status = status.Verified }
+    record { id = entry.id; line = option_map (client_line from_one) entry.line; status = status.Verified }

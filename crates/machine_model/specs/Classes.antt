@@ -1,7 +1,7 @@
 -- What has to be known of classes before breakpoints are bound in them, and what a list of all classes tells (JDWP,
 -- VirtualMachine command set, AllClasses; JDWP, ReferenceType command set, SourceFile and Methods; JDWP, Method command
 -- set, LineTable).
-use Rattle.std.specs.Prelude.{ℕ, ℤ, ◌==◌, ◌/◌, ◌%◌, ◌∷◌, Bool, true, false, List, []}
+use Rattle.std.specs.Prelude.{ℕ, ℤ, ◌==◌, ◌/◌, ◌%◌, ◌∷◌, ◌||◌, Bool, true, false, List, [], filter}
 use Rattle.std.specs.Prelude.{Option, None, Some}
 use Rattle.std.specs.Int.{cast_unsigned, w32}
 use Rattle.class_tables.specs.Facts.{Known, is_loaded, with_fact}
@@ -19,7 +19,7 @@ use Rattle.machine_model.specs.Names.{Answer, Want}
 use Rattle.machine_model.specs.Plans.{Plan, asking, chained, each, gives, joined, made_with}
 use Rattle.wish_sets.specs.Places.{key_by}
 use Rattle.wish_sets.specs.Wanted.{Wanted}
-use Rattle.wish_sets.specs.Wished.{is_listed, is_watched}
+use Rattle.wish_sets.specs.Wished.{is_listed, is_named, is_watched}
 
 -- A list of all classes -----------------------------------------------------------------------------------------------
 
@@ -43,25 +43,35 @@ classes_in _ = []
 abbrev pub lines_plan : ClassId → Method → Plan (Option Answer)
 lines_plan class method = asking (λ heard. heard) (Want.Fact (questions.LineTable class method.id))
 
--- the lines of all methods of a class, which is found then
-abbrev pub methods_plan : ClassId → List Method → Plan (List ClassId)
-methods_plan class methods = made_with (λ heard. class ∷ []) (each (lines_plan class) methods)
+-- of a class whose source is listed all methods count, of another those that a function names
+abbrev pub counts : Bool → Wanted → List ℕ → Method → Bool
+counts keyed wanted signature method = keyed || is_named wanted signature (Some method.name)
+
+-- the lines of the methods of a class that count; the class is found then
+abbrev pub methods_plan : Bool → Wanted → ClassId → List ℕ → List Method → Plan (List ClassId)
+methods_plan keyed wanted class signature methods =
+    made_with (λ heard. class ∷ []) (each (lines_plan class) (filter (counts keyed wanted signature) methods))
 
 -- the source of a class is listed
 abbrev pub is_keyed : Wanted → Option Key → Bool
 is_keyed wanted None = false
 is_keyed wanted (Some key) = is_listed wanted key
 
--- a class whose source is listed is asked for its methods
-abbrev pub keyed_plan : Bool → ClassId → Plan (List ClassId)
-keyed_plan false class = gives []
-keyed_plan true class = chained (asking methods_in (Want.Fact (questions.Methods class))) (methods_plan class)
+-- a class whose source is listed, or that a function names, is asked for its methods
+abbrev pub bound_plan : Bool → Bool → Wanted → ClassId → List ℕ → Plan (List ClassId)
+bound_plan false keyed wanted class signature = gives []
+bound_plan true keyed wanted class signature = chained (asking methods_in (Want.Fact (questions.Methods class)))
+    (methods_plan keyed wanted class signature)
+
+abbrev pub keyed_plan : Bool → Wanted → ClassId → List ℕ → Plan (List ClassId)
+keyed_plan keyed wanted class signature =
+    bound_plan (keyed || is_named wanted signature None) keyed wanted class signature
 
 -- a class in a package that is watched is asked for its source
 abbrev pub source_plan : Wanted → ClassId → List ℕ → Plan (List ClassId)
 source_plan wanted class signature =
     chained (asking source_in (Want.Fact (questions.SourceFile class)))
-    (λ source. keyed_plan (is_keyed wanted (key_by signature source)) class)
+    (λ source. keyed_plan (is_keyed wanted (key_by signature source)) wanted class signature)
 
 abbrev pub watched_plan : Bool → Wanted → ClassId → List ℕ → Plan (List ClassId)
 watched_plan false wanted class signature = gives []

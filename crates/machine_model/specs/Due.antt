@@ -7,7 +7,7 @@ use Rattle.machine_model.specs.Lookups.{finished, found_for}
 use Rattle.machine_model.specs.Names.{Act, Deed, Dispose, Does, Effect, Exit, Finding, Guard, Handshake, IdSizes, Item}
 use Rattle.machine_model.specs.Names.{Lookup, Outcome, Part, Question, Resume, Sent, Suspend, Suspension, Want}
 use Rattle.machine_model.specs.Names.{a_composite, a_raw, a_request, an_event, of_composite, of_entry, of_stop}
-use Rattle.machine_model.specs.Names.{target_end}
+use Rattle.machine_model.specs.Names.{Thrown, target_end}
 use Rattle.machine_model.specs.Plans.{Need, fails, gave, has, lacking, lacks, question_of, refused}
 use Rattle.machine_model.specs.Replying.{is_waiting, pending_of}
 use Rattle.machine_model.specs.Requests.{effect_due}
@@ -124,10 +124,23 @@ numbers_by (Resume suspension) stopped numbers = still_numbered suspension stopp
 numbers_by Dispose stopped numbers = numbers
 numbers_by Exit stopped numbers = numbers
 
+-- what was thrown in a stop is known until it is over
+abbrev pub still_thrown : Suspension → List Thrown → List Thrown
+still_thrown of_composite thrown = thrown
+still_thrown of_entry thrown = thrown
+still_thrown of_stop thrown = []
+
+abbrev pub thrown_by : Deed → List Thrown → List Thrown
+thrown_by Suspend thrown = thrown
+thrown_by (Resume suspension) thrown = still_thrown suspension thrown
+thrown_by Dispose thrown = thrown
+thrown_by Exit thrown = thrown
+
 abbrev pub after_deed : Deed → State → State
 after_deed deed state = record state {
   stopped = stopped_by deed state.stopped;
   numbers = numbers_by deed state.stopped state.numbers;
+  thrown = thrown_by deed state.thrown;
   entry = entry_by deed state.entry;
 }
 

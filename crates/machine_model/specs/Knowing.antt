@@ -28,7 +28,8 @@ use Rattle.machine_model.specs.Names.{Dispose, Does, Effect, EntryHeld, Event, E
 use Rattle.machine_model.specs.Names.{Item, Leaves, Note, Part, Phase, Question, Replied, Resume, Set, StopCause}
 use Rattle.machine_model.specs.Names.{Suspend, Suspension, TargetCommand, TellsNews, Terminated, ThreadId, Told}
 use Rattle.machine_model.specs.Names.{a_composite, a_question, a_response, a_stop, an_answer, an_effect, an_error}
-use Rattle.machine_model.specs.Names.{an_event, by_client, of_composite, of_entry, of_stop, some_news}
+use Rattle.machine_model.specs.Names.{an_event, by_client, by_exception, by_step, exception_text, of_composite, of_entry}
+use Rattle.machine_model.specs.Names.{of_stop, some_news, Lookup, Stepped}
 use Rattle.machine_model.specs.Pending.{bit}
 use Rattle.machine_model.specs.Plans.{answer_in}
 use Rattle.machine_model.specs.Runs.{Message, Run}
@@ -324,6 +325,8 @@ waiting_composites false items = flat_map composite_in items
 abbrev pub begins : Bool → StopCause → Bool
 begins true reason = false
 begins false (Hit at) = true
+begins false (by_exception text) = true
+begins false by_step = true
 begins false by_client = false
 
 abbrev pub undoes : Suspension → Bool
@@ -350,13 +353,20 @@ note_owes _ = false
 abbrev pub choice_owes : Choice → Bool
 choice_owes (TellsNews below) = false
 choice_owes Decides = true
+choice_owes Stepped = false
 choice_owes (Leaves exits) = false
+
+-- the look-up of what was thrown is told of as a stop
+abbrev pub lookup_stops : Lookup → Bool
+lookup_stops (exception_text thread object) = true
+lookup_stops _ = false
 
 abbrev pub part_owes : Bool → Part → Bool
 part_owes stopped (Part.Tells event) = event_owes stopped event
 part_owes stopped (Part.Sends deed) = deed_owes deed
 part_owes stopped (Part.Notes note) = note_owes note
 part_owes stopped (Part.Unfolds choice) = choice_owes choice
+part_owes stopped (Part.Looks lookup) = cond (lookup_stops lookup) (not stopped) false
 part_owes stopped _ = false
 
 -- whether a stop is in hand behind a part
@@ -369,6 +379,7 @@ stopped_told Terminated stopped = false
 abbrev pub stopped_behind : Part → Bool → Bool
 stopped_behind (Part.Tells event) stopped = stopped_told event stopped
 stopped_behind (Part.Sends deed) stopped = stopped_by deed stopped
+stopped_behind (Part.Looks lookup) stopped = lookup_stops lookup || stopped
 stopped_behind _ stopped = stopped
 
 -- the suspension of the composite in hand, as long as it is held for that
@@ -458,6 +469,7 @@ numbers_in_shape shapes.Continued = []
 numbers_in_shape (shapes.StackFrames frames total) = []
 numbers_in_shape (shapes.Scopes reference) = []
 numbers_in_shape (shapes.Variables variables) = []
+numbers_in_shape (shapes.ExceptionInfo id mode) = []
 
 abbrev pub numbers_in_outcome : OutcomeTold → List ℕ
 numbers_in_outcome (outcomes.Success shape) = numbers_in_shape shape

@@ -8,6 +8,7 @@ pub mod Composites
 pub mod Due
 pub mod EventRequests
 pub mod Events
+pub mod Exceptions
 pub mod Facts
 pub mod Frames
 pub mod Harmless
@@ -33,6 +34,7 @@ pub mod Rows
 pub mod Runs
 pub mod Spelling
 pub mod State
+pub mod Steps
 pub mod Stopping
 pub mod Stops
 pub mod Suspending

@@ -1,15 +1,17 @@
 -- What each look-up asks of the target, and what its result becomes.
-use Rattle.std.specs.Prelude.{ℕ, ◌==◌, ◌∷◌, Bool, true, false, cond, List, [], Option, Some}
+use Rattle.std.specs.Prelude.{ℕ, ◌==◌, ◌∷◌, Bool, true, false, cond, List, [], Option, None, Some}
 use Rattle.class_tables.specs.Lookups.{found_in}
 use Rattle.dap_messages.specs.Telling.{references_spent, target_error, unknown_thread}
 use Rattle.jdwp_commands.specs.declared.answer.Answer.TheVariants as answers
 use Rattle.jdwp_commands.specs.declared.question.Question.TheVariants as questions
 use Rattle.machine_model.specs.Classes.{classes_plan}
+use Rattle.machine_model.specs.Exceptions.{exception_plan, text_plan}
 use Rattle.machine_model.specs.Frames.{frames_plan}
 use Rattle.machine_model.specs.Names.{Answer, Body, Classes, ClassId, Failed, Failure, Finding, Lookup, NamedThread}
 use Rattle.machine_model.specs.Names.{Nothing, Outcome, Part, Success, ThreadId, Want, all_threads, class_facts}
 use Rattle.machine_model.specs.Names.{classes_found, container_children, frame_list, frames_found, thread_frames}
-use Rattle.machine_model.specs.Names.{thread_list, threads_found, variable_list, variables_found}
+use Rattle.machine_model.specs.Names.{thread_list, threads_found, variable_list, variables_found, a_stop, an_exception}
+use Rattle.machine_model.specs.Names.{by_exception, exception_found, exception_info, exception_text, text_found}
 use Rattle.machine_model.specs.Plans.{Need, Plan, Result, Sight, asking, chained, each, gave, joined, made_with}
 use Rattle.machine_model.specs.Plans.{need, refused}
 use Rattle.machine_model.specs.References.{has_room, things_of}
@@ -50,6 +52,8 @@ plan all_threads state = threads_plan
 plan (thread_frames thread start levels) state = frames_plan state thread start levels
 plan (container_children thing filter start count) state =
     children_plan state.options.shows_types thing filter start count
+plan (exception_text thread object) state = text_plan object.0
+plan (exception_info thrown) state = exception_plan thrown
 plan class_facts state =
     made_with classes_found (classes_plan state.unlisted state.wishes.wanted (found_in state.classes))
 
@@ -67,7 +71,19 @@ classes_of (gave (threads_found named)) = []
 classes_of (gave (classes_found classes)) = classes
 classes_of (gave (frames_found total frames)) = []
 classes_of (gave (variables_found shown)) = []
+classes_of (gave (text_found text)) = []
+classes_of (gave (exception_found id mode)) = []
 classes_of (refused code) = []
+
+-- the text that was found
+abbrev pub text_of : Result Finding → Option (List ℕ)
+text_of (gave (threads_found named)) = None
+text_of (gave (classes_found classes)) = None
+text_of (gave (frames_found total frames)) = None
+text_of (gave (variables_found shown)) = None
+text_of (gave (text_found text)) = text
+text_of (gave (exception_found id mode)) = None
+text_of (refused code) = None
 
 -- what a response shows that was found
 abbrev pub body_of : Finding → Body
@@ -75,11 +91,13 @@ body_of (threads_found named) = thread_list named
 body_of (classes_found classes) = Nothing
 body_of (frames_found total frames) = frame_list total frames
 body_of (variables_found shown) = variable_list shown
+body_of (text_found text) = Nothing
+body_of (exception_found id mode) = an_exception id mode
 
--- the response that shows threads
-abbrev pub threads_outcome : Result Finding → Outcome
-threads_outcome (gave finding) = Success (body_of finding)
-threads_outcome (refused code) = Failed (refusal code)
+-- the response that shows what has no numbers to be told: threads, or an exception
+abbrev pub plain_outcome : Result Finding → Outcome
+plain_outcome (gave finding) = Success (body_of finding)
+plain_outcome (refused code) = Failed (refusal code)
 
 -- One that tells numbers; where too few are left it fails (DAP specification, Types, StackFrame, id; Types, Variable,
 -- variablesReference).
@@ -92,10 +110,13 @@ outcome_by numbers (refused code) = Failed (refusal code)
 
 -- the parts that a result becomes
 abbrev pub finished : Lookup → Result Finding → State → List Part
-finished all_threads result state = Part.Responds (threads_outcome result) ∷ []
+finished all_threads result state = Part.Responds (plain_outcome result) ∷ []
 finished (thread_frames thread start levels) result state = Part.Responds (outcome_by state.numbers result) ∷ []
 finished (container_children thing filter start count) result state =
     Part.Responds (outcome_by state.numbers result) ∷ []
+finished (exception_text thread object) result state =
+    Part.Tells (a_stop (record { cause = by_exception (text_of result); thread = thread })) ∷ []
+finished (exception_info thrown) result state = Part.Responds (plain_outcome result) ∷ []
 finished class_facts result state = Part.Notes (Classes (classes_of result)) ∷ []
 
 -- whether they bring the response
@@ -103,4 +124,6 @@ abbrev pub lookup_responds : Lookup → Bool
 lookup_responds all_threads = true
 lookup_responds (thread_frames thread start levels) = true
 lookup_responds (container_children thing filter start count) = true
+lookup_responds (exception_text thread object) = false
+lookup_responds (exception_info thrown) = true
 lookup_responds class_facts = false

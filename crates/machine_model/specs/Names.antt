@@ -3,6 +3,8 @@ pub use Rattle.dap_messages.specs.declared.requests.Command.{Command}
 pub use Rattle.dap_messages.specs.declared.requests.Command.TheVariants.{Initialize, Attach, ConfigurationDone}
 pub use Rattle.dap_messages.specs.declared.requests.Command.TheVariants.{SetBreakpoints, Threads, Continue, Pause}
 pub use Rattle.dap_messages.specs.declared.requests.Command.TheVariants.{StackTrace, Scopes, Variables}
+pub use Rattle.dap_messages.specs.declared.requests.Command.TheVariants.{SetFunctionBreakpoints, SetExceptionBreakpoints}
+pub use Rattle.dap_messages.specs.declared.requests.Command.TheVariants.{Next, StepIn, StepOut, ExceptionInfo}
 pub use Rattle.dap_messages.specs.declared.requests.Command.TheVariants.{Disconnect, Unsupported, BadArguments}
 pub use Rattle.dap_messages.specs.declared.requests.Request.{Request}
 pub use Rattle.dap_messages.specs.declared.told.Failure.{Failure}
@@ -37,8 +39,9 @@ pub use Rattle.machine_model.specs.declared.parts.Body.TheVariants.{Breakpoints 
 pub use Rattle.machine_model.specs.declared.parts.Body.TheVariants.{Threads as thread_list, Continued}
 pub use Rattle.machine_model.specs.declared.parts.Body.TheVariants.{StackFrames as frame_list}
 pub use Rattle.machine_model.specs.declared.parts.Body.TheVariants.{Scopes as scope_list, Variables as variable_list}
+pub use Rattle.machine_model.specs.declared.parts.Body.TheVariants.{Exception as an_exception}
 pub use Rattle.machine_model.specs.declared.parts.Choice.{Choice}
-pub use Rattle.machine_model.specs.declared.parts.Choice.TheVariants.{TellsNews, Decides, Leaves}
+pub use Rattle.machine_model.specs.declared.parts.Choice.TheVariants.{TellsNews, Decides, Stepped, Leaves}
 pub use Rattle.machine_model.specs.declared.parts.Deed.{Deed}
 pub use Rattle.machine_model.specs.declared.parts.Deed.TheVariants.{Suspend, Resume, Dispose, Exit}
 pub use Rattle.machine_model.specs.declared.parts.Event.{Event}
@@ -49,23 +52,32 @@ pub use Rattle.machine_model.specs.declared.parts.Finding.TheVariants.{Threads a
 pub use Rattle.machine_model.specs.declared.parts.Finding.TheVariants.{Classes as classes_found}
 pub use Rattle.machine_model.specs.declared.parts.Finding.TheVariants.{Frames as frames_found}
 pub use Rattle.machine_model.specs.declared.parts.Finding.TheVariants.{Variables as variables_found}
+pub use Rattle.machine_model.specs.declared.parts.Finding.TheVariants.{ExceptionText as text_found}
+pub use Rattle.machine_model.specs.declared.parts.Finding.TheVariants.{Exception as exception_found}
 pub use Rattle.machine_model.specs.declared.parts.Finish.{Finish}
 pub use Rattle.machine_model.specs.declared.parts.Finish.TheVariants.{Done, OneThread}
 pub use Rattle.machine_model.specs.declared.parts.Guard.{Guard}
 pub use Rattle.machine_model.specs.declared.parts.Guard.TheVariants.{Handshake, IdSizes}
+pub use Rattle.machine_model.specs.declared.parts.Halt.{Halt}
+pub use Rattle.machine_model.specs.declared.parts.HaltCause.{HaltCause}
+pub use Rattle.machine_model.specs.declared.parts.HaltCause.TheVariants.{Breakpoint as came_to, Exception as threw}
+pub use Rattle.machine_model.specs.declared.parts.HaltCause.TheVariants.{Step as has_stepped}
 pub use Rattle.machine_model.specs.declared.parts.ListedBreakpoint.{ListedBreakpoint}
 pub use Rattle.machine_model.specs.declared.parts.Lookup.{Lookup}
 pub use Rattle.machine_model.specs.declared.parts.Lookup.TheVariants.{Threads as all_threads}
 pub use Rattle.machine_model.specs.declared.parts.Lookup.TheVariants.{Classes as class_facts}
 pub use Rattle.machine_model.specs.declared.parts.Lookup.TheVariants.{Frames as thread_frames}
 pub use Rattle.machine_model.specs.declared.parts.Lookup.TheVariants.{Variables as container_children}
+pub use Rattle.machine_model.specs.declared.parts.Lookup.TheVariants.{ExceptionText as exception_text}
+pub use Rattle.machine_model.specs.declared.parts.Lookup.TheVariants.{Exception as exception_info}
 pub use Rattle.machine_model.specs.declared.parts.NamedThread.{NamedThread}
 pub use Rattle.machine_model.specs.declared.parts.News.{News}
 pub use Rattle.machine_model.specs.declared.parts.News.TheVariants.{Verified as entry_verified}
 pub use Rattle.machine_model.specs.declared.parts.News.TheVariants.{Thread as thread_changed}
 pub use Rattle.machine_model.specs.declared.parts.Note.{Note}
 pub use Rattle.machine_model.specs.declared.parts.Note.TheVariants.{Options, Roots, Lines, Classes}
-pub use Rattle.machine_model.specs.declared.parts.Note.TheVariants.{EntryHeld, Configured}
+pub use Rattle.machine_model.specs.declared.parts.Note.TheVariants.{EntryHeld, Configured, Functions}
+pub use Rattle.machine_model.specs.declared.parts.Note.TheVariants.{Exceptions as StopsAt, Step as Steps, Thrown as Throws}
 pub use Rattle.machine_model.specs.declared.parts.Outcome.{Outcome}
 pub use Rattle.machine_model.specs.declared.parts.Outcome.TheVariants.{Success, Failure as Failed}
 pub use Rattle.machine_model.specs.declared.parts.Part.{Part}
@@ -74,8 +86,10 @@ pub use Rattle.machine_model.specs.declared.parts.ShownFrame.{ShownFrame}
 pub use Rattle.machine_model.specs.declared.parts.ShownVariable.{ShownVariable}
 pub use Rattle.machine_model.specs.declared.parts.Spot.{Spot}
 pub use Rattle.machine_model.specs.declared.parts.StopCause.{StopCause}
-pub use Rattle.machine_model.specs.declared.parts.StopCause.TheVariants.{Hit, Pause as by_client}
+pub use Rattle.machine_model.specs.declared.parts.StopCause.TheVariants.{Hit, Exception as by_exception}
+pub use Rattle.machine_model.specs.declared.parts.StopCause.TheVariants.{Step as by_step, Pause as by_client}
 pub use Rattle.machine_model.specs.declared.parts.Stopping.{Stopping}
 pub use Rattle.machine_model.specs.declared.parts.Suspension.{Suspension}
 pub use Rattle.machine_model.specs.declared.parts.Suspension.TheVariants.{Composite as of_composite, Entry as of_entry}
 pub use Rattle.machine_model.specs.declared.parts.Suspension.TheVariants.{Stop as of_stop}
+pub use Rattle.machine_model.specs.declared.parts.Thrown.{Thrown}

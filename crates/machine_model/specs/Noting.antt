@@ -1,7 +1,7 @@
 -- How the client is served is what its last `initialize` asked for.
 use Rattle.std.specs.Prelude.{◌≡◌, ◌∷◌, ◌++◌, false, cond, List, [], Option, None, Some}
-use Rattle.machine_model.specs.Names.{Classes, ClientOptions, Command, Configured, EntryHeld, Initialize, Lines, Note}
-use Rattle.machine_model.specs.Names.{Options, Part, Request, Roots, a_response}
+use Rattle.machine_model.specs.Names.{Classes, ClientOptions, Command, Configured, EntryHeld, Functions, Initialize}
+use Rattle.machine_model.specs.Names.{Lines, Note, Options, Part, Request, Roots, Steps, StopsAt, Throws, a_response}
 use Rattle.machine_model.specs.Rest.{IsAnswer, request_by, response_by, without_response}
 use Rattle.dap_messages.specs.declared.told.Response.{Response}
 use Rattle.machine_model.specs.Rows.{has_response}
@@ -35,6 +35,10 @@ abbrev pub note_options : Note → ClientOptions → ClientOptions
 note_options (Options noted) options = noted
 note_options (Roots roots) options = options
 note_options (Lines key path entries) options = options
+note_options (Functions entries) options = options
+note_options (StopsAt caught uncaught) options = options
+note_options (Steps step) options = options
+note_options (Throws thrown) options = options
 note_options (Classes classes) options = options
 note_options EntryHeld options = options
 note_options Configured options = options

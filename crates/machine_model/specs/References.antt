@@ -2,7 +2,7 @@
 -- of Objects References; Types, StackFrame, id; Types, Variable, variablesReference).
 use Rattle.std.specs.Prelude.{ℕ, ◌-◌, Bool, List, [], ◌∷◌, filter_map, fold, map, nat_le}
 use Rattle.machine_model.specs.Names.{Body, Capabilities, Continued, Nothing, ShownFrame, ShownVariable, breakpoint_list}
-use Rattle.machine_model.specs.Names.{frame_list, scope_list, thread_list, variable_list}
+use Rattle.machine_model.specs.Names.{an_exception, frame_list, scope_list, thread_list, variable_list}
 use Rattle.stop_refs.specs.Numbers.{InHand, next_in, room, with_thing}
 use Rattle.stop_refs.specs.declared.thing.Thing.{Thing}
 use Rattle.stop_refs.specs.declared.thing.Thing.TheVariants.{Frame as a_frame, Locals as some_locals}
@@ -13,6 +13,7 @@ things_of Nothing = []
 things_of Capabilities = []
 things_of (breakpoint_list rooted listed) = []
 things_of Continued = []
+things_of (an_exception id mode) = []
 things_of (frame_list total frames) = map (λ (shown : ShownFrame). a_frame shown.frame) frames
 things_of (scope_list frame) = some_locals frame ∷ []
 things_of (variable_list shown) = filter_map (λ (shown : ShownVariable). shown.seen.thing) shown

@@ -1,16 +1,17 @@
 -- What each item does, part by part (DAP specification, Requests; JDWP, Event command set, Composite).
 use Rattle.std.specs.Prelude.{ℕ, ◌+◌, ◌-◌, ◌==◌, ◌∷◌, ◌++◌, ◌||◌, Bool, true, false, cond, List, [], length, map}
-use Rattle.std.specs.Prelude.{Option, None, Some, Result, Ok, Err, slice_get}
+use Rattle.std.specs.Prelude.{Option, None, Some, Result, Ok, Err, find, option_and_then, slice_get}
 use Rattle.class_tables.specs.Lookups.{found_in}
 use Rattle.dap_messages.specs.Telling.{already_attached, bad_arguments, not_attached, not_stopped, target_gone}
 use Rattle.dap_messages.specs.Telling.{unknown_thread, unsupported}
 use Rattle.dap_messages.specs.declared.requests.InitializeArguments.{InitializeArguments}
 use Rattle.dap_messages.specs.declared.requests.StackTraceArguments.{StackTraceArguments}
 use Rattle.dap_messages.specs.declared.requests.VariablesArguments.{VariablesArguments}
-use Rattle.machine_model.specs.Breakpoints.{entry_of, key_of, lines_wished, newly_verified, numbered_from}
+use Rattle.machine_model.specs.Breakpoints.{entry_of, function_listed, functions_from, functions_wished, key_of}
+use Rattle.machine_model.specs.Breakpoints.{lines_wished, newly_verified, numbered_from}
 use Rattle.machine_model.specs.Composites.{changes_in, composite_parts, has_death, learnt_by}
 use Rattle.machine_model.specs.Frames.{with_path}
-use Rattle.machine_model.specs.Lookups.{lookup_responds, shown_by}
+use Rattle.machine_model.specs.Lookups.{lookup_responds, refusal, shown_by}
 use Rattle.machine_model.specs.Names.{Attach, Attached, BadArguments, Capabilities, Choice, Classes, ClientOptions}
 use Rattle.machine_model.specs.Names.{Command, ConfigurationDone, Configured, Continue, Continued, Decides, Deed}
 use Rattle.machine_model.specs.Names.{Disconnect, Dispose, Done, EntryHeld, Exit, Failed, Failure, Fresh, Gone}
@@ -19,7 +20,10 @@ use Rattle.machine_model.specs.Names.{ListedBreakpoint, News, Note, Nothing, Opt
 use Rattle.machine_model.specs.Names.{Scopes, SetBreakpoints, StackTrace, Success, Suspend, TellsNews, Terminated, ThreadId}
 use Rattle.machine_model.specs.Names.{Threads, Unsupported, a_composite, a_raw, a_request, a_stop, all_threads, breakpoint_list}
 use Rattle.machine_model.specs.Names.{by_client, class_facts, entry_verified, of_entry, of_stop, some_news, target_end}
-use Rattle.machine_model.specs.Names.{Variables, container_children, scope_list, thread_frames}
+use Rattle.machine_model.specs.Names.{Variables, container_children, scope_list, thread_frames, Doing, Functions}
+use Rattle.machine_model.specs.Names.{ExceptionInfo, Next, SetExceptionBreakpoints, SetFunctionBreakpoints, StepIn}
+use Rattle.machine_model.specs.Names.{StepOut, Stepped, Steps, StopsAt, Replied, Throws, Thrown, an_answer, an_error}
+use Rattle.machine_model.specs.Names.{exception_info}
 use Rattle.machine_model.specs.State.{Hand, State, is_some}
 use Rattle.machine_model.specs.Stops.{decided}
 use Rattle.machine_model.specs.Variables.{reference_failure}
@@ -27,7 +31,10 @@ use Rattle.stop_refs.specs.Numbers.{InHand, container, frame}
 use Rattle.stop_refs.specs.declared.fault.RefFault.{RefFault}
 use Rattle.stop_refs.specs.declared.thing.FrameThing.{FrameThing}
 use Rattle.stop_refs.specs.declared.thing.Thing.{Thing}
-use Rattle.wish_sets.specs.Wanted.{with_known}
+use Rattle.wish_sets.specs.Wanted.{with_exceptions, with_known, with_step}
+use Rattle.wish_sets.specs.declared.entry.FunctionEntry.{FunctionEntry}
+use Rattle.wish_sets.specs.declared.wish.Depth.{Depth}
+use Rattle.wish_sets.specs.declared.wish.Depth.TheVariants.{Into, Out, Over}
 use Rattle.wish_sets.specs.Wishes.{rewished}
 
 -- Requests ------------------------------------------------------------------------------------------------------------
@@ -47,6 +54,18 @@ breakpoint_parts from_one key path listed below =
     Part.Notes (Lines key path (map (entry_of from_one) listed)) ∷ Part.Updates ∷ Part.Looks class_facts ∷ Part.Updates
     ∷ Part.Unfolds (TellsNews below) ∷ Part.Responds (Success (breakpoint_list (is_some key) listed)) ∷ []
 
+-- The same of functions (DAP specification, SetFunctionBreakpoints request).
+abbrev pub function_parts : List FunctionEntry → ℕ → List Part
+function_parts entries below =
+    Part.Notes (Functions entries) ∷ Part.Updates ∷ Part.Looks class_facts ∷ Part.Updates ∷ Part.Unfolds (TellsNews below)
+    ∷ Part.Responds (Success (breakpoint_list true (map function_listed entries))) ∷ []
+
+-- Which exceptions stop a thread is written down, and their event request is cleared and set (DAP specification,
+-- SetExceptionBreakpoints request).
+abbrev pub exceptions_parts : Bool → Bool → List Part
+exceptions_parts caught uncaught =
+    Part.Notes (StopsAt caught uncaught) ∷ Part.Updates ∷ Part.Responds (Success Nothing) ∷ []
+
 -- The client has configured all: the target's entry is held no longer (DAP specification, ConfigurationDone request;
 -- JDWP, VirtualMachine command set, Resume).
 abbrev pub configured_parts : Bool → List Part
@@ -64,12 +83,31 @@ abbrev pub continue_parts : Option ThreadId → List Part
 continue_parts None = Part.Responds (Failed unknown_thread) ∷ []
 continue_parts (Some thread) = Part.Sends (Resume of_stop) ∷ Part.Responds (Success Continued) ∷ []
 
--- The whole target is suspended, for a stop; in a stop nothing has to be done (DAP specification, Pause request; JDWP,
--- VirtualMachine command set, Suspend).
+-- A step: its event request is set, and by the reply it is decided how it goes on (DAP specification, Next, StepIn and
+-- StepOut requests; JDWP, EventRequest command set, Set, Step).
+abbrev pub step_parts : Depth → Option ThreadId → List Part
+step_parts depth None = Part.Responds (Failed unknown_thread) ∷ []
+step_parts depth (Some thread) =
+    Part.Notes (Steps (Some (record { thread = thread; depth = depth }))) ∷ Part.Updates ∷ Part.Unfolds Stepped ∷ []
+
+-- no thread has the id 0, and a step of it may end the target's process
+abbrev pub thread_there : ThreadId → Option ThreadId
+thread_there thread = cond (thread.0 == 0) None (Some thread)
+
+-- What a thread threw first in the stop (DAP specification, ExceptionInfo request).
+abbrev pub thrown_first : List Thrown → ThreadId → Option Thrown
+thrown_first thrown thread = find (λ one. one.thread.0 == thread.0) thrown
+
+abbrev pub exception_parts : Option Thrown → List Part
+exception_parts None = Part.Responds (Failed unknown_thread) ∷ []
+exception_parts (Some thrown) = Part.Looks (exception_info thrown) ∷ []
+
+-- The whole target is suspended, for a stop, and a step that is in flight is cleared; in a stop nothing has to be done (DAP
+-- specification, Pause request; JDWP, VirtualMachine command set, Suspend).
 abbrev pub paused_parts : Bool → ThreadId → List Part
 paused_parts true thread = Part.Responds (Success Nothing) ∷ []
-paused_parts false thread = Part.Sends Suspend ∷ Part.Responds (Success Nothing)
-    ∷ Part.Tells (a_stop (record { cause = by_client; thread = thread })) ∷ []
+paused_parts false thread = Part.Sends Suspend ∷ Part.Notes (Steps None) ∷ Part.Updates
+    ∷ Part.Responds (Success Nothing) ∷ Part.Tells (a_stop (record { cause = by_client; thread = thread })) ∷ []
 
 abbrev pub pause_parts : Bool → Option ThreadId → List Part
 pause_parts stopped None = Part.Responds (Failed unknown_thread) ∷ []
@@ -92,6 +130,9 @@ variables_parts arguments (Ok thing) =
     Part.Looks (container_children thing arguments.filter arguments.start arguments.count) ∷ []
 variables_parts arguments (Err fault) = Part.Responds (Failed (reference_failure fault)) ∷ []
 
+abbrev pub stepped_thread : State → ℕ → Option ThreadId
+stepped_thread state number = option_and_then thread_there (thread_with state.threads number)
+
 -- the table of requests
 abbrev pub row_of : Command → State → List Part
 row_of (Initialize arguments) state =
@@ -103,8 +144,16 @@ row_of ConfigurationDone state = configured_parts state.entry
 row_of (SetBreakpoints arguments) state =
     breakpoint_parts state.options.lines_from_one (key_of state.roots arguments.path) arguments.path
     (numbered_from state.next_entry arguments.breakpoints) state.next_entry
+row_of (SetFunctionBreakpoints arguments) state =
+    function_parts (functions_from state.next_entry arguments.breakpoints) state.next_entry
+row_of (SetExceptionBreakpoints arguments) state = exceptions_parts arguments.caught arguments.uncaught
 row_of Threads state = Part.Looks all_threads ∷ []
 row_of (Continue arguments) state = continue_parts (thread_with state.threads arguments.thread_id)
+row_of (Next arguments) state = step_parts Over (stepped_thread state arguments.thread_id)
+row_of (StepIn arguments) state = step_parts Into (stepped_thread state arguments.thread_id)
+row_of (StepOut arguments) state = step_parts Out (stepped_thread state arguments.thread_id)
+row_of (ExceptionInfo arguments) state =
+    exception_parts (option_and_then (thrown_first state.thrown) (thread_with state.threads arguments.thread_id))
 row_of (Pause arguments) state = pause_parts state.stopped (thread_with state.threads arguments.thread_id)
 row_of (StackTrace arguments) state = stack_parts (thread_with state.threads arguments.thread_id) arguments
 row_of (Scopes arguments) state = scopes_parts state.numbers (frame arguments.frame_id state.numbers)
@@ -128,8 +177,14 @@ wanting (Initialize arguments) = wants_nothing
 wanting (Attach arguments) = wants_no_target
 wanting ConfigurationDone = wants_target
 wanting (SetBreakpoints arguments) = wants_target
+wanting (SetFunctionBreakpoints arguments) = wants_target
+wanting (SetExceptionBreakpoints arguments) = wants_target
 wanting Threads = wants_target
 wanting (Continue arguments) = wants_stop
+wanting (Next arguments) = wants_stop
+wanting (StepIn arguments) = wants_stop
+wanting (StepOut arguments) = wants_stop
+wanting (ExceptionInfo arguments) = wants_stop
 wanting (Pause arguments) = wants_target
 wanting (StackTrace arguments) = wants_stop
 wanting (Scopes arguments) = wants_target
@@ -201,16 +256,34 @@ abbrev pub news_of : ℕ → State → Item → List News
 news_of below state item =
     map entry_verified (newly_verified below state.bound state.wishes) ++ changes_in item
 
+-- the error that the last effect was refused with
+abbrev pub code_in : Option Replied → Option ℕ
+code_in None = None
+code_in (Some (an_answer answer)) = None
+code_in (Some (an_error code)) = Some code
+
+abbrev pub refused_with : Option Doing → Option ℕ
+refused_with None = None
+refused_with (Some doing) = code_in doing.reply
+
+-- Once the event request of a step is set the stop is over, and the whole target runs on; where it was refused the request
+-- fails, and the stop goes on (JDWP, VirtualMachine command set, Resume).
+abbrev pub stepped_by : Option ℕ → List Part
+stepped_by None = Part.Sends (Resume of_stop) ∷ Part.Responds (Success Nothing) ∷ []
+stepped_by (Some code) = Part.Notes (Steps None) ∷ Part.Updates ∷ Part.Responds (Failed (refusal code)) ∷ []
+
 -- the table of choices: what a part becomes when its turn comes
 abbrev pub chosen : Choice → State → Hand → List Part
 chosen (TellsNews below) state hand = told_in state.phase (news_of below state hand.item)
 chosen Decides state hand = decided state hand.item
+chosen Stepped state hand = stepped_by (refused_with hand.effect)
 chosen (Leaves exits) state hand = leaves state.phase exits
 
 -- whether it brings the response
 abbrev pub choice_responds : Choice → Bool
 choice_responds (TellsNews below) = false
 choice_responds Decides = false
+choice_responds Stepped = true
 choice_responds (Leaves exits) = false
 
 -- Notes ---------------------------------------------------------------------------------------------------------------
@@ -224,6 +297,15 @@ noted (Lines key path entries) state = record state {
   next_entry = state.next_entry + length entries;
   wishes = lines_wished key entries state.wishes;
 }
+noted (Functions entries) state = record state {
+  next_entry = state.next_entry + length entries;
+  wishes = functions_wished entries state.wishes;
+}
+noted (StopsAt caught uncaught) state = record state {
+  wishes = rewished (with_exceptions caught uncaught state.wishes.wanted) state.wishes;
+}
+noted (Steps step) state = record state { wishes = rewished (with_step step state.wishes.wanted) state.wishes }
+noted (Throws thrown) state = record state { thrown = state.thrown ++ thrown }
 noted (Classes classes) state = record state {
   wishes = rewished (with_known (found_in state.classes) classes state.wishes.wanted) state.wishes;
 }

@@ -2,7 +2,7 @@
 use Rattle.std.specs.Prelude.{ℕ, ◌||◌, Bool, true, false, List, [], ◌∷◌, Option, None, Some}
 use Rattle.class_tables.specs.Facts.{Known, nothing}
 use Rattle.machine_model.specs.Names.{Attached, ClientOptions, Doing, Fresh, Gone, Item, Part, Phase, Sent}
-use Rattle.machine_model.specs.Names.{TargetCommand, ThreadId, Want, a_composite, a_raw, a_request, target_end}
+use Rattle.machine_model.specs.Names.{TargetCommand, ThreadId, Thrown, Want, a_composite, a_raw, a_request, target_end}
 use Rattle.machine_model.specs.Requests.{Wishes, new_wishes}
 use Rattle.stop_refs.specs.Numbers.{InHand, begun as begun_stop, from, over}
 
@@ -19,8 +19,8 @@ pub record SizesRead : Type 0 where
 -- listed breakpoints of a source last, by its key; the id that the next breakpoint gets; which event requests are wished
 -- and which stand; whether a watch was set since all classes were listed; the facts of classes; the threads that were
 -- told, in the order of their numbers; the ids of the breakpoints that were told to be verified; whether a stop is in
--- hand, and the numbers of what was told in it, none while the target runs; whether the target's entry is held, and
--- whether the client has configured all; and whether it was told that nothing more comes of the target.
+-- hand, the numbers of what was told in it, none while the target runs, and what was thrown in it; whether the target's
+-- entry is held, and whether the client has configured all; and whether it was told that nothing more comes of the target.
 pub record State : Type 0 where
   pub options : ClientOptions
   pub phase : Phase
@@ -37,6 +37,7 @@ pub record State : Type 0 where
   pub bound : List ℕ
   pub stopped : Bool
   pub numbers : InHand
+  pub thrown : List Thrown
   pub entry : Bool
   pub configured : Bool
   pub terminated : Bool
@@ -82,6 +83,7 @@ nothing_known = record {
   bound = [];
   stopped = false;
   numbers = begun_stop (from 1);
+  thrown = [];
   entry = false;
   configured = false;
   terminated = false;
@@ -106,6 +108,7 @@ lost state = record state {
   phase = Gone;
   stopped = false;
   numbers = numbers_over state.stopped state.numbers;
+  thrown = [];
   entry = false;
 }
 

@@ -17,7 +17,7 @@ use Rattle.machine_model.specs.Names.{Attached, Body, Capabilities, Continued, E
 use Rattle.machine_model.specs.Names.{Initialized, NamedThread, News, Nothing, Outcome, Phase, Request, StopCause, Success}
 use Rattle.machine_model.specs.Names.{Terminated, ThreadId, Told, a_response, a_stop, breakpoint_list, by_client}
 use Rattle.machine_model.specs.Names.{entry_verified, frame_list, scope_list, some_news, thread_changed, thread_list}
-use Rattle.machine_model.specs.Names.{variable_list}
+use Rattle.machine_model.specs.Names.{an_exception, by_exception, by_step, variable_list}
 use Rattle.machine_model.specs.References.{things_of, with_things}
 use Rattle.machine_model.specs.State.{State, lost}
 use Rattle.machine_model.specs.Variables.{variable_told}
@@ -60,6 +60,7 @@ numbered (frame_list total frames) state =
 numbered (scope_list frame) state = record state { numbers = with_thing (some_locals frame) state.numbers }
 numbered (variable_list shown) state =
     record state { numbers = with_things (things_of (variable_list shown)) state.numbers }
+numbered (an_exception id mode) state = state
 numbered (thread_list named) state = record state { threads = with_threads state.threads named }
 
 -- a thread as it is told, its name as text (DAP specification, Types, Thread)
@@ -77,6 +78,7 @@ body_told (frame_list total frames) state =
     shapes.StackFrames (map (frame_told state.options state.numbers) frames) total
 body_told (scope_list frame) state = shapes.Scopes (number_of (some_locals frame) state.numbers)
 body_told (variable_list shown) state = shapes.Variables (map (variable_told state.numbers) shown)
+body_told (an_exception id mode) state = shapes.ExceptionInfo id mode
 body_told (thread_list named) state = shapes.Threads (map (thread_told state.threads) named)
 
 abbrev pub numbered_by : Outcome → State → State
@@ -134,6 +136,8 @@ hit_told entries = cond (list_any (λ entry. entry.line) entries) (reasons.Break
 
 abbrev pub reason_told : StopCause → State → StopReason
 reason_told (Hit at) state = hit_told (entries_at state.wishes.wanted at)
+reason_told (by_exception text) state = reasons.Exception text
+reason_told by_step state = reasons.Step
 reason_told by_client state = reasons.Pause
 
 abbrev pub event_told : Event → State → EventTold

@@ -17,6 +17,7 @@ ghost use Rattle.machine_model.specs.Questions.{Questions};
 ghost use Rattle.machine_model.specs.ReferenceNumbers.{NumbersReferences};
 ghost use Rattle.machine_model.specs.Responses.{Responses, Rests};
 ghost use Rattle.machine_model.specs.Spelling.{Spells};
+ghost use Rattle.machine_model.specs.Steps.{ClearsSteps, StepsAtRest};
 ghost use Rattle.machine_model.specs.Stopping.{TellsStops, UndoesSurplus};
 ghost use Rattle.machine_model.specs.Suspending.{BindsFirst, RunsOn};
 ghost use Rattle.machine_model.specs.Waiting.{Waits};
@@ -72,10 +73,11 @@ pub fn event_requests_are_as_replied()
     ensures { AsReplied }
 {}
 
-/// At rest, once the session is attached, all classes were listed since the last watch was set. Nothing more has to be
-/// known of those that are prepared in a watched package, and each whose source is listed was made known to the event
-/// requests with all its methods and lines (DAP specification, SetBreakpoints request; JDWP, VirtualMachine command set,
-/// AllClasses; JDWP, ReferenceType command set, SourceFile and Methods; JDWP, Method command set, LineTable).
+/// At rest, once the session is attached, all classes were listed since the last watch was set, and nothing more has
+/// to be known of those that are prepared in a watched package. In each whose source is listed, or that a function
+/// names, breakpoints are bound at just the places that all that is known of it gives (DAP specification,
+/// SetBreakpoints and SetFunctionBreakpoints requests; JDWP, VirtualMachine command set, AllClasses; JDWP,
+/// ReferenceType command set, SourceFile and Methods; JDWP, Method command set, LineTable).
 pub fn breakpoints_are_bound_by_all_that_is_known()
     ensures { Binds }
 {}
@@ -89,20 +91,32 @@ pub fn breakpoints_are_bound_before_the_target_runs_on()
 
 /// The event `breakpoint` tells of a breakpoint that is verified then, and that the client was not told to be verified
 /// before. At rest, once the session is attached, the client was told of each that is verified, by this event or in a
-/// response (DAP specification, Events, Breakpoint; DAP specification, SetBreakpoints request).
+/// response (DAP specification, Events, Breakpoint; DAP specification, SetBreakpoints and SetFunctionBreakpoints
+/// requests).
 pub fn breakpoints_are_told_once_they_are_verified()
     ensures news { TellsVerified }
     ensures all { TellsAll }
 {}
 
-/// The event `stopped` tells of a breakpoint that was hit in the composite in hand, under an event request that is
-/// installed, once no event request is to be set or cleared and breakpoints are bound by all that is known; or it is told
-/// for a `pause`, in the stop that this began. Where a hit is told in a stop, the Resume that undoes its suspension is due
-/// right behind it (DAP specification, Events, Stopped; JDWP, Event command set, Composite; JDWP, VirtualMachine command
-/// set, Resume).
+/// The event `stopped` tells of a thread that halted by an event of the composite in hand: it came to a breakpoint,
+/// threw something, or ended its step. At some time in the messages, with this composite in hand, the event's request
+/// was installed. Then, and where the stop is told, no event request is to be set or cleared, and breakpoints are
+/// bound by all that is known. The thread and the reason are told by that event; the text of an exception is what the
+/// look-up of its type came to. Else `stopped` is told for a `pause`, in the stop that this began. Where a halt is
+/// told in a stop, the Resume that undoes its suspension is due right behind it (DAP specification, Events, Stopped;
+/// JDWP, Event command set, Composite; JDWP, VirtualMachine command set, Resume).
 pub fn stops_are_told_of_what_stops_the_target()
     ensures told { TellsStops }
     ensures surplus { UndoesSurplus }
+{}
+
+/// Where a stop is told no step is in flight, and no event request of one is installed. At rest, once the session is
+/// attached, that is so as long as a stop is in hand; else an event request of a step is installed only where it is
+/// the one in flight (DAP specification, Next, StepIn and StepOut requests; JDWP, EventRequest command set, Set,
+/// Step).
+pub fn steps_are_over_where_a_stop_is_told()
+    ensures cleared { ClearsSteps }
+    ensures at_rest { StepsAtRest }
 {}
 
 /// At rest, once the session is attached, each composite that came was at its turn. One suspension of the whole target is
@@ -132,9 +146,9 @@ pub fn nothing_is_asked_but_what_is_lacking()
     ensures { Questions }
 {}
 
-/// No question about null is asked, which may end the target's process: none about object 0, and not which class the class
-/// 0 extends. Nor is one asked for nothing: for no frame, no element, no field or no slot (JDWP, Detailed Command
-/// Information).
+/// No question about null is asked, which may end the target's process: none about object 0, and not which class the
+/// class 0 extends. No step of thread 0 is set, which may end it, too. No question is asked for nothing: for no frame,
+/// no element, no field or no slot (JDWP, Detailed Command Information).
 pub fn nothing_is_asked_of_null()
     ensures { Harmless }
 {}

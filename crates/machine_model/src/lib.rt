@@ -22,12 +22,14 @@ pub use laws::{
     look_ups_show_the_world, nothing_is_asked_but_what_is_lacking, nothing_is_asked_of_null,
     nothing_waits_at_rest, outcomes_are_what_rows_lead_to,
     references_are_numbered_as_they_are_told, requests_are_answered_in_order,
-    stops_are_told_of_what_stops_the_target, the_first_error_decides,
-    the_handshake_goes_out_for_an_attach, the_target_is_left_once_for_a_disconnect,
-    the_target_runs_on_at_rest, what_is_known_is_what_messages_say,
+    steps_are_over_where_a_stop_is_told, stops_are_told_of_what_stops_the_target,
+    the_first_error_decides, the_handshake_goes_out_for_an_attach,
+    the_target_is_left_once_for_a_disconnect, the_target_runs_on_at_rest,
+    what_is_known_is_what_messages_say,
 };
 pub use options::ClientOptions;
 pub use parts::{
-    Body, Choice, Deed, Event, Finding, Finish, Guard, ListedBreakpoint, Lookup, NamedThread, News,
-    Note, Outcome, Part, Seen, ShownFrame, ShownVariable, Spot, StopCause, Stopping, Suspension,
+    Body, Choice, Deed, Event, Finding, Finish, Guard, Halt, HaltCause, ListedBreakpoint, Lookup,
+    NamedThread, News, Note, Outcome, Part, Seen, ShownFrame, ShownVariable, Spot, StopCause,
+    Stopping, Suspension, Thrown,
 };

@@ -1,11 +1,11 @@
 //! What an item does, part by part.
 
 use crate::options::ClientOptions;
-use dap_messages::{Failure, Filter, Source};
-use jdwp_values::{ClassId, Location, ThreadId};
+use dap_messages::{BreakMode, Failure, Filter, Source};
+use jdwp_values::{ClassId, Location, ObjectId, ThreadId};
 use stop_refs::{FrameThing, Thing};
 use wire_core::{Blob, List, Text};
-use wish_sets::LineEntry;
+use wish_sets::{FunctionEntry, LineEntry, StepWish, VerifiedEntry};
 
 /// A thread, and the name that the target gave it (JDWP, ThreadReference command set, Name).
 #[derive(Debug, Drop)]
@@ -14,13 +14,13 @@ pub struct NamedThread {
     pub name: Blob,
 }
 
-/// A breakpoint that the client listed: the id that it got, its line as the client counts lines, and whether it is
-/// plain, without a condition, a count of hits and a message to log (DAP specification, Types, SourceBreakpoint and
-/// Breakpoint).
+/// A breakpoint that the client listed: the id that it got, its line as the client counts lines where it is one of a source,
+/// and whether it is plain, without a condition, a count of hits and a message to log (DAP specification, Types,
+/// SourceBreakpoint, FunctionBreakpoint and Breakpoint).
 #[derive(Clone, Copy, Debug, PartialEq, Eq)]
 pub struct ListedBreakpoint {
     pub id: u64,
-    pub line: u32,
+    pub line: Option<u32>,
     pub plain: bool,
 }
 
@@ -62,8 +62,8 @@ pub struct ShownVariable {
 pub enum Body {
     Nothing,
     Capabilities,
-    /// The breakpoints of a list, and whether a folder of sources has its source; how each stands is found when it is
-    /// told.
+    /// The breakpoints of a list, and whether each can be bound: one of a source has to stand in a folder of sources. How
+    /// each stands is found when it is told.
     Breakpoints {
         rooted: bool,
         listed: List<ListedBreakpoint>,
@@ -80,6 +80,11 @@ pub enum Body {
     Variables(List<ShownVariable>),
     /// The whole target runs on.
     Continued,
+    /// The type of what was thrown, and when a thread stops at it.
+    Exception {
+        id: Text,
+        mode: BreakMode,
+    },
 }
 
 /// What comes of a request (DAP specification, Base Protocol, Response and ErrorResponse).
@@ -93,28 +98,54 @@ pub enum Outcome {
 #[derive(Clone, Copy, Debug, PartialEq, Eq)]
 pub enum News {
     /// A breakpoint is verified, which the client doesn't know yet.
-    Verified(LineEntry),
+    Verified(VerifiedEntry),
     /// A thread has started, or has ended.
     Thread { started: bool, thread: ThreadId },
 }
 
-/// Why the target stands still: a breakpoint was hit at this place, or the client asked for it (DAP specification, Events,
-/// Stopped, reason).
+/// Why a thread stopped, as the target tells it: it came to a breakpoint at this place, it threw this object, or its step
+/// has ended (JDWP, Event command set, Composite, Breakpoint, Exception and SingleStep).
 #[derive(Clone, Copy, Debug, PartialEq, Eq)]
+pub enum HaltCause {
+    Breakpoint(Location),
+    Exception(ObjectId),
+    Step,
+}
+
+/// A thread that stopped under an event request that is installed, and why.
+#[derive(Clone, Copy, Debug, PartialEq, Eq)]
+pub struct Halt {
+    pub cause: HaltCause,
+    pub thread: ThreadId,
+}
+
+/// What a thread threw in a stop, and whether something catches it (JDWP, Event command set, Composite, Exception).
+#[derive(Clone, Copy, Debug, PartialEq, Eq)]
+pub struct Thrown {
+    pub thread: ThreadId,
+    pub object: ObjectId,
+    pub caught: bool,
+}
+
+/// Why the target stands still: a breakpoint was hit at this place; an exception was thrown, with the name of its type where
+/// that is known; a step has ended; or the client asked for it (DAP specification, Events, Stopped, reason and text).
+#[derive(Debug, Drop)]
 pub enum StopCause {
     Hit(Location),
+    Exception(Option<Text>),
+    Step,
     Pause,
 }
 
 /// The target stands still: why, and the thread that it is told of (DAP specification, Events, Stopped).
-#[derive(Clone, Copy, Debug, PartialEq, Eq)]
+#[derive(Debug, Drop)]
 pub struct Stopping {
     pub cause: StopCause,
     pub thread: ThreadId,
 }
 
 /// What the client is told without asking, by the target's ids (DAP specification, Events).
-#[derive(Clone, Copy, Debug, PartialEq, Eq)]
+#[derive(Debug, Drop)]
 pub enum Event {
     Initialized,
     News(News),
@@ -161,10 +192,17 @@ pub enum Lookup {
         start: u32,
         count: u32,
     },
+    /// The type of this object that a thread threw, for the event `stopped` (DAP specification, Events, Stopped, text).
+    ExceptionText {
+        thread: ThreadId,
+        object: ObjectId,
+    },
+    /// The type of what was thrown, for the response to `exceptionInfo` (DAP specification, ExceptionInfo request).
+    Exception(Thrown),
     /// What has to be known of classes before breakpoints are bound in them: all classes, where a watch was set since
-    /// they were listed; the source of each that is prepared and watched; and the methods and lines of those whose
-    /// source is listed (JDWP, VirtualMachine command set, AllClasses; JDWP, ReferenceType command set, SourceFile and
-    /// Methods; JDWP, Method command set, LineTable).
+    /// they were listed; the source of each that is prepared and watched; the methods of those whose source is listed or
+    /// that a function names, and the lines of these methods (JDWP, VirtualMachine command set, AllClasses; JDWP,
+    /// ReferenceType command set, SourceFile and Methods; JDWP, Method command set, LineTable).
     Classes,
 }
 
@@ -179,7 +217,14 @@ pub enum Finding {
     },
     /// Children of a container.
     Variables(List<ShownVariable>),
-    /// The classes whose source is listed.
+    /// The name of a type, where it is known.
+    ExceptionText(Option<Text>),
+    /// The type of what was thrown, and when a thread stops at it.
+    Exception {
+        id: Text,
+        mode: BreakMode,
+    },
+    /// The classes whose source is listed, or that a function names.
     Classes(List<ClassId>),
 }
 
@@ -206,6 +251,18 @@ pub enum Note {
         path: Text,
         entries: List<LineEntry>,
     },
+    /// The functions to stop in (DAP specification, SetFunctionBreakpoints request).
+    Functions(List<FunctionEntry>),
+    /// Whether caught exceptions stop a thread, and whether uncaught ones do (DAP specification, SetExceptionBreakpoints
+    /// request).
+    Exceptions {
+        caught: bool,
+        uncaught: bool,
+    },
+    /// The step that is in flight, or that none is (DAP specification, Next, StepIn and StepOut requests).
+    Step(Option<StepWish>),
+    /// What was thrown, in the stop that is in hand or begins (DAP specification, ExceptionInfo request).
+    Thrown(List<Thrown>),
     /// Breakpoints are bound by what is known of these classes now.
     Classes(List<ClassId>),
     /// The suspension of the composite in hand is held as the entry, until the client has configured all (JDWP, Event
@@ -224,6 +281,9 @@ pub enum Choice {
     /// The composite in hand has suspended the whole target: the client is told of a stop, the suspension is held as the
     /// entry, or it is undone (JDWP, Event command set, Composite).
     Decides,
+    /// The event request of a step was set, and the target runs on; or it was refused, and the request fails (DAP
+    /// specification, Next, StepIn and StepOut requests).
+    Stepped,
     /// A target that is attached is left; it ends where this holds (DAP specification, Disconnect request).
     Leaves(bool),
 }
