@@ -20,8 +20,9 @@ use Rattle.machine_model.specs.Exceptions.{exception_plan, text_plan}
 use Rattle.machine_model.specs.Harmless.{is_harmless}
 use Rattle.machine_model.specs.Variables.{children_plan}
 use Rattle.machine_model.proofs.IdRows.{all_weak}
-use Rattle.machine_model.proofs.SafePlans.{children_safe, exception_safe, frames_safe, is_safe, threads_safe}
-use Rattle.machine_model.proofs.SafePlans.{thrown_safe}
+use Rattle.machine_model.proofs.Frameless.{asks_frames}
+use Rattle.machine_model.proofs.SafePlans.{children_safe, exception_safe, frames_meek, is_meek, is_safe}
+use Rattle.machine_model.proofs.SafePlans.{threads_safe, thrown_safe}
 use Rattle.machine_model.specs.Outcomes.{result_of}
 use Rattle.machine_model.specs.Plans.{Need, fails, has, lacks, made_with, need, question_of, after}
 use Rattle.machine_model.specs.Plans.{asking, asks_for, Found, found_at, found_from, is_done, must_hear}
@@ -328,15 +329,19 @@ queued_more asked queue (want ∷ wants) h none = queued_more asked (with_want a
     by_test true = none
     by_test false = last_one queue none
 
--- only the look-up of classes asks for a list of them
-pub lacked_safe : (state : State) (hand : Hand) (parts : List Part) → looks_first parts ≡ false
+-- the look-up of classes, or that of frames, stands in front
+abbrev pub looks_apart : List Part → Bool
+looks_apart (Part.Looks class_facts ∷ rest) = true
+looks_apart (Part.Looks (thread_frames thread start levels) ∷ rest) = true
+looks_apart parts = false
+
+-- only the look-up of classes asks for a list of them, and only that of frames for frames
+pub lacked_safe : (state : State) (hand : Hand) (parts : List Part) → looks_apart parts ≡ false
     → All (λ want. is_safe want ≡ true) (lacked_by state hand parts)
 lacked_safe state hand [] none = tt
 lacked_safe state hand (Part.Looks all_threads ∷ rest) none =
     plan_lacks is_safe (sight_of state hand) threads_plan threads_safe
-lacked_safe state hand (Part.Looks (thread_frames thread start levels) ∷ rest) none =
-    plan_lacks is_safe (sight_of state hand) (frames_plan state thread start levels)
-    (frames_safe state thread start levels)
+lacked_safe state hand (Part.Looks (thread_frames thread start levels) ∷ rest) none = cc
 lacked_safe state hand (Part.Looks (container_children thing filter start count) ∷ rest) none =
     plan_lacks is_safe (sight_of state hand) (children_plan state.options.shows_types thing filter start count)
     (children_safe state.options.shows_types thing filter start count)
@@ -361,11 +366,28 @@ lacked_safe state hand (Part.Awaits guard ∷ rest) none = guards guard
         by_sizes (Some sizes) = tt
 lacked_safe state hand (_ ∷ rest) none = tt
 
+pub lacked_meek : (state : State) (hand : Hand) (parts : List Part) → looks_first parts ≡ false
+    → All (λ want. is_meek want ≡ true) (lacked_by state hand parts)
+lacked_meek state hand (Part.Looks (thread_frames thread start levels) ∷ rest) none =
+    plan_lacks is_meek (sight_of state hand) (frames_plan state thread start levels)
+    (frames_meek state thread start levels)
+lacked_meek state hand parts none = by_first (looks_apart parts) refl
+  where
+    first_of : (first second : Bool) → (first && second) ≡ true → first ≡ true
+    first_of true second is = refl
+    first_of false second is = cc
+
+    by_first : (first : Bool) → looks_apart parts ≡ first → All (λ want. is_meek want ≡ true) (lacked_by state hand parts)
+    by_first false apart = all_weak (λ want. is_safe want ≡ true) (λ want. is_meek want ≡ true)
+        (λ want. first_of (is_meek want) (not (asks_frames (question_of want)))) (lacked_by state hand parts)
+        (lacked_safe state hand parts apart)
+    by_first true is = cc
+
 lacked_other : (state : State) (hand : Hand) (parts : List Part) → looks_first parts ≡ false
     → All (λ want. wants_other want ≡ true) (lacked_by state hand parts)
-lacked_other state hand parts none = all_weak (λ want. is_safe want ≡ true) (λ want. wants_other want ≡ true)
+lacked_other state hand parts none = all_weak (λ want. is_meek want ≡ true) (λ want. wants_other want ≡ true)
     (λ want. first_of (wants_other want) (is_harmless (question_of want))) (lacked_by state hand parts)
-    (lacked_safe state hand parts none)
+    (lacked_meek state hand parts none)
   where
     first_of : (first second : Bool) → (first && second) ≡ true → first ≡ true
     first_of true second is = refl

@@ -14,14 +14,14 @@ use Rattle.machine_model.specs.Questions.{AreLacked, IsLacked, is_question}
 use Rattle.machine_model.specs.Runs.{Message, Run}
 use Rattle.machine_model.specs.State.{Hand, Machine, State}
 use Rattle.machine_model.proofs.BindingHands.{looks_first}
-use Rattle.machine_model.proofs.BindingParts.{lacked_safe}
+use Rattle.machine_model.proofs.BindingParts.{lacked_meek}
 use Rattle.machine_model.proofs.BindingPlans.{asks, is_fact, known_wants, makes, plan_lacks, wants_fact}
 use Rattle.machine_model.proofs.BindingPlans.{wants_other}
 use Rattle.machine_model.proofs.HarmlessSteps.{effects_harmless}
 use Rattle.machine_model.proofs.IdLaws.{last_or_not}
 use Rattle.machine_model.proofs.IdRows.{all_weak}
 use Rattle.machine_model.proofs.QuestionLaws.{are_lacked}
-use Rattle.machine_model.proofs.SafePlans.{is_safe}
+use Rattle.machine_model.proofs.SafePlans.{is_meek}
 use Rattle.wish_sets.specs.Wanted.{Wanted}
 
 abbrev Harms : Want → Type 0
@@ -65,9 +65,9 @@ lacked_harm state hand (Part.Looks class_facts ∷ rest) = classes_harm state.un
 lacked_harm state hand parts = by_first (looks_first parts) refl
   where
     by_first : (first : Bool) → looks_first parts ≡ first → All Harms (lacked_by state hand parts)
-    by_first false none = all_weak (λ want. is_safe want ≡ true) Harms
+    by_first false none = all_weak (λ want. is_meek want ≡ true) Harms
         (λ want. second_of (wants_other want) (is_harmless (question_of want))) (lacked_by state hand parts)
-        (lacked_safe state hand parts none)
+        (lacked_meek state hand parts none)
     by_first true is = cc
 
 one_of : (before after : List Want) (want : Want) → All Harms (before ++ want ∷ after) → Harms want

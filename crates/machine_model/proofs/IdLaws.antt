@@ -8,14 +8,15 @@ use Rattle.std.proofs.lemmas.List.Elements.{Contains-append_left, Contains-appen
 use Rattle.std.proofs.lemmas.List.Elements.{recursion_from_All}
 use Rattle.jdwp_commands.specs.Commands.{told_question}
 use Rattle.jdwp_commands.specs.declared.asked.Asked.TheVariants as commands
-use Rattle.machine_model.specs.Ids.{HasReadIds, Id, IsNull, WasRead, class, ids_asked, ids_given, ids_of_composite}
-use Rattle.machine_model.specs.Ids.{ids_read}
+use Rattle.machine_model.specs.Ids.{Id, IsNull, class, ids_asked, ids_given, ids_of_composite}
+use Rattle.machine_model.specs.Ids.{ids_read, thread_in}
 use Rattle.machine_model.specs.Ids.{object}
 use Rattle.machine_model.specs.Names.{Classes, Clear, Deed, Dispose, Does, Effect, Exit, Item, Lines, Part, Question}
 use Rattle.machine_model.specs.Names.{Resume, Sent, Set, Success, Suspend, TargetCommand, Want, a_composite}
 use Rattle.machine_model.specs.Names.{a_question, a_raw, a_request, an_effect, target_end, thread_list}
 use Rattle.machine_model.specs.Names.{Initialized, Terminated, a_stop, all_threads, class_facts, entry_verified, some_news, thread_changed, thread_frames}
 use Rattle.machine_model.specs.Plans.{question_of}
+use Rattle.machine_model.specs.Replying.{wire}
 use Rattle.machine_model.specs.Requests.{Wishes, effect_due, effect_of}
 use Rattle.machine_model.specs.Runs.{Message, Run}
 use Rattle.machine_model.specs.State.{Hand, State, Machine, is_empty, is_gone, is_some, fresh, is_attached}
@@ -60,7 +61,7 @@ module _ (P Q : Id → Type 0) (k : (id : Id) → P id → Q id) where
   weak_thrown : (thrown : Thrown) → OfThrown P thrown → OfThrown Q thrown
   weak_thrown thrown h = (k _ h.0, weak_object thrown.object.0 h.1)
 
-  weak_thing : (thing : Thing) → OfThing P thing → OfThing Q thing
+  pub weak_thing : (thing : Thing) → OfThing P thing → OfThing Q thing
   weak_thing (things.Frame one) h = weak_frame one h
   weak_thing (things.Locals one) h = weak_frame one h
   weak_thing (things.Object one) h = k (object one.0) h
@@ -104,7 +105,8 @@ module _ (P Q : Id → Type 0) (k : (id : Id) → P id → Q id) where
   weak_sent : (sized : Bool) (sent : Sent) → IsAsked P sized sent → IsAsked Q sized sent
   weak_sent sized sent h = record { reply = by_reply sent.reply h.reply; first = h.first }
     where
-      by_reply : (reply : Option _) → IsReplied P reply → IsReplied Q reply
+      by_reply : (reply : Option _) → IsReplied P (question_of sent.want) reply
+          → IsReplied Q (question_of sent.want) reply
       by_reply None h = tt
       by_reply (Some replied) h = weak_ids _ h
 
@@ -117,7 +119,7 @@ module _ (P Q : Id → Type 0) (k : (id : Id) → P id → Q id) where
       fields = all_weak _ _ (λ entry. weak_ids _) state.classes.fields n.classes.fields;
       supers = all_weak _ _ (λ entry. k _) state.classes.supers n.classes.supers;
     };
-    wanted = weak_wished P Q k state.wishes.wanted n.wanted;
+    wanted = weak_wished P Q (λ id other. k id) state.wishes.wanted n.wanted;
     order = n.order;
     parts = all_weak (PartStands P) (PartStands Q) weak_part left n.parts;
     wants = all_weak (IsWanted P (is_some state.sizes)) (IsWanted Q (is_some state.sizes))
@@ -217,7 +219,7 @@ kept_next {P} t messages m next (Some message) s move =
       kept = weak_kept (P messages) (P (messages ++ message ∷ [])) k messages m s.kept;
     }) move (λ near. t.brings messages m next message s.kept move near)
 
-none_yet : (P : Id → Type 0) → IsKept P [] fresh
+pub none_yet : (P : Id → Type 0) → IsKept P [] fresh
 none_yet P = record {
   once = omega arith;
   sizes = λ near. refl;
@@ -276,7 +278,7 @@ question_may : (P : Id → Type 0) (sized : Bool) (question : Question) → IsAs
 question_may P sized question q = record {
   ids = q.ids;
   sized_first = by_sized sized q.first;
-  fits = λ used h. plain_fits used (told_question question) q.plain h;
+  fits = λ used h. plain_fits used (thread_in (told_question question)) (told_question question) q.plain h;
 }
   where
     by_sized : (sized : Bool) → is_sizes question ≡ not sized
@@ -395,7 +397,11 @@ all_sent {P} {Good} t good r = by_moves {Holds = Sends P Good} (record {
 
 -- Ids were read -------------------------------------------------------------------------------------------------------
 
-reads : IsIdTest WasRead
+-- the id is null, or was read at any time
+abbrev pub WasReadOnce : List Message → Id → Type 0
+WasReadOnce messages id = IsNull id ⊎ Contains (ids_read messages) id
+
+reads : IsIdTest WasReadOnce
 reads = record {
   null = λ messages. inl IsNull.any_class;
   grows = λ messages message id h. by_case messages message id h;
@@ -407,22 +413,23 @@ reads = record {
     more messages message = flat_map-append ids_given messages (message ∷ [])
         ∙ ap (λ (ids : List Id). ids_read messages ++ ids) (append-nil (ids_given message))
 
-    by_case : (messages : List Message) (message : Message) (id : Id) → WasRead messages id
-        → WasRead (messages ++ message ∷ []) id
+    by_case : (messages : List Message) (message : Message) (id : Id) → WasReadOnce messages id
+        → WasReadOnce (messages ++ message ∷ []) id
     by_case messages message id (inl null) = inl null
     by_case messages message id (inr among) = inr (subst (λ (ids : List Id). Contains ids id) (sym
         (more messages message))
         (Contains-append_left (ids_read messages) (ids_given message) id among))
 
-    brought : (messages : List Message) (message : Message) → All (WasRead (messages ++ message ∷ []))
+    brought : (messages : List Message) (message : Message) → All (WasReadOnce (messages ++ message ∷ []))
         (ids_given message)
-    brought messages message = all_weak (Contains (ids_given message)) (WasRead (messages ++ message ∷ []))
+    brought messages message = all_weak (Contains (ids_given message)) (WasReadOnce (messages ++ message ∷ []))
         (λ id among. inr (subst (λ (ids : List Id). Contains ids id) (sym (more messages message))
         (Contains-append_right (ids_read messages) (ids_given message) id among))) (ids_given message)
         (recursion_from_All (Contains (ids_given message)) (ids_given message)
         (λ place id less. Contains-get_or (ids_given message) place id less))
 
 pub ids_were_read : (messages before after : List Message) (m : Machine) (command : TargetCommand) → Run messages m
-    → messages ≡ before ++ Message.sends command ∷ after → HasReadIds before command
+    → messages ≡ before ++ Message.sends command ∷ after → All (WasReadOnce before) (ids_asked (wire command))
 ids_were_read messages before after m command r is =
-    (all_sent {Good = HasReadIds} reads (λ messages m command k near may. may.ids) r).sent before after command is
+    (all_sent {Good = λ before command. All (WasReadOnce before) (ids_asked (wire command))} reads
+    (λ messages m command k near may. may.ids) r).sent before after command is

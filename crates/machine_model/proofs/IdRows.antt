@@ -1,6 +1,6 @@
 -- Ids in rows: those of what has a spelling fit the sizes, and what has ids and numbers alone has a spelling by its
 -- ids.
-use Rattle.std.proofs.Common.{◌≡◌, ◌<◌, ◌^◌, ◌&&◌, Bool, true, false, List, [], ◌∷◌, ◌++◌, refl, length, nat_lt, arith}
+use Rattle.std.proofs.Common.{◌≡◌, ◌<◌, ◌^◌, ◌&&◌, ℕ, Bool, true, false, List, [], ◌∷◌, ◌++◌, refl, length, nat_lt, arith}
 use Rattle.std.specs.List.{AllByRecursion as All, flat_map}
 use Rattle.jdwp_commands.specs.Answers.{told_answer}
 use Rattle.jdwp_commands.specs.Items as items
@@ -28,7 +28,7 @@ use Rattle.jdwp_values.specs.declared.value.Value.TheVariants as values
 use Rattle.jdwp_commands.specs.Listed.{class_status_row, frame_row, loaded_class_row}
 use Rattle.machine_model.specs.Ids.{Id, class, field, frame, ids_of_composite, ids_of_event, ids_of_item}
 use Rattle.machine_model.specs.Ids.{ids_of_listed, ids_of_part, ids_of_row}
-use Rattle.machine_model.specs.Ids.{ids_of_said, ids_of_saying, ids_of_simple, ids_of_value, method, object}
+use Rattle.machine_model.specs.Ids.{ids_of_said, ids_of_saying, ids_of_simple, ids_of_value, method, no_thread, object}
 use Rattle.machine_model.specs.Names.{Composite}
 
 -- Lists ---------------------------------------------------------------------------------------------------------------
@@ -66,19 +66,20 @@ FitsId used (object id) = id < 256 ^ used.object
 FitsId used (class id) = id < 256 ^ used.class
 FitsId used (method id) = id < 256 ^ used.method
 FitsId used (field id) = id < 256 ^ used.field
-FitsId used (frame id) = id < 256 ^ used.frame
+FitsId used (frame thread id) = id < 256 ^ used.frame
 
 abbrev Fit : IdSizes → List Id → Type 0
 Fit used ids = All (FitsId used) ids
 
-simple_ids : (used : IdSizes) (s : Simple) (x : OfSimple s) → FitsSimple used s x → Fit used (ids_of_simple s x)
-simple_ids used parts.object_id x h = (h, tt)
-simple_ids used parts.thread_id x h = (h, tt)
-simple_ids used parts.class_id x h = (h, tt)
-simple_ids used parts.method_id x h = (h, tt)
-simple_ids used parts.field_id x h = (h, tt)
-simple_ids used parts.frame_id x h = (h, tt)
-simple_ids used _ x h = tt
+simple_ids : (used : IdSizes) (thread : ℕ) (s : Simple) (x : OfSimple s) → FitsSimple used s x
+    → Fit used (ids_of_simple thread s x)
+simple_ids used thread parts.object_id x h = (h, tt)
+simple_ids used thread parts.thread_id x h = (h, tt)
+simple_ids used thread parts.class_id x h = (h, tt)
+simple_ids used thread parts.method_id x h = (h, tt)
+simple_ids used thread parts.field_id x h = (h, tt)
+simple_ids used thread parts.frame_id x h = (h, tt)
+simple_ids used thread _ x h = tt
 
 value_ids : (used : IdSizes) (v : Value) → FitsValue used v → Fit used (ids_of_value v)
 value_ids used (values.Object x) h = (h, tt)
@@ -90,59 +91,64 @@ value_ids used (values.ClassLoader x) h = (h, tt)
 value_ids used (values.ClassObject x) h = (h, tt)
 value_ids used _ h = tt
 
-part_ids : (used : IdSizes) (p : Part) (x : Of p) → FitsPart used p x → Fit used (ids_of_part p x)
-part_ids used (parts.simple s) x h = simple_ids used s x h
-part_ids used parts.location x h = (h.class, (h.method, tt))
-part_ids used parts.value x h = value_ids used x h
-part_ids used parts.reference x h = value_ids used x h.1
-part_ids used (parts.untagged byte) x h = value_ids used x h.1
-part_ids used _ x h = tt
+part_ids : (used : IdSizes) (thread : ℕ) (p : Part) (x : Of p) → FitsPart used p x → Fit used (ids_of_part thread p x)
+part_ids used thread (parts.simple s) x h = simple_ids used thread s x h
+part_ids used thread parts.location x h = (h.class, (h.method, tt))
+part_ids used thread parts.value x h = value_ids used x h
+part_ids used thread parts.reference x h = value_ids used x h.1
+part_ids used thread (parts.untagged byte) x h = value_ids used x h.1
+part_ids used thread _ x h = tt
 
 said_ids : (used : IdSizes) (told : List Said) → FitsTold used told → Fit used (flat_map ids_of_said told)
 said_ids used [] h = tt
 said_ids used (said p x ∷ told) h =
-    all_joined (FitsId used) (ids_of_part p x) (flat_map ids_of_said told) (part_ids used p x h.0)
+    all_joined (FitsId used) (ids_of_part no_thread p x) (flat_map ids_of_said told) (part_ids used no_thread p x h.0)
     (said_ids used told h.1)
 
-row_ids : (used : IdSizes) (row : List Part) (held : Holds row) → FitsRow used row held → Fit used (ids_of_row row held)
-row_ids used [] held h = tt
-row_ids used (p ∷ row) held h =
-    all_joined (FitsId used) (ids_of_part p held.0) (ids_of_row row held.1) (part_ids used p held.0 h.0)
-    (row_ids used row held.1 h.1)
+row_ids : (used : IdSizes) (thread : ℕ) (row : List Part) (held : Holds row) → FitsRow used row held
+    → Fit used (ids_of_row thread row held)
+row_ids used thread [] held h = tt
+row_ids used thread (p ∷ row) held h =
+    all_joined (FitsId used) (ids_of_part thread p held.0) (ids_of_row thread row held.1)
+    (part_ids used thread p held.0 h.0) (row_ids used thread row held.1 h.1)
 
-listed_ids : (used : IdSizes) (l : Listed) (x : OfListed l) → FitsListed l used x → Fit used (ids_of_listed l x)
-listed_ids used items.threads x h = (h, tt)
-listed_ids used items.field_ids x h = (h, tt)
-listed_ids used items.values x h = value_ids used x h
-listed_ids used items.modifiers x h = said_ids used (told x) h
-listed_ids used items.methods x h = row_ids used method_row.parts (method_row.values x) h
-listed_ids used items.fields x h = row_ids used field_row.parts (field_row.values x) h
-listed_ids used items.class_statuses x h = row_ids used class_status_row.parts (class_status_row.values x) h
-listed_ids used items.loaded_classes x h = row_ids used loaded_class_row.parts (loaded_class_row.values x) h
-listed_ids used items.frames x h = row_ids used frame_row.parts (frame_row.values x) h
-listed_ids used _ x h = tt
+listed_ids : (used : IdSizes) (thread : ℕ) (l : Listed) (x : OfListed l) → FitsListed l used x
+    → Fit used (ids_of_listed thread l x)
+listed_ids used thread items.threads x h = (h, tt)
+listed_ids used thread items.field_ids x h = (h, tt)
+listed_ids used thread items.values x h = value_ids used x h
+listed_ids used thread items.modifiers x h = said_ids used (told x) h
+listed_ids used thread items.methods x h = row_ids used no_thread method_row.parts (method_row.values x) h
+listed_ids used thread items.fields x h = row_ids used no_thread field_row.parts (field_row.values x) h
+listed_ids used thread items.class_statuses x h =
+    row_ids used no_thread class_status_row.parts (class_status_row.values x) h
+listed_ids used thread items.loaded_classes x h =
+    row_ids used no_thread loaded_class_row.parts (loaded_class_row.values x) h
+listed_ids used thread items.frames x h = row_ids used thread frame_row.parts (frame_row.values x) h
+listed_ids used thread _ x h = tt
 
 element_ids : (used : IdSizes) (tagged : Bool) (tag : Tag) (v : Value) → FitsBehind tagged tag used v
     → Fit used (ids_of_value v)
 element_ids used true tag v h = value_ids used v h.1
 element_ids used false tag v h = value_ids used v h.1
 
-item_ids : (used : IdSizes) (i : Item) (x : OfItem i) → FitsItem used i x → Fit used (ids_of_item i x)
-item_ids used (items.part p) x h = part_ids used p x h
-item_ids used (items.many limit l) xs h =
-    all_flat (FitsListed l used) (FitsId used) (ids_of_listed l) (listed_ids used l) xs h.0.each
-item_ids used (items.region limit) x h =
+item_ids : (used : IdSizes) (thread : ℕ) (i : Item) (x : OfItem i) → FitsItem used i x
+    → Fit used (ids_of_item thread i x)
+item_ids used thread (items.part p) x h = part_ids used thread p x h
+item_ids used thread (items.many limit l) xs h =
+    all_flat (FitsListed l used) (FitsId used) (ids_of_listed thread l) (listed_ids used thread l) xs h.0.each
+item_ids used thread (items.region limit) x h =
     all_flat (FitsBehind (is_reference x.tag) x.tag used) (FitsId used) ids_of_value
     (element_ids used (is_reference x.tag) x.tag) x.values h.values.each
-item_ids used _ x h = tt
+item_ids used thread _ x h = tt
 
 -- the ids of what has a spelling fit the sizes
-pub fitting_ids : (used : IdSizes) (sayings : List Saying) → FitsSayings used sayings
-    → All (FitsId used) (flat_map ids_of_saying sayings)
-fitting_ids used [] h = tt
-fitting_ids used (says i x ∷ sayings) h =
-    all_joined (FitsId used) (ids_of_item i x) (flat_map ids_of_saying sayings) (item_ids used i x h.0)
-    (fitting_ids used sayings h.1)
+pub fitting_ids : (used : IdSizes) (thread : ℕ) (sayings : List Saying) → FitsSayings used sayings
+    → All (FitsId used) (flat_map (ids_of_saying thread) sayings)
+fitting_ids used thread [] h = tt
+fitting_ids used thread (says i x ∷ sayings) h =
+    all_joined (FitsId used) (ids_of_item thread i x) (flat_map (ids_of_saying thread) sayings)
+    (item_ids used thread i x h.0) (fitting_ids used thread sayings h.1)
 
 -- those of a composite's events do
 pub composite_ids : (used : IdSizes) (composite : Composite) → FitsComposite used composite
@@ -152,10 +158,11 @@ composite_ids used composite h =
     h.each
 
 -- how many items an answer may have is nothing to its ids
-pub same_ids : (limit : Limit) (answer : Answer)
-    → flat_map ids_of_saying (told_answer limit answer) ≡ flat_map ids_of_saying (told_answer Any answer)
-same_ids limit (answers.Frames found) = refl
-same_ids limit _ = refl
+pub same_ids : (limit : Limit) (thread : ℕ) (answer : Answer)
+    → flat_map (ids_of_saying thread) (told_answer limit answer)
+    ≡ flat_map (ids_of_saying thread) (told_answer Any answer)
+same_ids limit thread (answers.Frames found) = refl
+same_ids limit thread _ = refl
 
 -- Ids and numbers alone -----------------------------------------------------------------------------------------------
 
@@ -175,50 +182,51 @@ abbrev pub are_plain : List Saying → Bool
 are_plain [] = true
 are_plain (says i x ∷ sayings) = plain_item i x && are_plain sayings
 
-fits_simple : (used : IdSizes) (s : Simple) (x : OfSimple s) → Fit used (ids_of_simple s x) → FitsSimple used s x
-fits_simple used parts.object_id x h = h.0
-fits_simple used parts.thread_id x h = h.0
-fits_simple used parts.class_id x h = h.0
-fits_simple used parts.method_id x h = h.0
-fits_simple used parts.field_id x h = h.0
-fits_simple used parts.frame_id x h = h.0
-fits_simple used _ x h = tt
+fits_simple : (used : IdSizes) (thread : ℕ) (s : Simple) (x : OfSimple s) → Fit used (ids_of_simple thread s x)
+    → FitsSimple used s x
+fits_simple used thread parts.object_id x h = h.0
+fits_simple used thread parts.thread_id x h = h.0
+fits_simple used thread parts.class_id x h = h.0
+fits_simple used thread parts.method_id x h = h.0
+fits_simple used thread parts.field_id x h = h.0
+fits_simple used thread parts.frame_id x h = h.0
+fits_simple used thread _ x h = tt
 
 fits_count : {A : Type 0} (list : List A) → is_short list ≡ true → length list < 2 ^ 31
 fits_count list is = grind (arith, is)
 
-fits_fields : (used : IdSizes) (fields : List FieldId) → Fit used (flat_map (ids_of_listed items.field_ids) fields)
-    → All (FitsListed items.field_ids used) fields
-fits_fields used [] h = tt
-fits_fields used (one ∷ fields) h = (h.0, fits_fields used fields h.1)
+fits_fields : (used : IdSizes) (thread : ℕ) (fields : List FieldId)
+    → Fit used (flat_map (ids_of_listed thread items.field_ids) fields) → All (FitsListed items.field_ids used) fields
+fits_fields used thread [] h = tt
+fits_fields used thread (one ∷ fields) h = (h.0, fits_fields used thread fields h.1)
 
 fits_slots : (used : IdSizes) (slots : List Slot) → All (FitsListed items.slots used) slots
 fits_slots used [] = tt
 fits_slots used (slot ∷ slots) = ((tt, (tt, tt)), fits_slots used slots)
 
 -- it has a spelling where its ids fit
-fits_item : (used : IdSizes) (i : Item) (x : OfItem i) → plain_item i x ≡ true → Fit used (ids_of_item i x)
-    → FitsItem used i x
-fits_item used (items.part (parts.simple s)) x is h = fits_simple used s x h
-fits_item used (items.many Any items.field_ids) xs is h =
-    (record { count = fits_count xs is; each = fits_fields used xs h }, refl)
-fits_item used (items.many Any items.slots) xs is h =
+fits_item : (used : IdSizes) (thread : ℕ) (i : Item) (x : OfItem i) → plain_item i x ≡ true
+    → Fit used (ids_of_item thread i x) → FitsItem used i x
+fits_item used thread (items.part (parts.simple s)) x is h = fits_simple used thread s x h
+fits_item used thread (items.many Any items.field_ids) xs is h =
+    (record { count = fits_count xs is; each = fits_fields used thread xs h }, refl)
+fits_item used thread (items.many Any items.slots) xs is h =
     (record { count = fits_count xs is; each = fits_slots used xs }, refl)
-fits_item used i x is h = cc
+fits_item used thread i x is h = cc
 
-pub plain_fits : (used : IdSizes) (sayings : List Saying) → are_plain sayings ≡ true
-    → All (FitsId used) (flat_map ids_of_saying sayings) → FitsSayings used sayings
-plain_fits used [] is h = tt
-plain_fits used (says i x ∷ sayings) is h = by_tests (plain_item i x) (are_plain sayings) is
-    (fits_item used i x) (plain_fits used sayings)
+pub plain_fits : (used : IdSizes) (thread : ℕ) (sayings : List Saying) → are_plain sayings ≡ true
+    → All (FitsId used) (flat_map (ids_of_saying thread) sayings) → FitsSayings used sayings
+plain_fits used thread [] is h = tt
+plain_fits used thread (says i x ∷ sayings) is h = by_tests (plain_item i x) (are_plain sayings) is
+    (fits_item used thread i x) (plain_fits used thread sayings)
   where
     by_tests : (first others : Bool) → (first && others) ≡ true
-        → (first ≡ true → Fit used (ids_of_item i x) → FitsItem used i x)
-        → (others ≡ true → All (FitsId used) (flat_map ids_of_saying sayings) → FitsSayings used sayings)
+        → (first ≡ true → Fit used (ids_of_item thread i x) → FitsItem used i x)
+        → (others ≡ true → All (FitsId used) (flat_map (ids_of_saying thread) sayings) → FitsSayings used sayings)
         → FitsSayings used (says i x ∷ sayings)
     by_tests true true is one rest = (
-      one refl (all_front (FitsId used) (ids_of_item i x) (flat_map ids_of_saying sayings) h),
-      rest refl (all_back (FitsId used) (ids_of_item i x) (flat_map ids_of_saying sayings) h),
+      one refl (all_front (FitsId used) (ids_of_item thread i x) (flat_map (ids_of_saying thread) sayings) h),
+      rest refl (all_back (FitsId used) (ids_of_item thread i x) (flat_map (ids_of_saying thread) sayings) h),
     )
     by_tests true false is one rest = cc
     by_tests false others is one rest = cc

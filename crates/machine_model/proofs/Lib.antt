@@ -18,6 +18,9 @@ pub mod BreakpointExamples
 pub mod CommandLemmas
 pub mod EarlyItems
 pub mod EventLaws
+pub mod FrameLaws
+pub mod FrameTests
+pub mod Frameless
 pub mod HandshakeLaws
 pub mod HarmlessLaws
 pub mod HarmlessSteps
@@ -61,7 +64,10 @@ pub mod StandingReplies
 pub mod StandingWalk
 pub mod StepLaws
 pub mod Stepping
+pub mod StopHands
 pub mod StopLaws
+pub mod StopParts
+pub mod StopTurns
 pub mod SuspendLaws
 pub mod Tables
 pub mod Testing

@@ -18,14 +18,14 @@ use Rattle.machine_model.specs.Facts.{fact_known, lines_in, methods_in, signatur
 use Rattle.machine_model.specs.Frames.{count_from, count_in, counted_plan, frame_plan, frame_shown, frames_from}
 use Rattle.machine_model.specs.Frames.{frames_in, frames_plan, lines_plan as lines_of, methods_plan as methods_of}
 use Rattle.machine_model.specs.Frames.{shown_plan, signature_plan as signature_of, source_plan as source_of}
-use Rattle.machine_model.specs.Ids.{Id, class, ids_replied, method, object}
+use Rattle.machine_model.specs.Ids.{Id, class, ids_answered, ids_replied, method, object, thread_of}
 use Rattle.machine_model.specs.Lookups.{name_plan, named_by, names_plan, plan, threads_in, threads_plan}
 use Rattle.machine_model.specs.Names.{Answer, Lookup, NamedThread, Replied, ThreadId, Want}
 use Rattle.machine_model.specs.Names.{all_threads, an_answer, an_error, classes_found, class_facts}
 use Rattle.machine_model.specs.Names.{frames_found, thread_frames}
 use Rattle.machine_model.specs.Plans.{Found, Plan, Sight, answer_in, asking, beside, chained}
 use Rattle.machine_model.specs.Plans.{both, each, fact_heard, found_from, gives, heard_of}
-use Rattle.machine_model.specs.Plans.{made_with, may_hear, must_hear, need, pairs, joined}
+use Rattle.machine_model.specs.Plans.{made_with, may_hear, must_hear, need, pairs, joined, question_of}
 use Rattle.machine_model.specs.State.{State}
 use Rattle.machine_model.proofs.IdRows.{all_back, all_front, all_joined, is_short, none_in}
 use Rattle.class_tables.specs.declared.loaded.Loaded.{Loaded}
@@ -40,7 +40,7 @@ use Rattle.wish_sets.specs.Places.{key_by}
 use Rattle.wish_sets.specs.Wanted.{Wanted}
 use Rattle.wish_sets.specs.Wished.{is_named, is_watched}
 use Rattle.std.specs.Prelude.{codes, ◌||◌}
-use Rattle.machine_model.proofs.PlanIds.{Any, AreKnown, IsAsked, IsFound, IsGood, IsHeard, IsWanted, NeedStands}
+use Rattle.machine_model.proofs.PlanIds.{Any, AreKnown, IsAsked, IsFound, IsGood, IsHeard, IsHeardOf, IsWanted, NeedStands}
 use Rattle.machine_model.proofs.PlanIds.{OfClass, OfFrameThing, OfLookup, OfMethod, OfNamed, OfObject, OfShownFrame}
 use Rattle.machine_model.proofs.PlanIds.{OfShownVariable, OfThing, OfThread, OnSome, after_stands, beside_stands}
 use Rattle.machine_model.proofs.PlanIds.{fact_good, fact_some, found_some, need_chained, need_made, reply_heard}
@@ -74,8 +74,8 @@ use Rattle.machine_model.specs.Variables.{known_at, locals_page, locals_valued, 
 use Rattle.machine_model.specs.Variables.{shown_as, shown_plan as values_shown, slot_at, slots_of, slots_plan}
 use Rattle.machine_model.specs.Variables.{values_in, values_known, with_known}
 
-abbrev OfFrame : (Id → Type 0) → Frame → Type 0
-OfFrame P one = P (frame one.id.0) × P (class one.at.class.0) × P (method one.at.method.0)
+abbrev OfFrame : (Id → Type 0) → ThreadId → Frame → Type 0
+OfFrame P thread one = P (frame thread.0 one.id.0) × P (class one.at.class.0) × P (method one.at.method.0)
 
 module _ (P : Id → Type 0) (null : P (class 0)) (sight : Sight) (known : Known) (facts : AreKnown P known)
     (asked : All (IsAsked P true) sight.asked) (sees : sight.classes ≡ found_in known) where
@@ -83,34 +83,36 @@ module _ (P : Id → Type 0) (null : P (class 0)) (sight : Sight) (known : Known
   abbrev Row : {A : Type 0} → (A → Type 0) → Plan A → Type 0
   Row Good p = NeedStands P Good (need sight p)
 
-  hears : (want : Want) → IsWanted P true want → NeedStands P (IsHeard P) (heard_of sight want)
+  hears : (want : Want) → IsWanted P true want → NeedStands P (IsHeardOf P (question_of want)) (heard_of sight want)
   hears (Want.Must question) q =
       by_found (found_from 0 sight.asked question) (found_some P true 0 sight.asked question asked)
     where
-      by_reply : (place : ℕ) (replied : Replied) → All P (ids_replied replied)
-          → NeedStands P (IsHeard P) (must_hear question (Some (record { place = place; replied = replied })))
+      by_reply : (place : ℕ) (replied : Replied) → All P (ids_replied (thread_of question) replied)
+          → NeedStands P (IsHeardOf P question) (must_hear question (Some (record { place = place; replied = replied })))
       by_reply place (an_answer answer) k = k
       by_reply place (an_error code) k = tt
 
-      by_found : (found : Option Found) → OnSome (IsFound P) found → NeedStands P (IsHeard P) (must_hear question found)
+      by_found : (found : Option Found) → OnSome (IsFound P question) found
+          → NeedStands P (IsHeardOf P question) (must_hear question found)
       by_found None k = (q, tt)
       by_found (Some found) k = by_reply found.place found.replied k
   hears (Want.May question) q =
       by_found (found_from 0 sight.asked question) (found_some P true 0 sight.asked question asked)
     where
-      by_found : (found : Option Found) → OnSome (IsFound P) found → NeedStands P (IsHeard P) (may_hear question found)
+      by_found : (found : Option Found) → OnSome (IsFound P question) found
+          → NeedStands P (IsHeardOf P question) (may_hear question found)
       by_found None k = (q, tt)
-      by_found (Some found) k = reply_heard P found.replied k
+      by_found (Some found) k = reply_heard P question found.replied k
   hears (Want.Fact question) q =
       by_fact (fact_known sight.classes question) (found_from 0 sight.asked question)
-      (subst (λ classes. OnSome (IsHeard P) (fact_known classes question)) (sym sees)
+      (subst (λ classes. OnSome (IsHeardOf P question) (fact_known classes question)) (sym sees)
       (fact_some P known question facts)) (found_some P true 0 sight.asked question asked)
     where
-      by_fact : (fact : Option (Option Answer)) (found : Option Found) → OnSome (IsHeard P) fact
-          → OnSome (IsFound P) found → NeedStands P (IsHeard P) (fact_heard question fact found)
+      by_fact : (fact : Option (Option Answer)) (found : Option Found) → OnSome (IsHeardOf P question) fact
+          → OnSome (IsFound P question) found → NeedStands P (IsHeardOf P question) (fact_heard question fact found)
       by_fact None None k l = (q, tt)
       by_fact None (Some found) k l =
-          fact_good P null question (answer_in found.replied) (reply_heard P found.replied l)
+          fact_good P null question (answer_in found.replied) (reply_heard P question found.replied l)
       by_fact (Some heard) found k l = k
 
   chains : {A B : Type 0} (Good : A → Type 0) (Best : B → Type 0) (p : Plan A) (f : A → Plan B) → Row Good p
@@ -138,9 +140,11 @@ module _ (P : Id → Type 0) (null : P (class 0)) (sight : Sight) (known : Known
       (λ two. gives (two.0 ∷ two.1)) (k a h.0) (every Good Best f k others h.1) (λ two good. good)
 
   asks : {A : Type 0} (Good : A → Type 0) (read : Option Answer → A) (want : Want) → IsWanted P true want
-      → ((heard : Option Answer) → IsHeard P heard → Good (read heard)) → Row Good (asking read want)
+      → ((heard : Option Answer) → IsHeardOf P (question_of want) heard → Good (read heard))
+      → Row Good (asking read want)
   unfolding need
-  asks Good read want q k = after_stands P (IsHeard P) Good (heard_of sight want) _ (hears want q) k
+  asks Good read want q k =
+      after_stands P (IsHeardOf P (question_of want)) Good (heard_of sight want) _ (hears want q) k
 
   -- the names that are asked are those of threads in the answer to AllThreads
   threads_heard : (heard : Option Answer) → IsHeard P heard → All (OfThread P) (threads_in heard)
@@ -250,13 +254,17 @@ module _ (P : Id → Type 0) (null : P (class 0)) (sight : Sight) (known : Known
       classes_joined
 
   -- frames are asked of a thread that was read, and their classes and methods are those in the answer
-  frames_heard : (heard : Option Answer) → IsHeard P heard → All (OfFrame P) (frames_in heard)
-  frames_heard (Some (answers.Frames [])) k = tt
-  frames_heard (Some (answers.Frames (one ∷ frames))) k =
-      ((k.0, k.1.0, k.1.1.0), frames_heard (Some (answers.Frames frames)) k.1.1.1)
-  frames_heard _ k = tt
+  abbrev HasFrames : ThreadId → Option Answer → Type 0
+  HasFrames thread heard = OnSome (λ answer. All P (ids_answered thread.0 answer)) heard
 
-  frame_row : (state : State) (thread : ThreadId) → OfThread P thread → (one : Frame) → OfFrame P one
+  frames_heard : (thread : ThreadId) (heard : Option Answer) → HasFrames thread heard
+      → All (OfFrame P thread) (frames_in heard)
+  frames_heard thread (Some (answers.Frames [])) k = tt
+  frames_heard thread (Some (answers.Frames (one ∷ frames))) k =
+      ((k.0, k.1.0, k.1.1.0), frames_heard thread (Some (answers.Frames frames)) k.1.1.1)
+  frames_heard thread _ k = tt
+
+  frame_row : (state : State) (thread : ThreadId) → OfThread P thread → (one : Frame) → OfFrame P thread one
       → Row (OfShownFrame P) (frame_plan state thread one)
   unfolding need
   frame_row state thread t one k = makes Any (OfShownFrame P) (frame_shown state thread one)
@@ -277,12 +285,12 @@ module _ (P : Id → Type 0) (null : P (class 0)) (sight : Sight) (known : Known
       (λ two good. tt)) (λ facts any. (t, k.0, k.1, k.2))
 
   from_row : (thread : ThreadId) → OfThread P thread → (start count : ℕ)
-      → Row (All (OfFrame P)) (frames_from thread start count)
+      → Row (All (OfFrame P thread)) (frames_from thread start count)
   unfolding need
   from_row thread k start zero = tt
-  from_row thread k start (suc count) = asks (All (OfFrame P)) frames_in
+  from_row thread k start (suc count) = asks (All (OfFrame P thread)) frames_in
       (Want.Must (questions.Frames thread (pos start) (pos (suc count))))
-      (record { ids = (k, tt); plain = refl; first = refl }) frames_heard
+      (record { ids = (k, tt); plain = refl; first = refl }) (frames_heard thread)
 
   frames_row : (state : State) (thread : ThreadId) → OfThread P thread → (start levels : ℕ)
       → Row (IsGood P) (frames_plan state thread start levels)
@@ -290,10 +298,10 @@ module _ (P : Id → Type 0) (null : P (class 0)) (sight : Sight) (known : Known
       (asking count_in (Want.Must (questions.FrameCount thread))) (counted_plan state thread start levels)
       (asks Any count_in (Want.Must (questions.FrameCount thread))
       (record { ids = (k, tt); plain = refl; first = refl }) (λ heard any. tt))
-      (λ total any. chains (All (OfFrame P)) (IsGood P) (frames_from thread start (count_from total start levels))
+      (λ total any. chains (All (OfFrame P thread)) (IsGood P) (frames_from thread start (count_from total start levels))
       (shown_plan state thread total) (from_row thread k start (count_from total start levels))
       (λ frames h. makes (All (OfShownFrame P)) (IsGood P) (frames_found total) (each (frame_plan state thread) frames)
-      (every (OfFrame P) (OfShownFrame P) (frame_plan state thread) (frame_row state thread k) frames h)
+      (every (OfFrame P thread) (OfShownFrame P) (frame_plan state thread) (frame_row state thread k) frames h)
       (λ shown good. good)))
 
   -- values: an object is asked by an id of its kind, its class by that in the answer

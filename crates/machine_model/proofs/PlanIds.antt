@@ -1,6 +1,6 @@
 -- What a look-up lacks is asked with ids that its sight has: once over plans, and by row what its plan says.
 use Rattle.std.proofs.Common.{◌≡◌, ℕ, suc, Bool, true, false, cond, not, List, [], ◌∷◌, Option, Some, None, refl}
-use Rattle.std.proofs.Common.{◌∙◌, option_map, zero}
+use Rattle.std.proofs.Common.{◌∙◌, option_map, subst, zero}
 use Rattle.std.specs.List.{AllByRecursion as All, flat_map}
 use Rattle.class_tables.specs.Facts.{Known, same_class}
 use Rattle.class_tables.specs.Lookups.{found_in}
@@ -14,7 +14,8 @@ use Rattle.jdwp_values.specs.declared.class.Field.{Field}
 use Rattle.jdwp_values.specs.declared.class.Method.{Method}
 use Rattle.jdwp_values.specs.declared.id.ClassId.{ClassId}
 use Rattle.machine_model.specs.Facts.{fact_known, fact_of}
-use Rattle.machine_model.specs.Ids.{Id, class, frame, ids_answered, ids_asked, ids_of, ids_replied, method, object}
+use Rattle.machine_model.specs.Ids.{Id, class, frame, ids_answered, ids_asked, ids_of, ids_replied, method, no_thread}
+use Rattle.machine_model.specs.Ids.{object, thread_of}
 use Rattle.machine_model.specs.Keys.{same_question}
 use Rattle.machine_model.specs.Names.{Answer, Finding, Lookup, NamedThread, Question, Replied, Sent, ThreadId, Want}
 use Rattle.machine_model.specs.Names.{all_threads, an_answer, an_error, threads_found, classes_found, class_facts}
@@ -24,6 +25,7 @@ use Rattle.machine_model.specs.Plans.{Found, Need, Plan, Sight, after, answer_in
 use Rattle.machine_model.specs.Plans.{fails, found_at, found_from, gives, has, heard_of, lacks}
 use Rattle.machine_model.specs.Plans.{made_with, need, pairs, question_of, wants}
 use Rattle.machine_model.proofs.IdRows.{all_joined, are_plain, none_in}
+use Rattle.machine_model.proofs.KeyLaws.{is_one}
 use Rattle.stop_refs.specs.declared.thing.FrameThing.{FrameThing}
 use Rattle.stop_refs.specs.declared.thing.Thing.{Thing}
 use Rattle.stop_refs.specs.declared.thing.Thing.TheVariants as things
@@ -48,11 +50,15 @@ abbrev pub OnSome : {A : Type 0} → (A → Type 0) → Option A → Type 0
 OnSome P None = Unit {0}
 OnSome P (Some a) = P a
 
+-- an answer without a frame, one to this question, and a reply to it
 abbrev pub IsHeard : (Id → Type 0) → Option Answer → Type 0
-IsHeard P heard = OnSome (λ answer. All P (ids_answered answer)) heard
+IsHeard P heard = OnSome (λ answer. All P (ids_answered no_thread answer)) heard
 
-abbrev pub IsReplied : (Id → Type 0) → Option Replied → Type 0
-IsReplied P reply = OnSome (λ replied. All P (ids_replied replied)) reply
+abbrev pub IsHeardOf : (Id → Type 0) → Question → Option Answer → Type 0
+IsHeardOf P question heard = OnSome (λ answer. All P (ids_answered (thread_of question) answer)) heard
+
+abbrev pub IsReplied : (Id → Type 0) → Question → Option Replied → Type 0
+IsReplied P question reply = OnSome (λ replied. All P (ids_replied (thread_of question) replied)) reply
 
 -- the facts of classes have ids that pass
 pub record AreKnown (P : Id → Type 0) (known : Known) : Type 0 where
@@ -109,7 +115,7 @@ any (Some a) = tt
 
 -- a fact that is known, as an answer, has ids that pass
 pub fact_some : (P : Id → Type 0) (known : Known) (question : Question) → AreKnown P known
-    → OnSome (IsHeard P) (fact_known (found_in known) question)
+    → OnSome (IsHeardOf P question) (fact_known (found_in known) question)
 fact_some P known (questions.Signature c) h =
     mapped Any (IsHeard P) _ (λ loaded k. tt) ((found_in known).loaded c) (any _)
 fact_some P known (questions.SourceFile c) h =
@@ -134,8 +140,8 @@ fact_some P known (questions.VariableTable c m) h = mapped Any (IsHeard P) _
 fact_some P known _ h = tt
 
 -- and so has a fact that was replied
-pub fact_good : (P : Id → Type 0) → P (class 0) → (question : Question) (heard : Option Answer) → IsHeard P heard
-    → IsHeard P (fact_of question heard)
+pub fact_good : (P : Id → Type 0) → P (class 0) → (question : Question) (heard : Option Answer)
+    → IsHeardOf P question heard → IsHeardOf P question (fact_of question heard)
 fact_good P null (questions.Signature c) heard h = tt
 fact_good P null (questions.SourceFile c) (Some (answers.SourceFile file)) h = tt
 fact_good P null (questions.SourceFile c) _ h = tt
@@ -153,28 +159,31 @@ fact_good P null _ heard h = h
 
 -- what was asked so far, and its reply: before the sizes are known nothing else is asked
 pub record IsAsked (P : Id → Type 0) (sized : Bool) (sent : Sent) : Type 0 where
-  pub reply : IsReplied P sent.reply
+  pub reply : IsReplied P (question_of sent.want) sent.reply
   pub first : cond sized true (is_sizes (question_of sent.want)) ≡ true
 
-pub reply_heard : (P : Id → Type 0) (replied : Replied) → All P (ids_replied replied) → IsHeard P (answer_in replied)
-reply_heard P (an_answer answer) h = h
-reply_heard P (an_error code) h = tt
+pub reply_heard : (P : Id → Type 0) (question : Question) (replied : Replied)
+    → All P (ids_replied (thread_of question) replied) → IsHeardOf P question (answer_in replied)
+reply_heard P question (an_answer answer) h = h
+reply_heard P question (an_error code) h = tt
 
-abbrev pub IsFound : (Id → Type 0) → Found → Type 0
-IsFound P found = All P (ids_replied found.replied)
+abbrev pub IsFound : (Id → Type 0) → Question → Found → Type 0
+IsFound P question found = All P (ids_replied (thread_of question) found.replied)
 
 pub found_some : (P : Id → Type 0) (sized : Bool) (place : ℕ) (asked : List Sent) (question : Question)
-    → All (IsAsked P sized) asked → OnSome (IsFound P) (found_from place asked question)
+    → All (IsAsked P sized) asked → OnSome (IsFound P question) (found_from place asked question)
 found_some P sized place [] question h = tt
 found_some P sized place (sent ∷ asked) question h =
-    by_key (asks_for sent question) sent.reply h.0.reply (found_some P sized (suc place) asked question h.1)
+    by_key (asks_for sent question) refl sent.reply h.0.reply (found_some P sized (suc place) asked question h.1)
   where
-    by_key : (is : Bool) (reply : Option Replied) → IsReplied P reply
-        → OnSome (IsFound P) (found_from (suc place) asked question)
-        → OnSome (IsFound P) (cond is (found_at place reply) (found_from (suc place) asked question))
-    by_key true None k rest = tt
-    by_key true (Some replied) k rest = k
-    by_key false reply k rest = rest
+    by_key : (is : Bool) → asks_for sent question ≡ is → (reply : Option Replied)
+        → IsReplied P (question_of sent.want) reply
+        → OnSome (IsFound P question) (found_from (suc place) asked question)
+        → OnSome (IsFound P question) (cond is (found_at place reply) (found_from (suc place) asked question))
+    by_key true same None k rest = tt
+    by_key true same (Some replied) k rest =
+        subst (λ (q : Question). All P (ids_replied (thread_of q) replied)) (is_one (question_of sent.want) question same) k
+    by_key false same reply k rest = rest
 
 -- Needs ---------------------------------------------------------------------------------------------------------------
 
@@ -261,7 +270,7 @@ OfNamed P named = P (object named.thread.0)
 -- a frame that was told, and what a number stands for
 abbrev pub OfFrameThing : (Id → Type 0) → FrameThing → Type 0
 OfFrameThing P one =
-    P (object one.thread.0) × P (frame one.frame.0) × P (class one.at.class.0) × P (method one.at.method.0)
+    P (object one.thread.0) × P (frame one.thread.0 one.frame.0) × P (class one.at.class.0) × P (method one.at.method.0)
 
 abbrev pub OfThing : (Id → Type 0) → Thing → Type 0
 OfThing P (things.Frame one) = OfFrameThing P one

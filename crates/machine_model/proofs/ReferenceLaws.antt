@@ -313,7 +313,7 @@ request_on numbers (Clear wish request) is h = aside numbers _ refl refl h
 request_on numbers (Does deed) is h = cc
 
 -- `updates` sends no deed
-due_request : (w : Wishes) (effect : Effect) → effect_due w ≡ Some effect → is_deed effect ≡ false
+pub due_request : (w : Wishes) (effect : Effect) → effect_due w ≡ Some effect → is_deed effect ≡ false
 due_request w effect due = by_change (next_change w) due
   where
     by_change : (change : Option WishChange) → option_map effect_of change ≡ Some effect → is_deed effect ≡ false

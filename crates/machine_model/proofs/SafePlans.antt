@@ -1,5 +1,6 @@
--- Look-ups other than that of classes list no classes, and ask nothing of null: by row what its plan may want.
-use Rattle.std.proofs.Common.{◌==◌, ◌&&◌, ℕ, zero, suc, pos, Bool, true, false, List, [], ◌∷◌, ◌++◌, None, refl}
+-- Look-ups other than that of classes list no classes, and ask nothing of null, and of them that of frames alone asks for
+-- frames: by row what its plan may want.
+use Rattle.std.proofs.Common.{◌==◌, ◌&&◌, ℕ, zero, suc, pos, Bool, true, false, not, List, [], ◌∷◌, ◌++◌, None, refl}
 use Rattle.std.proofs.Common.{Option, Some}
 use Rattle.std.specs.Prelude.{codes}
 use Rattle.std.specs.List.{list_any}
@@ -22,6 +23,7 @@ use Rattle.machine_model.specs.Exceptions.{exception_plan, heard_plan, mode_of, 
 use Rattle.machine_model.specs.Exceptions.{text_plan as thrown_text}
 use Rattle.machine_model.specs.Facts.{above_in, fields_in, signature_in}
 use Rattle.machine_model.specs.Frames.{count_from, count_in, counted_plan, frame_plan, frame_shown, frames_from}
+use Rattle.machine_model.specs.Frames.{frames_in}
 use Rattle.machine_model.specs.Frames.{frames_plan, lines_plan as lines_of, methods_plan as methods_of, shown_plan}
 use Rattle.machine_model.specs.Frames.{signature_plan as signature_of, source_plan as source_of}
 use Rattle.machine_model.specs.Harmless.{is_harmless}
@@ -40,13 +42,17 @@ use Rattle.machine_model.specs.Variables.{page, page_plan, shown_as, shown_plan 
 use Rattle.machine_model.specs.Variables.{values_in, with_known}
 use Rattle.machine_model.proofs.BindingPlans.{AllWants, asks, chains, every, makes, wants_other}
 use Rattle.value_views.specs.Names.{class_name}
+use Rattle.machine_model.proofs.Frameless.{asks_frames}
 use Rattle.stop_refs.specs.declared.thing.FrameThing.{FrameThing}
 use Rattle.stop_refs.specs.declared.thing.Thing.{Thing}
 use Rattle.stop_refs.specs.declared.thing.Thing.TheVariants as things
 
--- a want lists no classes, and asks nothing of null
+-- a want lists no classes, and asks nothing of null; nor does it ask for frames
+abbrev pub is_meek : Want → Bool
+is_meek want = wants_other want && is_harmless (question_of want)
+
 abbrev pub is_safe : Want → Bool
-is_safe want = wants_other want && is_harmless (question_of want)
+is_safe want = is_meek want && not (asks_frames (question_of want))
 
 abbrev Safe : {A : Type 0} → Plan A → Type 0
 Safe p = AllWants is_safe p
@@ -70,26 +76,28 @@ threads_safe = chains is_safe (asking threads_in (Want.Must questions.AllThreads
 signature_safe : (class : ClassId) → Safe (signature_of class)
 signature_safe class = asks is_safe signature_in (Want.Fact (questions.Signature class)) refl
 
-frame_safe : (state : State) (thread : ThreadId) (frame : Frame) → Safe (frame_plan state thread frame)
+frame_meek : (state : State) (thread : ThreadId) (frame : Frame) → AllWants is_meek (frame_plan state thread frame)
 unfolding AllWants
-frame_safe state thread frame = makes is_safe (frame_shown state thread frame)
+frame_meek state thread frame = makes is_meek (frame_shown state thread frame)
     (both (both (signature_of frame.at.class) (source_of frame.at.class))
     (both (methods_of frame.at.class) (lines_of frame.at.class frame.at.method)))
     (((refl, λ heard. tt), (refl, λ heard. tt), λ two. tt), ((refl, λ heard. tt), (refl, λ heard. tt), λ two. tt), λ two. tt)
 
-from_safe : (thread : ThreadId) (start count : ℕ) → Safe (frames_from thread start count)
-from_safe thread start zero = gives_safe []
-from_safe thread start (suc count) =
-    asks is_safe _ (Want.Must (questions.Frames thread (pos start) (pos (suc count)))) refl
+from_meek : (thread : ThreadId) (start count : ℕ) → AllWants is_meek (frames_from thread start count)
+unfolding AllWants
+from_meek thread start zero = tt
+from_meek thread start (suc count) =
+    asks is_meek frames_in (Want.Must (questions.Frames thread (pos start) (pos (suc count)))) refl
 
-pub frames_safe : (state : State) (thread : ThreadId) (start levels : ℕ) → Safe (frames_plan state thread start levels)
-frames_safe state thread start levels = chains is_safe (asking count_in (Want.Must (questions.FrameCount thread)))
+pub frames_meek : (state : State) (thread : ThreadId) (start levels : ℕ)
+    → AllWants is_meek (frames_plan state thread start levels)
+frames_meek state thread start levels = chains is_meek (asking count_in (Want.Must (questions.FrameCount thread)))
     (counted_plan state thread start levels)
-    (asks is_safe count_in (Want.Must (questions.FrameCount thread)) refl)
-    (λ total. chains is_safe (frames_from thread start (count_from total start levels))
-    (shown_plan state thread total) (from_safe thread start (count_from total start levels))
-    (λ frames. makes is_safe (frames_found total) (each (frame_plan state thread) frames)
-    (every is_safe (frame_plan state thread) (frame_safe state thread) frames)))
+    (asks is_meek count_in (Want.Must (questions.FrameCount thread)) refl)
+    (λ total. chains is_meek (frames_from thread start (count_from total start levels))
+    (shown_plan state thread total) (from_meek thread start (count_from total start levels))
+    (λ frames. makes is_meek (frames_found total) (each (frame_plan state thread) frames)
+    (every is_meek (frame_plan state thread) (frame_meek state thread) frames)))
 
 -- Values --------------------------------------------------------------------------------------------------------------
 

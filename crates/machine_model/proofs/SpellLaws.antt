@@ -11,7 +11,7 @@ use Rattle.jdwp_values.specs.declared.sizes.IdSizes.{IdSizes}
 use Rattle.machine_model.specs.Due.{Load, asked_first, asked_next, busy, can_read, clear, due, due_by, is_full}
 use Rattle.machine_model.specs.Due.{lacking_more, load_of, queued, waiting}
 use Rattle.machine_model.specs.Ids.{Id, class, field, frame, ids_answered, ids_given, ids_replied, method}
-use Rattle.machine_model.specs.Ids.{ids_asked, ids_of_composite, object}
+use Rattle.machine_model.specs.Ids.{ids_asked, ids_of_composite, no_thread, object, thread_of}
 use Rattle.machine_model.specs.Names.{Answer, Composite, Effect, Question, Replied, TargetCommand, Want}
 use Rattle.machine_model.specs.Names.{a_question, an_effect}
 use Rattle.machine_model.specs.Replying.{IsReply, SizesFor, any_sizes, is_waiting, sizes_of, sizes_read, wire}
@@ -53,7 +53,7 @@ as_used a b (object id) same h = subst (λ (size : ℕ). id < 256 ^ size) (ap (�
 as_used a b (class id) same h = subst (λ (size : ℕ). id < 256 ^ size) (ap (λ (s : SizesRead). s.class) same) h
 as_used a b (method id) same h = subst (λ (size : ℕ). id < 256 ^ size) (ap (λ (s : SizesRead). s.method) same) h
 as_used a b (field id) same h = subst (λ (size : ℕ). id < 256 ^ size) (ap (λ (s : SizesRead). s.field) same) h
-as_used a b (frame id) same h = subst (λ (size : ℕ). id < 256 ^ size) (ap (λ (s : SizesRead). s.frame) same) h
+as_used a b (frame thread id) same h = subst (λ (size : ℕ). id < 256 ^ size) (ap (λ (s : SizesRead). s.frame) same) h
 
 fits_read : (sizes : Option SizesRead) (used : IdSizes) → SizesFor sizes used → is_some sizes ≡ true → (id : Id)
     → FitsId used id → Fits sizes id
@@ -65,23 +65,24 @@ fits_read sizes used serves is id h other also =
 
 -- what answers to IDSizes and to effects say has no ids
 no_ids : (answer : Answer) → kind_of_answer answer ≡ kind_of (wire (a_question questions.IdSizes))
-    → ids_answered answer ≡ []
+    → ids_answered no_thread answer ≡ []
 no_ids answer is = grind (arith, is)
 
 effect_ids : (answer : Answer) (kind : EffectKind) → kind_of_answer answer ≡ kinds.Effect kind
-    → ids_answered answer ≡ []
+    → ids_answered no_thread answer ≡ []
 effect_ids answer kind is = grind (arith, is)
 
 answer_fits : {messages : List Message} (m : Machine) {hand : Hand} (question : Question) (replied : Replied)
     (sized : Bool)
     → IsKept (Fits (sizes_replied messages)) messages m → is_gone m.state.phase ≡ false → m.hand ≡ Some hand
     → is_waiting question hand.asked ≡ true → IsReply m.state.sizes (a_question question) replied
-    → is_some m.state.sizes ≡ sized → All (Fits m.state.sizes) (ids_replied replied)
+    → is_some m.state.sizes ≡ sized → All (Fits m.state.sizes) (ids_replied (thread_of question) replied)
 answer_fits m question replied sized k near is waits (IsReply.with_error some tolerated) known = tt
 answer_fits m question replied true k near is waits (IsReply.with_answer {answer} used serves answers good) known =
-    all_weak (FitsId used) (Fits m.state.sizes) (fits_read m.state.sizes used serves known) (ids_answered answer)
-    (subst (λ ids. All (FitsId used) ids) (same_ids (limit_of (wire (a_question question))) answer)
-    (fitting_ids used (told_answer (limit_of (wire (a_question question))) answer) answers.fits))
+    all_weak (FitsId used) (Fits m.state.sizes) (fits_read m.state.sizes used serves known)
+    (ids_answered (thread_of question) answer)
+    (subst (λ ids. All (FitsId used) ids) (same_ids (limit_of (wire (a_question question))) (thread_of question) answer)
+    (fitting_ids used (thread_of question) (told_answer (limit_of (wire (a_question question))) answer) answers.fits))
 answer_fits {messages} m {hand} question replied false k near is waits
     (IsReply.with_answer {answer} used serves answers good) known =
     let asked = subst (λ sized. All (IsAsked (Fits (sizes_replied messages)) sized) hand.asked) known
@@ -89,10 +90,11 @@ answer_fits {messages} m {hand} question replied false k near is waits
     (k.near near).replies) in
     let one = sizes_is question (only_sizes (Fits (sizes_replied messages)) question hand.asked asked waits) in
     subst (λ ids. All (Fits m.state.sizes) ids)
-    (sym (no_ids answer (answers.row ∙ ap (λ q. kind_of (wire (a_question q))) one))) tt
+    (sym (ap (λ q. ids_answered (thread_of q) answer) one
+    ∙ no_ids answer (answers.row ∙ ap (λ q. kind_of (wire (a_question q))) one))) tt
 
 effect_fits : (P : Id → Type 0) {sizes : Option SizesRead} {effect : Effect} {replied : Replied}
-    → IsReply sizes (an_effect effect) replied → All P (ids_replied replied)
+    → IsReply sizes (an_effect effect) replied → All P (ids_replied no_thread replied)
 effect_fits P (IsReply.with_error some tolerated) = tt
 effect_fits P (IsReply.with_answer {answer} used serves answers good) =
     subst (λ ids. All P ids) (sym (effect_ids answer _ answers.row)) tt
@@ -138,7 +140,8 @@ spelled = record {
         let known = ap is_gone (sym (same_replied (a_question question) replied m.state)) in
         let was : is_gone m.state.phase ≡ false = known ∙ near in
         all_weak (Fits m.state.sizes) (Fits (sizes_replied (messages ++ message ∷ [])))
-        (λ id h. longer messages message id (subst (λ sizes. Fits sizes id) (k.sizes was) h)) (ids_replied replied)
+        (λ id h. longer messages message id (subst (λ sizes. Fits sizes id) (k.sizes was) h))
+        (ids_replied (thread_of question) replied)
         (answer_fits m question replied (is_some m.state.sizes) k was is waits reply refl)
     brought messages m next message k (Moves.replies is flying reply last) near = effect_fits _ reply
     brought messages m next message k (Moves.late before after is reply) near =

@@ -14,7 +14,7 @@ use Rattle.jdwp_values.specs.declared.id.ClassId.{ClassId}
 use Rattle.machine_model.specs.Due.{asked_by, asked_hand, lacked_by, lacking_more, load_of, newly_lacked, queued}
 use Rattle.machine_model.specs.Due.{is_listed, way, with_want, with_wants}
 use Rattle.machine_model.specs.Facts.{above_in, fields_in, methods_in}
-use Rattle.machine_model.specs.Ids.{Id, class, ids_of, ids_replied}
+use Rattle.machine_model.specs.Ids.{Id, class, ids_of, ids_replied, thread_of}
 use Rattle.machine_model.specs.Lookups.{found_for}
 use Rattle.machine_model.specs.Names.{Answer, Guard, Handshake, IdSizes, Part, Phase, Question, Replied, Sent}
 use Rattle.machine_model.specs.Names.{TargetCommand, Want, a_question, an_answer, an_effect}
@@ -27,8 +27,9 @@ use Rattle.machine_model.specs.Runs.{Message}
 use Rattle.machine_model.specs.Spelling.{listed, all_sizes, first_sizes, sizes_by, sizes_replied}
 use Rattle.machine_model.specs.State.{Hand, Machine, SizesRead, State, is_attached, is_gone, is_none, is_some}
 use Rattle.machine_model.proofs.IdRows.{all_front, all_joined, all_weak}
-use Rattle.machine_model.proofs.PlanIds.{AreKnown, IsAsked, IsGood, IsHeard, IsWanted, NeedStands, reply_heard}
-use Rattle.machine_model.proofs.PlanIds.{is_sizes, put_all, put_key}
+use Rattle.machine_model.proofs.KeyLaws.{is_one}
+use Rattle.machine_model.proofs.PlanIds.{AreKnown, IsAsked, IsGood, IsHeard, IsHeardOf, IsWanted, NeedStands}
+use Rattle.machine_model.proofs.PlanIds.{is_sizes, put_all, put_key, reply_heard}
 use Rattle.machine_model.proofs.Stepping.{Loses}
 use Rattle.machine_model.proofs.Testing.{same_replied}
 use Rattle.machine_model.specs.Keys.{same_question}
@@ -275,15 +276,28 @@ unless_fewer true queue = omega arith
 unless_fewer false queue = omega arith
 
 filled_all : (P : Id → Type 0) (sized : Bool) (question : Question) (replied : Replied) (asked : List Sent)
-    → All P (ids_replied replied) → All (IsAsked P sized) asked → All (IsAsked P sized) (filled question replied asked)
+    → All P (ids_replied (thread_of question) replied) → All (IsAsked P sized) asked
+    → All (IsAsked P sized) (filled question replied asked)
 filled_all P sized question replied [] r h = tt
 filled_all P sized question replied (sent ∷ asked) r h =
-    by_test (waits_for sent question) (filled_all P sized question replied asked r h.1)
+    by_test (waits_for sent question) refl (filled_all P sized question replied asked r h.1)
   where
-    by_test : (waits : Bool) → All (IsAsked P sized) (filled question replied asked) → All (IsAsked P sized)
+    asks_it : (open_one asks : Bool) → cond open_one asks false ≡ true → asks ≡ true
+    asks_it true asks is = is
+    asks_it false asks is = cc
+
+    by_test : (waits : Bool) → waits_for sent question ≡ waits → All (IsAsked P sized) (filled question replied asked)
+        → All (IsAsked P sized)
         (cond waits (record sent { reply = Some replied } ∷ asked) (sent ∷ filled question replied asked))
-    by_test true rest = (record { reply = r; first = h.0.first }, h.1)
-    by_test false rest = (h.0, rest)
+    by_test true is rest = (
+      record {
+        reply = subst (λ (q : Question). All P (ids_replied (thread_of q) replied))
+            (sym (is_one (question_of sent.want) question (asks_it (is_none sent.reply) (asks_for sent question) is))) r;
+        first = h.0.first;
+      },
+      h.1,
+    )
+    by_test false is rest = (h.0, rest)
 
 unless_all : (Good : Want → Type 0) (failed : Bool) (queue : List Want) → All Good queue → All Good
     (unless_failed failed queue)
@@ -316,7 +330,7 @@ loaded_known P classes known r h = subst (AreKnown P) (sym (only_loaded classes 
 
 -- the facts of classes that an answer tells
 heard_known : (P : Id → Type 0) → P (class 0) → (question : Question) (heard : Option Answer) (known : Known)
-    → IsHeard P heard → AreKnown P known → AreKnown P (with_heard question heard known)
+    → IsHeardOf P question heard → AreKnown P known → AreKnown P (with_heard question heard known)
 heard_known P null questions.AllClasses heard known r h =
     loaded_known P (classes_in heard) known (by_heard heard r) h
   where
@@ -369,7 +383,7 @@ heard_known P null (questions.VariableTable c method) heard known r h =
 heard_known P null _ heard known r h = h
 
 learnt_known : (P : Id → Type 0) → P (class 0) → (question : Question) (heard : Option Answer) (known : Known)
-    → IsHeard P heard → AreKnown P known → AreKnown P (learnt question heard known)
+    → IsHeardOf P question heard → AreKnown P known → AreKnown P (learnt question heard known)
 learnt_known P null question heard known r h = by_known (knows_fact question known)
   where
     by_known : (knows : Bool) → AreKnown P (cond knows known (with_heard question heard known))
@@ -434,16 +448,16 @@ empty_queue P (want ∷ queue) h none = let one : by_want want ≡ 1 = ap one_if
 
 module _ {P : Id → Type 0} {messages : List Message} {state : State} {left : List Part} {queue : List Want}
     {asked : List Sent} {late : List TargetCommand} (replied : Replied) (failed : Bool)
-    (k : Kept P messages state left queue asked late) (brought : All P (ids_replied replied)) where
+    (k : Kept P messages state left queue asked late) where
   -- what is known and stands once the question is replied to
   record Later (question : Question) (next : State) : Type 0 where
     sizes : next.sizes ≡ sizes_replied (messages ++ Message.answers (a_question question) replied ∷ [])
     near : Near P next left (unless_failed failed queue) (filled question replied asked)
 
-  later_sizes : is_waiting questions.IdSizes asked ≡ true → is_some (sizes_in replied) ≡ true
-      → is_gone state.phase ≡ false
+  later_sizes : All P (ids_replied (thread_of questions.IdSizes) replied) → is_waiting questions.IdSizes asked ≡ true
+      → is_some (sizes_in replied) ≡ true → is_gone state.phase ≡ false
       → Later questions.IdSizes (told_by questions.IdSizes replied state)
-  later_sizes waits given near = by_sizes (is_some state.sizes) refl
+  later_sizes brought waits given near = by_sizes (is_some state.sizes) refl
     where
       by_sizes : (sized : Bool) → is_some state.sizes ≡ sized
           → Later questions.IdSizes (told_by questions.IdSizes replied state)
@@ -473,17 +487,18 @@ module _ {P : Id → Type 0} {messages : List Message} {state : State} {left : L
             };
           }
 
-  later_other : (question : Question) → P (class 0) → is_sizes question ≡ false
+  later_other : (question : Question) → All P (ids_replied (thread_of question) replied) → P (class 0)
+      → is_sizes question ≡ false
       → sizes_by (Message.answers (a_question question) replied) ≡ [] → is_gone state.phase ≡ false
       → Later question (told_by question replied state)
-  later_other question null other quiet near =
+  later_other question brought null other quiet near =
       let n = k.near near in
       subst (λ next. Later question next) (sym (told_learns question replied state other)) (record {
         sizes = k.sizes near
             ∙ ap first_sizes (sym (same_sizes messages (Some (Message.answers (a_question question) replied)) quiet));
         near = record {
           classes = learnt_known P null question (answer_in replied) state.classes
-              (reply_heard P replied brought) n.classes;
+              (reply_heard P question replied brought) n.classes;
           wanted = n.wanted;
           order = n.order;
           parts = n.parts;
@@ -492,19 +507,19 @@ module _ {P : Id → Type 0} {messages : List Message} {state : State} {left : L
         };
       })
 
-  later : (question : Question) → P (class 0) → is_waiting question asked ≡ true → IsReply state.sizes
-      (a_question question) replied
+  later : (question : Question) → All P (ids_replied (thread_of question) replied) → P (class 0)
+      → is_waiting question asked ≡ true → IsReply state.sizes (a_question question) replied
       → shows_end state.phase (a_question question) replied ≡ false → is_gone state.phase ≡ false
       → Later question (told_by question replied state)
-  later questions.IdSizes null waits reply last near =
-      later_sizes waits (sizes_given state.sizes state.phase replied reply near last) near
-  later question null waits reply last near = later_other question null refl refl near
+  later questions.IdSizes brought null waits reply last near =
+      later_sizes brought waits (sizes_given state.sizes state.phase replied reply near last) near
+  later question brought null waits reply last near = later_other question brought null refl refl near
 
 pub answered_kept : {P : Id → Type 0} {messages : List Message} (m : Machine) {hand : Hand} (question : Question)
     (replied : Replied) → P (class 0) → IsKept P messages m → m.hand ≡ Some hand → is_waiting question hand.asked ≡ true
     → IsReply m.state.sizes (a_question question) replied → shows_end m.state.phase
     (a_question question) replied ≡ false
-    → (is_gone m.state.phase ≡ false → All P (ids_replied replied))
+    → (is_gone m.state.phase ≡ false → All P (ids_replied (thread_of question) replied))
     → IsKept P (messages ++ Message.answers (a_question question) replied ∷ []) (replied_machine m
     (a_question question) replied)
 answered_kept {P} {messages} m {hand} question replied null kept is waits reply last brought =
@@ -518,8 +533,8 @@ answered_kept {P} {messages} m {hand} question replied null kept is waits reply 
           let few = filled_few question replied hand.asked waits in let fewer = unless_fewer failed hand.queue in
           omega (arith, old, said, few, fewer));
       none_late = λ near. k.none_late (back near);
-      sizes = λ near. (later replied failed k (brought (back near)) question null waits reply last (back near)).sizes;
-      near = λ near. (later replied failed k (brought (back near)) question null waits reply last (back near)).near;
+      sizes = λ near. (later replied failed k question (brought (back near)) null waits reply last (back near)).sizes;
+      near = λ near. (later replied failed k question (brought (back near)) null waits reply last (back near)).near;
     })
 
 -- The target's end, and late replies ----------------------------------------------------------------------------------

@@ -23,6 +23,7 @@ use Rattle.machine_model.specs.Names.{Set, TargetCommand, an_effect}
 use Rattle.machine_model.specs.Replying.{wire}
 use Rattle.machine_model.specs.State.{is_empty}
 use Rattle.machine_model.proofs.IdRows.{FitsId, all_flat, all_joined, all_weak}
+use Rattle.machine_model.proofs.Frameless.{is_frame}
 use Rattle.machine_model.proofs.PlanIds.{AreKnown, OfClass, OnSome, put_key, under_some}
 use Rattle.wish_sets.proofs.OrderLaws.{each-insert}
 use Rattle.wish_sets.specs.Names.{dotted, is_dot, is_slash, key_parts, method_named, names_class, package_name}
@@ -86,14 +87,15 @@ nothing_wished P = record {
   step = tt;
 }
 
-pub weak_wished : (P Q : Id → Type 0) → ((id : Id) → P id → Q id) → (wanted : Wanted) → AreWished P wanted
-    → AreWished Q wanted
+-- no frame stands there
+pub weak_wished : (P Q : Id → Type 0) → ((id : Id) → is_frame id ≡ false → P id → Q id) → (wanted : Wanted)
+    → AreWished P wanted → AreWished Q wanted
 weak_wished P Q k wanted h = record {
   short = h.short;
   bound = all_weak (IsBound P) (IsBound Q)
       (λ known b. record {
-        itself = k _ b.itself;
-        methods = all_weak _ _ (λ one. k _) known.1.methods b.methods;
+        itself = k _ refl b.itself;
+        methods = all_weak _ _ (λ one. k _ refl) known.1.methods b.methods;
       }) wanted.classes h.bound;
   functions = h.functions;
   step = by_step wanted.step h.step;
@@ -101,7 +103,7 @@ weak_wished P Q k wanted h = record {
   where
     by_step : (step : Option StepWish) → OnSome (OfStep P) step → OnSome (OfStep Q) step
     by_step None h = tt
-    by_step (Some step) h = k (object step.thread.0) h
+    by_step (Some step) h = k (object step.thread.0) refl h
 
 -- a list of breakpoints is replaced
 pub lines_stand : (P : Id → Type 0) (key : List ℕ) (entries : List LineEntry) (wanted : Wanted) → IsShort key

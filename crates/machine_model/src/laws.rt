@@ -184,8 +184,9 @@ pub fn client_options_are_those_of_the_last_initialize()
 {}
 
 /// Each id in a command that is sent was read before it, in an answer of the target's or in a composite, as an id of
-/// its kind; only the class 0, which stands for any, needs none (JDWP, Detailed Command Information, common data
-/// types).
+/// its kind; only the class 0, which stands for any, needs none. That of a frame was read in the stop in hand, in an
+/// answer to the question for the frames of the thread that the command names (JDWP, Detailed Command Information,
+/// common data types; JDWP, StackFrame command set).
 pub fn commands_use_ids_that_were_read()
     ensures { Ids }
 {}
