@@ -1,4 +1,4 @@
--- How many breakpoints of sources are listed, or still to be, and of how many threads is to be told: no act of the
+-- How many breakpoints are listed, or still to be, and of how many threads is to be told: no act of the
 -- machine makes them more, and no more news is told at once.
 use Rattle.std.proofs.Common.{◌≡◌, ℕ, ◌+◌, ◌≤◌, Bool, true, false, cond, List, [], ◌∷◌, ◌++◌, length, Option, Some}
 use Rattle.std.proofs.Common.{None, refl, sym, ap, ◌∙◌, arith, map, length-append, option_map, subst}
@@ -11,18 +11,19 @@ use Rattle.std.specs.declared.cmp.Ordering.TheVariants.{Less, Equal, Greater}
 use Rattle.std.specs.Prelude.{bytes_eq, filter, if◌then◌else◌}
 use Rattle.class_tables.specs.Lookups.{Lookups, found_in}
 use Rattle.class_tables.specs.Tables.{put}
+use Rattle.dap_messages.specs.declared.requests.FunctionBreakpoint.{FunctionBreakpoint}
 use Rattle.dap_messages.specs.declared.requests.SourceBreakpoint.{SourceBreakpoint}
 use Rattle.dap_messages.specs.declared.requests.StackTraceArguments.{StackTraceArguments}
 use Rattle.dap_messages.specs.declared.requests.VariablesArguments.{VariablesArguments}
 use Rattle.std.specs.Prelude as prelude
-use Rattle.std.specs.Prelude.{Ok, Err}
+use Rattle.std.specs.Prelude.{Ok, Err, option_and_then}
 use Rattle.stop_refs.specs.Numbers.{InHand, container, frame}
 use Rattle.stop_refs.specs.declared.fault.RefFault.{RefFault}
 use Rattle.stop_refs.specs.declared.thing.FrameThing.{FrameThing}
 use Rattle.stop_refs.specs.declared.thing.Thing.{Thing}
 use Rattle.jdwp_values.specs.declared.id.ClassId.{ClassId}
 use Rattle.jdwp_events.specs.declared.kind.Policy.{Policy}
-use Rattle.machine_model.specs.Breakpoints.{entry_of, is_news, newly_verified, numbered_from}
+use Rattle.machine_model.specs.Breakpoints.{entry_of, functions_from, is_news, newly_verified, numbered_from}
 use Rattle.machine_model.specs.Composites.{changes_in, composite_parts, has_death}
 use Rattle.machine_model.specs.Due.{Picked, after_deed, asked_hand, passed_by, pick}
 use Rattle.machine_model.specs.Lookups.{finished}
@@ -38,18 +39,28 @@ use Rattle.machine_model.specs.Runs.{Message}
 use Rattle.machine_model.specs.State.{Hand, Machine, State, is_gone, is_raw, knowing, left}
 use Rattle.machine_model.specs.Telling.{after_event, numbered_by}
 use Rattle.machine_model.proofs.Stepping.{IsAt, Moves}
-use Rattle.machine_model.proofs.Tables.{of_decided}
+use Rattle.machine_model.proofs.Tables.{of_decided, of_told}
+use Rattle.machine_model.specs.Rows.{exception_parts, refused_with, step_parts, stepped_by, stepped_thread, thrown_first}
+use Rattle.machine_model.specs.Stops.{hit_parts}
+use Rattle.machine_model.specs.declared.parts.Halt.{Halt}
+use Rattle.machine_model.specs.declared.parts.Suspension.TheVariants.{Composite as of_composite}
+use Rattle.machine_model.specs.declared.parts.Thrown.{Thrown}
+use Rattle.wish_sets.specs.declared.wish.Depth.{Depth}
+use Rattle.wish_sets.specs.declared.wish.Depth.TheVariants.{Into, Out, Over}
 use Rattle.jdwp_values.specs.declared.id.ThreadId.{ThreadId}
 use Rattle.bridge_core.specs.Names.{Attached, Choice, Classes, Command, ConfigurationDone, Configured, Continue}
 use Rattle.bridge_core.specs.Names.{Decides, EntryHeld, Event, Failure, Finding, Fresh, Gone, Item, Leaves, Lines}
 use Rattle.bridge_core.specs.Names.{Lookup, Note, Options, Outcome, Part, Pause, Phase, Roots, SetBreakpoints}
-use Rattle.bridge_core.specs.Names.{Scopes, StackTrace, TellsNews, Variables, a_composite, a_raw, a_request, target_end}
+use Rattle.bridge_core.specs.Names.{ExceptionInfo, Functions, Next, Resume, Scopes, SetFunctionBreakpoints, StackTrace}
+use Rattle.bridge_core.specs.Names.{StepIn, StepOut, Stepped, Steps, StopsAt, TellsNews, Throws, Variables, a_composite}
+use Rattle.bridge_core.specs.Names.{a_raw, a_request, target_end}
 use Rattle.bridge_core.specs.Working.{lines_in, lines_in_part, lines_listed, lines_noted, news_in_hand, news_in_item}
 use Rattle.bridge_core.specs.Working.{news_left, news_waiting}
 use Rattle.bridge_core.proofs.OwnMoves.{is_own, not_lost}
-use Rattle.wish_sets.specs.Entries.{all_lines, is_verified, verified}
-use Rattle.wish_sets.specs.Wanted.{Wanted, with_class, with_known}
+use Rattle.wish_sets.specs.Entries.{all_entries, function_seen, is_verified, line_seen, verified}
+use Rattle.wish_sets.specs.Wanted.{Wanted, with_class, with_functions, with_known, with_lines}
 use Rattle.wish_sets.specs.declared.entry.LineEntry.{LineEntry}
+use Rattle.wish_sets.specs.declared.entry.VerifiedEntry.{VerifiedEntry}
 
 -- Lists ---------------------------------------------------------------------------------------------------------------
 
@@ -83,16 +94,16 @@ filter_few test (item ∷ items) = by_test (test item) (filter_few test items)
 
 -- no more are told to be verified than are listed
 pub news_few : (below : ℕ) (ids : List ℕ) (wishes : Wishes)
-    → length (newly_verified below ids wishes) ≤ length (all_lines wishes.wanted)
+    → length (newly_verified below ids wishes) ≤ length (all_entries wishes.wanted)
 news_few below ids wishes =
     let news = filter_few (is_news below ids) (verified wishes) in
-    let each = fold_few (on (λ (entry : LineEntry). entry.id) nat_cmp) []
-    (filter (is_verified wishes) (all_lines wishes.wanted)) in
-    let some = filter_few (is_verified wishes) (all_lines wishes.wanted) in omega (arith, news, each, some)
+    let each = fold_few (on (λ (entry : VerifiedEntry). entry.id) nat_cmp) []
+    (filter (is_verified wishes) (all_entries wishes.wanted)) in
+    let some = filter_few (is_verified wishes) (all_entries wishes.wanted) in omega (arith, news, each, some)
 
 -- what is told at once
 pub all_news_few : (below : ℕ) (state : State) (item : Item)
-    → length (news_of below state item) ≤ length (all_lines state.wishes.wanted) + length (changes_in item)
+    → length (news_of below state item) ≤ length (all_entries state.wishes.wanted) + length (changes_in item)
 all_news_few below state item =
     let verified = newly_verified below state.bound state.wishes in
     let both = length-append (map entry_verified verified) (changes_in item) in
@@ -101,42 +112,63 @@ all_news_few below state item =
 
 -- What is listed ------------------------------------------------------------------------------------------------------
 
-abbrev lines_under : List (List ℕ × List LineEntry) → ℕ
-lines_under lists = length (flat_map (λ (list : List ℕ × List LineEntry). list.1) lists)
+abbrev under : List (List ℕ × List LineEntry) → List VerifiedEntry
+under lists = flat_map (λ (list : List ℕ × List LineEntry). map line_seen list.1) lists
+
+-- one list before others
+first_under : (entries : List LineEntry) (others : List VerifiedEntry)
+    → length (map line_seen entries ++ others) ≡ length entries + length others
+first_under entries others =
+    let both = length-append (map line_seen entries) others in
+    let long = length-map entries line_seen in omega (arith, both, long)
 
 put_few : (key : List ℕ) (entries : List LineEntry) (lists : List (List ℕ × List LineEntry))
-    → lines_under (put bytes_eq key entries lists) ≤ length entries + lines_under lists
-put_few key entries [] = let both = length-append entries [] in omega (arith, both)
+    → length (under (put bytes_eq key entries lists)) ≤ length entries + length (under lists)
+put_few key entries [] = let both = first_under entries [] in omega (arith, both)
 put_few key entries (list ∷ lists) = by_test (bytes_eq key list.0) (put_few key entries lists)
   where
-    by_test : (same : Bool) → lines_under (put bytes_eq key entries lists) ≤ length entries + lines_under lists
-        → lines_under (if same then (list.0, entries) ∷ lists else list ∷ put bytes_eq key entries lists)
-        ≤ length entries + lines_under (list ∷ lists)
+    by_test : (same : Bool) → length (under (put bytes_eq key entries lists)) ≤ length entries + length (under lists)
+        → length (under (if same then (list.0, entries) ∷ lists else list ∷ put bytes_eq key entries lists))
+        ≤ length entries + length (under (list ∷ lists))
     by_test true few =
-        let now = length-append entries (flat_map (λ (list : List ℕ × List LineEntry). list.1) lists) in
-        let was = length-append list.1 (flat_map (λ (list : List ℕ × List LineEntry). list.1) lists) in
-        omega (arith, now, was)
+        let now = first_under entries (under lists) in
+        let was = first_under list.1 (under lists) in omega (arith, now, was)
     by_test false few =
-        let now = length-append list.1
-        (flat_map (λ (list : List ℕ × List LineEntry). list.1) (put bytes_eq key entries lists)) in
-        let was = length-append list.1 (flat_map (λ (list : List ℕ × List LineEntry). list.1) lists) in
-        omega (arith, few, now, was)
+        let now = first_under list.1 (under (put bytes_eq key entries lists)) in
+        let was = first_under list.1 (under lists) in omega (arith, few, now, was)
 
-known_lists : (known : Lookups) (classes : List ClassId) (wanted : Wanted)
-    → (with_known known classes wanted).lists ≡ wanted.lists
-known_lists known [] wanted = refl
-known_lists known (class ∷ classes) wanted = known_lists known classes (with_class known class wanted)
+known_entries : (known : Lookups) (classes : List ClassId) (wanted : Wanted)
+    → all_entries (with_known known classes wanted) ≡ all_entries wanted
+known_entries known [] wanted = refl
+known_entries known (class ∷ classes) wanted = known_entries known classes (with_class known class wanted)
+
+-- of a source and of functions
+all_length : (wanted : Wanted)
+    → length (all_entries wanted) ≡ length (under wanted.lists) + length wanted.functions
+all_length wanted =
+    let both = length-append (under wanted.lists) (map function_seen wanted.functions) in
+    let long = length-map wanted.functions function_seen in omega (arith, both, long)
 
 -- what is written down was to be
 pub noted_few : (note : Note) (state : State)
-    → length (all_lines (noted note state).wishes.wanted)
-    ≤ lines_noted note + length (all_lines state.wishes.wanted)
+    → length (all_entries (noted note state).wishes.wanted)
+    ≤ lines_noted note + length (all_entries state.wishes.wanted)
 noted_few (Options options) state = omega arith
 noted_few (Roots roots) state = omega arith
 noted_few (Lines None path entries) state = omega arith
-noted_few (Lines (Some key) path entries) state = put_few key entries state.wishes.wanted.lists
+noted_few (Lines (Some key) path entries) state =
+    let now = all_length (with_lines key entries state.wishes.wanted) in
+    let was = all_length state.wishes.wanted in
+    let few = put_few key entries state.wishes.wanted.lists in omega (arith, now, was, few)
+noted_few (Functions entries) state =
+    let now = all_length (with_functions entries state.wishes.wanted) in
+    let was = all_length state.wishes.wanted in omega (arith, now, was)
+noted_few (StopsAt caught uncaught) state = omega arith
+noted_few (Steps step) state = omega arith
+noted_few (Throws thrown) state = omega arith
 noted_few (Classes classes) state =
-    let same = ap lines_under (known_lists (found_in state.classes) classes state.wishes.wanted) in
+    let same = ap (λ (entries : List VerifiedEntry). length entries)
+    (known_entries (found_in state.classes) classes state.wishes.wanted) in
     omega (arith, same)
 noted_few EntryHeld state = omega arith
 noted_few Configured state = omega arith
@@ -153,9 +185,28 @@ numbered_length id [] = refl
 numbered_length id (breakpoint ∷ breakpoints) =
     let more = numbered_length (id + 1) breakpoints in omega (arith, more)
 
+functions_length : (id : ℕ) (functions : List FunctionBreakpoint)
+    → length (functions_from id functions) ≡ length functions
+functions_length id [] = refl
+functions_length id (function ∷ functions) =
+    let more = functions_length (id + 1) functions in omega (arith, more)
+
 pub finished_lines : (lookup : Lookup) (result : Result Finding) (state : State)
     → lines_in (finished lookup result state) ≡ 0
 finished_lines lookup result state = grind arith
+
+hit_lines : (stopped : Bool) (thrown : List Thrown) (halt : Halt) → lines_in (hit_parts stopped thrown halt) ≡ 0
+hit_lines false thrown halt =
+    of_told (λ (part : Part).
+    lines_in (Part.Notes (Throws thrown) ∷ Part.Notes (Steps None) ∷ Part.Updates ∷ part ∷ []) ≡ 0)
+    (λ stopping. refl) (λ thread object. refl) halt
+hit_lines true thrown halt =
+    of_told (λ (part : Part). lines_in (Part.Notes (Throws thrown) ∷ Part.Notes (Steps None) ∷ Part.Updates ∷ part
+    ∷ Part.Sends (Resume of_composite) ∷ []) ≡ 0) (λ stopping. refl) (λ thread object. refl) halt
+
+stepped_lines : (code : Option ℕ) → lines_in (stepped_by code) ≡ 0
+stepped_lines None = refl
+stepped_lines (Some code) = refl
 
 pub chosen_lines : (choice : Choice) (state : State) (hand : Hand) → lines_in (chosen choice state hand) ≡ 0
 chosen_lines (TellsNews below) state hand = by_phase state.phase (news_of below state hand.item)
@@ -166,8 +217,8 @@ chosen_lines (TellsNews below) state hand = by_phase state.phase (news_of below 
     by_phase Attached [] = refl
     by_phase Attached (one ∷ news) = let more = by_phase Attached news in omega (arith, more)
 chosen_lines Decides state hand =
-    of_decided (λ (parts : List Part). lines_in parts ≡ 0) refl refl refl (λ stopping. refl) (λ stopping. refl) state
-    hand.item
+    of_decided (λ (parts : List Part). lines_in parts ≡ 0) refl refl refl hit_lines state hand.item
+chosen_lines Stepped state hand = stepped_lines (refused_with hand.effect)
 chosen_lines (Leaves exits) state hand = grind arith
 
 configured_lines : (entry : Bool) → lines_in (configured_parts entry) ≡ 0
@@ -198,12 +249,27 @@ variables_lines : (arguments : VariablesArguments) (found : prelude.Result Thing
 variables_lines arguments (Ok thing) = refl
 variables_lines arguments (Err fault) = refl
 
+step_lines : (depth : Depth) (thread : Option ThreadId) → lines_in (step_parts depth thread) ≡ 0
+step_lines depth None = refl
+step_lines depth (Some thread) = refl
+
+exception_lines : (thrown : Option Thrown) → lines_in (exception_parts thrown) ≡ 0
+exception_lines None = refl
+exception_lines (Some thrown) = refl
+
 row_lines : (command : Command) (state : State) → lines_in (row_of command state) ≡ lines_listed command
 row_lines (SetBreakpoints arguments) state =
     let listed = numbered_from state.next_entry arguments.breakpoints in
     let long = length-map listed (entry_of state.options.lines_from_one) in
     let all = numbered_length state.next_entry arguments.breakpoints in omega (arith, long, all)
+row_lines (SetFunctionBreakpoints arguments) state =
+    let all = functions_length state.next_entry arguments.breakpoints in omega (arith, all)
 row_lines ConfigurationDone state = configured_lines state.entry
+row_lines (Next arguments) state = step_lines Over (stepped_thread state arguments.thread_id)
+row_lines (StepIn arguments) state = step_lines Into (stepped_thread state arguments.thread_id)
+row_lines (StepOut arguments) state = step_lines Out (stepped_thread state arguments.thread_id)
+row_lines (ExceptionInfo arguments) state =
+    exception_lines (option_and_then (thrown_first state.thrown) (thread_with state.threads arguments.thread_id))
 row_lines (Continue arguments) state = continue_lines (thread_with state.threads arguments.thread_id)
 row_lines (Pause arguments) state = pause_lines state.stopped (thread_with state.threads arguments.thread_id)
 row_lines (StackTrace arguments) state =
@@ -278,8 +344,8 @@ told_wishes event state = grind arith
 -- a part makes room for others
 part_news : (m : Machine) (hand : Hand) (part : Part) (rest parts : List Part) (state : State)
     → IsAt m hand part rest
-    → length (all_lines state.wishes.wanted) + lines_in parts
-    ≤ length (all_lines m.state.wishes.wanted) + (lines_in_part part + lines_in rest)
+    → length (all_entries state.wishes.wanted) + lines_in parts
+    ≤ length (all_entries m.state.wishes.wanted) + (lines_in_part part + lines_in rest)
     → news_left (left (knowing m state) hand parts) ≤ news_left m
 part_news m hand part rest parts state at few =
     let was : news_in_hand m.hand ≡ lines_in hand.parts + length (changes_in hand.item) =
@@ -296,7 +362,7 @@ news_on m next said own (Moves.begins picked free none is) =
     let was : news_in_hand m.hand ≡ 0 = ap news_in_hand none in omega (arith, one, few, was)
 news_on m next said own (Moves.drops {hand} free is none) = omega arith
 news_on m next said own (Moves.responds {hand} {rest} {outcome = outcome} free at is) =
-    let same = ap (λ (wishes : Wishes). length (all_lines wishes.wanted)) (numbered_wishes outcome m.state) in
+    let same = ap (λ (wishes : Wishes). length (all_entries wishes.wanted)) (numbered_wishes outcome m.state) in
     part_news m hand (Part.Responds outcome) rest rest (numbered_by outcome m.state) at (omega (arith, same))
 news_on m next said own (Moves.finds {hand} {rest} {lookup} found free at needs done) =
     let parts = finished lookup (result_of found) m.state in
@@ -306,7 +372,7 @@ news_on m next said own (Moves.finds {hand} {rest} {lookup} found free at needs 
 news_on m next said own (Moves.passes_over {hand} {part} {rest} free at why) =
     part_news m hand part rest rest m.state at (omega arith)
 news_on m next said own (Moves.tells {hand} {rest} {event} free at) =
-    let same = ap (λ (wishes : Wishes). length (all_lines wishes.wanted)) (told_wishes event m.state) in
+    let same = ap (λ (wishes : Wishes). length (all_entries wishes.wanted)) (told_wishes event m.state) in
     part_news m hand (Part.Tells event) rest rest (after_event event m.state) at (omega (arith, same))
 news_on m next said own (Moves.sends {hand} {rest} {deed} free at near) =
     part_news m hand (Part.Sends deed) rest rest (after_deed deed m.state) at (omega arith)

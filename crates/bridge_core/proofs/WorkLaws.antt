@@ -15,7 +15,8 @@ use Rattle.bridge_core.specs.Names.{Act, Attach, Attached, BadArguments, Choice,
 use Rattle.bridge_core.specs.Names.{Decides, Disconnect, Does, Effect, Event, Failure, Finding, Fresh, Gone}
 use Rattle.bridge_core.specs.Names.{Initialize, Item, Leaves, Lookup, Note, Outcome, Part, Pause, Phase, Question}
 use Rattle.bridge_core.specs.Names.{Scopes, SetBreakpoints, StackTrace, TargetCommand, TellsNews, Threads, Unsupported}
-use Rattle.bridge_core.specs.Names.{Variables, Want}
+use Rattle.bridge_core.specs.Names.{ExceptionInfo, Next, SetExceptionBreakpoints, SetFunctionBreakpoints, StepIn, StepOut}
+use Rattle.bridge_core.specs.Names.{Stepped, Steps, Throws, Variables, Want, Resume}
 use Rattle.bridge_core.specs.Names.{a_composite, a_question, a_raw, a_request, an_effect, target_end}
 use Rattle.machine_model.specs.Outcomes.{result_of}
 use Rattle.machine_model.specs.Plans.{Need, Result, fails, has, lacks, question_of}
@@ -37,20 +38,27 @@ use Rattle.machine_model.proofs.PendingLaws.{all_open}
 use Rattle.machine_model.proofs.QuietLaws.{lacking_hand, load_in}
 use Rattle.machine_model.proofs.RestLaws.{is_free, near_queue}
 use Rattle.machine_model.proofs.Stepping.{IsAt, Moves, moved, walks_due}
-use Rattle.machine_model.proofs.Tables.{of_decided}
+use Rattle.machine_model.proofs.Tables.{of_decided, of_told}
+use Rattle.machine_model.specs.Rows.{exception_parts, refused_with, step_parts, stepped_by, stepped_thread, thrown_first}
+use Rattle.machine_model.specs.Stops.{hit_parts}
+use Rattle.machine_model.specs.declared.parts.Halt.{Halt}
+use Rattle.machine_model.specs.declared.parts.Suspension.TheVariants.{Composite as of_composite}
+use Rattle.machine_model.specs.declared.parts.Thrown.{Thrown}
+use Rattle.wish_sets.specs.declared.wish.Depth.{Depth}
+use Rattle.wish_sets.specs.declared.wish.Depth.TheVariants.{Into, Out, Over}
 use Rattle.machine_model.proofs.TurnLaws.{Turns, turned, unsent}
 use Rattle.bridge_core.specs.Working.{choice_weight, hand_work, is_wait, is_work, lines_in, news_in_hand, news_left}
 use Rattle.bridge_core.specs.Working.{one_if, one_unless, waiting_work, weight, weights, work, work_of}
 use Rattle.dap_messages.specs.declared.requests.StackTraceArguments.{StackTraceArguments}
 use Rattle.dap_messages.specs.declared.requests.VariablesArguments.{VariablesArguments}
 use Rattle.std.specs.Prelude as prelude
-use Rattle.std.specs.Prelude.{Ok, Err}
+use Rattle.std.specs.Prelude.{Ok, Err, option_and_then}
 use Rattle.stop_refs.specs.Numbers.{InHand, container, frame}
 use Rattle.stop_refs.specs.declared.fault.RefFault.{RefFault}
 use Rattle.stop_refs.specs.declared.thing.FrameThing.{FrameThing}
 use Rattle.stop_refs.specs.declared.thing.Thing.{Thing}
 use Rattle.jdwp_events.specs.declared.kind.Policy.{Policy}
-use Rattle.wish_sets.specs.Entries.{all_lines}
+use Rattle.wish_sets.specs.Entries.{all_entries}
 use Rattle.bridge_core.proofs.LineLaws.{all_news_few, news_on}
 use Rattle.bridge_core.proofs.OwnMoves.{is_own, not_lost}
 
@@ -178,15 +186,31 @@ news_light most Gone news = omega arith
 news_light most Attached [] = omega arith
 news_light most Attached (one ∷ news) = let more = news_light most Attached news in omega (arith, more)
 
+hit_light : (most : ℕ) (stopped : Bool) (thrown : List Thrown) (halt : Halt)
+    → weights most (hit_parts stopped thrown halt) < 20
+hit_light most false thrown halt =
+    of_told (λ (part : Part).
+    weights most (Part.Notes (Throws thrown) ∷ Part.Notes (Steps None) ∷ Part.Updates ∷ part ∷ []) < 20)
+    (λ stopping. omega arith) (λ thread object. omega arith) halt
+hit_light most true thrown halt =
+    of_told (λ (part : Part). weights most (Part.Notes (Throws thrown) ∷ Part.Notes (Steps None) ∷ Part.Updates ∷ part
+    ∷ Part.Sends (Resume of_composite) ∷ []) < 20)
+    (λ stopping. omega arith) (λ thread object. omega arith) halt
+
+stepped_light : (most : ℕ) (code : Option ℕ) → weights most (stepped_by code) < 10
+stepped_light most None = omega arith
+stepped_light most (Some code) = omega arith
+
 chosen_light : (most : ℕ) (choice : Choice) (state : State) (hand : Hand)
-    → length (all_lines state.wishes.wanted) + length (changes_in hand.item) ≤ most
+    → length (all_entries state.wishes.wanted) + length (changes_in hand.item) ≤ most
     → weights most (chosen choice state hand) < choice_weight most choice
 chosen_light most (TellsNews below) state hand few =
     let told = news_light most state.phase (news_of below state hand.item) in
     let listed = all_news_few below state hand.item in omega (arith, few, told, listed)
 chosen_light most Decides state hand few =
-    of_decided (λ (parts : List Part). weights most parts < 10) (omega arith) (omega arith) (omega arith)
-    (λ stopping. omega arith) (λ stopping. omega arith) state hand.item
+    of_decided (λ (parts : List Part). weights most parts < 20) (omega arith) (omega arith) (omega arith)
+    (hit_light most) state hand.item
+chosen_light most Stepped state hand few = stepped_light most (refused_with hand.effect)
 chosen_light most (Leaves exits) state hand few = leaves_light most exits state
 
 configured_light : (most : ℕ) (entry : Bool) → weights most (configured_parts entry) < 60 + most
@@ -218,13 +242,28 @@ variables_light : (most : ℕ) (arguments : VariablesArguments) (found : prelude
 variables_light most arguments (Ok thing) = omega arith
 variables_light most arguments (Err fault) = omega arith
 
+step_light : (most : ℕ) (depth : Depth) (thread : Option ThreadId) → weights most (step_parts depth thread) < 60 + most
+step_light most depth None = omega arith
+step_light most depth (Some thread) = omega arith
+
+exception_light : (most : ℕ) (thrown : Option Thrown) → weights most (exception_parts thrown) < 60 + most
+exception_light most None = omega arith
+exception_light most (Some thrown) = omega arith
+
 row_light : (most : ℕ) (command : Command) (state : State) → weights most (row_of command state) < 60 + most
 row_light most (Initialize arguments) state = omega arith
 row_light most (Attach arguments) state = omega arith
 row_light most ConfigurationDone state = configured_light most state.entry
 row_light most (SetBreakpoints arguments) state = omega arith
+row_light most (SetFunctionBreakpoints arguments) state = omega arith
+row_light most (SetExceptionBreakpoints arguments) state = omega arith
 row_light most Threads state = omega arith
 row_light most (Continue arguments) state = continue_light most (thread_with state.threads arguments.thread_id)
+row_light most (Next arguments) state = step_light most Over (stepped_thread state arguments.thread_id)
+row_light most (StepIn arguments) state = step_light most Into (stepped_thread state arguments.thread_id)
+row_light most (StepOut arguments) state = step_light most Out (stepped_thread state arguments.thread_id)
+row_light most (ExceptionInfo arguments) state = exception_light most
+    (option_and_then (thrown_first state.thrown) (thread_with state.threads arguments.thread_id))
 row_light most (Pause arguments) state =
     pause_light most state.stopped (thread_with state.threads arguments.thread_id)
 row_light most (StackTrace arguments) state =
@@ -332,6 +371,7 @@ picked_work most gone (item ∷ items) picked is =
 weight_fewer : (few many : ℕ) (part : Part) → few ≤ many → weight few part ≤ weight many part
 weight_fewer few many (Part.Unfolds (TellsNews below)) less = omega (arith, less)
 weight_fewer few many (Part.Unfolds Decides) less = omega arith
+weight_fewer few many (Part.Unfolds Stepped) less = omega arith
 weight_fewer few many (Part.Unfolds (Leaves exits)) less = omega arith
 weight_fewer few many (Part.Looks lookup) less = omega arith
 weight_fewer few many (Part.Responds outcome) less = omega arith

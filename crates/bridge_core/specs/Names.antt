@@ -3,7 +3,8 @@ pub use Rattle.dap_messages.specs.declared.requests.Command.{Command}
 pub use Rattle.dap_messages.specs.declared.requests.Command.TheVariants.{Attach, BadArguments, ConfigurationDone}
 pub use Rattle.dap_messages.specs.declared.requests.Command.TheVariants.{Continue, Disconnect, Initialize, Pause}
 pub use Rattle.dap_messages.specs.declared.requests.Command.TheVariants.{Scopes, SetBreakpoints, StackTrace, Threads, Unsupported}
-pub use Rattle.dap_messages.specs.declared.requests.Command.TheVariants.{Variables}
+pub use Rattle.dap_messages.specs.declared.requests.Command.TheVariants.{ExceptionInfo, Next, SetExceptionBreakpoints}
+pub use Rattle.dap_messages.specs.declared.requests.Command.TheVariants.{SetFunctionBreakpoints, StepIn, StepOut, Variables}
 pub use Rattle.dap_messages.specs.declared.requests.Request.{Request}
 pub use Rattle.dap_messages.specs.declared.told.Failure.{Failure}
 pub use Rattle.dap_messages.specs.declared.told.Told.{Told}
@@ -25,12 +26,14 @@ pub use Rattle.machine_model.specs.declared.items.Item.TheVariants.{Request as a
 pub use Rattle.machine_model.specs.declared.items.Phase.{Phase}
 pub use Rattle.machine_model.specs.declared.items.Phase.TheVariants.{Attached, Fresh, Gone}
 pub use Rattle.machine_model.specs.declared.parts.Choice.{Choice}
-pub use Rattle.machine_model.specs.declared.parts.Choice.TheVariants.{Decides, Leaves, TellsNews}
+pub use Rattle.machine_model.specs.declared.parts.Choice.TheVariants.{Decides, Leaves, Stepped, TellsNews}
+pub use Rattle.machine_model.specs.declared.parts.Deed.TheVariants.{Resume}
 pub use Rattle.machine_model.specs.declared.parts.Event.{Event}
 pub use Rattle.machine_model.specs.declared.parts.Finding.{Finding}
 pub use Rattle.machine_model.specs.declared.parts.Lookup.{Lookup}
 pub use Rattle.machine_model.specs.declared.parts.Note.{Note}
 pub use Rattle.machine_model.specs.declared.parts.Note.TheVariants.{Classes, Configured, EntryHeld, Lines}
-pub use Rattle.machine_model.specs.declared.parts.Note.TheVariants.{Options, Roots}
+pub use Rattle.machine_model.specs.declared.parts.Note.TheVariants.{Functions, Options, Roots}
+pub use Rattle.machine_model.specs.declared.parts.Note.TheVariants.{Exceptions as StopsAt, Step as Steps, Thrown as Throws}
 pub use Rattle.machine_model.specs.declared.parts.Outcome.{Outcome}
 pub use Rattle.machine_model.specs.declared.parts.Part.{Part}

@@ -1,12 +1,12 @@
 -- How much a machine can still do by itself: a measure that each act lessens but a wait and an end.
 use Rattle.std.specs.Prelude.{ℕ, ◌+◌, ◌-◌, ◌*◌, Bool, true, false, List, [], ◌∷◌, length, Option, Some, None}
 use Rattle.std.specs.List.{flat_map}
-use Rattle.bridge_core.specs.Names.{Act, Choice, Command, Decides, Item, Leaves, Lines, Note, Part, Sent, SetBreakpoints}
-use Rattle.bridge_core.specs.Names.{TellsNews, a_composite, a_raw, a_request, target_end}
+use Rattle.bridge_core.specs.Names.{Act, Choice, Command, Decides, Functions, Item, Leaves, Lines, Note, Part, Sent}
+use Rattle.bridge_core.specs.Names.{SetBreakpoints, SetFunctionBreakpoints, Stepped, TellsNews, a_composite, a_raw, a_request, target_end}
 use Rattle.machine_model.specs.Composites.{changes_in}
 use Rattle.machine_model.specs.Replying.{unanswered}
 use Rattle.machine_model.specs.State.{Hand, Machine, is_empty, is_flying}
-use Rattle.wish_sets.specs.Entries.{all_lines}
+use Rattle.wish_sets.specs.Entries.{all_entries}
 
 -- a wait: the machine does nothing until something comes
 abbrev pub is_wait : Act → Bool
@@ -30,9 +30,10 @@ is_work (Act.Over finish) = false
 
 -- What may be told -----------------------------------------------------------------------------------------------------
 
--- how many breakpoints of sources a note lists
+-- how many breakpoints a note lists, of a source or of functions
 abbrev pub lines_noted : Note → ℕ
 lines_noted (Lines key path entries) = length entries
+lines_noted (Functions entries) = length entries
 lines_noted _ = 0
 
 abbrev pub lines_in_part : Part → ℕ
@@ -48,9 +49,10 @@ abbrev pub news_in_hand : Option Hand → ℕ
 news_in_hand None = 0
 news_in_hand (Some hand) = lines_in hand.parts + length (changes_in hand.item)
 
--- how many a request lists (DAP specification, SetBreakpoints request)
+-- how many a request lists (DAP specification, SetBreakpoints and SetFunctionBreakpoints request)
 abbrev pub lines_listed : Command → ℕ
 lines_listed (SetBreakpoints arguments) = length arguments.breakpoints
+lines_listed (SetFunctionBreakpoints arguments) = length arguments.breakpoints
 lines_listed _ = 0
 
 abbrev pub news_in_item : Item → ℕ
@@ -63,18 +65,19 @@ abbrev pub news_waiting : List Item → ℕ
 news_waiting [] = 0
 news_waiting (item ∷ items) = news_in_item item + news_waiting items
 
--- How many breakpoints of sources are listed, or are still to be written down, and of how many threads the client is
+-- How many breakpoints are listed, or are still to be written down, and of how many threads the client is
 -- still to be told: no act of the machine makes them more, and no more news is told at once.
 abbrev pub news_left : Machine → ℕ
 news_left m =
-    length (all_lines m.state.wishes.wanted) + (news_in_hand m.hand + news_waiting m.waiting)
+    length (all_entries m.state.wishes.wanted) + (news_in_hand m.hand + news_waiting m.waiting)
 
 -- What is left to do --------------------------------------------------------------------------------------------------
 
 -- a choice weighs more than what it becomes
 abbrev pub choice_weight : ℕ → Choice → ℕ
 choice_weight most (TellsNews below) = 10 + most
-choice_weight most Decides = 10
+choice_weight most Decides = 20
+choice_weight most Stepped = 10
 choice_weight most (Leaves exits) = 10
 
 -- a part weighs more than those that it may become, where there is at most so much news

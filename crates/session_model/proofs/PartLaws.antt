@@ -3,7 +3,9 @@ use Rattle.std.proofs.Common.{◌≡◌, ℕ, Bool, true, false, cond, not, List
 use Rattle.std.proofs.Common.{ap, append-nil, subst, ◌∙◌, option_map, arith, ◌||◌}
 use Rattle.dap_messages.specs.declared.requests.Command.TheVariants.{Attach, BadArguments, ConfigurationDone, Continue}
 use Rattle.dap_messages.specs.declared.requests.Command.TheVariants.{Disconnect, Initialize, Pause, SetBreakpoints}
-use Rattle.dap_messages.specs.declared.requests.Command.TheVariants.{Threads, Unsupported}
+use Rattle.dap_messages.specs.declared.requests.Command.TheVariants.{ExceptionInfo, Next, SetExceptionBreakpoints}
+use Rattle.dap_messages.specs.declared.requests.Command.TheVariants.{SetFunctionBreakpoints, StepIn, StepOut, Threads}
+use Rattle.dap_messages.specs.declared.requests.Command.TheVariants.{Unsupported}
 use Rattle.dap_messages.specs.declared.told.Failure.{Failure}
 use Rattle.jdwp_events.specs.declared.kind.Policy.{Policy}
 use Rattle.jdwp_values.specs.declared.id.ThreadId.{ThreadId}
@@ -17,24 +19,33 @@ use Rattle.machine_model.specs.Rest.{request_in}
 use Rattle.machine_model.specs.Rows.{chosen, configured_parts, continue_parts, end_parts, failure_of, gone_parts}
 use Rattle.machine_model.specs.Rows.{has_response, is_response, news_of, parts_by, parts_of, pause_parts}
 use Rattle.machine_model.specs.Rows.{request_parts, row_of, thread_with, told_in, wanting}
-use Rattle.machine_model.specs.Rows.{scopes_parts, stack_parts, variables_parts}
+use Rattle.machine_model.specs.Rows.{exception_parts, refused_with, scopes_parts, stack_parts, step_parts, stepped_by}
+use Rattle.machine_model.specs.Rows.{stepped_thread, thrown_first, variables_parts}
+use Rattle.machine_model.specs.Stops.{decided, hit_parts, holds_entry, quiet_parts}
+use Rattle.machine_model.specs.declared.parts.Halt.{Halt}
+use Rattle.machine_model.specs.declared.parts.Note.TheVariants.{Step as step_noted, Thrown as thrown_noted}
+use Rattle.machine_model.specs.declared.parts.Suspension.TheVariants.{Composite as of_composite}
+use Rattle.machine_model.specs.declared.parts.Thrown.{Thrown}
 use Rattle.machine_model.specs.Runs.{Message, is_disconnect}
-use Rattle.machine_model.specs.State.{Hand, Machine, State, is_empty, knowing, left}
+use Rattle.machine_model.specs.State.{Hand, Machine, State, is_attached, is_empty, knowing, left}
 use Rattle.machine_model.specs.Telling.{numbered_by, outcome_told, response_to}
 use Rattle.machine_model.proofs.Stepping.{IsAt, Moves, Skips}
-use Rattle.machine_model.proofs.Tables.{of_decided, told_alike}
+use Rattle.machine_model.proofs.Tables.{of_decided, of_told, told_alike}
 use Rattle.session_model.specs.Names.{Choice, Command, Decides, Finding, Item, Leaves, Lookup, Nothing, Outcome, Part}
-use Rattle.session_model.specs.Names.{Phase, Replied, Request, Success, TargetCommand, TellsNews, Want, a_composite}
+use Rattle.session_model.specs.Names.{Phase, Replied, Request, Stepped, Success, TargetCommand, TellsNews, Want}
+use Rattle.session_model.specs.Names.{Resume, a_composite}
 use Rattle.session_model.specs.Names.{a_question, a_raw, a_request, an_effect, finish_done, target_end}
 use Rattle.dap_messages.specs.declared.requests.Command.TheVariants.{Scopes, StackTrace, Variables}
 use Rattle.dap_messages.specs.declared.requests.StackTraceArguments.{StackTraceArguments}
 use Rattle.dap_messages.specs.declared.requests.VariablesArguments.{VariablesArguments}
 use Rattle.std.specs.Prelude as prelude
-use Rattle.std.specs.Prelude.{Ok, Err}
+use Rattle.std.specs.Prelude.{Ok, Err, option_and_then}
 use Rattle.stop_refs.specs.Numbers.{InHand, container, frame}
 use Rattle.stop_refs.specs.declared.fault.RefFault.{RefFault}
 use Rattle.stop_refs.specs.declared.thing.FrameThing.{FrameThing}
 use Rattle.stop_refs.specs.declared.thing.Thing.{Thing}
+use Rattle.wish_sets.specs.declared.wish.Depth.{Depth}
+use Rattle.wish_sets.specs.declared.wish.Depth.TheVariants.{Into, Out, Over}
 
 -- Lists of parts ------------------------------------------------------------------------------------------------------
 
@@ -116,13 +127,28 @@ variables_on : (arguments : VariablesArguments) (found : prelude.Result Thing Re
 variables_on arguments (Ok thing) = refl
 variables_on arguments (Err fault) = refl
 
+step_on_row : (depth : Depth) (thread : Option ThreadId) → goes_on false (step_parts depth thread) ≡ true
+step_on_row depth None = refl
+step_on_row depth (Some thread) = refl
+
+exception_on : (thrown : Option Thrown) → goes_on false (exception_parts thrown) ≡ true
+exception_on None = refl
+exception_on (Some thrown) = refl
+
 row_on : (command : Command) (state : State) → goes_on (is_disconnect command) (row_of command state) ≡ true
 row_on (Initialize arguments) state = refl
 row_on (Attach arguments) state = refl
 row_on ConfigurationDone state = configured_on state.entry
 row_on (SetBreakpoints arguments) state = refl
+row_on (SetFunctionBreakpoints arguments) state = refl
+row_on (SetExceptionBreakpoints arguments) state = refl
 row_on Threads state = refl
 row_on (Continue arguments) state = continue_on (thread_with state.threads arguments.thread_id)
+row_on (Next arguments) state = step_on_row Over (stepped_thread state arguments.thread_id)
+row_on (StepIn arguments) state = step_on_row Into (stepped_thread state arguments.thread_id)
+row_on (StepOut arguments) state = step_on_row Out (stepped_thread state arguments.thread_id)
+row_on (ExceptionInfo arguments) state =
+    exception_on (option_and_then (thrown_first state.thrown) (thread_with state.threads arguments.thread_id))
 row_on (Pause arguments) state = pause_on state.stopped (thread_with state.threads arguments.thread_id)
 row_on (StackTrace arguments) state = stack_on arguments (thread_with state.threads arguments.thread_id)
 row_on (Scopes arguments) state = scopes_on state.numbers (frame arguments.frame_id state.numbers)
@@ -196,15 +222,51 @@ abbrev are_silent : List Part → Bool
 are_silent [] = true
 are_silent (part ∷ parts) = cond (is_ends part) false (cond (strays part) false (are_silent parts))
 
-chosen_silent : (choice : Choice) (state : State) (hand : Hand) → are_silent (chosen choice state hand) ≡ true
-chosen_silent (TellsNews below) state hand =
+-- with no composite in hand nothing was hit
+quiet_silent : (attached holds : Bool) → are_silent (cond attached (quiet_parts holds) []) ≡ true
+quiet_silent false holds = refl
+quiet_silent true true = refl
+quiet_silent true false = refl
+
+-- what a `disconnect` may choose
+chosen_silent : (choice : Choice) (state : State) (hand : Hand) (rest : List Part) → leaves_by hand.item ≡ true
+    → to_end (Part.Unfolds choice ∷ rest) ≡ true → are_silent (chosen choice state hand) ≡ true
+chosen_silent (TellsNews below) state hand rest leaving is =
     let news = news_of below state hand.item in
     ap are_silent (sym (append-nil (told_in state.phase news)))
     ∙ told_alike are_silent (λ news parts. refl) state.phase news []
-chosen_silent Decides state hand =
-    of_decided (λ (parts : List Part). are_silent parts ≡ true) refl refl refl (λ stopping. refl) (λ stopping. refl)
-    state hand.item
-chosen_silent (Leaves exits) state hand = grind arith
+chosen_silent Decides state hand rest leaving is = by_item hand.item leaving
+  where
+    by_item : (item : Item) → leaves_by item ≡ true → are_silent (decided state item) ≡ true
+    by_item (a_request request) leaving = quiet_silent (is_attached state.phase) (holds_entry state [])
+    by_item (a_composite at composite) leaving = cc
+    by_item (a_raw at body) leaving = cc
+    by_item target_end leaving = cc
+chosen_silent Stepped state hand rest leaving is = cc
+chosen_silent (Leaves exits) state hand rest leaving is = grind arith
+
+-- no choice ends the session
+hit_none : (stopped : Bool) (thrown : List Thrown) (halt : Halt) → no_end (hit_parts stopped thrown halt) ≡ true
+hit_none false thrown halt =
+    of_told (λ (part : Part). no_end (Part.Notes (thrown_noted thrown) ∷ Part.Notes (step_noted None) ∷ Part.Updates
+    ∷ part ∷ []) ≡ true) (λ stopping. refl) (λ thread object. refl) halt
+hit_none true thrown halt =
+    of_told (λ (part : Part). no_end (Part.Notes (thrown_noted thrown) ∷ Part.Notes (step_noted None) ∷ Part.Updates
+    ∷ part ∷ Part.Sends (Resume of_composite) ∷ []) ≡ true) (λ stopping. refl) (λ thread object. refl) halt
+
+stepped_none : (code : Option ℕ) → no_end (stepped_by code) ≡ true
+stepped_none None = refl
+stepped_none (Some code) = refl
+
+chosen_none : (choice : Choice) (state : State) (hand : Hand) → no_end (chosen choice state hand) ≡ true
+chosen_none (TellsNews below) state hand =
+    let news = news_of below state hand.item in
+    ap no_end (sym (append-nil (told_in state.phase news)))
+    ∙ told_alike no_end (λ news parts. refl) state.phase news []
+chosen_none Decides state hand =
+    of_decided (λ (parts : List Part). no_end parts ≡ true) refl refl refl hit_none state hand.item
+chosen_none Stepped state hand = stepped_none (refused_with hand.effect)
+chosen_none (Leaves exits) state hand = grind arith
 
 -- a response that is a success is a response
 thanks_respond : (part : Part) → strays part ≡ false → is_thanks part ≡ false
@@ -243,9 +305,17 @@ silent_joined leaves (part ∷ parts) rest silent is =
     by_tests false false more is = (refl, refl, is)
 
 chosen_on : (leaves : Bool) (choice : Choice) (state : State) (hand : Hand) (rest : List Part)
-    → goes_on leaves rest ≡ true → goes_on leaves (chosen choice state hand ++ rest) ≡ true
-chosen_on leaves choice state hand rest is =
-    silent_joined leaves (chosen choice state hand) rest (chosen_silent choice state hand) is
+    → leaves_by hand.item ≡ leaves → is_fit leaves (Part.Unfolds choice ∷ rest) ≡ true → goes_on leaves rest ≡ true
+    → goes_on leaves (chosen choice state hand ++ rest) ≡ true
+chosen_on true choice state hand rest leaving fit is =
+    silent_joined true (chosen choice state hand) rest (chosen_silent choice state hand rest leaving fit) is
+chosen_on false choice state hand rest leaving fit is =
+    none_on (chosen choice state hand ++ rest)
+    (none_joined (chosen choice state hand) rest (chosen_none choice state hand) (rest_none (no_end rest) is))
+  where
+    rest_none : (none : Bool) → cond none (not (ends_first rest)) false ≡ true → none ≡ true
+    rest_none true is = refl
+    rest_none false is = cc
 
 -- a success of a `disconnect` has the end behind it
 success_behind : (outcome : Outcome) (rest : List Part) → to_end (Part.Responds outcome ∷ rest) ≡ true
@@ -372,7 +442,7 @@ step_on m next said h (Moves.notes {hand} {note} {rest} free at) =
 step_on m next said h (Moves.updates {hand} {rest = rest} free at due near) =
     Steps.on (rw (fit_at h at) refl)
 step_on m next said h (Moves.unfolds {hand} {choice} {rest} free at) =
-    Steps.on (chosen_on (leaves_by hand.item) choice m.state hand rest
+    Steps.on (chosen_on (leaves_by hand.item) choice m.state hand rest refl (fit_at h at)
     (tail_on (leaves_by hand.item) (Part.Unfolds choice) rest refl (never (leaves_by hand.item)) (fit_at h at)))
 step_on m next said h (Moves.queues {hand} lacking held) = Steps.on (ap hand_on (sym held) ∙ h)
 step_on m next said h (Moves.asks {want = want} queued room held are) = Steps.on (asked_on want m.hand ∙ h)
