@@ -17,13 +17,16 @@ mod question_key;
 mod shown;
 mod sight;
 mod slots;
+mod thrown;
 mod types;
 mod values;
 mod values_heard;
 
 pub use asked::{Asked, Reason};
 pub use copies::question_copy;
+pub use locals::object_named;
 pub use need::Need;
 pub use pages::variables_need;
 pub use question_key::QuestionKey;
 pub use sight::Sight;
+pub use thrown::{thrown_name, thrown_text};

@@ -20,8 +20,8 @@ use std::collections::VecDeque;
 use stop_refs::FrameThing;
 use wire_core::{Blob, NoMemory, Text};
 
-// The object that a value names, 0 where it names none.
-fn object_named(value: Value) -> u64
+/// The object that a value names, 0 where it names none (JDWP, Detailed Command Information, tagged-objectID).
+pub fn object_named(value: Value) -> u64
     ensures { result ≡ object_named value }
 {
     match value {

@@ -1,7 +1,7 @@
 //! What an item sees of the target, and what it has heard.
 ghost use Rattle.std.specs.Prelude.{◌≡◌, Some, IfOk};
 ghost use Rattle.machine_model.specs.Facts.{fact_of};
-ghost use Rattle.machine_model.specs.Plans.{answer_in, fact_replied, found_from, must_hear};
+ghost use Rattle.machine_model.specs.Plans.{answer_in, fact_replied, found_from, may_hear, must_hear};
 ghost use Rattle.look_ups.specs.Needs.{need_with};
 
 use crate::asked::Asked;
@@ -54,6 +54,25 @@ pub(crate) fn fact_replied(
     match asked.find(&key) {
         None => Ok(Need::Lacks {
             first: Want::Fact(key.into_question()),
+            others: VecDeque::new(alloc),
+        }),
+        Some((_, replied)) => Ok(Need::Has(replied)),
+    }
+}
+
+/// The reply to a question whose answer may be missing.
+pub(crate) fn may_replied(
+    alloc: Global,
+    asked: &Asked,
+    question: Question,
+) -> Result<Need<&Replied>, NoMemory>
+    ensures { IfOk result (λ found. need_with (λ replied. answer_in replied.now) found
+        ≡ may_hear question (found_from 0 asked.now question)) }
+{
+    let key = QuestionKey::new(alloc, question)?;
+    match asked.find(&key) {
+        None => Ok(Need::Lacks {
+            first: Want::May(key.into_question()),
             others: VecDeque::new(alloc),
         }),
         Some((_, replied)) => Ok(Need::Has(replied)),
