@@ -1,6 +1,7 @@
 -- What the look-up of classes comes to, as the code computes it.
-use Rattle.std.proofs.Common.{◌≡◌, ℕ, Bool, true, false, List, [], ◌∷◌, Option, Some, None, refl, cond, flat_map}
-use Rattle.std.proofs.Common.{option_map}
+use Rattle.std.proofs.Common.{◌≡◌, ℕ, ◌||◌, Bool, true, false, List, [], ◌∷◌, ◌++◌, Option, Some, None, refl, cond, flat_map}
+use Rattle.std.proofs.Common.{◌+◌, ◌<◌, ◌∙◌, ap, drop, filter, get_or, length, option_map, sym}
+use Rattle.std.proofs.lemmas.List.{append_assoc, drop_more}
 use Rattle.class_tables.specs.Lookups.{found_in}
 use Rattle.class_tables.specs.Signatures.{package_in}
 use Rattle.class_tables.specs.declared.loaded.Loaded.{Loaded}
@@ -10,7 +11,7 @@ use Rattle.jdwp_commands.specs.declared.question.Question.TheVariants as questio
 use Rattle.jdwp_values.specs.declared.class.LineTable.{LineTable}
 use Rattle.jdwp_values.specs.declared.class.Method.{Method}
 use Rattle.jdwp_values.specs.declared.id.ClassId.{ClassId}
-use Rattle.machine_model.specs.Classes.{class_plan, is_keyed, keyed_plan, known_plan, lines_plan}
+use Rattle.machine_model.specs.Classes.{bound_plan, class_plan, counts, is_keyed, keyed_plan, known_plan, lines_plan}
 use Rattle.machine_model.specs.Classes.{methods_plan, package_plan, prepared_plan, source_plan, watched_plan}
 use Rattle.machine_model.specs.Facts.{lines_in, methods_in, source_in}
 use Rattle.machine_model.specs.Lookups.{plan}
@@ -21,13 +22,13 @@ use Rattle.machine_model.specs.declared.acts.Sent.{Sent}
 use Rattle.machine_model.specs.declared.parts.Finding.TheVariants.{Classes as classes_found}
 use Rattle.machine_model.specs.declared.parts.Lookup.TheVariants.{Classes as class_facts}
 use Rattle.talk_plans.proofs.PlanLaws.{each_lacks, joined_lacks, made_lacks}
-use Rattle.talk_plans.specs.ClassPlanning.{ClassNeed, all_found, all_lacking, class_need, keyed_need, known_or}
+use Rattle.talk_plans.specs.ClassPlanning.{ClassNeed, all_found, all_lacking, bound_need, class_need, keyed_need, known_or}
 use Rattle.talk_plans.specs.ClassPlanning.{lines_lacking, lines_question, methods_need, signed_need}
 use Rattle.talk_plans.specs.ClassPlanning.{source_heard, source_need, unless_heard, watched_by, watched_in}
 use Rattle.talk_plans.specs.Planning.{lacks_or, sight_in}
 use Rattle.wish_sets.specs.Places.{key_by}
 use Rattle.wish_sets.specs.Wanted.{Wanted}
-use Rattle.wish_sets.specs.Wished.{is_watched}
+use Rattle.wish_sets.specs.Wished.{is_named, is_watched}
 
 -- a plan of a class comes to what the class lacks, or finds
 abbrev need_by : ClassNeed → Need (List ClassId)
@@ -56,30 +57,66 @@ lines_need sight class method =
     by_known None None = refl
     by_known None (Some found) = refl
 
--- the lines of all methods of a class
-methods_plan_need : (sight : Sight) (class : ClassId) (methods : List Method)
-    → need sight (methods_plan class methods) ≡ need_by (methods_need sight class (Some methods))
-methods_plan_need sight class methods =
-    made_lacks sight (λ heard. class ∷ []) (each (lines_plan class) methods)
-    (flat_map (λ method. lines_lacking sight class method.id) methods) _
+-- the first of a list, where it counts, and then the others
+counted_first : {A B : Type 0} (f : A → List B) (test : A → Bool) (a : A) (others : List A)
+    → flat_map f (filter test (a ∷ others)) ≡ cond (test a) (f a) [] ++ flat_map f (filter test others)
+counted_first f test a others = by_test (test a)
+  where
+    by_test : (passes : Bool)
+        → flat_map f (cond passes (a ∷ filter test others) (filter test others))
+        ≡ cond passes (f a) [] ++ flat_map f (filter test others)
+    by_test true = refl
+    by_test false = refl
+
+-- one more is gone through
+pub one_counted : {A B : Type 0} (f : A → List B) (test : A → Bool) (made before : List B) (all : List A) (place : ℕ)
+    (one : A) (now : List B) → place < length all → one ≡ get_or all place one
+    → now ≡ made ++ cond (test one) (f one) []
+    → made ++ flat_map f (filter test (drop place all)) ≡ before ++ flat_map f (filter test all)
+    → now ++ flat_map f (filter test (drop (place + 1) all)) ≡ before ++ flat_map f (filter test all)
+one_counted f test made before all place one now within is now_is are =
+    ap (λ n. n ++ flat_map f (filter test (drop (place + 1) all))) now_is
+    ∙ append_assoc made (cond (test one) (f one) []) (flat_map f (filter test (drop (place + 1) all)))
+    ∙ ap (λ first. made ++ first) (sym (counted_first f test one (drop (place + 1) all)))
+    ∙ ap (λ a. made ++ flat_map f (filter test (a ∷ drop (place + 1) all))) is
+    ∙ ap (λ rest. made ++ flat_map f (filter test rest)) (sym (drop_more all place one within))
+    ∙ are
+
+-- the lines of the methods of a class that count
+methods_plan_need : (sight : Sight) (keyed : Bool) (wanted : Wanted) (class : ClassId) (signature : List ℕ)
+    (methods : List Method)
+    → need sight (methods_plan keyed wanted class signature methods)
+    ≡ need_by (methods_need sight keyed wanted class signature (Some methods))
+methods_plan_need sight keyed wanted class signature methods =
+    let those = filter (counts keyed wanted signature) methods in
+    made_lacks sight (λ heard. class ∷ []) (each (lines_plan class) those)
+    (flat_map (λ method. lines_lacking sight class method.id) those) _
     (each_lacks sight (lines_plan class) (λ method. lines_lacking sight class method.id)
     (λ method. lines_value (sight.classes.lines class method.id)
-    (found_from 0 sight.asked (lines_question class method.id))) (lines_need sight class) methods)
+    (found_from 0 sight.asked (lines_question class method.id))) (lines_need sight class) those)
 
-keyed_plan_need : (sight : Sight) (keyed : Bool) (class : ClassId)
-    → need sight (keyed_plan keyed class) ≡ need_by (keyed_need sight keyed class)
+bound_plan_need : (sight : Sight) (bound keyed : Bool) (wanted : Wanted) (class : ClassId) (signature : List ℕ)
+    → need sight (bound_plan bound keyed wanted class signature)
+    ≡ need_by (bound_need sight bound keyed wanted class signature)
 unfolding need chained
-keyed_plan_need sight false class = refl
-keyed_plan_need sight true class =
+bound_plan_need sight false keyed wanted class signature = refl
+bound_plan_need sight true keyed wanted class signature =
     by_known (sight.classes.methods class) (found_from 0 sight.asked (questions.Methods class))
   where
     by_known : (known : Option (List Method)) (found : Option Found)
         → after (fact_heard (questions.Methods class) (option_map (λ list. Some (answers.Methods list)) known) found)
-        (λ heard. need sight (methods_plan class (methods_in heard)))
-        ≡ need_by (methods_need sight class (known_or known methods_in found))
-    by_known (Some methods) found = methods_plan_need sight class methods
+        (λ heard. need sight (methods_plan keyed wanted class signature (methods_in heard)))
+        ≡ need_by (methods_need sight keyed wanted class signature (known_or known methods_in found))
+    by_known (Some methods) found = methods_plan_need sight keyed wanted class signature methods
     by_known None None = refl
-    by_known None (Some found) = methods_plan_need sight class (methods_in (answer_in found.replied))
+    by_known None (Some found) =
+        methods_plan_need sight keyed wanted class signature (methods_in (answer_in found.replied))
+
+keyed_plan_need : (sight : Sight) (keyed : Bool) (wanted : Wanted) (class : ClassId) (signature : List ℕ)
+    → need sight (keyed_plan keyed wanted class signature)
+    ≡ need_by (keyed_need sight keyed wanted class signature)
+keyed_plan_need sight keyed wanted class signature =
+    bound_plan_need sight (keyed || is_named wanted signature None) keyed wanted class signature
 
 source_plan_need : (sight : Sight) (wanted : Wanted) (class : ClassId) (signature : List ℕ)
     → need sight (source_plan wanted class signature)
@@ -90,14 +127,15 @@ source_plan_need sight wanted class signature =
   where
     by_source : (source : Option (List ℕ))
         → need sight (keyed_plan (is_keyed wanted (key_by signature (source_in (option_map answers.SourceFile source))))
-        class)
+        wanted class signature)
         ≡ need_by (source_need sight wanted class signature (Some source))
-    by_source None = keyed_plan_need sight (is_keyed wanted (key_by signature None)) class
-    by_source (Some file) = keyed_plan_need sight (is_keyed wanted (key_by signature (Some file))) class
+    by_source None = keyed_plan_need sight (is_keyed wanted (key_by signature None)) wanted class signature
+    by_source (Some file) =
+        keyed_plan_need sight (is_keyed wanted (key_by signature (Some file))) wanted class signature
 
     by_known : (known : Option (Option (List ℕ))) (found : Option Found)
         → after (fact_heard (questions.SourceFile class) (option_map (option_map answers.SourceFile) known) found)
-        (λ heard. need sight (keyed_plan (is_keyed wanted (key_by signature (source_in heard))) class))
+        (λ heard. need sight (keyed_plan (is_keyed wanted (key_by signature (source_in heard))) wanted class signature))
         ≡ need_by (source_need sight wanted class signature (known_or known source_in found))
     by_known (Some source) found = by_source source
     by_known None None = refl

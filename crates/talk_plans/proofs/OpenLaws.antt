@@ -1,6 +1,6 @@
 -- Classes that are left out lack nothing, or aren't found; and it stays so as facts are learnt.
-use Rattle.std.proofs.Common.{◌≡◌, ℕ, Bool, true, false, cond, ◌&&◌, List, [], ◌∷◌, ◌++◌, Option, Some, None}
-use Rattle.std.proofs.Common.{refl, sym, ap, ◌∙◌, flat_map, option_map, subst}
+use Rattle.std.proofs.Common.{◌≡◌, ℕ, Bool, true, false, cond, not, ◌&&◌, ◌||◌, List, [], ◌∷◌, ◌++◌, Option, Some, None}
+use Rattle.std.proofs.Common.{refl, sym, ap, ◌∙◌, filter, flat_map, option_map, subst}
 use Rattle.std.specs.Prelude.{◌==◌, IfSome, is_some, is_none}
 use Rattle.std.specs.List.{list_all}
 use Rattle.std.proofs.lemmas.Bool.{eqb-true}
@@ -19,23 +19,25 @@ use Rattle.jdwp_values.specs.declared.class.Method.{Method}
 use Rattle.jdwp_values.specs.declared.id.ClassId.{ClassId}
 use Rattle.jdwp_values.specs.declared.id.MethodId.{MethodId}
 use Rattle.jdwp_values.proofs.PartLaws.{both}
-use Rattle.machine_model.specs.Classes.{is_keyed}
+use Rattle.machine_model.specs.Classes.{counts, is_keyed}
 use Rattle.machine_model.specs.Facts.{lines_in, methods_in, source_in}
 use Rattle.machine_model.specs.Plans.{Sight}
 use Rattle.machine_model.specs.Replying.{knows_fact, learnt, with_heard}
 use Rattle.machine_model.specs.declared.acts.Sent.{Sent}
-use Rattle.talk_plans.specs.ClassPlanning.{all_found, all_lacking, class_need, keyed_need, lines_lacking, methods_need}
+use Rattle.talk_plans.specs.ClassPlanning.{all_found, all_lacking, bound_need, class_need, keyed_need, lines_lacking}
+use Rattle.talk_plans.specs.ClassPlanning.{methods_need}
 use Rattle.talk_plans.specs.ClassPlanning.{signed_need, source_need, source_heard, methods_heard, watched_by}
 use Rattle.talk_plans.specs.ClassPlanning.{watched_in}
-use Rattle.talk_plans.specs.OpenClasses.{AreLeft, AreOpen, class_standing, keyed_standing, kept_by, lines_standing}
+use Rattle.talk_plans.specs.OpenClasses.{AreLeft, AreOpen, bound_standing, class_standing, keyed_standing, kept_by}
+use Rattle.talk_plans.specs.OpenClasses.{lines_standing}
 use Rattle.talk_plans.specs.OpenClasses.{may_be_found, may_lack, methods_standing, signed_standing, source_standing}
-use Rattle.talk_plans.specs.OpenClasses.{stays_open}
+use Rattle.talk_plans.specs.OpenClasses.{stays_open, unlisted_by, unnamed_by}
 use Rattle.talk_plans.specs.declared.open_classes.OpenClasses.{OpenClasses}
 use Rattle.talk_plans.specs.declared.open_classes.Standing.{Standing}
 use Rattle.talk_plans.specs.declared.open_classes.Standing.TheVariants.{Passed, Open}
 use Rattle.wish_sets.specs.Places.{key_by}
 use Rattle.wish_sets.specs.Wanted.{Wanted}
-use Rattle.wish_sets.specs.Wished.{is_listed, is_watched}
+use Rattle.wish_sets.specs.Wished.{is_listed, is_named, is_watched}
 
 -- What a class that stands so lacks, and finds ------------------------------------------------------------------------
 
@@ -55,13 +57,15 @@ no_lines sight class (method ∷ methods) all =
     by_lines None is all again = absurd cc
     by_lines (Some lines) is all again = rw is (again all)
 
-no_methods : (sight : Sight) (class : ClassId) (known : Option (List Method)) → sight.classes.methods class ≡ known
-    → may_lack (methods_standing sight.classes class known) ≡ false
-    → (methods_need sight class (methods_heard sight class)).lacking ≡ []
-no_methods sight class None is none = absurd cc
-no_methods sight class (Some methods) is none =
-    rw is (no_lines sight class methods
-    (by_lines (list_all (λ method. is_some (sight.classes.lines class method.id)) methods) none))
+no_methods : (sight : Sight) (keyed : Bool) (wanted : Wanted) (class : ClassId) (signature : List ℕ)
+    (known : Option (List Method)) → sight.classes.methods class ≡ known
+    → may_lack (methods_standing sight.classes keyed wanted class signature known) ≡ false
+    → (methods_need sight keyed wanted class signature (methods_heard sight class)).lacking ≡ []
+no_methods sight keyed wanted class signature None is none = absurd cc
+no_methods sight keyed wanted class signature (Some methods) is none =
+    let those = filter (counts keyed wanted signature) methods in
+    rw is (no_lines sight class those
+    (by_lines (list_all (λ method. is_some (sight.classes.lines class method.id)) those) none))
   where
     by_lines : (all : Bool) → may_lack (lines_standing all) ≡ false → all ≡ true
     by_lines true h = refl
@@ -72,16 +76,23 @@ lacks_none : (sight : Sight) (wanted : Wanted) (class : ClassId)
     → (class_need sight wanted class).lacking ≡ []
 lacks_none sight wanted class none = by_signature (watched_in wanted (sight.classes.loaded class)) none
   where
-    by_keyed : (keyed : Bool) → may_lack (keyed_standing sight.classes keyed class) ≡ false
-        → (keyed_need sight keyed class).lacking ≡ []
-    by_keyed false h = refl
-    by_keyed true h = no_methods sight class (sight.classes.methods class) refl h
+    by_bound : (bound keyed : Bool) (signature : List ℕ)
+        → may_lack (bound_standing sight.classes bound keyed wanted class signature) ≡ false
+        → (bound_need sight bound keyed wanted class signature).lacking ≡ []
+    by_bound false keyed signature h = refl
+    by_bound true keyed signature h =
+        no_methods sight keyed wanted class signature (sight.classes.methods class) refl h
+
+    by_keyed : (keyed : Bool) (signature : List ℕ)
+        → may_lack (keyed_standing sight.classes keyed wanted class signature) ≡ false
+        → (keyed_need sight keyed wanted class signature).lacking ≡ []
+    by_keyed keyed signature h = by_bound (keyed || is_named wanted signature None) keyed signature h
 
     by_source : (signature : List ℕ) (source : Option (Option (List ℕ))) → sight.classes.source class ≡ source
         → may_lack (source_standing wanted sight.classes class signature source) ≡ false
         → (source_need sight wanted class signature (source_heard sight class)).lacking ≡ []
     by_source signature None is h = absurd cc
-    by_source signature (Some source) is h = rw is (by_keyed (is_keyed wanted (key_by signature source)) h)
+    by_source signature (Some source) is h = rw is (by_keyed (is_keyed wanted (key_by signature source)) signature h)
 
     by_signature : (signature : Option (List ℕ))
         → may_lack (signed_standing wanted sight.classes class signature) ≡ false
@@ -98,21 +109,30 @@ finds_none sight wanted class none = by_signature (watched_in wanted (sight.clas
     by_lines true = refl
     by_lines false = refl
 
-    by_methods : (methods : Option (List Method)) → may_be_found (methods_standing sight.classes class methods) ≡ true
-    by_methods None = refl
-    by_methods (Some methods) =
-        by_lines (list_all (λ method. is_some (sight.classes.lines class method.id)) methods)
+    by_methods : (keyed : Bool) (signature : List ℕ) (methods : Option (List Method))
+        → may_be_found (methods_standing sight.classes keyed wanted class signature methods) ≡ true
+    by_methods keyed signature None = refl
+    by_methods keyed signature (Some methods) =
+        by_lines (list_all (λ method. is_some (sight.classes.lines class method.id))
+        (filter (counts keyed wanted signature) methods))
 
-    by_keyed : (keyed : Bool) → may_be_found (keyed_standing sight.classes keyed class) ≡ false
-        → (keyed_need sight keyed class).found ≡ []
-    by_keyed false h = refl
-    by_keyed true h = absurd (let is = by_methods (sight.classes.methods class) in cc)
+    by_bound : (bound keyed : Bool) (signature : List ℕ)
+        → may_be_found (bound_standing sight.classes bound keyed wanted class signature) ≡ false
+        → (bound_need sight bound keyed wanted class signature).found ≡ []
+    by_bound false keyed signature h = refl
+    by_bound true keyed signature h =
+        absurd (let is = by_methods keyed signature (sight.classes.methods class) in cc)
+
+    by_keyed : (keyed : Bool) (signature : List ℕ)
+        → may_be_found (keyed_standing sight.classes keyed wanted class signature) ≡ false
+        → (keyed_need sight keyed wanted class signature).found ≡ []
+    by_keyed keyed signature h = by_bound (keyed || is_named wanted signature None) keyed signature h
 
     by_source : (signature : List ℕ) (source : Option (Option (List ℕ))) → sight.classes.source class ≡ source
         → may_be_found (source_standing wanted sight.classes class signature source) ≡ false
         → (source_need sight wanted class signature (source_heard sight class)).found ≡ []
     by_source signature None is h = absurd cc
-    by_source signature (Some source) is h = rw is (by_keyed (is_keyed wanted (key_by signature source)) h)
+    by_source signature (Some source) is h = rw is (by_keyed (is_keyed wanted (key_by signature source)) signature h)
 
     by_signature : (signature : Option (List ℕ))
         → may_be_found (signed_standing wanted sight.classes class signature) ≡ false
@@ -120,44 +140,75 @@ finds_none sight wanted class none = by_signature (watched_in wanted (sight.clas
     by_signature None h = refl
     by_signature (Some signature) h = by_source signature (sight.classes.source class) refl h
 
--- A class whose source is known and isn't listed is passed over -------------------------------------------------------
+-- A class whose source is known and isn't listed is passed over, unless a function names it ----------------------------
 
 pub unlisted_passed : (wanted : Wanted) (known : Lookups) (class : ClassId) (key : Key) → key_in known class ≡ Some key
-    → is_listed wanted key ≡ false → class_standing wanted known class ≡ Passed
-unlisted_passed wanted known class key is unlisted =
-    by_loaded (known.loaded class) (known.source class) refl is
+    → is_listed wanted key ≡ false
+    → IfSome (option_map (λ (loaded : Loaded). loaded.signature) (known.loaded class))
+    (λ signature. is_named wanted signature None ≡ false)
+    → class_standing wanted known class ≡ Passed
+unlisted_passed wanted known class key is unlisted unnamed =
+    by_loaded (known.loaded class) (known.source class) refl is unnamed
   where
     by_watched : (signature file : List ℕ) (watched : Bool) → known.source class ≡ Some (Some file)
-        → is_keyed wanted (key_by signature (Some file)) ≡ false
+        → is_keyed wanted (key_by signature (Some file)) ≡ false → is_named wanted signature None ≡ false
         → signed_standing wanted known class (cond watched (Some signature) None) ≡ Passed
-    by_watched signature file false there not_keyed = refl
-    by_watched signature file true there not_keyed = rw (there, not_keyed) refl
+    by_watched signature file false there not_keyed not_named = refl
+    by_watched signature file true there not_keyed not_named = rw (there, not_keyed, not_named) refl
 
     by_path : (signature file : List ℕ) (path : Option (List ℕ)) → package_in signature ≡ path
         → known.source class ≡ Some (Some file)
         → option_map (λ p. record { package_path = p; file = file }) path ≡ Some key
+        → is_named wanted signature None ≡ false
         → signed_standing wanted known class (watched_by wanted signature path) ≡ Passed
-    by_path signature file None at there is = absurd cc
-    by_path signature file (Some path) at there is =
+    by_path signature file None at there is not_named = absurd cc
+    by_path signature file (Some path) at there is not_named =
         let same : record { package_path = path; file = file } ≡ key = cc in
         by_watched signature file (is_watched wanted path) there
-        (rw at (subst (λ (k : Key). is_listed wanted k ≡ false) (sym same) unlisted))
+        (rw at (subst (λ (k : Key). is_listed wanted k ≡ false) (sym same) unlisted)) not_named
 
     by_prepared : (signature file : List ℕ) (prepared : Bool) → known.source class ≡ Some (Some file)
         → option_map (λ p. record { package_path = p; file = file }) (package_in signature) ≡ Some key
+        → is_named wanted signature None ≡ false
         → signed_standing wanted known class
         (cond prepared (watched_by wanted signature (package_in signature)) None) ≡ Passed
-    by_prepared signature file false there is = refl
-    by_prepared signature file true there is = by_path signature file (package_in signature) refl there is
+    by_prepared signature file false there is not_named = refl
+    by_prepared signature file true there is not_named =
+        by_path signature file (package_in signature) refl there is not_named
 
     by_loaded : (loaded : Option Loaded) (source : Option (Option (List ℕ))) → known.source class ≡ source
         → key_from loaded source ≡ Some key
+        → IfSome (option_map (λ (one : Loaded). one.signature) loaded)
+        (λ signature. is_named wanted signature None ≡ false)
         → signed_standing wanted known class (watched_in wanted loaded) ≡ Passed
-    by_loaded None source there is = absurd cc
-    by_loaded (Some loaded) None there is = absurd cc
-    by_loaded (Some loaded) (Some None) there is = absurd cc
-    by_loaded (Some loaded) (Some (Some file)) there is =
-        by_prepared loaded.signature file loaded.prepared there is
+    by_loaded None source there is not_named = absurd cc
+    by_loaded (Some loaded) None there is not_named = absurd cc
+    by_loaded (Some loaded) (Some None) there is not_named = absurd cc
+    by_loaded (Some loaded) (Some (Some file)) there is not_named =
+        by_prepared loaded.signature file loaded.prepared there is not_named
+
+-- so it is passed over, by what is asked of it
+pub passed : (wanted : Wanted) (known : Lookups) (class : ClassId)
+    → unlisted_by wanted (key_in known class) ≡ true
+    → unnamed_by wanted (option_map (λ (loaded : Loaded). loaded.signature) (known.loaded class)) ≡ true
+    → class_standing wanted known class ≡ Passed
+passed wanted known class unlisted unnamed = by_key (key_in known class) refl unlisted
+  where
+    turned : (b : Bool) → not b ≡ true → b ≡ false
+    turned true h = cc
+    turned false h = refl
+
+    by_signature : (signature : Option (List ℕ)) → unnamed_by wanted signature ≡ true
+        → IfSome signature (λ one. is_named wanted one None ≡ false)
+    by_signature None h = tt
+    by_signature (Some signature) h = turned (is_named wanted signature None) h
+
+    by_key : (key : Option Key) → key_in known class ≡ key → unlisted_by wanted key ≡ true
+        → class_standing wanted known class ≡ Passed
+    by_key None is h = cc
+    by_key (Some key) is h =
+        unlisted_passed wanted known class key is (turned (is_listed wanted key) h)
+        (by_signature (option_map (λ (loaded : Loaded). loaded.signature) (known.loaded class)) unnamed)
 
 -- What all classes come to, by those that are left --------------------------------------------------------------------
 
@@ -282,33 +333,40 @@ module _ (P : Standing → Bool) (at_open : P Open ≡ true) (wanted : Wanted) (
       later : Lookups
       later = found_in (with_fact (has_methods class methods) known)
 
-      is_new : (same : Bool) → same_class other class ≡ same → (found : Option (List Method))
-          → under same_class other known.methods ≡ found
-          → P (methods_standing (found_in known) other found) ≡ false
-          → P (methods_standing later other (cond same (Some methods) found)) ≡ false
-      is_new false is found there h = by_found found h
+      is_new : (keyed : Bool) (signature : List ℕ) (same : Bool) → same_class other class ≡ same
+          → (found : Option (List Method)) → under same_class other known.methods ≡ found
+          → P (methods_standing (found_in known) keyed wanted other signature found) ≡ false
+          → P (methods_standing later keyed wanted other signature (cond same (Some methods) found)) ≡ false
+      is_new keyed signature false is found there h = by_found found h
         where
-          by_found : (found : Option (List Method)) → P (methods_standing (found_in known) other found) ≡ false
-              → P (methods_standing later other found) ≡ false
+          by_found : (found : Option (List Method))
+              → P (methods_standing (found_in known) keyed wanted other signature found) ≡ false
+              → P (methods_standing later keyed wanted other signature found) ≡ false
           by_found None h = h
           by_found (Some one) h = h
-      is_new true is None there h = absurd (let open_one = at_open in cc)
-      is_new true is (Some one) there h =
+      is_new keyed signature true is None there h = absurd (let open_one = at_open in cc)
+      is_new keyed signature true is (Some one) there h =
           absurd (let same = one_class other class is in
           let none = subst (λ (c : ClassId). is_none (under same_class c known.methods) ≡ true) (sym same) new in cc)
 
-      by_keyed : (keyed : Bool) → P (keyed_standing (found_in known) keyed other) ≡ false
-          → P (keyed_standing later keyed other) ≡ false
-      by_keyed false h = h
-      by_keyed true h =
+      by_bound : (bound keyed : Bool) (signature : List ℕ)
+          → P (bound_standing (found_in known) bound keyed wanted other signature) ≡ false
+          → P (bound_standing later bound keyed wanted other signature) ≡ false
+      by_bound false keyed signature h = h
+      by_bound true keyed signature h =
           rw (under-put same_class one_class class methods other known.methods)
-          (is_new (same_class other class) refl (under same_class other known.methods) refl h)
+          (is_new keyed signature (same_class other class) refl (under same_class other known.methods) refl h)
+
+      by_keyed : (keyed : Bool) (signature : List ℕ)
+          → P (keyed_standing (found_in known) keyed wanted other signature) ≡ false
+          → P (keyed_standing later keyed wanted other signature) ≡ false
+      by_keyed keyed signature h = by_bound (keyed || is_named wanted signature None) keyed signature h
 
       by_source : (signature : List ℕ) (source : Option (Option (List ℕ)))
           → P (source_standing wanted (found_in known) other signature source) ≡ false
           → P (source_standing wanted later other signature source) ≡ false
       by_source signature None h = h
-      by_source signature (Some source) h = by_keyed (is_keyed wanted (key_by signature source)) h
+      by_source signature (Some source) h = by_keyed (is_keyed wanted (key_by signature source)) signature h
 
       by_signature : (signature : Option (List ℕ))
           → P (signed_standing wanted (found_in known) other signature) ≡ false
@@ -348,23 +406,31 @@ module _ (P : Standing → Bool) (at_open : P Open ≡ true) (wanted : Wanted) (
       by_lines false is gives h = absurd (let open_one = at_open in cc)
       by_lines true is gives h = rw (gives refl) h
 
-      by_methods : (methods : Option (List Method)) → P (methods_standing (found_in known) other methods) ≡ false
-          → P (methods_standing later other methods) ≡ false
-      by_methods None h = h
-      by_methods (Some methods) h =
-          by_lines (list_all (λ one. is_some (under same_method (other, one.id) known.lines)) methods)
-          (list_all (λ one. is_some (later.lines other one.id)) methods) (all_still methods) h
+      by_methods : (keyed : Bool) (signature : List ℕ) (methods : Option (List Method))
+          → P (methods_standing (found_in known) keyed wanted other signature methods) ≡ false
+          → P (methods_standing later keyed wanted other signature methods) ≡ false
+      by_methods keyed signature None h = h
+      by_methods keyed signature (Some methods) h =
+          let those = filter (counts keyed wanted signature) methods in
+          by_lines (list_all (λ one. is_some (under same_method (other, one.id) known.lines)) those)
+          (list_all (λ one. is_some (later.lines other one.id)) those) (all_still those) h
 
-      by_keyed : (keyed : Bool) → P (keyed_standing (found_in known) keyed other) ≡ false
-          → P (keyed_standing later keyed other) ≡ false
-      by_keyed false h = h
-      by_keyed true h = by_methods (under same_class other known.methods) h
+      by_bound : (bound keyed : Bool) (signature : List ℕ)
+          → P (bound_standing (found_in known) bound keyed wanted other signature) ≡ false
+          → P (bound_standing later bound keyed wanted other signature) ≡ false
+      by_bound false keyed signature h = h
+      by_bound true keyed signature h = by_methods keyed signature (under same_class other known.methods) h
+
+      by_keyed : (keyed : Bool) (signature : List ℕ)
+          → P (keyed_standing (found_in known) keyed wanted other signature) ≡ false
+          → P (keyed_standing later keyed wanted other signature) ≡ false
+      by_keyed keyed signature h = by_bound (keyed || is_named wanted signature None) keyed signature h
 
       by_source : (signature : List ℕ) (source : Option (Option (List ℕ)))
           → P (source_standing wanted (found_in known) other signature source) ≡ false
           → P (source_standing wanted later other signature source) ≡ false
       by_source signature None h = h
-      by_source signature (Some source) h = by_keyed (is_keyed wanted (key_by signature source)) h
+      by_source signature (Some source) h = by_keyed (is_keyed wanted (key_by signature source)) signature h
 
       by_signature : (signature : Option (List ℕ))
           → P (signed_standing wanted (found_in known) other signature) ≡ false

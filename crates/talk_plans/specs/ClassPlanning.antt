@@ -1,7 +1,7 @@
 -- What has to be known of classes before breakpoints are bound in them, in the words of the code: what each class
 -- lacks, and whether it is found (JDWP, ReferenceType command set, SourceFile and Methods; JDWP, Method command set,
 -- LineTable).
-use Rattle.std.specs.Prelude.{ℕ, ◌∷◌, Bool, true, false, cond, List, [], Option, None, Some}
+use Rattle.std.specs.Prelude.{ℕ, ◌∷◌, ◌||◌, Bool, true, false, cond, filter, List, [], Option, None, Some}
 use Rattle.std.specs.List.{flat_map}
 use Rattle.class_tables.specs.Signatures.{package_in}
 use Rattle.class_tables.specs.declared.loaded.Loaded.{Loaded}
@@ -12,13 +12,13 @@ use Rattle.jdwp_values.specs.declared.class.LineTable.{LineTable}
 use Rattle.jdwp_values.specs.declared.class.Method.{Method}
 use Rattle.jdwp_values.specs.declared.id.ClassId.{ClassId}
 use Rattle.jdwp_values.specs.declared.id.MethodId.{MethodId}
-use Rattle.machine_model.specs.Classes.{is_keyed}
+use Rattle.machine_model.specs.Classes.{counts, is_keyed}
 use Rattle.machine_model.specs.Facts.{lines_in, methods_in, source_in}
 use Rattle.machine_model.specs.Plans.{Found, Sight, answer_in, found_from}
 use Rattle.machine_model.specs.declared.acts.Want.{Want}
 use Rattle.wish_sets.specs.Places.{key_by}
 use Rattle.wish_sets.specs.Wanted.{Wanted}
-use Rattle.wish_sets.specs.Wished.{is_watched}
+use Rattle.wish_sets.specs.Wished.{is_named, is_watched}
 
 -- What is heard of a class --------------------------------------------------------------------------------------------
 
@@ -64,20 +64,28 @@ unless_heard (Some fact) question = []
 abbrev pub lines_lacking : Sight → ClassId → MethodId → List Want
 lines_lacking sight class method = unless_heard (lines_heard sight class method) (lines_question class method)
 
-abbrev pub methods_need : Sight → ClassId → Option (List Method) → ClassNeed
-methods_need sight class None = lacks_fact (questions.Methods class)
-methods_need sight class (Some methods) =
-    record { lacking = flat_map (λ method. lines_lacking sight class method.id) methods; found = class ∷ [] }
+-- of its methods the lines of those that count
+abbrev pub methods_need : Sight → Bool → Wanted → ClassId → List ℕ → Option (List Method) → ClassNeed
+methods_need sight keyed wanted class signature None = lacks_fact (questions.Methods class)
+methods_need sight keyed wanted class signature (Some methods) = record {
+  lacking = flat_map (λ method. lines_lacking sight class method.id) (filter (counts keyed wanted signature) methods);
+  found = class ∷ [];
+}
 
--- a class whose source is listed
-abbrev pub keyed_need : Sight → Bool → ClassId → ClassNeed
-keyed_need sight false class = passed_over
-keyed_need sight true class = methods_need sight class (methods_heard sight class)
+-- a class whose source is listed, or that a function names
+abbrev pub bound_need : Sight → Bool → Bool → Wanted → ClassId → List ℕ → ClassNeed
+bound_need sight false keyed wanted class signature = passed_over
+bound_need sight true keyed wanted class signature =
+    methods_need sight keyed wanted class signature (methods_heard sight class)
+
+abbrev pub keyed_need : Sight → Bool → Wanted → ClassId → List ℕ → ClassNeed
+keyed_need sight keyed wanted class signature =
+    bound_need sight (keyed || is_named wanted signature None) keyed wanted class signature
 
 abbrev pub source_need : Sight → Wanted → ClassId → List ℕ → Option (Option (List ℕ)) → ClassNeed
 source_need sight wanted class signature None = lacks_fact (questions.SourceFile class)
 source_need sight wanted class signature (Some source) =
-    keyed_need sight (is_keyed wanted (key_by signature source)) class
+    keyed_need sight (is_keyed wanted (key_by signature source)) wanted class signature
 
 abbrev pub signed_need : Sight → Wanted → ClassId → Option (List ℕ) → ClassNeed
 signed_need sight wanted class None = passed_over

@@ -9,9 +9,9 @@ ghost use Rattle.machine_model.specs.declared.parts.Event.TheVariants.{Stopped a
 use crate::bound::BoundIds;
 use crate::breakpoints::breakpoint_told;
 use crate::frame_numbers::frames_told;
+use crate::hits::has_line;
 use crate::news::news_told;
 use crate::state::State;
-use crate::stops::has_line;
 use crate::threads::ThreadNumbers;
 use crate::variable_numbers::{scope_told, variables_told};
 use dap_messages::{
@@ -111,6 +111,10 @@ fn body_told(alloc: Global, body: &Body, state: &mut State) -> Result<Shape, NoM
         Body::Continued => Ok(Shape::Continued),
         Body::StackFrames { total, frames } => stack_told(alloc, *total, frames.as_slice(), state),
         Body::Scopes(frame) => Ok(Shape::Scopes(scope_told(&mut state.numbers, *frame)?)),
+        Body::Exception { id, mode } => Ok(Shape::ExceptionInfo {
+            id: Text::from_str(alloc, id.as_str())?,
+            mode: *mode,
+        }),
         Body::Variables(shown) => {
             let told = variables_told(alloc, &mut state.numbers, shown.as_slice())?;
             Ok(Shape::Variables(told))
@@ -178,6 +182,8 @@ fn reason_told(alloc: Global, cause: StopCause, state: &State) -> Result<StopRea
             let entries = state.wishes.entries_at(alloc, &at)?;
             hit_told(alloc, entries.as_slice())
         }
+        StopCause::Exception(text) => Ok(StopReason::Exception(text)),
+        StopCause::Step => Ok(StopReason::Step),
         StopCause::Pause => Ok(StopReason::Pause),
     }
 }

@@ -13,8 +13,9 @@ use std::collections::VecDeque;
 use wire_core::{List, NoMemory, Text};
 use wish_sets::{EntryState, LineEntry, Wishes};
 
-// So many bytes may a key have, as many as the body of a frame (JDWP, EventRequest command set, Set, ClassMatch).
-const LONGEST_KEY: usize = 16777216;
+// So many bytes may a key or a name have, as many as the body of a frame (JDWP, EventRequest command set, Set,
+// ClassMatch).
+pub(crate) const LONGEST_KEY: usize = 16777216;
 
 // The greatest line (JDWP, Method command set, LineTable, lineNumber).
 const LAST_LINE: u32 = 2147483647;
@@ -112,8 +113,8 @@ pub fn key_of(alloc: Global, roots: &[Text], path: &str) -> Result<Option<Text>,
     short_key(alloc, key)
 }
 
-// The id behind this one. One that has no room comes to no memory.
-fn next_id(id: u64) -> Result<u64, NoMemory>
+/// The id behind this one. One that has no room comes to no memory.
+pub(crate) fn next_id(id: u64) -> Result<u64, NoMemory>
     ensures { IfOk result (λ next. next ≡ id + 1) }
 {
     match id.checked_add(1) {
@@ -135,7 +136,7 @@ fn numbered_from(
     for breakpoint in breakpoints {
         listed.push(ListedBreakpoint {
             id,
-            line: breakpoint.line,
+            line: Some(breakpoint.line),
             plain: breakpoint.plain,
         })?;
         id = next_id(id)?;
@@ -163,7 +164,7 @@ fn entry_of(from_one: bool, listed: &ListedBreakpoint) -> LineEntry
 {
     LineEntry {
         id: listed.id,
-        line: target_line(from_one, listed.line),
+        line: target_line(from_one, listed.line.unwrap_or(0)),
         plain: listed.plain,
     }
 }

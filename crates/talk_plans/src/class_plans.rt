@@ -1,7 +1,8 @@
 //! What has to be known of classes before breakpoints are bound in them: what each lacks, and which are found.
-ghost use Rattle.std.specs.Prelude.{◌≡◌, ◌++◌, ◌∷◌, [], option_copied, option_map, IfOk, OnOk};
+ghost use Rattle.std.specs.Prelude.{◌≡◌, ◌++◌, ◌∷◌, [], cond, filter, option_copied, option_map, IfOk, OnOk};
 ghost use Rattle.std.specs.List.{flat_map};
 ghost use Rattle.class_tables.specs.Lookups.{found_in};
+ghost use Rattle.machine_model.specs.Classes.{counts};
 ghost use Rattle.machine_model.specs.declared.acts.Want.TheVariants.{Fact};
 ghost use Rattle.talk_plans.specs.ClassPlanning.{all_found, all_lacking, class_need, lines_lacking, methods_heard};
 ghost use Rattle.talk_plans.specs.ClassPlanning.{source_heard};
@@ -9,9 +10,10 @@ ghost use Rattle.talk_plans.specs.OpenClasses.{AreOpen};
 ghost use Rattle.talk_plans.specs.Planning.{sight_in};
 
 use crate::facts::{methods_in, source_in};
-use crate::open_classes::{
-    OpenClasses, all_open, is_keyed, known_methods, known_source, watched_signature,
+use crate::known_classes::{
+    counts, is_bound, is_keyed, known_methods, known_source, watched_signature,
 };
+use crate::open_classes::{OpenClasses, all_open};
 use crate::state::State;
 use jdwp_commands::Question;
 use jdwp_values::{ClassId, Method, MethodId};
@@ -92,19 +94,44 @@ pub(crate) fn add_lines(
     Ok(())
 }
 
+// The lines of a method, where it counts.
+fn add_counted(
+    alloc: Global,
+    state: &State,
+    asked: &Asked,
+    keyed: bool,
+    class: ClassId,
+    signature: &[u8],
+    method: &Method,
+    wants: &mut VecDeque<Want>,
+) -> Result<(), NoMemory>
+    ensures { OnOk result (wants.new.items ≡ wants.old.items
+        ++ cond (counts keyed state.now.wishes.wanted signature.now method.now)
+        (lines_lacking (sight_in state.now asked.now) class method.now.id) []) }
+{
+    if !counts(keyed, &state.wishes, signature, method) {
+        return Ok(());
+    }
+    add_lines(alloc, state, asked, class, method.id, wants)
+}
+
+// The lines of the methods that count.
 fn add_all_lines(
     alloc: Global,
     state: &State,
     asked: &Asked,
+    keyed: bool,
     class: ClassId,
+    signature: &[u8],
     methods: &[Method],
     wants: &mut VecDeque<Want>,
 ) -> Result<(), NoMemory>
     ensures { OnOk result (wants.new.items ≡ wants.old.items
-        ++ flat_map (λ method. lines_lacking (sight_in state.now asked.now) class method.id) methods.now) }
+        ++ flat_map (λ method. lines_lacking (sight_in state.now asked.now) class method.id)
+        (filter (counts keyed state.now.wishes.wanted signature.now) methods.now)) }
 {
     for method in methods {
-        add_lines(alloc, state, asked, class, method.id, wants)?;
+        add_counted(alloc, state, asked, keyed, class, signature, method, wants)?;
     }
     Ok(())
 }
@@ -126,12 +153,15 @@ fn add_lacking(
     let Some(source) = source_heard(alloc, state, asked, class)? else {
         return lack(wants, Question::SourceFile(class));
     };
-    if !is_keyed(&state.wishes, signature, source) {
+    let keyed = is_keyed(&state.wishes, signature, source);
+    if !is_bound(keyed, &state.wishes, signature) {
         return Ok(());
     }
     match methods_heard(alloc, state, asked, class)? {
         None => lack(wants, Question::Methods(class)),
-        Some(methods) => add_all_lines(alloc, state, asked, class, methods, wants),
+        Some(methods) => add_all_lines(
+            alloc, state, asked, keyed, class, signature, methods, wants,
+        ),
     }
 }
 
@@ -152,7 +182,8 @@ fn add_found(
     let Some(source) = source_heard(alloc, state, asked, class)? else {
         return Ok(());
     };
-    if !is_keyed(&state.wishes, signature, source) {
+    let keyed = is_keyed(&state.wishes, signature, source);
+    if !is_bound(keyed, &state.wishes, signature) {
         return Ok(());
     }
     match methods_heard(alloc, state, asked, class)? {

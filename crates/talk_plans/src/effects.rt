@@ -1,6 +1,6 @@
 //! The effects of event requests, what their replies make of what is known, and what the sending of a deed changes.
 ghost use Rattle.std.specs.Prelude.{◌≡◌, false, is_some, true, IfOk};
-ghost use Rattle.machine_model.specs.Due.{entry_by, still_held};
+ghost use Rattle.machine_model.specs.Due.{entry_by, still_held, still_thrown, thrown_by};
 ghost use Rattle.machine_model.specs.Requests.{effect_due, request_in, set_to, wishes_after};
 ghost use Rattle.machine_model.specs.Replying.{unlisted_by, watches};
 ghost use Rattle.talk_plans.specs.Talking.{IsNext};
@@ -10,9 +10,9 @@ ghost use Rattle.wish_sets.specs.declared.wish.Wish.{Wish as AWish};
 
 use crate::copies::wish_copy;
 use jdwp_commands::{Answer, Replied};
-use machine_model::{Deed, Effect, Suspension};
+use machine_model::{Deed, Effect, Suspension, Thrown};
 use std::alloc::Global;
-use wire_core::NoMemory;
+use wire_core::{List, NoMemory};
 use wish_sets::{Change, Settled, Wish, Wishes};
 
 /// The effect that is due: what isn't wished any more is cleared first, then what is wished is set.
@@ -55,6 +55,29 @@ pub(crate) fn entry_by(deed: Deed, entry: bool) -> bool
         Deed::Resume(suspension) => still_held(suspension, entry),
         Deed::Dispose => entry,
         Deed::Exit => entry,
+    }
+}
+
+// What was thrown in a stop is forgotten with the Resume of it.
+fn resume_thrown(alloc: Global, suspension: Suspension, thrown: &mut List<Thrown>)
+    ensures { thrown.new ≡ still_thrown suspension thrown.old }
+{
+    match suspension {
+        Suspension::Composite => {}
+        Suspension::Entry => {}
+        Suspension::Stop => *thrown = List::new(alloc),
+    }
+}
+
+/// What was thrown in a stop is known until it is over: with its Resume (JDWP, VirtualMachine command set, Resume).
+pub(crate) fn forget_thrown(alloc: Global, deed: Deed, thrown: &mut List<Thrown>)
+    ensures { thrown.new ≡ thrown_by deed thrown.old }
+{
+    match deed {
+        Deed::Suspend => {}
+        Deed::Resume(suspension) => resume_thrown(alloc, suspension, thrown),
+        Deed::Dispose => {}
+        Deed::Exit => {}
     }
 }
 

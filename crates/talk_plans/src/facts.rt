@@ -5,7 +5,7 @@ ghost use Rattle.machine_model.specs.Facts.{above_in, fields_in, lines_in, metho
 ghost use Rattle.machine_model.specs.Plans.{answer_in};
 ghost use Rattle.machine_model.specs.Replying.{knows_fact, learnt, with_heard};
 
-use crate::open_classes::{
+use crate::known_classes::{
     known_methods, known_signature, known_source, knows_above, knows_fields,
 };
 use class_tables::Classes;

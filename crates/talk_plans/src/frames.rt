@@ -13,7 +13,7 @@ ghost use Rattle.talk_plans.specs.Planning.{need_of, sight_in};
 use crate::class_plans::{add_lines, lack, methods_heard, source_heard};
 use crate::facts::line_table_in;
 use crate::frame_names::{ClassHeard, frame_shown};
-use crate::open_classes::known_signature;
+use crate::known_classes::known_signature;
 use crate::plans::{Need, lacks};
 use crate::state::State;
 use jdwp_commands::{Answer, Frame, Question, Replied};

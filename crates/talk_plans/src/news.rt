@@ -1,5 +1,5 @@
 //! What the client is told of breakpoints that are verified by and by, and of threads.
-ghost use Rattle.std.specs.Prelude.{◌≡◌, ◌++◌, IfOk, OnOk, filter, map};
+ghost use Rattle.std.specs.Prelude.{◌≡◌, ◌++◌, IfOk, OnOk, filter, map, option_map};
 ghost use Rattle.std.specs.List.{flat_map};
 ghost use Rattle.machine_model.specs.Breakpoints.{client_line, is_news, verified_told};
 ghost use Rattle.machine_model.specs.Composites.{change_told, changes_in};
@@ -15,10 +15,10 @@ use machine_model::{Event, Item, News, Part, Phase};
 use std::alloc::Global;
 use std::collections::VecDeque;
 use wire_core::{List, NoMemory};
-use wish_sets::LineEntry;
+use wish_sets::VerifiedEntry;
 
 // A breakpoint is news, where its id is below this one and the client doesn't know that it is verified.
-fn is_news(below: u64, bound: &BoundIds, entry: &LineEntry) -> bool
+fn is_news(below: u64, bound: &BoundIds, entry: &VerifiedEntry) -> bool
     ensures { result ≡ is_news below bound.now entry.now }
 {
     entry.id < below && !bound.has(entry.id)
@@ -29,7 +29,7 @@ fn verified_among(
     alloc: Global,
     below: u64,
     bound: &BoundIds,
-    entries: &[LineEntry],
+    entries: &[VerifiedEntry],
 ) -> Result<List<News>, NoMemory>
     ensures { IfOk result (λ news. news ≡ map entry_verified (filter (is_news below bound.now) entries.now)) }
 {
@@ -132,13 +132,20 @@ fn client_line(from_one: bool, line: i32) -> u32
     }
 }
 
+// The line of a breakpoint, where it is one of a source.
+fn line_told(from_one: bool, line: Option<i32>) -> Option<u32>
+    ensures { result ≡ option_map (client_line from_one) line }
+{
+    Some(client_line(from_one, line?))
+}
+
 // A breakpoint that is verified, as it is told (DAP specification, Types, Breakpoint).
-fn verified_told(from_one: bool, entry: LineEntry) -> Breakpoint
+fn verified_told(from_one: bool, entry: VerifiedEntry) -> Breakpoint
     ensures { result ≡ verified_told from_one entry }
 {
     Breakpoint {
         id: entry.id,
-        line: client_line(from_one, entry.line),
+        line: line_told(from_one, entry.line),
         status: BreakpointStatus::Verified,
     }
 }

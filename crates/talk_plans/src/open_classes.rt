@@ -1,16 +1,19 @@
 //! How classes stand by what was learnt of them: which may lack something, and which may be found.
-ghost use Rattle.std.specs.Prelude.{◌≡◌, ◌++◌, IfOk, OnOk, true, is_some, option_copied, option_map};
+ghost use Rattle.std.specs.Prelude.{◌≡◌, ◌++◌, IfOk, OnOk, true};
+ghost use Rattle.std.specs.Prelude.{filter, is_some, option_copied, option_map};
 ghost use Rattle.std.specs.List.{flat_map, list_all};
 ghost use Rattle.class_tables.specs.Lookups.{found_in};
-ghost use Rattle.machine_model.specs.Classes.{is_keyed};
-ghost use Rattle.talk_plans.specs.ClassPlanning.{watched_in};
-ghost use Rattle.talk_plans.specs.OpenClasses.{AreOpen, class_standing, kept_by, may_be_found, may_lack};
-ghost use Rattle.talk_plans.specs.OpenClasses.{methods_standing, source_standing, stays_open};
+ghost use Rattle.class_tables.specs.Views.{key_in};
+ghost use Rattle.machine_model.specs.Classes.{counts};
+ghost use Rattle.talk_plans.specs.OpenClasses.{AreOpen, class_standing, keyed_standing, kept_by, may_be_found, may_lack};
+ghost use Rattle.talk_plans.specs.OpenClasses.{methods_standing, source_standing, stays_open, unlisted_by, unnamed_by};
 ghost use Rattle.talk_plans.specs.declared.open_classes.Standing.TheVariants.{Passed};
-ghost use Rattle.wish_sets.specs.Places.{key_by};
 
+use crate::known_classes::{
+    counts, is_bound, is_keyed, known_methods, known_signature, known_source, watched_signature,
+};
 use crate::places::next_place;
-use class_tables::{Classes, package_in};
+use class_tables::Classes;
 use jdwp_commands::Question;
 use jdwp_values::{ClassId, Method};
 use std::alloc::Global;
@@ -33,102 +36,69 @@ pub(crate) struct OpenClasses {
     pub(crate) found: List<ClassId>,
 }
 
-/// The source of a class, where it was learnt; it may be absent.
-pub(crate) fn known_source(classes: &Classes, class: ClassId) -> Option<Option<&Blob>>
-    ensures { option_map option_copied result ≡ (found_in classes.now).source class }
-{
-    classes.class(class)?.source
-}
-
-/// The methods of a class, where they were learnt.
-pub(crate) fn known_methods(classes: &Classes, class: ClassId) -> Option<&[Method]>
-    ensures { option_copied result ≡ (found_in classes.now).methods class }
-{
-    Some(classes.class(class)?.methods?.as_slice())
-}
-
-/// The signature of a class, where it was learnt.
-pub(crate) fn known_signature(classes: &Classes, class: ClassId) -> Option<&Blob>
-    ensures { option_copied result ≡ option_map (λ loaded. loaded.signature) ((found_in classes.now).loaded class) }
-{
-    classes.class(class)?.signature
-}
-
-/// Whether the fields of a class were learnt.
-pub(crate) fn knows_fields(classes: &Classes, class: ClassId) -> bool
-    ensures { result ≡ is_some ((found_in classes.now).fields class) }
-{
-    match classes.class(class) {
-        None => false,
-        Some(view) => view.fields.is_some(),
-    }
-}
-
-/// Whether the class that a class extends was learnt.
-pub(crate) fn knows_above(classes: &Classes, class: ClassId) -> bool
-    ensures { result ≡ is_some ((found_in classes.now).above class) }
-{
-    match classes.class(class) {
-        None => false,
-        Some(view) => view.above.is_some(),
-    }
-}
-
-/// The signature of a class that is prepared, in a package that is watched.
-pub(crate) fn watched_signature<'a>(
-    classes: &'a Classes,
+// Whether the lines of all methods were learnt that count.
+fn has_lines(
+    classes: &Classes,
+    keyed: bool,
     wishes: &Wishes,
     class: ClassId,
-) -> Option<&'a [u8]>
-    ensures { option_copied result ≡ watched_in wishes.now.wanted ((found_in classes.now).loaded class) }
+    signature: &[u8],
+    methods: &[Method],
+) -> bool
+    ensures { result ≡ list_all (λ method. is_some ((found_in classes.now).lines class method.id))
+        (filter (counts keyed wishes.now.wanted signature.now) methods.now) }
 {
-    let view = classes.class(class)?;
-    if !view.prepared {
-        return None;
+    for method in methods {
+        if counts(keyed, wishes, signature, method) && classes.lines(class, method.id).is_none() {
+            return false;
+        }
     }
-    let signature = view.signature?.as_slice();
-    let path = package_in(signature)?;
-    if wishes.is_watched(path) {
-        Some(signature)
-    } else {
-        None
-    }
+    true
 }
 
-/// Whether the source of a class is listed.
-pub(crate) fn is_keyed(wishes: &Wishes, signature: &[u8], source: Option<&Blob>) -> bool
-    ensures { result ≡ is_keyed wishes.now.wanted (key_by signature.now (option_copied source.entry)) }
-{
-    let Some(file) = source else {
-        return false;
-    };
-    match package_in(signature) {
-        None => false,
-        Some(path) => wishes.is_listed(path, file.as_slice()),
-    }
-}
-
-// Whether the lines of all these methods were learnt.
-fn has_lines(classes: &Classes, class: ClassId, methods: &[Method]) -> bool
-    ensures { result ≡ list_all (λ method. is_some ((found_in classes.now).lines class method.id)) methods.now }
-{
-    methods
-        .iter()
-        .all(|method| classes.lines(class, method.id).is_some())
-}
-
-// A class whose source is listed, and whose methods may be known.
-fn methods_standing(classes: &Classes, class: ClassId, methods: Option<&[Method]>) -> Standing
-    ensures { result ≡ methods_standing (found_in classes.now) class (option_copied methods.entry) }
+// A class whose source is listed, or that a function names, and whose methods may be known.
+fn methods_standing(
+    classes: &Classes,
+    keyed: bool,
+    wishes: &Wishes,
+    class: ClassId,
+    signature: &[u8],
+    methods: Option<&[Method]>,
+) -> Standing
+    ensures { result ≡ methods_standing (found_in classes.now) keyed wishes.now.wanted class signature.now
+        (option_copied methods.entry) }
 {
     let Some(methods) = methods else {
         return Standing::Open;
     };
-    if has_lines(classes, class, methods) {
+    if has_lines(classes, keyed, wishes, class, signature, methods) {
         Standing::Settled
     } else {
         Standing::Open
     }
+}
+
+// A class whose source is known: it is listed, or isn't.
+fn keyed_standing(
+    classes: &Classes,
+    keyed: bool,
+    wishes: &Wishes,
+    class: ClassId,
+    signature: &[u8],
+) -> Standing
+    ensures { result ≡ keyed_standing (found_in classes.now) keyed wishes.now.wanted class signature.now }
+{
+    if !is_bound(keyed, wishes, signature) {
+        return Standing::Passed;
+    }
+    methods_standing(
+        classes,
+        keyed,
+        wishes,
+        class,
+        signature,
+        known_methods(classes, class),
+    )
 }
 
 // A class in a package that is watched, and whose source may be known.
@@ -145,17 +115,18 @@ fn source_standing(
     let Some(source) = source else {
         return Standing::Open;
     };
-    if is_keyed(wishes, signature, source) {
-        methods_standing(classes, class, known_methods(classes, class))
-    } else {
-        Standing::Passed
-    }
+    keyed_standing(
+        classes,
+        is_keyed(wishes, signature, source),
+        wishes,
+        class,
+        signature,
+    )
 }
 
-// Whether the source of a class is known, and isn't listed. Then the class is passed over.
-#[tactic(auto, using(crate::proofs::OpenLaws::unlisted_passed))]
+// Whether the source of a class is known, and isn't listed.
 fn is_unlisted(classes: &Classes, wishes: &Wishes, class: ClassId) -> bool
-    ensures { result ≡ true → class_standing wishes.now.wanted (found_in classes.now) class ≡ Passed }
+    ensures { result ≡ unlisted_by wishes.now.wanted (key_in (found_in classes.now) class) }
 {
     match classes.key_of(class) {
         None => false,
@@ -163,10 +134,30 @@ fn is_unlisted(classes: &Classes, wishes: &Wishes, class: ClassId) -> bool
     }
 }
 
+// Whether no function names a class, as far as its signature is known.
+fn is_unnamed(wishes: &Wishes, signature: Option<&Blob>) -> bool
+    ensures { result ≡ unnamed_by wishes.now.wanted (option_copied signature.entry) }
+{
+    match signature {
+        None => true,
+        Some(signature) => !wishes.is_named(signature.as_slice(), None),
+    }
+}
+
+// Whether the source of a class is known and isn't listed, and no function names the class. Then it is passed over.
+fn passes(classes: &Classes, wishes: &Wishes, class: ClassId) -> bool
+    ensures { result ≡ true → class_standing wishes.now.wanted (found_in classes.now) class ≡ Passed }
+{
+    if !is_unlisted(classes, wishes, class) {
+        return false;
+    }
+    is_unnamed(wishes, known_signature(classes, class))
+}
+
 fn standing_of(classes: &Classes, wishes: &Wishes, class: ClassId) -> Standing
     ensures { result ≡ class_standing wishes.now.wanted (found_in classes.now) class }
 {
-    if is_unlisted(classes, wishes, class) {
+    if passes(classes, wishes, class) {
         return Standing::Passed;
     }
     match watched_signature(classes, wishes, class) {

@@ -2,8 +2,8 @@
 ghost use Rattle.std.specs.Prelude.{◌≡◌, ◌++◌, [], IfOk, OnOk, option_map};
 ghost use Rattle.std.specs.List.{flat_map};
 ghost use Rattle.jdwp_commands.specs.declared.question.Question.TheVariants as questions;
-ghost use Rattle.machine_model.specs.Lookups.{classes_of, finished, names_plan, plan, refusal, threads_plan};
-ghost use Rattle.machine_model.specs.Plans.{after, found_from, gave, has, must_hear, need, refused};
+ghost use Rattle.machine_model.specs.Lookups.{names_plan, plan, threads_plan};
+ghost use Rattle.machine_model.specs.Plans.{after, found_from, has, must_hear, need};
 ghost use Rattle.machine_model.specs.declared.parts.Finding.{Finding as AFinding};
 ghost use Rattle.machine_model.specs.declared.parts.Finding.TheVariants.{Classes as classes_found};
 ghost use Rattle.machine_model.specs.declared.parts.Finding.TheVariants.{Variables as variables_found};
@@ -14,13 +14,12 @@ ghost use Rattle.talk_plans.specs.Planning.{need_or, sight_in};
 
 use crate::class_plans::{all_found, all_lacking};
 use crate::frames::frames_need;
-use crate::references::{body_of, shown_by};
 use crate::state::State;
-use dap_messages::Failure;
+use crate::thrown::{exception_need, text_need};
 use jdwp_commands::{Answer, Question, Replied};
-use jdwp_values::{ClassId, ThreadId};
+use jdwp_values::ThreadId;
 use look_ups::{Asked, QuestionKey, Sight, variables_need};
-use machine_model::{Finding, Lookup, NamedThread, Note, Outcome, Part, ShownVariable, Want};
+use machine_model::{Finding, Lookup, NamedThread, ShownVariable, Want};
 use std::alloc::Global;
 use std::collections::VecDeque;
 use wire_core::{Blob, List, NoMemory};
@@ -209,87 +208,8 @@ pub(crate) fn found_for(
             let found = variables_need(alloc, sight, types, thing, filter, start, count)?;
             Ok(children_found(found))
         }
+        Lookup::ExceptionText { object, .. } => text_need(alloc, state, asked, object),
+        Lookup::Exception(thrown) => exception_need(alloc, state, asked, thrown),
         Lookup::Classes => classes_need(alloc, state, asked),
-    }
-}
-
-/// The failure of a request whose question or effect was refused with an error (JDWP, Error Constants, INVALID_THREAD).
-pub(crate) fn refusal(code: u16) -> Failure
-    ensures { result ≡ refusal code }
-{
-    if code == 10 {
-        Failure::unknown_thread()
-    } else {
-        Failure::target_error(code)
-    }
-}
-
-// The classes that were found.
-fn classes_of(alloc: Global, finding: Finding) -> List<ClassId>
-    ensures { result ≡ classes_of (gave finding) }
-{
-    match finding {
-        Finding::Threads(_) => List::new(alloc),
-        Finding::Frames { .. } => List::new(alloc),
-        Finding::Variables(_) => List::new(alloc),
-        Finding::Classes(classes) => classes,
-    }
-}
-
-/// The parts that a look-up becomes that found something.
-pub(crate) fn found_parts(
-    alloc: Global,
-    lookup: Lookup,
-    finding: Finding,
-    state: &State,
-) -> Result<VecDeque<Part>, NoMemory>
-    ensures { IfOk result (λ parts. parts.items ≡ finished lookup (gave finding) state.now) }
-{
-    match lookup {
-        Lookup::Threads => Ok(VecDeque::from_array(
-            alloc,
-            [Part::Responds(Outcome::Success(body_of(finding)))],
-        )?),
-        Lookup::Frames { .. } => Ok(VecDeque::from_array(
-            alloc,
-            [Part::Responds(shown_by(alloc, &state.numbers, body_of(finding))?)],
-        )?),
-        Lookup::Variables { .. } => Ok(VecDeque::from_array(
-            alloc,
-            [Part::Responds(shown_by(alloc, &state.numbers, body_of(finding))?)],
-        )?),
-        Lookup::Classes => Ok(VecDeque::from_array(
-            alloc,
-            [Part::Notes(Note::Classes(classes_of(alloc, finding)))],
-        )?),
-    }
-}
-
-/// The parts that a look-up becomes that was refused with an error.
-pub(crate) fn refused_parts(
-    alloc: Global,
-    lookup: Lookup,
-    code: u16,
-    state: &State,
-) -> Result<VecDeque<Part>, NoMemory>
-    ensures { IfOk result (λ parts. parts.items ≡ finished lookup (refused code) state.now) }
-{
-    match lookup {
-        Lookup::Threads => Ok(VecDeque::from_array(
-            alloc,
-            [Part::Responds(Outcome::Failure(refusal(code)))],
-        )?),
-        Lookup::Frames { .. } => Ok(VecDeque::from_array(
-            alloc,
-            [Part::Responds(Outcome::Failure(refusal(code)))],
-        )?),
-        Lookup::Variables { .. } => Ok(VecDeque::from_array(
-            alloc,
-            [Part::Responds(Outcome::Failure(refusal(code)))],
-        )?),
-        Lookup::Classes => Ok(VecDeque::from_array(
-            alloc,
-            [Part::Notes(Note::Classes(List::new(alloc)))],
-        )?),
     }
 }

@@ -52,6 +52,7 @@ fn things_of(alloc: Global, body: &Body) -> Result<List<Thing>, NoMemory>
         Body::Capabilities => Ok(List::new(alloc)),
         Body::Breakpoints { .. } => Ok(List::new(alloc)),
         Body::Continued => Ok(List::new(alloc)),
+        Body::Exception { .. } => Ok(List::new(alloc)),
         Body::StackFrames { frames, .. } => frame_things(alloc, frames.as_slice()),
         Body::Scopes(frame) => Ok(List::from_slice(alloc, &[Thing::Locals(*frame)])?),
         Body::Variables(shown) => variable_things(alloc, shown.as_slice()),
@@ -113,6 +114,8 @@ pub(crate) fn body_of(finding: Finding) -> Body
         Finding::Threads(named) => Body::Threads(named),
         Finding::Frames { total, frames } => Body::StackFrames { total, frames },
         Finding::Variables(shown) => Body::Variables(shown),
+        Finding::ExceptionText(_) => Body::Nothing,
+        Finding::Exception { id, mode } => Body::Exception { id, mode },
         Finding::Classes(_) => Body::Nothing,
     }
 }

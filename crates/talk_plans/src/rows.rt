@@ -13,19 +13,22 @@ ghost use Rattle.machine_model.specs.declared.parts.Part.TheVariants.{Responds};
 use crate::breakpoints::breakpoints_row;
 use crate::composites::{composite_parts, has_death};
 use crate::copies::text_copies;
+use crate::function_rows::functions_row;
 use crate::news::told_news;
 use crate::run_rows::{configured_row, continue_row, pause_row, stack_row};
 use crate::state::State;
+use crate::step_rows::{exception_row, exceptions_row, refused_with, step_row, stepped_by};
 use crate::stops::decided;
 use crate::variable_rows::{scopes_row, variables_row};
 use dap_messages::{Command, Failure, InitializeArguments};
 use machine_model::{
-    Body, Choice, ClientOptions, Deed, Event, Finish, Guard, Item, Lookup, Note, Outcome, Part,
-    Phase,
+    Body, Choice, ClientOptions, Deed, Doing, Event, Finish, Guard, Item, Lookup, Note, Outcome,
+    Part, Phase,
 };
 use std::alloc::Global;
 use std::collections::VecDeque;
 use wire_core::{NoMemory, Text};
+use wish_sets::Depth;
 
 fn options_of(arguments: &InitializeArguments) -> ClientOptions
     ensures { result ≡ options_of arguments.now }
@@ -89,9 +92,15 @@ fn row_of(alloc: Global, command: &Command, state: &State) -> Result<VecDeque<Pa
         Command::Attach(arguments) => attach_row(alloc, arguments.source_roots.as_slice()),
         Command::ConfigurationDone => configured_row(alloc, state.entry),
         Command::SetBreakpoints(arguments) => breakpoints_row(alloc, arguments, state),
+        Command::SetFunctionBreakpoints(arguments) => functions_row(alloc, arguments, state),
+        Command::SetExceptionBreakpoints(arguments) => exceptions_row(alloc, *arguments),
         Command::Threads => Ok(VecDeque::from_array(alloc, [Part::Looks(Lookup::Threads)])?),
         Command::Continue(arguments) => continue_row(alloc, *arguments, state),
+        Command::Next(arguments) => step_row(alloc, Depth::Over, *arguments, state),
+        Command::StepIn(arguments) => step_row(alloc, Depth::Into, *arguments, state),
+        Command::StepOut(arguments) => step_row(alloc, Depth::Out, *arguments, state),
         Command::Pause(arguments) => pause_row(alloc, *arguments, state),
+        Command::ExceptionInfo(arguments) => exception_row(alloc, *arguments, state),
         Command::StackTrace(arguments) => stack_row(alloc, *arguments, state),
         Command::Scopes(arguments) => scopes_row(alloc, *arguments, state),
         Command::Variables(arguments) => variables_row(alloc, *arguments, state),
@@ -155,9 +164,15 @@ fn failure_of(command: &Command, state: &State) -> Option<Failure>
         Command::Attach(_) => unless_attached(state.phase),
         Command::ConfigurationDone => if_attached(state.phase),
         Command::SetBreakpoints(_) => if_attached(state.phase),
+        Command::SetFunctionBreakpoints(_) => if_attached(state.phase),
+        Command::SetExceptionBreakpoints(_) => if_attached(state.phase),
         Command::Threads => if_attached(state.phase),
         Command::Continue(_) => if_stopped(state.is_stopped(), state.phase),
+        Command::Next(_) => if_stopped(state.is_stopped(), state.phase),
+        Command::StepIn(_) => if_stopped(state.is_stopped(), state.phase),
+        Command::StepOut(_) => if_stopped(state.is_stopped(), state.phase),
         Command::Pause(_) => if_attached(state.phase),
+        Command::ExceptionInfo(_) => if_stopped(state.is_stopped(), state.phase),
         Command::StackTrace(_) => if_stopped(state.is_stopped(), state.phase),
         Command::Scopes(_) => if_attached(state.phase),
         Command::Variables(_) => if_attached(state.phase),
@@ -236,13 +251,15 @@ pub(crate) fn chosen(
     choice: Choice,
     state: &State,
     item: &Item,
+    effect: &Option<Doing>,
 ) -> Result<VecDeque<Part>, NoMemory>
-    ensures { IfOk result (λ parts. (hand : AHand) → hand.item ≡ item.now
+    ensures { IfOk result (λ parts. (hand : AHand) → hand.item ≡ item.now → hand.effect ≡ effect.now
         → parts.items ≡ chosen choice state.now hand) }
 {
     match choice {
         Choice::TellsNews(below) => told_news(alloc, below, state, item),
         Choice::Decides => decided(alloc, state, item),
+        Choice::Stepped => stepped_by(alloc, refused_with(effect)),
         Choice::Leaves(exits) => leaves(alloc, state.phase, exits),
     }
 }
@@ -254,6 +271,8 @@ fn lookup_responds(lookup: Lookup) -> bool
         Lookup::Threads => true,
         Lookup::Frames { .. } => true,
         Lookup::Variables { .. } => true,
+        Lookup::ExceptionText { .. } => false,
+        Lookup::Exception(_) => true,
         Lookup::Classes => false,
     }
 }
@@ -264,6 +283,7 @@ fn choice_responds(choice: Choice) -> bool
     match choice {
         Choice::TellsNews(_) => false,
         Choice::Decides => false,
+        Choice::Stepped => true,
         Choice::Leaves(_) => false,
     }
 }

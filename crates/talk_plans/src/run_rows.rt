@@ -63,7 +63,8 @@ pub(crate) fn continue_row(
     continue_parts(alloc, state.threads.with_number(arguments.thread_id))
 }
 
-// The whole target is suspended, for a stop that is told of this thread; in a stop nothing has to be done.
+// The whole target is suspended, for a stop that is told of this thread, and a step that is in flight is cleared; in a
+// stop nothing has to be done.
 fn paused_parts(alloc: Global, stopped: bool, thread: ThreadId) -> Result<VecDeque<Part>, NoMemory>
     ensures { IfOk result (λ parts. parts.items ≡ paused_parts stopped thread) }
 {
@@ -79,6 +80,8 @@ fn paused_parts(alloc: Global, stopped: bool, thread: ThreadId) -> Result<VecDeq
         alloc,
         [
             Part::Sends(Deed::Suspend),
+            Part::Notes(Note::Step(None)),
+            Part::Updates,
             response,
             Part::Tells(Event::Stopped(stopping)),
         ],

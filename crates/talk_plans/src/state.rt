@@ -6,14 +6,13 @@ ghost use Rattle.talk_plans.specs.Sizes.{sizes_seen};
 ghost use Rattle.talk_plans.specs.Talking.{IsNext};
 ghost use Rattle.machine_model.specs.Due.{after_deed};
 ghost use Rattle.machine_model.specs.Rest.{awaits_greeting};
-ghost use Rattle.machine_model.specs.Rows.{noted, taken};
+ghost use Rattle.machine_model.specs.Rows.{taken};
 ghost use Rattle.machine_model.specs.State.{is_attached, is_gone, lost, nothing_known};
 ghost use Rattle.machine_model.specs.Telling.{after_event, attached_from};
-ghost use Rattle.machine_model.specs.declared.parts.Note.TheVariants.{Lines};
 
 use crate::bound::BoundIds;
 use crate::composites::{learn_in, tells_of_none};
-use crate::effects::{entry_by, settle, unlisted_by};
+use crate::effects::{entry_by, forget_thrown, settle, unlisted_by};
 use crate::facts::learn;
 use crate::numbers::{Numbers, begin_stop, end_stop, has_stop, send, spend};
 use crate::open_classes::{OpenClasses, all_open, stays_open, trimmed};
@@ -22,22 +21,22 @@ use crate::sizes::{SizesRead, sizes_in};
 use crate::threads::ThreadNumbers;
 use class_tables::Classes;
 use jdwp_commands::{Question, Replied};
-use machine_model::{ClientOptions, Deed, Effect, Event, Item, News, Note, Phase};
+use machine_model::{ClientOptions, Deed, Effect, Event, Item, News, Phase, Thrown};
 use std::alloc::Global;
 use std::marker::Model;
 use std::mem;
 use stop_refs::Running;
 use wire_core::{List, NoMemory, Text};
-use wish_sets::{LineEntry, Wishes};
+use wish_sets::Wishes;
 
 /// What a session knows: how the client wants to be served; where it stands with its target, which sides of the
 /// handshake went out and came, and the sizes of ids; the folders that sources stand in, and the paths under which the
 /// client listed breakpoints of sources; the id that the next breakpoint gets; which event requests are wished and which
 /// stand; whether a watch was set since all classes were listed; the facts of classes; the threads that were told; the
-/// breakpoints that were told to be verified; whether a stop is in hand, and the numbers of what was told in it; whether
-/// the target's entry is held, and whether the client has configured all; whether it was told that nothing more comes of
-/// the target; and, where that was found out, which classes may lack something, of which contracts see nothing. It has
-/// to be spent by `finish`.
+/// breakpoints that were told to be verified; whether a stop is in hand, the numbers of what was told in it, and what was
+/// thrown in it; whether the target's entry is held, and whether the client has configured all; whether it was told that
+/// nothing more comes of the target; and, where that was found out, which classes may lack something, of which contracts
+/// see nothing. It has to be spent by `finish`.
 #[derive(Debug)]
 pub struct State {
     pub(crate) options: ClientOptions,
@@ -54,6 +53,7 @@ pub struct State {
     pub(crate) threads: ThreadNumbers,
     pub(crate) bound: BoundIds,
     pub(crate) numbers: Numbers,
+    pub(crate) thrown: List<Thrown>,
     pub(crate) entry: bool,
     pub(crate) configured: bool,
     pub(crate) terminated: bool,
@@ -86,6 +86,7 @@ impl Model for State {
       bound = s.bound;
       stopped = has_stop s.numbers;
       numbers = stop_of s.numbers;
+      thrown = s.thrown;
       entry = s.entry;
       configured = s.configured;
       terminated = s.terminated;
@@ -119,6 +120,7 @@ impl State {
             threads: ThreadNumbers::new(alloc),
             bound: BoundIds::new(alloc),
             numbers: Numbers::Running(Running::new(alloc)),
+            thrown: List::new(alloc),
             entry: false,
             configured: false,
             terminated: false,
@@ -199,6 +201,7 @@ impl State {
     {
         self.phase = Phase::Gone;
         end_stop(alloc, &mut self.numbers);
+        self.thrown = List::new(alloc);
         self.entry = false;
     }
 
@@ -226,6 +229,7 @@ impl State {
             threads: _,
             bound: _,
             numbers,
+            thrown: _,
             entry: _,
             configured: _,
             terminated: _,
@@ -235,8 +239,8 @@ impl State {
     }
 
     // What the telling of an event changes.
-    pub(crate) fn tell(&mut self, alloc: Global, event: Event) -> Result<(), NoMemory>
-        ensures { OnOk result (self.new ≡ after_event event self.old) }
+    pub(crate) fn tell(&mut self, alloc: Global, event: &Event) -> Result<(), NoMemory>
+        ensures { OnOk result (self.new ≡ after_event event.now self.old) }
     {
         match event {
             Event::Initialized => {
@@ -244,7 +248,7 @@ impl State {
                 Ok(())
             }
             Event::News(News::Verified(entry)) => self.bound.add(entry.id),
-            Event::News(News::Thread { thread, .. }) => self.threads.add(thread),
+            Event::News(News::Thread { thread, .. }) => self.threads.add(*thread),
             Event::Stopped(stopping) => {
                 begin_stop(alloc, &mut self.numbers)?;
                 self.threads.add(stopping.thread)
@@ -262,6 +266,7 @@ impl State {
         ensures { OnOk result (self.new ≡ after_deed deed self.old) }
     {
         send(alloc, deed, &mut self.numbers)?;
+        forget_thrown(alloc, deed, &mut self.thrown);
         self.entry = entry_by(deed, self.entry);
         Ok(())
     }
@@ -284,59 +289,6 @@ impl State {
             Item::Raw { .. } => Ok(()),
             Item::TargetEnd => Ok(()),
         }
-    }
-
-    // Something is written down: what the client asked for, what breakpoints are bound by, or where the session stands
-    // with the target's entry.
-    pub(crate) fn note(&mut self, alloc: Global, note: Note) -> Result<(), NoMemory>
-        ensures { OnOk result (self.new ≡ noted note self.old) }
-    {
-        match note {
-            Note::Options(options) => {
-                self.options = options;
-                Ok(())
-            }
-            Note::Roots(roots) => {
-                self.roots = roots;
-                Ok(())
-            }
-            Note::Lines { key, path, entries } => self.list_lines(alloc, key, path, entries),
-            Note::Classes(those) => {
-                self.left = None;
-                self.wishes
-                    .classes_known(alloc, &self.classes, those.as_slice())
-            }
-            Note::EntryHeld => {
-                self.entry = true;
-                Ok(())
-            }
-            Note::Configured => {
-                self.configured = true;
-                Ok(())
-            }
-        }
-    }
-
-    // The breakpoints of a source are listed under a path, each under an id of its own; without a key none is kept.
-    fn list_lines(
-        &mut self,
-        alloc: Global,
-        key: Option<Text>,
-        path: Text,
-        entries: List<LineEntry>,
-    ) -> Result<(), NoMemory>
-        ensures { OnOk result (self.new ≡ noted (Lines key path entries) self.old) }
-    {
-        let Some(next) = self.next_entry.checked_add(entries.len() as u64) else {
-            return Err(NoMemory);
-        };
-        if let Some(key) = key {
-            self.left = None;
-            self.paths.put(alloc, &key, path)?;
-            self.wishes.set_lines(alloc, key, entries)?;
-        }
-        self.next_entry = next;
-        Ok(())
     }
 
     // What a reply to a question tells.

@@ -1,117 +1,20 @@
 //! What becomes of a composite that has suspended the whole target: it is a stop, the target's entry is held, or the
 //! target runs on.
-ghost use Rattle.std.specs.Prelude.{◌≡◌, ◌++◌, IfOk, OnOk, find};
-ghost use Rattle.std.specs.List.{flat_map, list_any};
-ghost use Rattle.machine_model.specs.Stops.{decided, decided_by, decided_of, first_of, has_start, hit_by, hit_parts};
-ghost use Rattle.machine_model.specs.Stops.{hits_in, holds_entry, is_at_line, is_live, is_start, quiet_parts};
-ghost use Rattle.machine_model.specs.Stops.{stop_among};
+ghost use Rattle.std.specs.Prelude.{◌≡◌, IfOk};
+ghost use Rattle.machine_model.specs.Stops.{decided, decided_by, decided_of, has_start, hit_parts, hits_in};
+ghost use Rattle.machine_model.specs.Stops.{holds_entry, is_start, quiet_parts, stop_among, told_part};
 
+use crate::hits::{hits_in, stop_among, thrown_in};
 use crate::state::State;
-use jdwp_events::{Event as TargetEvent, EventKind};
-use machine_model::{Deed, Event, Item, Note, Part, StopCause, Stopping, Suspension};
+use jdwp_events::Event as TargetEvent;
+use jdwp_values::ThreadId;
+use machine_model::{
+    Deed, Event, Halt, HaltCause, Item, Lookup, Note, Part, StopCause, Stopping, Suspension, Thrown,
+};
 use std::alloc::Global;
 use std::collections::VecDeque;
 use wire_core::{List, NoMemory};
-use wish_sets::{EntryAt, Wishes};
-
-// An event request for breakpoints is installed under this id (JDWP, Event command set, Composite, requestID).
-fn is_live(wishes: &Wishes, request: u32) -> bool
-    ensures { result ≡ is_live wishes.now request }
-{
-    match wishes.owner_of(EventKind::Breakpoint, request) {
-        None => false,
-        Some(_) => true,
-    }
-}
-
-// A breakpoint was hit, under an event request that is installed (JDWP, Event command set, Composite, Breakpoint).
-fn add_hit(hits: &mut List<Stopping>, wishes: &Wishes, event: &TargetEvent) -> Result<(), NoMemory>
-    ensures { OnOk result (hits.new ≡ hits.old ++ hit_by wishes.now event.now) }
-{
-    match event {
-        TargetEvent::Breakpoint {
-            request,
-            thread,
-            at,
-        } => {
-            if !is_live(wishes, *request) {
-                return Ok(());
-            }
-            hits.push(Stopping {
-                cause: StopCause::Hit(*at),
-                thread: *thread,
-            })
-        }
-        _ => Ok(()),
-    }
-}
-
-fn hits_in(
-    alloc: Global,
-    wishes: &Wishes,
-    events: &[TargetEvent],
-) -> Result<List<Stopping>, NoMemory>
-    ensures { IfOk result (λ hits. hits ≡ hits_in wishes.now events.now) }
-{
-    let mut hits = List::new(alloc);
-    for event in events {
-        add_hit(&mut hits, wishes, event)?;
-    }
-    Ok(hits)
-}
-
-/// Whether one of these breakpoints is of a source.
-pub(crate) fn has_line(entries: &[EntryAt]) -> bool
-    ensures { result ≡ list_any (λ entry. entry.line) entries.now }
-{
-    entries.iter().any(|entry| entry.line)
-}
-
-// A breakpoint of a source stands there.
-fn is_at_line(alloc: Global, wishes: &Wishes, cause: StopCause) -> Result<bool, NoMemory>
-    ensures { IfOk result (λ is. is ≡ is_at_line wishes.now cause) }
-{
-    match cause {
-        StopCause::Hit(at) => {
-            let entries = wishes.entries_at(alloc, &at)?;
-            Ok(has_line(entries.as_slice()))
-        }
-        StopCause::Pause => Ok(false),
-    }
-}
-
-// The first hit of a breakpoint of a source.
-fn line_hit(alloc: Global, wishes: &Wishes, hits: &[Stopping]) -> Result<Option<Stopping>, NoMemory>
-    ensures { IfOk result (λ hit. hit ≡ find (λ hit. is_at_line wishes.now hit.cause) hits.now) }
-{
-    for hit in hits {
-        if is_at_line(alloc, wishes, hit.cause)? {
-            return Ok(Some(*hit));
-        }
-    }
-    Ok(None)
-}
-
-#[tactic(auto, using(crate::proofs::StopLaws::first_is))]
-fn first_of(hits: &[Stopping]) -> Option<Stopping>
-    ensures { result ≡ first_of hits.now }
-{
-    hits.first().copied()
-}
-
-// The hit that is told: the first of a breakpoint of a source, else the first.
-fn stop_among(
-    alloc: Global,
-    wishes: &Wishes,
-    hits: &[Stopping],
-) -> Result<Option<Stopping>, NoMemory>
-    ensures { IfOk result (λ stop. stop ≡ stop_among wishes.now hits.now) }
-{
-    match line_hit(alloc, wishes, hits)? {
-        Some(hit) => Ok(Some(hit)),
-        None => Ok(first_of(hits)),
-    }
-}
+use wish_sets::Wishes;
 
 // The target's start (JDWP, Event command set, Composite, VMStart).
 fn is_start(event: &TargetEvent) -> bool
@@ -151,18 +54,48 @@ fn quiet_parts(alloc: Global, holds: bool) -> Result<VecDeque<Part>, NoMemory>
     Ok(VecDeque::from_array(alloc, [Part::Sends(Deed::Resume(Suspension::Composite))])?)
 }
 
-// A hit is told: with no stop in hand it begins one; else the stop goes on, and the suspension that it has too much is
-// undone.
-fn hit_parts(alloc: Global, stopped: bool, stopping: Stopping) -> Result<VecDeque<Part>, NoMemory>
-    ensures { IfOk result (λ parts. parts.items ≡ hit_parts stopped stopping) }
+// How a hit is told: of what was thrown the type is looked up first.
+fn told_part(cause: HaltCause, thread: ThreadId) -> Part
+    ensures { result ≡ told_part cause thread }
 {
-    let told = Part::Tells(Event::Stopped(stopping));
+    match cause {
+        HaltCause::Breakpoint(at) => Part::Tells(Event::Stopped(Stopping {
+            cause: StopCause::Hit(at),
+            thread,
+        })),
+        HaltCause::Exception(object) => Part::Looks(Lookup::ExceptionText { thread, object }),
+        HaltCause::Step => Part::Tells(Event::Stopped(Stopping {
+            cause: StopCause::Step,
+            thread,
+        })),
+    }
+}
+
+// What was thrown is written down, a step that is in flight is cleared, and the hit is told: with no stop in hand it
+// begins one; else the stop goes on, and the suspension that it has too much is undone.
+fn hit_parts(
+    alloc: Global,
+    stopped: bool,
+    thrown: List<Thrown>,
+    halt: Halt,
+) -> Result<VecDeque<Part>, NoMemory>
+    ensures { IfOk result (λ parts. parts.items ≡ hit_parts stopped thrown halt) }
+{
+    let noted = Part::Notes(Note::Thrown(thrown));
+    let cleared = Part::Notes(Note::Step(None));
+    let told = told_part(halt.cause, halt.thread);
     if !stopped {
-        return Ok(VecDeque::from_array(alloc, [told])?);
+        return Ok(VecDeque::from_array(alloc, [noted, cleared, Part::Updates, told])?);
     }
     Ok(VecDeque::from_array(
         alloc,
-        [told, Part::Sends(Deed::Resume(Suspension::Composite))],
+        [
+            noted,
+            cleared,
+            Part::Updates,
+            told,
+            Part::Sends(Deed::Resume(Suspension::Composite)),
+        ],
     )?)
 }
 
@@ -170,26 +103,38 @@ fn decided_by(
     alloc: Global,
     stopped: bool,
     holds: bool,
-    stop: Option<Stopping>,
+    thrown: List<Thrown>,
+    stop: Option<Halt>,
 ) -> Result<VecDeque<Part>, NoMemory>
-    ensures { IfOk result (λ parts. parts.items ≡ decided_by stopped holds stop) }
+    ensures { IfOk result (λ parts. parts.items ≡ decided_by stopped holds thrown stop) }
 {
     match stop {
         None => quiet_parts(alloc, holds),
-        Some(stopping) => hit_parts(alloc, stopped, stopping),
+        Some(halt) => hit_parts(alloc, stopped, thrown, halt),
     }
 }
 
 // The hit that is told of these events.
-fn stop_in(
-    alloc: Global,
-    wishes: &Wishes,
-    events: &[TargetEvent],
-) -> Result<Option<Stopping>, NoMemory>
+fn stop_in(alloc: Global, wishes: &Wishes, events: &[TargetEvent]) -> Result<Option<Halt>, NoMemory>
     ensures { IfOk result (λ stop. stop ≡ stop_among wishes.now (hits_in wishes.now events.now)) }
 {
     let hits = hits_in(alloc, wishes, events)?;
     stop_among(alloc, wishes, hits.as_slice())
+}
+
+// What becomes of these events, where this was thrown by them.
+fn decided_with(
+    alloc: Global,
+    state: &State,
+    events: &[TargetEvent],
+    thrown: List<Thrown>,
+) -> Result<VecDeque<Part>, NoMemory>
+    ensures { IfOk result (λ parts. parts.items ≡ decided_by state.now.stopped (holds_entry state.now events.now)
+        thrown (stop_among state.now.wishes (hits_in state.now.wishes events.now))) }
+{
+    let stop = stop_in(alloc, &state.wishes, events)?;
+    let holds = holds_entry(state, events);
+    decided_by(alloc, state.is_stopped(), holds, thrown, stop)
 }
 
 fn decided_of(
@@ -199,9 +144,8 @@ fn decided_of(
 ) -> Result<VecDeque<Part>, NoMemory>
     ensures { IfOk result (λ parts. parts.items ≡ decided_of state.now events.now) }
 {
-    let stop = stop_in(alloc, &state.wishes, events)?;
-    let holds = holds_entry(state, events);
-    decided_by(alloc, state.is_stopped(), holds, stop)
+    let thrown = thrown_in(alloc, &state.wishes, events)?;
+    decided_with(alloc, state, events, thrown)
 }
 
 /// What becomes of the suspension of the composite in hand, as long as the session is attached: a hit is told, the entry

@@ -14,8 +14,9 @@ use crate::asking::Asking;
 use crate::bodies::{event_told, outcome_told, response_to};
 use crate::copies::effect_copy;
 use crate::effects::effect_due;
+use crate::found::{found_parts, refused_parts};
 use crate::next::Next;
-use crate::plans::{Need, found_for, found_parts, refused_parts};
+use crate::plans::{Need, found_for};
 use crate::rows::{chosen, parts_of};
 use crate::state::State;
 use dap_messages::Told;
@@ -176,7 +177,7 @@ impl Talk {
         match part {
             Part::Responds(outcome) => self.responds(alloc, state, outcome),
             Part::Tells(event) => {
-                state.tell(alloc, event)?;
+                state.tell(alloc, &event)?;
                 Ok(Next::Tell(Told::Event(event_told(alloc, event, state)?)))
             }
             Part::Sends(deed) => self.sends(alloc, state, deed),
@@ -189,7 +190,8 @@ impl Talk {
                 Ok(Next::Go)
             }
             Part::Unfolds(choice) => {
-                put_first(chosen(alloc, choice, state, &self.item)?, &mut self.parts)?;
+                let parts = chosen(alloc, choice, state, &self.item, &self.effect)?;
+                put_first(parts, &mut self.parts)?;
                 Ok(Next::Go)
             }
             Part::Ends(finish) => {
@@ -333,6 +335,8 @@ fn look_ahead(alloc: Global, lookup: Lookup, state: &mut State) -> Result<(), No
         Lookup::Threads => Ok(()),
         Lookup::Frames { .. } => Ok(()),
         Lookup::Variables { .. } => Ok(()),
+        Lookup::ExceptionText { .. } => Ok(()),
+        Lookup::Exception(_) => Ok(()),
         Lookup::Classes => {
             if state.unlisted {
                 return Ok(());

@@ -1,4 +1,5 @@
-use Rattle.std.proofs.Common.{◌≡◌, ◌++◌, drop, flat_map}
+use Rattle.std.proofs.Common.{◌≡◌, ◌++◌, drop, filter, flat_map}
+use Rattle.machine_model.specs.Classes.{counts}
 use Rattle.talk_plans.specs.ClassPlanning.{lines_lacking}
 use Rattle.talk_plans.specs.Planning.{sight_in}
 use Rattle.talk_plans.proofs.class_plans.add_all_lines.Given as goal
@@ -6,6 +7,8 @@ use Rattle.talk_plans.proofs.class_plans.add_all_lines.Given as goal
 abbrev pub invariant-loop-method : goal.invariant-loop-method
 invariant-loop-method l =
     l.wants.items
-    ++ flat_map (λ method. lines_lacking (sight_in l.state l.asked) l.class method.id) (drop l.method-index l.methods)
+    ++ flat_map (λ method. lines_lacking (sight_in l.state l.asked) l.class method.id)
+    (filter (counts l.keyed l.state.wishes.wanted l.signature) (drop l.method-index l.methods))
     ≡ l.initial.wants.items
-    ++ flat_map (λ method. lines_lacking (sight_in l.state l.asked) l.class method.id) l.methods
+    ++ flat_map (λ method. lines_lacking (sight_in l.state l.asked) l.class method.id)
+    (filter (counts l.keyed l.state.wishes.wanted l.signature) l.methods)

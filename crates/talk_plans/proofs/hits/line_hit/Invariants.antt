@@ -1,6 +1,6 @@
 use Rattle.std.proofs.Common.{◌≡◌, drop, find}
 use Rattle.machine_model.specs.Stops.{is_at_line}
-use Rattle.talk_plans.proofs.stops.line_hit.Given as goal
+use Rattle.talk_plans.proofs.hits.line_hit.Given as goal
 
 abbrev pub invariant-loop-hit : goal.invariant-loop-hit
 invariant-loop-hit l =

@@ -1,7 +1,7 @@
 use Rattle.std.proofs.Common.{◌≡◌, ◌++◌, drop}
 use Rattle.std.specs.List.{flat_map}
 use Rattle.machine_model.specs.Stops.{hit_by}
-use Rattle.talk_plans.proofs.stops.hits_in.Given as goal
+use Rattle.talk_plans.proofs.hits.hits_in.Given as goal
 
 abbrev pub invariant-loop-event : goal.invariant-loop-event
 invariant-loop-event l =

@@ -1,0 +1,138 @@
+//! What becomes of a look-up that is done.
+ghost use Rattle.std.specs.Prelude.{◌≡◌, IfOk};
+ghost use Rattle.machine_model.specs.Lookups.{classes_of, finished, refusal, text_of};
+ghost use Rattle.machine_model.specs.Plans.{gave, refused};
+ghost use Rattle.machine_model.specs.declared.parts.Event.TheVariants.{Stopped as a_stop};
+ghost use Rattle.machine_model.specs.declared.parts.Part.TheVariants as parts;
+ghost use Rattle.machine_model.specs.declared.parts.StopCause.TheVariants.{Exception as by_exception};
+
+use crate::references::{body_of, shown_by};
+use crate::state::State;
+use dap_messages::Failure;
+use jdwp_values::{ClassId, ThreadId};
+use machine_model::{Event, Finding, Lookup, Note, Outcome, Part, StopCause, Stopping};
+use std::alloc::Global;
+use std::collections::VecDeque;
+use wire_core::{List, NoMemory, Text};
+
+/// The failure of a request whose question or effect was refused with an error (JDWP, Error Constants, INVALID_THREAD).
+pub(crate) fn refusal(code: u16) -> Failure
+    ensures { result ≡ refusal code }
+{
+    if code == 10 {
+        Failure::unknown_thread()
+    } else {
+        Failure::target_error(code)
+    }
+}
+
+// The classes that were found.
+fn classes_of(alloc: Global, finding: Finding) -> List<ClassId>
+    ensures { result ≡ classes_of (gave finding) }
+{
+    match finding {
+        Finding::Threads(_) => List::new(alloc),
+        Finding::Frames { .. } => List::new(alloc),
+        Finding::Variables(_) => List::new(alloc),
+        Finding::ExceptionText(_) => List::new(alloc),
+        Finding::Exception { .. } => List::new(alloc),
+        Finding::Classes(classes) => classes,
+    }
+}
+
+// The text that was found.
+fn text_of(finding: Finding) -> Option<Text>
+    ensures { result ≡ text_of (gave finding) }
+{
+    match finding {
+        Finding::Threads(_) => None,
+        Finding::Frames { .. } => None,
+        Finding::Variables(_) => None,
+        Finding::ExceptionText(text) => text,
+        Finding::Exception { .. } => None,
+        Finding::Classes(_) => None,
+    }
+}
+
+// A thread threw something whose type has this name, where that is known (DAP specification, Events, Stopped, text).
+fn told_thrown(thread: ThreadId, text: Option<Text>) -> Part
+    ensures { result ≡ parts.Tells (a_stop (record { cause = by_exception text; thread = thread })) }
+{
+    Part::Tells(Event::Stopped(Stopping {
+        cause: StopCause::Exception(text),
+        thread,
+    }))
+}
+
+/// The parts that a look-up becomes that found something.
+pub(crate) fn found_parts(
+    alloc: Global,
+    lookup: Lookup,
+    finding: Finding,
+    state: &State,
+) -> Result<VecDeque<Part>, NoMemory>
+    ensures { IfOk result (λ parts. parts.items ≡ finished lookup (gave finding) state.now) }
+{
+    match lookup {
+        Lookup::Threads => Ok(VecDeque::from_array(
+            alloc,
+            [Part::Responds(Outcome::Success(body_of(finding)))],
+        )?),
+        Lookup::Frames { .. } => Ok(VecDeque::from_array(
+            alloc,
+            [Part::Responds(shown_by(alloc, &state.numbers, body_of(finding))?)],
+        )?),
+        Lookup::Variables { .. } => Ok(VecDeque::from_array(
+            alloc,
+            [Part::Responds(shown_by(alloc, &state.numbers, body_of(finding))?)],
+        )?),
+        Lookup::ExceptionText { thread, .. } => Ok(VecDeque::from_array(
+            alloc,
+            [told_thrown(thread, text_of(finding))],
+        )?),
+        Lookup::Exception(_) => Ok(VecDeque::from_array(
+            alloc,
+            [Part::Responds(Outcome::Success(body_of(finding)))],
+        )?),
+        Lookup::Classes => Ok(VecDeque::from_array(
+            alloc,
+            [Part::Notes(Note::Classes(classes_of(alloc, finding)))],
+        )?),
+    }
+}
+
+/// The parts that a look-up becomes that was refused with an error.
+pub(crate) fn refused_parts(
+    alloc: Global,
+    lookup: Lookup,
+    code: u16,
+    state: &State,
+) -> Result<VecDeque<Part>, NoMemory>
+    ensures { IfOk result (λ parts. parts.items ≡ finished lookup (refused code) state.now) }
+{
+    match lookup {
+        Lookup::Threads => Ok(VecDeque::from_array(
+            alloc,
+            [Part::Responds(Outcome::Failure(refusal(code)))],
+        )?),
+        Lookup::Frames { .. } => Ok(VecDeque::from_array(
+            alloc,
+            [Part::Responds(Outcome::Failure(refusal(code)))],
+        )?),
+        Lookup::Variables { .. } => Ok(VecDeque::from_array(
+            alloc,
+            [Part::Responds(Outcome::Failure(refusal(code)))],
+        )?),
+        Lookup::ExceptionText { thread, .. } => {
+            Ok(VecDeque::from_array(alloc, [told_thrown(thread, None)])?)
+        }
+        Lookup::Exception(_) => Ok(VecDeque::from_array(
+            alloc,
+            [Part::Responds(Outcome::Failure(refusal(code)))],
+        )?),
+        Lookup::Classes => Ok(VecDeque::from_array(
+            alloc,
+            [Part::Notes(Note::Classes(List::new(alloc)))],
+        )?),
+    }
+}
