@@ -98,6 +98,11 @@ pub(crate) const ATTACHES: Stage<'static> = Stage {
     sent: &SENT_ATTACHED,
 };
 
+/// A session that is attached, and one that isn't.
+pub(crate) const ATTACHED: &[Stage<'static>] = &[ATTACHES];
+
+pub(crate) const FRESH: &[Stage<'static>] = &[];
+
 /// Limits that no short session reaches.
 pub(crate) const USUAL: Limits = Limits {
     turns: 99,
@@ -220,6 +225,30 @@ pub(crate) fn check_all(
                 told: course.told,
                 sent: course.sent,
                 ending: course.ending,
+            },
+        )?;
+    }
+    Ok(())
+}
+
+/// A session that has come so far, and then consists of one stage more, after which its client goes away: so of each of
+/// these stages.
+pub(crate) fn check_stages(
+    alloc: Global,
+    first: &'static [Stage<'static>],
+    stages: &'static [Stage<'static>],
+) -> Result<(), Fail> {
+    for stage in stages {
+        check(
+            alloc,
+            &Course {
+                first,
+                steps: stage.steps,
+                limits: USUAL,
+                failing: &[],
+                told: stage.told,
+                sent: stage.sent,
+                ending: Ending::Left,
             },
         )?;
     }

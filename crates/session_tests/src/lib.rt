@@ -9,7 +9,17 @@ mod composites;
 #[cfg(test)]
 mod courses;
 #[cfg(test)]
+mod exception_infos;
+#[cfg(test)]
+mod exceptions;
+#[cfg(test)]
+mod exceptions_among;
+#[cfg(test)]
 mod frames;
+#[cfg(test)]
+mod function_hits;
+#[cfg(test)]
+mod functions;
 #[cfg(test)]
 mod keys;
 #[cfg(test)]
@@ -19,9 +29,19 @@ mod sessions;
 #[cfg(test)]
 mod stack_traces;
 #[cfg(test)]
+mod step_depths;
+#[cfg(test)]
+mod step_failures;
+#[cfg(test)]
+mod steps;
+#[cfg(test)]
 mod stops;
 #[cfg(test)]
 mod threads;
+#[cfg(test)]
+mod thrown;
+#[cfg(test)]
+mod unbound_functions;
 #[cfg(test)]
 mod values;
 #[cfg(test)]
