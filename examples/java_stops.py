@@ -21,6 +21,11 @@ runs to its end, which is told, and the client disconnects.
 - `pause` holds a program that counts, and a second one changes nothing.
 - `continue` and `stackTrace` without a stop are refused, and so are all three for a thread that was never told.
 - The client disconnects in a stop, or goes away: the Java program runs on. It is killed in a stop: that is told.
+- `next` goes over a call, `stepIn` into it and `stepOut` out of it. A step that comes to a breakpoint is told as its
+  hit, once, and a breakpoint inside a call ends the step over it. A step of a thread that has ended is refused.
+- An exception that is caught and one that nothing catches are told where they are thrown, with their types, by the
+  filters that are set then.
+- A breakpoint of a function stops in each method of that name, and in a class that is loaded later.
 - 1,000 hits, each continued, are told one by one, as many as a debugger by the Java Debug Interface counts.
 
 Where there is no JDK, or none with an agent for JDWP, it says so in one line, and its status is 0.
@@ -35,10 +40,12 @@ import sys
 import tempfile
 import time
 
-from building import PATIENCE, plainly, program_of
+from building import plainly, program_of
 from java_machine import DEBUGGER, EXAMPLES, JavaProgram, compiled, hits_by_jdi, lacking
 from over_tcp import Program
-from sessions import RUNS_ON, TERMINATED, Session, begin, bound, failed, go_on, has_to_be, line_of, stopped, succeeded
+from sessions import RUNS_ON, TERMINATED, Session, begin, bound, ended, failed, go_on, has_to_be, hit, leaves, left
+from sessions import line_of, says, stack, stopped, succeeded
+from step_cases import STEP_CASES
 
 COPIES = 6
 ROUNDS = 20
@@ -314,23 +321,6 @@ def pause_behind_continue(session, number):
     has_to_be("the event behind them", session.event(), stopped(number))
 
 
-def hit(session, entries):
-    """The number of the thread that stopped at breakpoints with these ids, which the next event tells."""
-    event = session.event()
-    number = event.get("body", {}).get("threadId")
-    has_to_be("the stop", event, stopped(number, entries))
-    return number
-
-
-def stack(session, number, **window):
-    """The frames of a thread that are shown, all of them or a window, and how many it has (DAP specification,
-    StackTrace request)."""
-    said = session.ask("stackTrace", {"threadId": number, **window})
-    has_to_be("whether stackTrace succeeds", said["success"], True)
-    has_to_be("what it shows", sorted(said["body"]), ["stackFrames", "totalFrames"])
-    return said["body"]["stackFrames"], said["body"]["totalFrames"]
-
-
 def frame(number, printed):
     """A frame under a number, as a Java program prints it: its method, its file and its line, which is below 0 in a
     native method (DAP specification, Types, StackFrame)."""
@@ -436,35 +426,6 @@ def counts_on(java, bridge, session, printed):
     has_to_be("its end", last, b"down")
 
 
-def ended(java, bridge, session):
-    """What the Java program prints up to its end, which it comes to by itself, and which is told."""
-    has_to_be("the event at the end", session.event(), TERMINATED)
-    return left(java, bridge, session)
-
-
-def leaves(bridge, session):
-    """The client disconnects, and the program ends."""
-    has_to_be("disconnect", session.ask("disconnect"), succeeded())
-    client = session.client
-    has_to_be("what comes behind its response", client.rest + client.stream.recv(1), b"")
-    client.close()
-    says(bridge, b"ended 0 done\n", 0)
-
-
-def says(bridge, line, status):
-    """The program ends with this line and status."""
-    said, _ = bridge.process.communicate(timeout=PATIENCE)
-    has_to_be("the program's line and status", (said, bridge.process.returncode), (line, status))
-
-
-def left(java, bridge, session):
-    """What the Java program prints up to its end. The client disconnects, and the program ends."""
-    leaves(bridge, session)
-    printed, status = java.end()
-    has_to_be("the status of the Java program", status, 0)
-    return printed
-
-
 # The cases, each with whether the Java program waits for its debugger, and its words.
 CASES = (
     (a_class_loaded_late, False, "stops.Late"),
@@ -482,6 +443,7 @@ CASES = (
     (client_gone_in_a_stop, False, "stops.Between"),
     (killed_in_a_stop, False, "stops.Between"),
     (a_thousand_hits, True, "stops.Rounds", str(HITS)),
+    *STEP_CASES,
 )
 
 

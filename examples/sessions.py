@@ -3,6 +3,7 @@ meanwhile, and the requests that a session begins with."""
 import json
 import os
 
+from building import PATIENCE
 from java_machine import EXAMPLES
 from over_tcp import CAPABILITIES, compact, request
 
@@ -27,10 +28,10 @@ def failed(code, name, detail=None):
     return {"success": False, "message": name, "body": {"error": {"format": text, "id": code}}}
 
 
-def stopped(number, entries=None):
-    """The event of a stop at breakpoints with these ids, or of one that was asked for (DAP specification, Events,
-    Stopped)."""
-    body = {"allThreadsStopped": True, "reason": "breakpoint" if entries else "pause", "threadId": number}
+def stopped(number, entries=None, **said):
+    """The event of a stop at breakpoints with these ids, or of one that was asked for, or of one of which another thing
+    is said (DAP specification, Events, Stopped)."""
+    body = {"allThreadsStopped": True, "reason": "breakpoint" if entries else "pause", "threadId": number, **said}
     if entries:
         body["hitBreakpointIds"] = entries
     return {"event": "stopped", "body": body}
@@ -129,3 +130,49 @@ def begin(session, source=None, lines=(), is_loaded=True, **options):
 def go_on(session, number):
     """Lets the Java program run on from a stop."""
     has_to_be("continue", session.ask("continue", {"threadId": number}), RUNS_ON)
+
+
+def hit(session, entries, **said):
+    """The number of the thread that stopped at breakpoints with these ids, which the next event tells."""
+    event = session.event()
+    number = event.get("body", {}).get("threadId")
+    has_to_be("the stop", event, stopped(number, entries, **said))
+    return number
+
+
+def stack(session, number, **window):
+    """The frames of a thread that are shown, all of them or a window, and how many it has (DAP specification,
+    StackTrace request)."""
+    said = session.ask("stackTrace", {"threadId": number, **window})
+    has_to_be("whether stackTrace succeeds", said["success"], True)
+    has_to_be("what it shows", sorted(said["body"]), ["stackFrames", "totalFrames"])
+    return said["body"]["stackFrames"], said["body"]["totalFrames"]
+
+
+def ended(java, bridge, session):
+    """What the Java program prints up to its end, which it comes to by itself, and which is told."""
+    has_to_be("the event at the end", session.event(), TERMINATED)
+    return left(java, bridge, session)
+
+
+def leaves(bridge, session):
+    """The client disconnects, and the program ends."""
+    has_to_be("disconnect", session.ask("disconnect"), succeeded())
+    client = session.client
+    has_to_be("what comes behind its response", client.rest + client.stream.recv(1), b"")
+    client.close()
+    says(bridge, b"ended 0 done\n", 0)
+
+
+def says(bridge, line, status):
+    """The program ends with this line and status."""
+    said, _ = bridge.process.communicate(timeout=PATIENCE)
+    has_to_be("the program's line and status", (said, bridge.process.returncode), (line, status))
+
+
+def left(java, bridge, session):
+    """What the Java program prints up to its end. The client disconnects, and the program ends."""
+    leaves(bridge, session)
+    printed, status = java.end()
+    has_to_be("the status of the Java program", status, 0)
+    return printed
