@@ -71,7 +71,7 @@ cut_behind_word text = (
 
 -- Digits of an index --------------------------------------------------------------------------------------------------
 
-last_is_digit : (bytes : List ℕ) (end : ℕ) → end < length bytes → AllDigits 10 (take (suc end) bytes)
+pub last_is_digit : (bytes : List ℕ) (end : ℕ) → end < length bytes → AllDigits 10 (take (suc end) bytes)
     → digit_value (get_or bytes end 0) < 10
 last_is_digit [] end within all = absurd (omega arith)
 last_is_digit (byte ∷ bytes) zero within all = all.0

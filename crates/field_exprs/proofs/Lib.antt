@@ -5,3 +5,5 @@ pub mod HopBreaks
 pub mod ReadSoFar
 pub mod Wholes
 pub mod Answering
+pub mod Parsed
+mod Examples

@@ -199,14 +199,18 @@ end_breaks rest (byte ∷ left) skips some no_field no_index =
 
 -- What got stuck ------------------------------------------------------------------------------------------------------
 
-pub stuck_behind : (sign : ℕ) (text rest : List ℕ) (stuck : Stuck) → text ≡ sign ∷ rest
-    → IsStuck (λ behind. IsTail (sign ∷ behind)) rest stuck → IsStuck IsTail text stuck
-stuck_behind sign text rest NoMemory e is = tt
-stuck_behind sign text rest (Before left) e is = (
+pub break_behind : (sign : ℕ) (text rest left : List ℕ) → text ≡ sign ∷ rest
+    → BreaksBefore (λ behind. IsTail (sign ∷ behind)) rest left → BreaksBefore IsTail text left
+break_behind sign text rest left e is = (
   sign ∷ is.0,
   e ∙ ap (λ (l : List ℕ). sign ∷ l) is.1,
   record { outside = is.2.outside; more = is.2.more; begins = is.2.begins; next = is.2.next },
 )
+
+pub stuck_behind : (sign : ℕ) (text rest : List ℕ) (stuck : Stuck) → text ≡ sign ∷ rest
+    → IsStuck (λ behind. IsTail (sign ∷ behind)) rest stuck → IsStuck IsTail text stuck
+stuck_behind sign text rest NoMemory e is = tt
+stuck_behind sign text rest (Before left) e is = break_behind sign text rest left.now e is
 
 pub stuck_later : (text read rest : List ℕ) (found : List Hop) (stuck : Stuck) → Reads text read rest found
     → IsStuck IsTail rest stuck → IsStuck IsTail text stuck

@@ -1,7 +1,7 @@
 -- An expression by its parts, and where a text breaks that is none.
 use Rattle.std.proofs.Common.{◌≡◌, ℕ, ◌+◌, ◌-◌, Bool, true, false, List, [], ◌∷◌, ◌++◌, length}
 use Rattle.std.proofs.Common.{sym, ap, subst, ◌∙◌, refl, arith, inl, inr, append_assoc, length-append}
-use Rattle.std.specs.Prelude.{codes, bytes_eq}
+use Rattle.std.specs.Prelude.{codes, bytes_eq, if◌then◌else◌}
 use Rattle.std.specs.Cmp.Lexicographic.{bytes_decides}
 use Rattle.std.proofs.lemmas.Bool.{true≢false, cases_lt}
 use Rattle.std.proofs.lemmas.Bool.Decides.{nat_tests}
@@ -12,6 +12,7 @@ use Rattle.field_exprs.specs.declared.expr.Hop.{Hop}
 use Rattle.field_exprs.specs.declared.stuck.Stuck.{Stuck}
 use Rattle.field_exprs.specs.declared.stuck.Stuck.TheVariants.{NoMemory, Before}
 use Rattle.field_exprs.specs.Grammar.{is_blank, begins_name, is_in_name, AreBlanks, IsWord, IsHead, AreSteps, IsExpr}
+use Rattle.field_exprs.specs.Parsing.{head_of}
 use Rattle.field_exprs.specs.Reading.{IsAccepted, GoesWrong, IsTail, Stops, Skips, IsWordBefore, BreaksBefore}
 use Rattle.field_exprs.specs.Sticking.{IsStuck}
 use Rattle.field_exprs.proofs.Spans.{same_front, same_span, stops_alike, longer_front}
@@ -27,13 +28,12 @@ head_is_word text This is = subst IsWord (sym is) this_is_word
 head_is_word text (Name name) is = subst IsWord (sym is.0) is.1.0
 
 -- a word is a head: `this`, or a name
-pub head_of_word : (word : List ℕ) → IsWord word → (head : Head) × IsHead word head
-head_of_word word is_word = by (bytes_eq word (codes "this")) refl
+pub head_is : (word : List ℕ) → IsWord word → IsHead word (head_of word)
+head_is word is_word = by (bytes_eq word (codes "this")) refl
   where
-    by : (b : Bool) → bytes_eq word (codes "this") ≡ b → (head : Head) × IsHead word head
-    by true e = (This, (bytes_decides word (codes "this")).0 e)
-    by false e =
-        (Name word, (refl, (is_word, λ same. true≢false (sym ((bytes_decides word (codes "this")).1 same) ∙ e))))
+    by : (b : Bool) → bytes_eq word (codes "this") ≡ b → IsHead word (if b then This else Name word)
+    by true e = (bytes_decides word (codes "this")).0 e
+    by false e = (refl, (is_word, λ same. true≢false (sym ((bytes_decides word (codes "this")).1 same) ∙ e)))
 
 begins_unblank : (byte : ℕ) → begins_name byte ≡ true → is_blank byte ≡ false
 begins_unblank byte begins = grind (arith, nat_tests)
@@ -107,13 +107,13 @@ no_word text rest skips begins = (
 )
 
 -- where the steps behind the word break, the text breaks
-tail_breaks : (text rest word left behind : List ℕ) → Skips is_blank text rest → IsWordBefore rest word left
+pub tail_breaks : (text rest word left behind : List ℕ) → Skips is_blank text rest → IsWordBefore rest word left
     → BreaksBefore IsTail left behind → BreaksBefore IsAccepted text behind
 tail_breaks text rest word left behind skips before breaks =
     let blanks = skips.0 in
     let front = breaks.0 in
     let here = breaks.2 in
-    let head = head_of_word word before.is_word in
+    let head = head_of word in
     let joined = λ (more : List ℕ).
     append_assoc blanks (word ++ front) more ∙ ap (λ (l : List ℕ). blanks ++ l) (append_assoc word front more) in
     let none = λ (more : List ℕ) (stop : Stops is_in_name (front ++ more)) (out : ¬ IsTail (front ++ more))
@@ -130,9 +130,10 @@ tail_breaks text rest word left behind skips before breaks =
         outside = none behind (subst (Stops is_in_name) breaks.1 before.stops) here.outside;
         more = here.more;
         begins = (
-          record { head = head.0; steps = here.begins.0 },
-          subst (λ (l : List ℕ). IsExpr l (record { head = head.0; steps = here.begins.0 })) (sym (joined here.more))
-              (expr_of blanks word (front ++ here.more) head.0 here.begins.0 skips.2 head.1 here.begins.1),
+          record { head = head; steps = here.begins.0 },
+          subst (λ (l : List ℕ). IsExpr l (record { head = head; steps = here.begins.0 })) (sym (joined here.more))
+              (expr_of blanks word (front ++ here.more) head here.begins.0 skips.2 (head_is word before.is_word)
+              here.begins.1),
         );
         next = λ byte more other e.
             none (byte ∷ other)

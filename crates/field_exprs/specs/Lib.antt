@@ -2,3 +2,4 @@ pub mod Grammar
 pub mod Reading
 pub mod Printing
 pub mod Sticking
+pub mod Parsing

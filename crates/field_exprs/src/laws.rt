@@ -4,6 +4,7 @@ ghost use Rattle.field_exprs.specs.declared.expr.Expr.{Expr};
 ghost use Rattle.field_exprs.specs.declared.expr.ExprFault.{ExprFault};
 ghost use Rattle.field_exprs.specs.declared.expr.ExprFault.TheVariants.{NoMemory as refused_memory};
 ghost use Rattle.field_exprs.specs.Grammar.{IsExpr};
+ghost use Rattle.field_exprs.specs.Parsing.{parsed, as_read};
 ghost use Rattle.field_exprs.specs.Printing.{print};
 ghost use Rattle.field_exprs.specs.Reading.{IsRead, longest_text};
 
@@ -16,6 +17,11 @@ pub fn a_text_is_one_expression_at_most()
 pub fn a_text_is_read_in_one_way()
     ensures { (text : List ℕ) (one other : Result Expr ExprFault) → IsRead text one → IsRead text other
         → one ≢ Err refused_memory → other ≢ Err refused_memory → one ≡ other }
+{}
+
+/// What a text is parsed as, by the definition that is computed, is what it is read as by the grammar.
+pub fn a_text_is_read_as_it_is_parsed()
+    ensures { (text : List ℕ) → IsRead text (as_read (parsed text)) }
 {}
 
 /// What is printed of an expression that some text is, is that expression too and no longer than the text. So it is

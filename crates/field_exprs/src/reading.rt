@@ -1,6 +1,7 @@
 //! Texts read as expressions.
 ghost use Rattle.std.specs.Prelude.{◌≡◌, IfOk, IfErr};
 ghost use Rattle.field_exprs.specs.Grammar.{IsWord, IsHead, IsExpr};
+ghost use Rattle.field_exprs.specs.Parsing.{IsParsed};
 ghost use Rattle.field_exprs.specs.Reading.{IsAccepted, told_place, IsRead};
 ghost use Rattle.field_exprs.specs.Sticking.{IsStuck};
 
@@ -55,7 +56,8 @@ fn told(place: usize) -> u32
 /// `At` tells the byte behind the longest front that begins an expression where the text is none, and 4,096 where it is
 /// one of more bytes. `NoMemory` comes where memory is refused.
 pub fn parse(alloc: Global, text: &Text) -> Result<Expr, ExprFault>
-    ensures { IsRead text.now result }
+    ensures read { IsRead text.now result }
+    ensures parsed { IsParsed text.now result }
 {
     let whole = text.as_str();
     match read(alloc, whole) {
