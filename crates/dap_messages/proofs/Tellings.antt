@@ -8,6 +8,7 @@ use Rattle.dap_messages.specs.Objects.{count, integer, members_of}
 use Rattle.dap_messages.specs.Bodies.{breakpoint_data, breakpoints_data, reason_of, standing_data}
 use Rattle.dap_messages.specs.Bodies.{frame_data, source_data, source_member, stack_frames_data}
 use Rattle.dap_messages.specs.Bodies.{child_data, variable_data, variables_data}
+use Rattle.dap_messages.specs.Bodies.{evaluated_data, result_data, set_data, written_data}
 use Rattle.dap_messages.specs.Bodies.{thread_data, threads_data}
 use Rattle.dap_messages.specs.Events.{event_data, halt_data, hit_data, stop_data}
 use Rattle.dap_messages.specs.Telling.{answer_data, outcome_data, told_data, told_text}
@@ -17,6 +18,7 @@ use Rattle.dap_messages.specs.declared.told.Outcome.{Outcome}
 use Rattle.dap_messages.specs.declared.told.Outcome.TheVariants.{Success, Failure as Failed}
 use Rattle.dap_messages.specs.declared.told.Shape.TheVariants.{Nothing, Capabilities, Breakpoints, Threads, Continued}
 use Rattle.dap_messages.specs.declared.told.Shape.TheVariants.{StackFrames, Scopes, Variables, ExceptionInfo}
+use Rattle.dap_messages.specs.declared.told.Shape.TheVariants.{Written as IsWritten, Evaluated as IsEvaluated}
 use Rattle.dap_messages.specs.declared.told.Event.{Event}
 use Rattle.dap_messages.specs.declared.told.Event.TheVariants.{Initialized, Breakpoint as Changed, Terminated}
 use Rattle.dap_messages.specs.declared.told.Event.TheVariants.{Thread as ThreadChanged, Stopped as HasStopped}
@@ -28,6 +30,7 @@ use Rattle.dap_messages.specs.declared.told.Thread.{Thread}
 use Rattle.dap_messages.specs.declared.told.Source.{Source}
 use Rattle.dap_messages.specs.declared.told.StackFrame.{StackFrame}
 use Rattle.dap_messages.specs.declared.told.Variable.{Variable}
+use Rattle.dap_messages.specs.declared.told.Evaluated.{Evaluated}
 
 has_float-standing_data : (id : ℕ) (line : Option ℕ) (reason : Option (List ℕ)) →
     has_float (standing_data id line reason) ≡ false
@@ -97,6 +100,17 @@ items_have_float-variables (variable ∷ variables) =
 has_float-variables_data : (variables : List Variable) → has_float (variables_data variables) ≡ false
 has_float-variables_data variables = ap (λ found. found || false) (items_have_float-variables variables)
 
+has_float-set_data : (value : List ℕ) (kind : Option (List ℕ)) → has_float (set_data value kind) ≡ false
+has_float-set_data value None = refl
+has_float-set_data value (Some kind) = refl
+
+has_float-result_data : (evaluated : Evaluated) (indexed : Option ℕ) (kind : Option (List ℕ)) →
+    has_float (result_data evaluated indexed kind) ≡ false
+has_float-result_data evaluated None None = refl
+has_float-result_data evaluated None (Some kind) = refl
+has_float-result_data evaluated (Some indexed) None = refl
+has_float-result_data evaluated (Some indexed) (Some kind) = refl
+
 has_float-answer_data : (seq request_seq : ℕ) (command : List ℕ) (body : Data) →
     has_float body ≡ false → has_float (answer_data seq request_seq command (Some body)) ≡ false
 has_float-answer_data seq request_seq command body none = ap (λ found. found || false) none
@@ -118,6 +132,14 @@ has_float-outcome_data seq request_seq command (Success (StackFrames frames tota
 has_float-outcome_data seq request_seq command (Success (Scopes reference)) = refl
 has_float-outcome_data seq request_seq command (Success (Variables variables)) =
     has_float-answer_data seq request_seq command (variables_data variables) (has_float-variables_data variables)
+has_float-outcome_data seq request_seq command (Success (IsWritten written)) =
+    has_float-answer_data seq request_seq command
+    (written_data written)
+    (has_float-set_data written.value written.kind)
+has_float-outcome_data seq request_seq command (Success (IsEvaluated evaluated)) =
+    has_float-answer_data seq request_seq command
+    (evaluated_data evaluated)
+    (has_float-result_data evaluated evaluated.indexed evaluated.kind)
 has_float-outcome_data seq request_seq command (Success Continued) = refl
 has_float-outcome_data seq request_seq command (Success (ExceptionInfo id mode)) = refl
 has_float-outcome_data seq request_seq command (Failed failure) = refl

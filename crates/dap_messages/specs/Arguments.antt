@@ -10,7 +10,8 @@ use Rattle.dap_messages.specs.declared.arguments.Argument.TheVariants.{SupportsV
 use Rattle.dap_messages.specs.declared.arguments.Argument.TheVariants.{Source, Breakpoints, Filters, ThreadId}
 use Rattle.dap_messages.specs.declared.arguments.Argument.TheVariants.{StartFrame, Levels, FrameId}
 use Rattle.dap_messages.specs.declared.arguments.Argument.TheVariants.{VariablesReference, Filter as FilterMember}
-use Rattle.dap_messages.specs.declared.arguments.Argument.TheVariants.{Start, Count, TerminateDebuggee}
+use Rattle.dap_messages.specs.declared.arguments.Argument.TheVariants.{Start, Count, Name, Value, Expression}
+use Rattle.dap_messages.specs.declared.arguments.Argument.TheVariants.{TerminateDebuggee}
 use Rattle.dap_messages.specs.declared.arguments.Refused.{Refused}
 use Rattle.dap_messages.specs.declared.arguments.Refused.TheVariants.{NoMemory, Broken}
 use Rattle.dap_messages.specs.declared.requests.InitializeArguments.{InitializeArguments}
@@ -19,6 +20,8 @@ use Rattle.dap_messages.specs.declared.requests.ThreadArguments.{ThreadArguments
 use Rattle.dap_messages.specs.declared.requests.StackTraceArguments.{StackTraceArguments}
 use Rattle.dap_messages.specs.declared.requests.ScopesArguments.{ScopesArguments}
 use Rattle.dap_messages.specs.declared.requests.VariablesArguments.{VariablesArguments}
+use Rattle.dap_messages.specs.declared.requests.SetVariableArguments.{SetVariableArguments}
+use Rattle.dap_messages.specs.declared.requests.EvaluateArguments.{EvaluateArguments}
 use Rattle.dap_messages.specs.declared.requests.Filter.{Filter}
 use Rattle.dap_messages.specs.declared.requests.Filter.TheVariants.{Both, Indexed, Named}
 use Rattle.dap_messages.specs.declared.requests.DisconnectArguments.{DisconnectArguments}
@@ -43,6 +46,9 @@ argument_name VariablesReference = codes "variablesReference"
 argument_name FilterMember = codes "filter"
 argument_name Start = codes "start"
 argument_name Count = codes "count"
+argument_name Name = codes "name"
+argument_name Value = codes "value"
+argument_name Expression = codes "expression"
 argument_name TerminateDebuggee = codes "terminateDebuggee"
 
 -- null counts as missing
@@ -196,6 +202,21 @@ variables_of arguments = do
   start ← int_or Start 0 arguments
   count ← int_or Count 0 arguments
   Ok (record { variables_reference = variables_reference; filter = filter; start = start; count = count })
+
+-- what `setVariable` says (DAP specification, SetVariable request)
+abbrev pub set_variable_of : Data → Result SetVariableArguments Argument
+set_variable_of arguments = do
+  variables_reference ← int_at VariablesReference arguments
+  name ← text_at Name arguments
+  value ← text_at Value arguments
+  Ok (record { variables_reference = variables_reference; name = name; value = value })
+
+-- what `evaluate` says (DAP specification, Evaluate request)
+abbrev pub evaluate_of : Data → Result EvaluateArguments Argument
+evaluate_of arguments = do
+  expression ← text_at Expression arguments
+  frame_id ← int_at FrameId arguments
+  Ok (record { expression = expression; frame_id = frame_id })
 
 -- what `disconnect` says (DAP specification, Disconnect request)
 abbrev pub disconnect_of : Data → Result DisconnectArguments Argument

@@ -6,6 +6,7 @@ use Rattle.dap_messages.specs.Objects.{count, integer, object_of}
 use Rattle.dap_messages.specs.declared.told.Shape.{Shape}
 use Rattle.dap_messages.specs.declared.told.Shape.TheVariants.{Nothing, Capabilities, Breakpoints, Threads, Continued}
 use Rattle.dap_messages.specs.declared.told.Shape.TheVariants.{StackFrames, Scopes, Variables, ExceptionInfo}
+use Rattle.dap_messages.specs.declared.told.Shape.TheVariants.{Written as IsWritten, Evaluated as IsEvaluated}
 use Rattle.dap_messages.specs.declared.told.Breakpoint.{Breakpoint}
 use Rattle.dap_messages.specs.declared.told.BreakpointStatus.{BreakpointStatus}
 use Rattle.dap_messages.specs.declared.told.BreakpointStatus.TheVariants.{Verified, NoSourceRoot}
@@ -15,6 +16,8 @@ use Rattle.dap_messages.specs.declared.told.Thread.{Thread}
 use Rattle.dap_messages.specs.declared.told.Source.{Source}
 use Rattle.dap_messages.specs.declared.told.StackFrame.{StackFrame}
 use Rattle.dap_messages.specs.declared.told.Variable.{Variable}
+use Rattle.dap_messages.specs.declared.told.Written.{Written}
+use Rattle.dap_messages.specs.declared.told.Evaluated.{Evaluated}
 use Rattle.dap_messages.specs.declared.told.BreakMode.{BreakMode}
 use Rattle.dap_messages.specs.declared.told.BreakMode.TheVariants.{Always, Unhandled}
 
@@ -144,6 +147,26 @@ variable_data variable = child_data variable variable.indexed variable.kind
 abbrev pub variables_data : List Variable → Data
 variables_data variables = object_of ((codes "variables", array (items_of (map variable_data variables))) ∷ [])
 
+-- a value that a variable was set to, with this type and without children (DAP specification, SetVariable request)
+abbrev pub set_data : List ℕ → Option (List ℕ) → Data
+set_data value kind = object_of (type_member kind ++
+    (codes "value", string value) ∷
+    (codes "variablesReference", count 0) ∷ [])
+
+-- the body of the response to `setVariable` (DAP specification, SetVariable request)
+abbrev pub written_data : Written → Data
+written_data written = set_data written.value written.kind
+
+-- a result with this many children that have an index, and with this type (DAP specification, Evaluate request)
+abbrev pub result_data : Evaluated → Option ℕ → Option (List ℕ) → Data
+result_data evaluated indexed kind = object_of (indexed_member indexed ++
+    (codes "result", string evaluated.result) ∷ (type_member kind ++
+    (codes "variablesReference", count evaluated.reference) ∷ []))
+
+-- the body of the response to `evaluate` (DAP specification, Evaluate request)
+abbrev pub evaluated_data : Evaluated → Data
+evaluated_data evaluated = result_data evaluated evaluated.indexed evaluated.kind
+
 -- the body of the response to `continue` (DAP specification, Continue request)
 abbrev pub continued_data : Data
 continued_data = object_of ((codes "allThreadsContinued", boolean true) ∷ [])
@@ -167,5 +190,7 @@ shape_data (Threads threads) = Some (threads_data threads)
 shape_data (StackFrames frames total) = Some (stack_frames_data frames total)
 shape_data (Scopes reference) = Some (scopes_data reference)
 shape_data (Variables variables) = Some (variables_data variables)
+shape_data (IsWritten written) = Some (written_data written)
+shape_data (IsEvaluated evaluated) = Some (evaluated_data evaluated)
 shape_data Continued = Some continued_data
 shape_data (ExceptionInfo id mode) = Some (exception_info_data id mode)

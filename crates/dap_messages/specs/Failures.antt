@@ -40,6 +40,18 @@ unknown_thread = record { code = 8; detail = Plain }
 abbrev pub target_error : ℕ → Failure
 target_error error = record { code = 9; detail = Number error }
 
+abbrev pub no_such_name : Failure
+no_such_name = record { code = 11; detail = Plain }
+
+abbrev pub bad_expression : ℕ → Failure
+bad_expression place = record { code = 12; detail = Number place }
+
+abbrev pub bad_index : Failure
+bad_index = record { code = 13; detail = Plain }
+
+abbrev pub not_writable : Failure
+not_writable = record { code = 14; detail = Plain }
+
 abbrev pub references_spent : Failure
 references_spent = record { code = 15; detail = Plain }
 
@@ -56,8 +68,12 @@ message_of code =
     (if code == 8 then codes "unknownThread" else
     (if code == 9 then codes "targetError" else
     (if code == 10 then codes "targetGone" else
+    (if code == 11 then codes "noSuchName" else
+    (if code == 12 then codes "badExpression" else
+    (if code == 13 then codes "badIndex" else
+    (if code == 14 then codes "notWritable" else
     (if code == 15 then codes "referencesSpent" else
-    (if code == 16 then codes "alreadyAttached" else [])))))))))))
+    (if code == 16 then codes "alreadyAttached" else [])))))))))))))))
 
 -- what follows the message, with a space before it
 abbrev pub detail_text : Detail → List ℕ

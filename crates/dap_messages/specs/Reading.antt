@@ -6,7 +6,7 @@ use Rattle.serde_json.specs.Data.{Data, null}
 use Rattle.serde_json.specs.Read.{read}
 use Rattle.serde_json.specs.Find.{get, as_null, as_number, as_object, as_str, as_u64}
 use Rattle.dap_messages.specs.Arguments.{◌>>=◌, argument_name, initialize_of, attach_of, thread_of, disconnect_of}
-use Rattle.dap_messages.specs.Arguments.{stack_trace_of, scopes_of, variables_of}
+use Rattle.dap_messages.specs.Arguments.{stack_trace_of, scopes_of, variables_of, set_variable_of, evaluate_of}
 use Rattle.dap_messages.specs.Breakpoints.{set_breakpoints_of, set_function_breakpoints_of}
 use Rattle.dap_messages.specs.Exceptions.{set_exception_breakpoints_of}
 use Rattle.dap_messages.specs.declared.arguments.Argument.{Argument}
@@ -20,6 +20,7 @@ use Rattle.dap_messages.specs.declared.requests.Command.TheVariants.{SetFunction
 use Rattle.dap_messages.specs.declared.requests.Command.TheVariants.{SetExceptionBreakpoints}
 use Rattle.dap_messages.specs.declared.requests.Command.TheVariants.{Next, StepIn, StepOut, ExceptionInfo}
 use Rattle.dap_messages.specs.declared.requests.Command.TheVariants.{Pause, StackTrace, Scopes, Variables}
+use Rattle.dap_messages.specs.declared.requests.Command.TheVariants.{SetVariable, Evaluate}
 use Rattle.dap_messages.specs.declared.requests.Command.TheVariants.{Disconnect, Unsupported, BadArguments}
 use Rattle.dap_messages.specs.declared.requests.Incoming.{Incoming}
 use Rattle.dap_messages.specs.declared.requests.Incoming.TheVariants.{Request, Ignored}
@@ -45,8 +46,10 @@ row_of name =
     (if bytes_eq name (codes "stackTrace") then row.StackTrace else
     (if bytes_eq name (codes "scopes") then row.Scopes else
     (if bytes_eq name (codes "variables") then row.Variables else
+    (if bytes_eq name (codes "setVariable") then row.SetVariable else
+    (if bytes_eq name (codes "evaluate") then row.Evaluate else
     (if bytes_eq name (codes "disconnect") then row.Disconnect else
-    row.Unsupported))))))))))))))))
+    row.Unsupported))))))))))))))))))
 
 -- arguments are an object or null
 abbrev pub object_or_null : Data → Result Data Argument
@@ -120,6 +123,14 @@ row_command row.Variables request = do
   arguments ← arguments_of request
   variables ← variables_of arguments
   Ok (Variables variables)
+row_command row.SetVariable request = do
+  arguments ← arguments_of request
+  set_variable ← set_variable_of arguments
+  Ok (SetVariable set_variable)
+row_command row.Evaluate request = do
+  arguments ← arguments_of request
+  evaluate ← evaluate_of arguments
+  Ok (Evaluate evaluate)
 row_command row.Disconnect request = do
   arguments ← arguments_of request
   disconnect ← disconnect_of arguments

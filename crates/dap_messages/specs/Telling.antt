@@ -9,6 +9,7 @@ use Rattle.dap_messages.specs.Failures.{error_data, message_of}
 pub use Rattle.dap_messages.specs.Failures.{unsupported, bad_arguments, already_attached, not_attached, target_gone}
 pub use Rattle.dap_messages.specs.Failures.{not_stopped, stale, unknown_reference, wrong_kind, unknown_thread}
 pub use Rattle.dap_messages.specs.Failures.{target_error, references_spent}
+pub use Rattle.dap_messages.specs.Failures.{no_such_name, bad_expression, bad_index, not_writable}
 use Rattle.dap_messages.specs.declared.told.Told.{Told}
 use Rattle.dap_messages.specs.declared.told.Told.TheVariants as told
 use Rattle.dap_messages.specs.declared.told.Response.{Response}

@@ -33,6 +33,9 @@ pub(crate) enum Argument {
     Filter,
     Start,
     Count,
+    Name,
+    Value,
+    Expression,
     TerminateDebuggee,
 }
 
@@ -59,6 +62,9 @@ impl Argument {
             Argument::Filter => "filter",
             Argument::Start => "start",
             Argument::Count => "count",
+            Argument::Name => "name",
+            Argument::Value => "value",
+            Argument::Expression => "expression",
             Argument::TerminateDebuggee => "terminateDebuggee",
         }
     }

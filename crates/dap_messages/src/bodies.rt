@@ -6,6 +6,7 @@ ghost use Rattle.dap_messages.specs.Bodies.{standing_data, thread_data, threads_
 
 use crate::frame_bodies::{scopes_value, stack_frames_value};
 use crate::told::{BreakMode, Breakpoint, BreakpointStatus, Shape, Thread};
+use crate::value_bodies::{evaluated_value, written_value};
 use crate::variable_bodies::variables_value;
 use serde_json::{Value, json};
 use std::alloc::{AllocError, Global};
@@ -26,6 +27,8 @@ pub(crate) fn shape_value(alloc: Global, shape: &Shape) -> Result<Option<Value>,
         }
         Shape::Scopes(reference) => Ok(Some(scopes_value(alloc, *reference)?)),
         Shape::Variables(variables) => Ok(Some(variables_value(alloc, variables.as_slice())?)),
+        Shape::Written(written) => Ok(Some(written_value(alloc, written)?)),
+        Shape::Evaluated(evaluated) => Ok(Some(evaluated_value(alloc, evaluated)?)),
         Shape::Continued => Ok(Some(continued_value(alloc)?)),
         Shape::ExceptionInfo { id, mode } => {
             Ok(Some(exception_info_value(alloc, id.as_str(), *mode)?))

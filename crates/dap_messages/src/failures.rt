@@ -7,6 +7,7 @@ impl Failure {
     ghost use Rattle.dap_messages.specs.Failures.{already_attached, not_attached, target_gone};
     ghost use Rattle.dap_messages.specs.Failures.{not_stopped, unknown_thread, target_error, references_spent};
     ghost use Rattle.dap_messages.specs.Failures.{stale, unknown_reference, wrong_kind};
+    ghost use Rattle.dap_messages.specs.Failures.{no_such_name, bad_expression, bad_index, not_writable};
 
     /// The adapter doesn't have this command: code 1, `unsupported`. (DAP specification, Types, Message)
     pub fn unsupported() -> Failure
@@ -122,6 +123,48 @@ impl Failure {
         Failure {
             code: 9,
             detail: Detail::Number(u64::from(error)),
+        }
+    }
+
+    /// Nothing has the name that the request gives: code 11, `noSuchName`. (DAP specification, Types, Message)
+    pub fn no_such_name() -> Failure
+        ensures { result ≡ no_such_name }
+    {
+        Failure {
+            code: 11,
+            detail: Detail::Plain,
+        }
+    }
+
+    /// The text that the request gives is outside the grammar at this place, in bytes from its start: code 12,
+    /// `badExpression` and the place in decimal. (DAP specification, Types, Message)
+    pub fn bad_expression(place: u32) -> Failure
+        ensures { result ≡ bad_expression place }
+    {
+        Failure {
+            code: 12,
+            detail: Detail::Number(u64::from(place)),
+        }
+    }
+
+    /// The index that the request gives is outside the array, or stands behind something else than an array: code 13,
+    /// `badIndex`. (DAP specification, Types, Message)
+    pub fn bad_index() -> Failure
+        ensures { result ≡ bad_index }
+    {
+        Failure {
+            code: 13,
+            detail: Detail::Plain,
+        }
+    }
+
+    /// The variable can't be set, or not to such a value: code 14, `notWritable`. (DAP specification, Types, Message)
+    pub fn not_writable() -> Failure
+        ensures { result ≡ not_writable }
+    {
+        Failure {
+            code: 14,
+            detail: Detail::Plain,
         }
     }
 

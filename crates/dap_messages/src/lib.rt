@@ -14,18 +14,19 @@ mod rows;
 #[cfg(test)]
 mod tests;
 mod told;
+mod value_bodies;
 mod variable_bodies;
 mod write;
 
 pub use read::read_request;
 pub use requests::{
-    AttachArguments, Command, DisconnectArguments, Filter, FunctionBreakpoint, Incoming,
-    InitializeArguments, ReadFault, Request, ScopesArguments, SetBreakpointsArguments,
-    SetExceptionBreakpointsArguments, SetFunctionBreakpointsArguments, SourceBreakpoint,
-    StackTraceArguments, ThreadArguments, VariablesArguments,
+    AttachArguments, Command, DisconnectArguments, EvaluateArguments, Filter, FunctionBreakpoint,
+    Incoming, InitializeArguments, ReadFault, Request, ScopesArguments, SetBreakpointsArguments,
+    SetExceptionBreakpointsArguments, SetFunctionBreakpointsArguments, SetVariableArguments,
+    SourceBreakpoint, StackTraceArguments, ThreadArguments, VariablesArguments,
 };
 pub use told::{
-    BreakMode, Breakpoint, BreakpointStatus, Detail, Event, Failure, Outcome, Response, Shape,
-    Source, StackFrame, StopReason, Stopped, Thread, ThreadChange, Told, Variable,
+    BreakMode, Breakpoint, BreakpointStatus, Detail, Evaluated, Event, Failure, Outcome, Response,
+    Shape, Source, StackFrame, StopReason, Stopped, Thread, ThreadChange, Told, Variable, Written,
 };
 pub use write::text_of;

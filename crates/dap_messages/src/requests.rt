@@ -57,6 +57,8 @@ pub enum Command {
     StackTrace(StackTraceArguments),
     Scopes(ScopesArguments),
     Variables(VariablesArguments),
+    SetVariable(SetVariableArguments),
+    Evaluate(EvaluateArguments),
     Disconnect(DisconnectArguments),
     /// A command that this adapter doesn't have.
     Unsupported,
@@ -161,6 +163,23 @@ pub struct VariablesArguments {
     pub filter: Filter,
     pub start: u32,
     pub count: u32,
+}
+
+/// Arguments of `setVariable`: the reference of the variables that one is set among, from 0 to 2^31 - 1, its name, and
+/// its new value in words. (DAP specification, SetVariable request)
+#[derive(Debug, Drop)]
+pub struct SetVariableArguments {
+    pub variables_reference: u32,
+    pub name: Text,
+    pub value: Text,
+}
+
+/// Arguments of `evaluate`: the expression, and the number of the frame that it is read in, from 0 to 2^31 - 1.
+/// (DAP specification, Evaluate request)
+#[derive(Debug, Drop)]
+pub struct EvaluateArguments {
+    pub expression: Text,
+    pub frame_id: u32,
 }
 
 /// Arguments of `disconnect`: whether the target has to end, which it doesn't where that is missing.

@@ -1,7 +1,7 @@
 ghost use Rattle.std.specs.Prelude.{◌≡◌, IfOk};
 ghost use Rattle.serde_json.specs.View.{view};
 ghost use Rattle.dap_messages.specs.Arguments.{initialize_of, attach_of, thread_of, disconnect_of, IsRead};
-ghost use Rattle.dap_messages.specs.Arguments.{stack_trace_of, scopes_of, variables_of};
+ghost use Rattle.dap_messages.specs.Arguments.{stack_trace_of, scopes_of, variables_of, set_variable_of, evaluate_of};
 ghost use Rattle.dap_messages.specs.Breakpoints.{set_breakpoints_of, set_function_breakpoints_of};
 ghost use Rattle.dap_messages.specs.Exceptions.{set_exception_breakpoints_of};
 ghost use Rattle.dap_messages.specs.Reading.{row_of, row_command, command_of};
@@ -12,9 +12,10 @@ use crate::arguments::{
 use crate::breakpoints::{breakpoints_at, functions_at, path_at};
 use crate::exceptions::{filters_at, has_filter};
 use crate::requests::{
-    AttachArguments, Command, DisconnectArguments, InitializeArguments, ScopesArguments,
-    SetBreakpointsArguments, SetExceptionBreakpointsArguments, SetFunctionBreakpointsArguments,
-    StackTraceArguments, ThreadArguments, VariablesArguments,
+    AttachArguments, Command, DisconnectArguments, EvaluateArguments, InitializeArguments,
+    ScopesArguments, SetBreakpointsArguments, SetExceptionBreakpointsArguments,
+    SetFunctionBreakpointsArguments, SetVariableArguments, StackTraceArguments, ThreadArguments,
+    VariablesArguments,
 };
 use serde_json::Value;
 use std::alloc::Global;
@@ -39,6 +40,8 @@ pub(crate) enum Row {
     StackTrace,
     Scopes,
     Variables,
+    SetVariable,
+    Evaluate,
     Disconnect,
     Unsupported,
 }
@@ -63,6 +66,8 @@ fn row_of(name: &str) -> Row
         "stackTrace" => Row::StackTrace,
         "scopes" => Row::Scopes,
         "variables" => Row::Variables,
+        "setVariable" => Row::SetVariable,
+        "evaluate" => Row::Evaluate,
         "disconnect" => Row::Disconnect,
         _ => Row::Unsupported,
     }
@@ -116,6 +121,8 @@ fn row_command(alloc: Global, row: Row, request: &Value) -> Result<Command, Refu
         Row::StackTrace => Ok(Command::StackTrace(stack_trace_of(arguments)?)),
         Row::Scopes => Ok(Command::Scopes(scopes_of(arguments)?)),
         Row::Variables => Ok(Command::Variables(variables_of(arguments)?)),
+        Row::SetVariable => Ok(Command::SetVariable(set_variable_of(alloc, arguments)?)),
+        Row::Evaluate => Ok(Command::Evaluate(evaluate_of(alloc, arguments)?)),
         Row::Disconnect => Ok(Command::Disconnect(disconnect_of(arguments)?)),
         Row::Unsupported => Ok(Command::Unsupported),
     }
@@ -214,6 +221,30 @@ fn variables_of(arguments: &Value) -> Result<VariablesArguments, Refused>
         filter,
         start,
         count,
+    })
+}
+
+fn set_variable_of(alloc: Global, arguments: &Value) -> Result<SetVariableArguments, Refused>
+    ensures { IsRead result (set_variable_of (view arguments.now)) }
+{
+    let variables_reference = int_at(arguments, Argument::VariablesReference)?;
+    let name = text_at(alloc, arguments, Argument::Name)?;
+    let value = text_at(alloc, arguments, Argument::Value)?;
+    Ok(SetVariableArguments {
+        variables_reference,
+        name,
+        value,
+    })
+}
+
+fn evaluate_of(alloc: Global, arguments: &Value) -> Result<EvaluateArguments, Refused>
+    ensures { IsRead result (evaluate_of (view arguments.now)) }
+{
+    let expression = text_at(alloc, arguments, Argument::Expression)?;
+    let frame_id = int_at(arguments, Argument::FrameId)?;
+    Ok(EvaluateArguments {
+        expression,
+        frame_id,
     })
 }
 

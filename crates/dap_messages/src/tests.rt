@@ -1,9 +1,9 @@
 use crate::{
-    BreakMode, Breakpoint, BreakpointStatus, Command, Event, Failure, Filter, FunctionBreakpoint,
-    Incoming, InitializeArguments, Outcome, ReadFault, Request, Response,
-    SetExceptionBreakpointsArguments, Shape, Source, SourceBreakpoint, StackFrame,
-    StackTraceArguments, StopReason, Stopped, Thread, ThreadChange, Told, Variable,
-    VariablesArguments, read_request, text_of,
+    BreakMode, Breakpoint, BreakpointStatus, Command, EvaluateArguments, Evaluated, Event, Failure,
+    Filter, FunctionBreakpoint, Incoming, InitializeArguments, Outcome, ReadFault, Request,
+    Response, SetExceptionBreakpointsArguments, SetVariableArguments, Shape, Source,
+    SourceBreakpoint, StackFrame, StackTraceArguments, StopReason, Stopped, Thread, ThreadChange,
+    Told, Variable, VariablesArguments, Written, read_request, text_of,
 };
 use std::alloc::{AllocError, Global};
 use std::process::Abort;
@@ -65,6 +65,8 @@ fn command_summary(alloc: Global, command: &Command) -> Result<String, AllocErro
         Command::StackTrace(arguments) => stack_trace_summary(alloc, *arguments),
         Command::Scopes(arguments) => numbered(alloc, "opens", arguments.frame_id),
         Command::Variables(arguments) => variables_summary(alloc, arguments),
+        Command::SetVariable(arguments) => set_variable_summary(alloc, arguments),
+        Command::Evaluate(arguments) => evaluate_summary(alloc, arguments),
         Command::Disconnect(arguments) => {
             let terminate = arguments.terminate_debuggee;
             format!(in alloc; "terminates {terminate}")
@@ -117,6 +119,22 @@ fn variables_summary(alloc: Global, arguments: &VariablesArguments) -> Result<St
     let start = arguments.start;
     let count = arguments.count;
     format!(in alloc; "{filter} of {reference} from {start} for {count}")
+}
+
+fn set_variable_summary(
+    alloc: Global,
+    arguments: &SetVariableArguments,
+) -> Result<String, AllocError> {
+    let reference = arguments.variables_reference;
+    let name = arguments.name.as_str();
+    let value = arguments.value.as_str();
+    format!(in alloc; "{name} of {reference} becomes {value}")
+}
+
+fn evaluate_summary(alloc: Global, arguments: &EvaluateArguments) -> Result<String, AllocError> {
+    let expression = arguments.expression.as_str();
+    let frame = arguments.frame_id;
+    format!(in alloc; "{expression} in {frame}")
 }
 
 fn numbered(alloc: Global, verb: &str, number: u32) -> Result<String, AllocError> {
@@ -543,12 +561,16 @@ fn variables_is_read(rt: HostRuntime) -> Result<(), Fail> {
     arguments_are_read(&rt, "variables", &table)
 }
 
-// What stands beside it is said of `variables` with this behind the reference.
-fn variables_end_with(rt: &(impl Abort + AllocGlobal), table: &[(&str, &str)]) -> Result<(), Fail> {
+// What stands beside it is said of this command with this behind the reference.
+fn reference_is_followed(
+    rt: &(impl Abort + AllocGlobal),
+    command: &str,
+    table: &[(&str, &str)],
+) -> Result<(), Fail> {
     for row in table {
         let rest = row.0;
         let arguments = format!(in rt.alloc(); "{{\"variablesReference\":1,{rest}}}")?;
-        arguments_are_read(rt, "variables", &[(arguments.as_str(), row.1)])?;
+        arguments_are_read(rt, command, &[(arguments.as_str(), row.1)])?;
     }
     Ok(())
 }
@@ -563,7 +585,7 @@ fn bad_filters_are_read(rt: HostRuntime) -> Result<(), Fail> {
         (r#""filter":0"#, "bad filter"),
         (r#""filter":["named"]"#, "bad filter"),
     ];
-    variables_end_with(&rt, &table)
+    reference_is_followed(&rt, "variables", &table)
 }
 
 #[test]
@@ -578,7 +600,92 @@ fn bad_starts_and_counts_are_read(rt: HostRuntime) -> Result<(), Fail> {
         (r#""count":[]"#, "bad count"),
         (r#""count":false"#, "bad count"),
     ];
-    variables_end_with(&rt, &table)
+    reference_is_followed(&rt, "variables", &table)
+}
+
+#[test]
+fn set_variable_is_read(rt: HostRuntime) -> Result<(), Fail> {
+    let table = [
+        (
+            r#"{"variablesReference":0,"name":"n","value":"5"}"#,
+            "n of 0 becomes 5",
+        ),
+        (
+            r#"{"value":"","format":7,"name":"","variablesReference":2147483647}"#,
+            " of 2147483647 becomes ",
+        ),
+        (
+            r#"{"variablesReference":1,"name":"[\u0030]","value":"\u00e9 \"x\""}"#,
+            r#"[0] of 1 becomes é "x""#,
+        ),
+        ("null", "bad variablesReference"),
+        ("[]", "bad arguments"),
+        (r#"{"value":7,"name":7}"#, "bad variablesReference"),
+        (
+            r#"{"variablesReference":null,"name":"n","value":"5"}"#,
+            "bad variablesReference",
+        ),
+        (
+            r#"{"variablesReference":-1,"name":"n","value":"5"}"#,
+            "bad variablesReference",
+        ),
+        (
+            r#"{"variablesReference":2147483648,"name":"n"}"#,
+            "bad variablesReference",
+        ),
+        (
+            r#"{"variablesReference":1.0,"value":"5"}"#,
+            "bad variablesReference",
+        ),
+        (
+            r#"{"variablesReference":"1","name":null}"#,
+            "bad variablesReference",
+        ),
+    ];
+    arguments_are_read(&rt, "setVariable", &table)
+}
+
+#[test]
+fn bad_names_and_values_are_read(rt: HostRuntime) -> Result<(), Fail> {
+    let table = [
+        (r#""value":7"#, "bad name"),
+        (r#""Name":"n","value":"5""#, "bad name"),
+        (r#""name":null,"value":"5""#, "bad name"),
+        (r#""name":0,"value":null"#, "bad name"),
+        (r#""name":["n"],"value":"5""#, "bad name"),
+        (r#""name":"n""#, "bad value"),
+        (r#""value":null,"name":"n""#, "bad value"),
+        (r#""name":"n","value":5"#, "bad value"),
+        (r#""name":"n","value":true"#, "bad value"),
+        (r#""name":"n","value":{"name":"5"}"#, "bad value"),
+    ];
+    reference_is_followed(&rt, "setVariable", &table)
+}
+
+#[test]
+fn evaluate_is_read(rt: HostRuntime) -> Result<(), Fail> {
+    let table = [
+        (r#"{"expression":"a[3]","frameId":0}"#, "a[3] in 0"),
+        (
+            r#"{"context":"hover","frameId":2147483647,"expression":"this.\u00e9"}"#,
+            "this.é in 2147483647",
+        ),
+        (r#"{"expression":"","frameId":1}"#, " in 1"),
+        ("null", "bad expression"),
+        ("[]", "bad arguments"),
+        (r#"{"frameId":-1}"#, "bad expression"),
+        (r#"{"Expression":"a","frameId":1}"#, "bad expression"),
+        (r#"{"expression":null,"frameId":""}"#, "bad expression"),
+        (r#"{"expression":7,"frameId":1}"#, "bad expression"),
+        (r#"{"expression":["a"],"frameId":1}"#, "bad expression"),
+        (r#"{"expression":"a"}"#, "bad frameId"),
+        (r#"{"frameId":null,"expression":"a"}"#, "bad frameId"),
+        (r#"{"expression":"a","frameId":-1}"#, "bad frameId"),
+        (r#"{"expression":"a","frameId":2147483648}"#, "bad frameId"),
+        (r#"{"expression":"a","frameId":1.0}"#, "bad frameId"),
+        (r#"{"expression":"a","frameId":"1"}"#, "bad frameId"),
+    ];
+    arguments_are_read(&rt, "evaluate", &table)
 }
 
 #[test]
@@ -928,6 +1035,70 @@ fn no_variables_are_told(rt: HostRuntime) -> Result<(), Fail> {
 }
 
 #[test]
+fn what_a_variable_was_set_to_is_told(rt: HostRuntime) -> Result<(), Fail> {
+    let table = [
+        ("5", None, r#"{"value":"5","variablesReference":0}"#),
+        (
+            "null",
+            Some("java.lang.String"),
+            r#"{"type":"java.lang.String","value":"null","variablesReference":0}"#,
+        ),
+        (
+            "'\"' é",
+            Some(""),
+            r#"{"type":"","value":"'\"' é","variablesReference":0}"#,
+        ),
+    ];
+    for (value, kind, wanted) in table {
+        let value = Text::from_str(rt.alloc(), value)?;
+        let kind = optional(rt.alloc(), kind)?;
+        body_is_told(&rt, Shape::Written(Written { value, kind }), wanted)?;
+    }
+    Ok(())
+}
+
+// A result is told by this text: its value, its type, how many children with an index it has, and its reference.
+fn result_is_told(
+    rt: &(impl Abort + AllocGlobal),
+    row: (&str, Option<&str>, Option<u32>, u32),
+    wanted: &str,
+) -> Result<(), Fail> {
+    let evaluated = Evaluated {
+        result: Text::from_str(rt.alloc(), row.0)?,
+        kind: optional(rt.alloc(), row.1)?,
+        indexed: row.2,
+        reference: row.3,
+    };
+    body_is_told(rt, Shape::Evaluated(evaluated), wanted)
+}
+
+#[test]
+fn results_are_told(rt: HostRuntime) -> Result<(), Fail> {
+    let table = [
+        (
+            ("5", None, None, 0),
+            r#"{"result":"5","variablesReference":0}"#,
+        ),
+        (
+            (r#""a" (3)"#, Some("java.lang.String"), None, 2147483647),
+            r#"{"result":"\"a\" (3)","type":"java.lang.String","variablesReference":2147483647}"#,
+        ),
+        (
+            ("int[3]", None, Some(3), 4294967295),
+            r#"{"indexedVariables":3,"result":"int[3]","variablesReference":4294967295}"#,
+        ),
+        (
+            ("é", Some(""), Some(0), 1),
+            r#"{"indexedVariables":0,"result":"é","type":"","variablesReference":1}"#,
+        ),
+    ];
+    for (row, wanted) in table {
+        result_is_told(&rt, row, wanted)?;
+    }
+    Ok(())
+}
+
+#[test]
 fn breakpoints_are_told(rt: HostRuntime) -> Result<(), Fail> {
     let mut breakpoints = List::new(rt.alloc());
     let table = [
@@ -1015,6 +1186,26 @@ fn failures_are_told(rt: HostRuntime) -> Result<(), Fail> {
         (Failure::target_gone(), 10, "targetGone", ""),
         (Failure::references_spent(), 15, "referencesSpent", ""),
         (Failure::already_attached(), 16, "alreadyAttached", ""),
+    ];
+    for (failure, id, message, detail) in table {
+        failure_is_told(&rt, failure, id, message, detail)?;
+    }
+    Ok(())
+}
+
+#[test]
+fn failures_of_expressions_are_told(rt: HostRuntime) -> Result<(), Fail> {
+    let table = [
+        (Failure::no_such_name(), 11, "noSuchName", ""),
+        (Failure::bad_expression(0), 12, "badExpression", " 0"),
+        (
+            Failure::bad_expression(4294967295),
+            12,
+            "badExpression",
+            " 4294967295",
+        ),
+        (Failure::bad_index(), 13, "badIndex", ""),
+        (Failure::not_writable(), 14, "notWritable", ""),
     ];
     for (failure, id, message, detail) in table {
         failure_is_told(&rt, failure, id, message, detail)?;

@@ -46,6 +46,10 @@ pub enum Shape {
     Scopes(u32),
     /// Variables in the order in which they are shown, the body of `variables`. (DAP specification, Variables request)
     Variables(List<Variable>),
+    /// What a variable was set to, the body of `setVariable`. (DAP specification, SetVariable request)
+    Written(Written),
+    /// What an expression stands for, the body of `evaluate`. (DAP specification, Evaluate request)
+    Evaluated(Evaluated),
     /// All threads go on, the body of `continue`. (DAP specification, Continue request)
     Continued,
     /// What was thrown, by the name of its type, and whether it is broken at always or only where nothing catches it, the
@@ -96,6 +100,25 @@ pub struct StackFrame {
 pub struct Variable {
     pub name: Text,
     pub value: Text,
+    pub kind: Option<Text>,
+    pub indexed: Option<u32>,
+    pub reference: u32,
+}
+
+/// What a variable was set to: its new value in words, and its type in words where that is shown. It has no children.
+/// (DAP specification, SetVariable request, `value` and `type`)
+#[derive(Debug, Drop)]
+pub struct Written {
+    pub value: Text,
+    pub kind: Option<Text>,
+}
+
+/// What an expression stands for: its value in words, its type in words where that is shown, how many children with an
+/// index it has where it has such ones, and the reference of its children, which is 0 where it has none.
+/// (DAP specification, Evaluate request, `result`, `type`, `indexedVariables` and `variablesReference`)
+#[derive(Debug, Drop)]
+pub struct Evaluated {
+    pub result: Text,
     pub kind: Option<Text>,
     pub indexed: Option<u32>,
     pub reference: u32,
