@@ -6,6 +6,7 @@ use Rattle.class_tables.specs.Facts.{Known}
 use Rattle.class_tables.specs.Lookups.{found_in}
 use Rattle.jdwp_values.specs.declared.id.ClassId.{ClassId}
 use Rattle.machine_model.specs.Facts.{fact_known}
+use Rattle.machine_model.specs.Names.{Written}
 use Rattle.machine_model.specs.Names.{Attached, Choice, Classes, Command, Decides, Failure, Fresh, Gone, Item, Leaves}
 use Rattle.machine_model.specs.Names.{Lines, News, Part, Phase, Question, Replied, Sent, TellsNews, Want, a_composite}
 use Rattle.machine_model.specs.Names.{a_raw, a_request, class_facts, target_end, Functions, Stepped, Steps, Throws}
@@ -123,6 +124,7 @@ placed_chosen Stepped state hand rest none is = by_code (refused_with hand.effec
     by_code : (code : Option ℕ) → is_placed (stepped_by code ++ rest) ≡ true
     by_code None = rw none is
     by_code (Some code) = rw none is
+placed_chosen (Written seen) state hand rest none is = grind (arith, is)
 placed_chosen (Leaves exits) state hand rest none is = grind (arith, is)
 
 pub placed_test : IsTest placed

@@ -15,14 +15,17 @@ use Rattle.machine_model.specs.Names.{Event, Finding}
 use Rattle.machine_model.specs.Names.{Outcome, Part, Replied, Sent}
 use Rattle.machine_model.specs.Names.{Want, all_threads}
 use Rattle.machine_model.specs.Names.{class_facts, classes_found, Guard, Handshake, IdSizes}
-use Rattle.machine_model.specs.Names.{container_children, exception_info, exception_text, thread_frames}
+use Rattle.machine_model.specs.Names.{container_children, exception_info, exception_text, expression_value, thread_frames}
 use Rattle.machine_model.specs.Exceptions.{exception_plan, text_plan}
 use Rattle.machine_model.specs.Harmless.{is_harmless}
+use Rattle.machine_model.specs.Expressions.{value_plan}
 use Rattle.machine_model.specs.Variables.{children_plan}
 use Rattle.machine_model.proofs.IdRows.{all_weak}
 use Rattle.machine_model.proofs.Frameless.{asks_frames}
 use Rattle.machine_model.proofs.SafePlans.{children_safe, exception_safe, frames_meek, is_meek, is_safe}
-use Rattle.machine_model.proofs.SafePlans.{threads_safe, thrown_safe}
+use Rattle.machine_model.proofs.SafePlans.{threads_safe, thrown_safe, value_safe, write_safe}
+use Rattle.machine_model.specs.Names.{variable_write}
+use Rattle.machine_model.specs.Writing.{object_size, write_plan}
 use Rattle.machine_model.specs.Outcomes.{result_of}
 use Rattle.machine_model.specs.Plans.{Need, fails, has, lacks, made_with, need, question_of, after}
 use Rattle.machine_model.specs.Plans.{asking, asks_for, Found, found_at, found_from, is_done, must_hear}
@@ -345,6 +348,12 @@ lacked_safe state hand (Part.Looks (thread_frames thread start levels) ∷ rest)
 lacked_safe state hand (Part.Looks (container_children thing filter start count) ∷ rest) none =
     plan_lacks is_safe (sight_of state hand) (children_plan state.options.shows_types thing filter start count)
     (children_safe state.options.shows_types thing filter start count)
+lacked_safe state hand (Part.Looks (expression_value frame expression) ∷ rest) none =
+    plan_lacks is_safe (sight_of state hand) (value_plan state.options.shows_types frame expression)
+    (value_safe state.options.shows_types frame expression)
+lacked_safe state hand (Part.Looks (variable_write thing name text) ∷ rest) none =
+    plan_lacks is_safe (sight_of state hand) (write_plan state.options.shows_types state.sizes thing name text)
+    (write_safe (record { types = state.options.shows_types; size = object_size state.sizes; text = text }) thing name)
 lacked_safe state hand (Part.Looks (exception_text thread object) ∷ rest) none =
     plan_lacks is_safe (sight_of state hand) (text_plan object.0) (thrown_safe object.0)
 lacked_safe state hand (Part.Looks (exception_info thrown) ∷ rest) none =

@@ -7,18 +7,20 @@ use Rattle.jdwp_commands.specs.declared.question.Question.TheVariants as questio
 use Rattle.jdwp_values.specs.declared.id.ClassId.{ClassId}
 use Rattle.machine_model.specs.Binding.{AreAllBound, sight_alone}
 use Rattle.machine_model.specs.Classes.{known_plan}
-use Rattle.machine_model.specs.Lookups.{classes_of, finished, found_for}
+use Rattle.machine_model.specs.Lookups.{classes_of, finished, found_for, written_parts}
+use Rattle.machine_model.specs.Names.{Finding, Outcome, Written, classes_found, exception_found, frames_found, no_value, text_found, threads_found, value_found, variable_write, variables_found, write_found}
 use Rattle.machine_model.specs.Names.{Choice, Classes, Clear, Configured, Decides, Does, Effect, EntryHeld, Finding}
 use Rattle.machine_model.specs.Names.{Leaves, Lines, Lookup, Note, Options, Part, Question, Replied, Roots, Sent, Set}
 use Rattle.machine_model.specs.Names.{TellsNews, Want, all_threads, an_effect, class_facts}
-use Rattle.machine_model.specs.Names.{container_children, exception_info, exception_text, thread_frames, Attached, Fresh}
+use Rattle.machine_model.specs.Names.{container_children, exception_info, exception_text, expression_value, thread_frames, Attached, Fresh}
 use Rattle.machine_model.specs.Names.{Functions, Gone, Halt, Phase, Stepped, Steps, StopsAt, Throws, Thrown}
 use Rattle.machine_model.specs.Outcomes.{result_of}
 use Rattle.machine_model.specs.Plans.{Need, answer_in, need}
-use Rattle.machine_model.specs.Plans.{is_done}
+use Rattle.machine_model.specs.Plans.{Result, gave, is_done, refused}
 use Rattle.machine_model.specs.Replying.{IsReply, done_by, filled, is_waiting}
 use Rattle.machine_model.specs.Replying.{told_by, unless_failed}
 use Rattle.machine_model.specs.Requests.{Wishes, wishes_after}
+use Rattle.machine_model.specs.Rows.{written_by}
 use Rattle.machine_model.specs.Rows.{chosen, leaves, news_of, noted, refused_with, stepped_by}
 use Rattle.machine_model.specs.State.{Hand, State, is_some}
 use Rattle.machine_model.specs.Stops.{hit_parts, surplus, told_part}
@@ -261,6 +263,11 @@ chosen_like Stepped state hand rest is = by_code (refused_with hand.effect)
     by_code : (code : Option ℕ) → AreLike (stepped_by code ++ rest) rest
     by_code None = record { ahead = refl; needs = λ needs. needs; notes = refl; binds = refl }
     by_code (Some code) = record { ahead = refl; needs = none_behind rest is; notes = refl; binds = refl }
+chosen_like (Written seen) state hand rest is = by_code (refused_with hand.effect)
+  where
+    by_code : (code : Option ℕ) → AreLike (written_by seen code ++ rest) rest
+    by_code None = record { ahead = refl; needs = λ needs. needs; notes = refl; binds = refl }
+    by_code (Some code) = record { ahead = refl; needs = λ needs. needs; notes = refl; binds = refl }
 chosen_like (Leaves exits) state hand rest is = by_phase state.phase
   where
     by_phase : (phase : Phase) → AreLike (leaves phase exits ++ rest) rest
@@ -380,6 +387,31 @@ finds_on {state} hand (container_children thing filter start count) found rest c
     goes_by state (Part.Looks (container_children thing filter start count)) rest
     (finished (container_children thing filter start count) (result_of found) state ++ rest) (itself state) c
     refl is (record { ahead = refl; needs = λ so. so; notes = refl; binds = refl }) (λ so w. w so) h
+finds_on {state} hand (expression_value frame expression) found rest c is needs done h =
+    goes_by state (Part.Looks (expression_value frame expression)) rest
+    (finished (expression_value frame expression) (result_of found) state ++ rest) (itself state) c
+    refl is (record { ahead = refl; needs = λ so. so; notes = refl; binds = refl }) (λ so w. w so) h
+finds_on {state} hand (variable_write thing name text) found rest c is needs done h = by_result (result_of found)
+  where
+    goes : (parts : List Part) → AreLike (parts ++ rest) rest → Binding state (parts ++ rest) hand.queue hand.asked
+    goes parts like = goes_by state (Part.Looks (variable_write thing name text)) rest (parts ++ rest) (itself state) c
+        refl is like (λ so w. w so) h
+
+    same : (outcome : Outcome) → AreLike (Part.Responds outcome ∷ rest) rest
+    same outcome = record { ahead = refl; needs = λ so. so; notes = refl; binds = refl }
+
+    by_result : (result : Result Finding) → Binding state (written_parts result ++ rest) hand.queue hand.asked
+    by_result (refused code) = goes (written_parts (refused code)) (same _)
+    by_result (gave (write_found write seen)) = goes (written_parts (gave (write_found write seen)))
+        (record { ahead = refl; needs = λ so. so; notes = refl; binds = refl })
+    by_result (gave (no_value failure)) = goes (written_parts (gave (no_value failure))) (same _)
+    by_result (gave (threads_found named)) = goes (written_parts (gave (threads_found named))) (same _)
+    by_result (gave (classes_found classes)) = goes (written_parts (gave (classes_found classes))) (same _)
+    by_result (gave (frames_found total frames)) = goes (written_parts (gave (frames_found total frames))) (same _)
+    by_result (gave (variables_found shown)) = goes (written_parts (gave (variables_found shown))) (same _)
+    by_result (gave (value_found seen)) = goes (written_parts (gave (value_found seen))) (same _)
+    by_result (gave (text_found text)) = goes (written_parts (gave (text_found text))) (same _)
+    by_result (gave (exception_found id mode)) = goes (written_parts (gave (exception_found id mode))) (same _)
 finds_on {state} hand (exception_text thread object) found rest c is needs done h =
     goes_by state (Part.Looks (exception_text thread object)) rest
     (finished (exception_text thread object) (result_of found) state ++ rest) (itself state) c

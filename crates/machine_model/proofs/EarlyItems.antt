@@ -4,6 +4,7 @@ use Rattle.std.proofs.Common.{sym, ap, subst, ◌∙◌, option_map, arith, ℕ}
 use Rattle.machine_model.specs.Due.{Picked, after_deed, greets as greets_way, passed_by, pick, sized_by, way}
 use Rattle.machine_model.specs.Knowing.{is_fresh}
 use Rattle.machine_model.specs.Lookups.{finished}
+use Rattle.machine_model.specs.Names.{Written}
 use Rattle.machine_model.specs.Names.{Attached, Choice, Command, Composite, Decides, Event, Failure, Fresh, Gone}
 use Rattle.machine_model.specs.Names.{Guard, Handshake, IdSizes, Initialized, Item, Leaves, Note, Outcome, Part, Phase}
 use Rattle.machine_model.specs.Names.{Question, Replied, TellsNews, Terminated, a_composite, a_question, a_raw}
@@ -62,6 +63,7 @@ chosen_greets Decides state hand rest is =
     decided_alike greets_first (λ thrown parts. refl) (λ stopping parts. refl) (λ thread object parts. refl)
     (λ parts. refl) (λ parts. refl) state hand.item rest ∙ is
 chosen_greets Stepped state hand rest is = grind (arith, is)
+chosen_greets (Written seen) state hand rest is = grind (arith, is)
 chosen_greets (Leaves exits) state hand rest is = grind (arith, is)
 
 greets_test : IsTest greets_to_attach

@@ -9,6 +9,7 @@ use Rattle.class_tables.specs.declared.loaded.Loaded.{Loaded}
 use Rattle.jdwp_values.specs.declared.class.Field.{Field}
 use Rattle.jdwp_values.specs.declared.class.Method.{Method}
 use Rattle.jdwp_values.specs.declared.id.ClassId.{ClassId}
+use Rattle.machine_model.specs.Names.{Dispose, Exit, Resume, Suspend, Writes, a_written}
 use Rattle.machine_model.specs.Due.{sent}
 use Rattle.machine_model.specs.Ids.{AreOfStop, Id, WasReadInStop, begins_stop, class, frame, ids_given, ids_read}
 use Rattle.machine_model.specs.Names.{Capabilities, Classes, Continued, Failed, Item, Lines, Nothing, Part, Sent}
@@ -141,10 +142,16 @@ module _ (stopped : Bool) (messages : List Message) where
   part_free R (Part.Responds (Success Nothing)) bare h = tt
   part_free R (Part.Responds (Success Capabilities)) bare h = tt
   part_free R (Part.Responds (Success Continued)) bare h = tt
+  part_free R (Part.Responds (Success (a_written seen))) bare h = tt
   part_free R (Part.Responds (Success (breakpoint_list rooted listed))) bare h = tt
   part_free R (Part.Responds (Success body)) bare h = cc
   part_free R (Part.Responds (Failed failure)) bare h = tt
   part_free R (Part.Looks lookup) bare h = cc
+  part_free R (Part.Sends (Writes write)) bare h = cc
+  part_free R (Part.Sends Suspend) bare h = tt
+  part_free R (Part.Sends (Resume suspension)) bare h = tt
+  part_free R (Part.Sends Dispose) bare h = tt
+  part_free R (Part.Sends Exit) bare h = tt
   part_free R (Part.Notes (Lines key path entries)) bare h = h
   part_free R (Part.Notes (Functions entries)) bare h = h
   part_free R (Part.Notes (Steps None)) bare h = tt

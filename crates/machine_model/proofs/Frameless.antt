@@ -1,5 +1,5 @@
 -- Ids that are no frame's: they alone stand in events, and in answers to other questions than that for frames.
-use Rattle.std.proofs.Common.{◌≡◌, ℕ, Bool, true, false, cond, List, [], ◌∷◌, Option, refl, ap, ◌∙◌}
+use Rattle.std.proofs.Common.{◌≡◌, ℕ, zero, suc, Bool, true, false, cond, List, [], ◌∷◌, Option, refl, ap, ◌∙◌}
 use Rattle.std.specs.List.{AllByRecursion as All, flat_map}
 use Rattle.jdwp_commands.specs.Answers.{kind_of_answer, told_answer}
 use Rattle.jdwp_commands.specs.Commands.{kind_of}
@@ -26,6 +26,7 @@ use Rattle.jdwp_values.specs.declared.limit.Limit.{Limit}
 use Rattle.jdwp_values.specs.declared.limit.Limit.TheVariants.{Any}
 use Rattle.jdwp_values.specs.declared.value.Value.{Value}
 use Rattle.jdwp_values.specs.declared.value.Value.TheVariants as values
+use Rattle.machine_model.specs.Ids.{id_of_object}
 use Rattle.machine_model.specs.Ids.{Id, class, frame, ids_answered, ids_of, ids_of_composite, ids_of_event}
 use Rattle.machine_model.specs.Ids.{ids_of_item, ids_of_listed, ids_of_part, ids_of_row, ids_of_said, ids_of_saying}
 use Rattle.machine_model.specs.Ids.{ids_of_simple, ids_of_value, ids_replied, method, no_thread}
@@ -97,14 +98,18 @@ module _ (P : Id → Type 0) (free : (id : Id) → is_frame id ≡ false → P i
   simple_free thread parts.frame_id x is = cc
   simple_free thread _ x is = tt
 
+  object_free : (id : ℕ) → All P (id_of_object id)
+  object_free zero = tt
+  object_free (suc id) = (free _ refl, tt)
+
   value_free : (v : Value) → All P (ids_of_value v)
-  value_free (values.Object x) = (free _ refl, tt)
-  value_free (values.Array x) = (free _ refl, tt)
-  value_free (values.String x) = (free _ refl, tt)
-  value_free (values.Thread x) = (free _ refl, tt)
-  value_free (values.ThreadGroup x) = (free _ refl, tt)
-  value_free (values.ClassLoader x) = (free _ refl, tt)
-  value_free (values.ClassObject x) = (free _ refl, tt)
+  value_free (values.Object x) = object_free x.0
+  value_free (values.Array x) = object_free x.0
+  value_free (values.String x) = object_free x.0
+  value_free (values.Thread x) = object_free x.0
+  value_free (values.ThreadGroup x) = object_free x.0
+  value_free (values.ClassLoader x) = object_free x.0
+  value_free (values.ClassObject x) = object_free x.0
   value_free _ = tt
 
   part_free : (thread : ℕ) (p : Part) (x : Of p) → is_framed_part p ≡ false → All P (ids_of_part thread p x)

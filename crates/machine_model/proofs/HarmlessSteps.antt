@@ -5,6 +5,7 @@ use Rattle.std.specs.List.{AllByRecursion as All}
 use Rattle.std.specs.Prelude.{map, option_and_then}
 use Rattle.class_tables.specs.Lookups.{found_in}
 use Rattle.machine_model.specs.Harmless.{is_harmless_effect, is_harmless_wish, is_there}
+use Rattle.machine_model.specs.Names.{Written}
 use Rattle.machine_model.specs.Names.{Choice, Classes, Clear, Command, Decides, Does, Effect, Failure}
 use Rattle.machine_model.specs.Names.{Item, Leaves, Lines, Next, Note, Part}
 use Rattle.machine_model.specs.Names.{Set, StepIn, StepOut, Stepped, Steps, TargetCommand, TellsNews, ThreadId}
@@ -95,6 +96,7 @@ chosen_threaded Stepped state hand rest is = by_code (refused_with hand.effect)
     by_code : (code : Option ℕ) → are_threaded (stepped_by code ++ rest) ≡ true
     by_code None = is
     by_code (Some code) = is
+chosen_threaded (Written seen) state hand rest is = grind (arith, is)
 chosen_threaded (Leaves exits) state hand rest is = grind (arith, is)
 
 threaded_test : IsTest threaded

@@ -9,16 +9,18 @@ use Rattle.machine_model.specs.Due.{after_deed, asked_hand, entry_by, sent, stop
 use Rattle.machine_model.specs.Knowing.{View, begins, dies, dying_by, held_in, held_with, has_last, may_send}
 use Rattle.machine_model.specs.Knowing.{owed_by, owed_in, sent_view, stopped_behind, view_of}
 use Rattle.machine_model.specs.Lookups.{finished}
+use Rattle.machine_model.specs.Names.{Writes, Written, variable_write}
 use Rattle.machine_model.specs.Names.{Attached, Choice, Clear, Command, Decides, Deed, Dispose, Does, Effect, EntryHeld}
 use Rattle.machine_model.specs.Names.{Exit, Finding, Fresh, Gone, Hit, Item, Leaves, Lookup, Part, Phase, Replied}
 use Rattle.machine_model.specs.Names.{Resume, Set, StopCause, Stopping, Suspend, TargetCommand, TellsNews}
 use Rattle.machine_model.specs.Names.{Want, a_question, a_stop, all_threads, an_effect}
 use Rattle.machine_model.specs.Names.{by_client, class_facts, of_composite, of_entry, of_stop}
 use Rattle.machine_model.specs.Names.{thread_frames}
-use Rattle.machine_model.specs.Names.{container_children}
+use Rattle.machine_model.specs.Names.{container_children, expression_value}
 use Rattle.machine_model.specs.Plans.{Result}
 use Rattle.machine_model.specs.Replying.{given_up, hand_replied}
 use Rattle.machine_model.specs.Requests.{Wishes, effect_due, effect_of}
+use Rattle.machine_model.specs.Rows.{written_by}
 use Rattle.machine_model.specs.Rows.{chosen, end_parts, gone_parts, has_response, leaves, news_of, request_parts}
 use Rattle.machine_model.specs.State.{Hand, Machine, State, is_attached, is_empty, is_gone, knowing}
 use Rattle.machine_model.specs.Stops.{decided, decided_by, events_in, has_start, hits_in, stop_among, surplus, thrown_in}
@@ -104,6 +106,8 @@ pub found_owes : (stopped : Bool) (lookup : Lookup) (result : Result Finding) (s
 found_owes stopped all_threads result state rest = refl
 found_owes stopped (thread_frames thread start levels) result state rest = refl
 found_owes stopped (container_children thing filter start count) result state rest = refl
+found_owes stopped (expression_value frame expression) result state rest = refl
+found_owes stopped (variable_write thing name text) result state rest = grind arith
 found_owes stopped (exception_text thread object) result state rest = by_stop stopped
   where
     by_stop : (stopped : Bool) → owed_in stopped (finished (exception_text thread object) result state ++ rest)
@@ -147,6 +151,11 @@ chosen_owes {m} {hand} {choice = Leaves exits} {rest} h at = by_phase m.state.ph
     by_phase Attached true = refl
     by_phase Attached false = refl
     by_phase Gone exits = refl
+chosen_owes {m} {hand} {choice = Written seen} {rest} h at = by_code (refused_with hand.effect)
+  where
+    by_code : (code : Option ℕ) → owed_in m.state.stopped (written_by seen code ++ rest) ≡ owed_in m.state.stopped rest
+    by_code None = refl
+    by_code (Some code) = refl
 chosen_owes {m} {hand} {choice = Stepped} {rest} h at =
     by_rest rest m.state.stopped (refused_with hand.effect) (may_front h at)
   where
@@ -277,6 +286,7 @@ deed_view_is m hand (Resume of_entry) rest h at = now_held m hand (Resume of_ent
 deed_view_is m hand (Resume of_stop) rest h at = now_held m hand (Resume of_stop) rest _ at
     (undoes_stop m.state.stopped m.state.entry (owed_in false rest) _ (first_may h at) (held_front at)).0
 deed_view_is m hand Dispose rest h at = now_held m hand Dispose rest _ at (sym (held_front at))
+deed_view_is m hand (Writes write) rest h at = now_held m hand (Writes write) rest _ at (sym (held_front at))
 deed_view_is m hand Exit rest h at = now_held m hand Exit rest _ at (sym (held_front at))
 
 pub deed_may : (m : Machine) (hand : Hand) (deed : Deed) (rest : List Part) → IsHolding m
@@ -294,6 +304,7 @@ deed_may m hand (Resume of_stop) rest h at = both m.state.stopped _ (first_may h
     both false some is h = cc
 deed_may m hand Dispose rest h at = refl
 deed_may m hand Exit rest h at = refl
+deed_may m hand (Writes write) rest h at = refl
 
 -- Events and notes ----------------------------------------------------------------------------------------------------
 

@@ -9,6 +9,7 @@ use Rattle.jdwp_events.specs.declared.kind.EventKind.TheVariants as kinds
 use Rattle.jdwp_values.specs.declared.location.Location.{Location}
 use Rattle.jdwp_values.specs.declared.value.Value.{Value}
 use Rattle.jdwp_values.specs.declared.value.Value.TheVariants as values
+use Rattle.machine_model.specs.Ids.{id_of_object}
 use Rattle.machine_model.specs.Children.{object_named}
 use Rattle.machine_model.specs.Ids.{Id, ids_of_composite, ids_of_event, ids_of_value, object}
 use Rattle.machine_model.specs.Names.{Halt, HaltCause, Item, ThreadId, Thrown, a_composite, a_raw, a_request, came_to}
@@ -51,18 +52,18 @@ abbrev pub OfHalt : (Id → Type 0) → Halt → Type 0
 OfHalt P halt = OfThread P halt.thread × OfCause P halt.cause
 
 -- the object that a value names
-some_object : (P : Id → Type 0) (id : ℕ) → P (object id) → OfObject P id
+some_object : (P : Id → Type 0) (id : ℕ) → All P (id_of_object id) → OfObject P id
 some_object P zero h = tt
-some_object P (suc id) h = h
+some_object P (suc id) h = h.0
 
 named_stands : (P : Id → Type 0) (value : Value) → All P (ids_of_value value) → OfObject P (object_named value)
-named_stands P (values.Object one) h = some_object P one.0 h.0
-named_stands P (values.Array one) h = some_object P one.0 h.0
-named_stands P (values.String one) h = some_object P one.0 h.0
-named_stands P (values.Thread one) h = some_object P one.0 h.0
-named_stands P (values.ThreadGroup one) h = some_object P one.0 h.0
-named_stands P (values.ClassLoader one) h = some_object P one.0 h.0
-named_stands P (values.ClassObject one) h = some_object P one.0 h.0
+named_stands P (values.Object one) h = some_object P one.0 h
+named_stands P (values.Array one) h = some_object P one.0 h
+named_stands P (values.String one) h = some_object P one.0 h
+named_stands P (values.Thread one) h = some_object P one.0 h
+named_stands P (values.ThreadGroup one) h = some_object P one.0 h
+named_stands P (values.ClassLoader one) h = some_object P one.0 h
+named_stands P (values.ClassObject one) h = some_object P one.0 h
 named_stands P _ h = tt
 
 -- of an event of an exception: the thread, and what it threw

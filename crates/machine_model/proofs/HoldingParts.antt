@@ -11,6 +11,7 @@ use Rattle.machine_model.specs.Composites.{composite_parts, has_death}
 use Rattle.machine_model.specs.Due.{asked_hand, entry_by}
 use Rattle.machine_model.specs.Knowing.{stopped_behind, stopped_told}
 use Rattle.machine_model.specs.Lookups.{finished}
+use Rattle.machine_model.specs.Names.{Writes, Written, variable_write}
 use Rattle.machine_model.specs.Names.{Attached, Choice, Classes, Command, Configured, Decides, Deed, Dispose, EntryHeld}
 use Rattle.machine_model.specs.Names.{Event, Exit, Finding, Fresh, Gone, Hit, Initialized, Item, Leaves, Lines, Location}
 use Rattle.machine_model.specs.Names.{Lookup, Note, Options, Outcome, Part, Phase, Replied, Resume, Roots, StopCause}
@@ -19,10 +20,11 @@ use Rattle.machine_model.specs.Names.{Want}
 use Rattle.machine_model.specs.Names.{a_composite, a_question, a_raw, a_request, a_stop, all_threads, an_effect, by_client}
 use Rattle.machine_model.specs.Names.{class_facts, of_composite, of_entry, of_stop, some_news, target_end}
 use Rattle.machine_model.specs.Names.{thread_frames}
-use Rattle.machine_model.specs.Names.{container_children}
+use Rattle.machine_model.specs.Names.{container_children, expression_value}
 use Rattle.machine_model.specs.Outcomes.{result_of}
 use Rattle.machine_model.specs.Plans.{Result}
 use Rattle.machine_model.specs.Replying.{given_up, hand_replied, replied_to}
+use Rattle.machine_model.specs.Rows.{written_by}
 use Rattle.machine_model.specs.Rows.{chosen, gone_parts, has_response, leaves, news_of, noted, parts_of}
 use Rattle.machine_model.specs.Rows.{request_parts}
 use Rattle.machine_model.specs.Runs.{Message, Run}
@@ -95,6 +97,7 @@ may_do_so Suspend stopped entry = not stopped
 may_do_so (Resume suspension) stopped entry = may_undo suspension stopped entry
 may_do_so Dispose stopped entry = true
 may_do_so Exit stopped entry = true
+may_do_so (Writes write) stopped entry = true
 
 abbrev may_note : Note → Bool → Bool
 may_note EntryHeld entry = not entry
@@ -104,6 +107,7 @@ abbrev may_choose : Choice → Phase → Bool → List Part → Bool
 may_choose (TellsNews below) phase stopped rest = true
 may_choose Decides phase stopped rest = cond (is_attached phase) (is_empty rest) false
 may_choose Stepped phase stopped rest = cond stopped (is_empty rest) false
+may_choose (Written seen) phase stopped rest = true
 may_choose (Leaves exits) phase stopped rest = true
 
 -- what was thrown is told as a hit is
@@ -161,6 +165,8 @@ found_may : (phase : Phase) (stopped entry : Bool) (lookup : Lookup) (result : R
 found_may phase stopped entry all_threads result state rest = refl
 found_may phase stopped entry (thread_frames thread start levels) result state rest = refl
 found_may phase stopped entry (container_children thing filter start count) result state rest = refl
+found_may phase stopped entry (expression_value frame expression) result state rest = refl
+found_may phase stopped entry (variable_write thing name text) result state rest = grind arith
 found_may phase stopped entry (exception_text thread object) result state rest = by_stop stopped
   where
     by_stop : (stopped : Bool) → may_all phase stopped entry (finished (exception_text thread object) result state ++ rest)
@@ -214,6 +220,11 @@ chosen_may Decides state hand (part ∷ rest) is = none (is_attached state.phase
         → may_all state.phase state.stopped state.entry (decided state hand.item ++ part ∷ rest) ≡ true
     none true is = cc
     none false is = cc
+chosen_may (Written seen) state hand rest is = by_code (refused_with hand.effect)
+  where
+    by_code : (code : Option ℕ) → may_all state.phase state.stopped state.entry (written_by seen code ++ rest) ≡ true
+    by_code None = is
+    by_code (Some code) = is
 chosen_may Stepped state hand rest is = by_rest rest state.stopped (refused_with hand.effect) is
   where
     by_rest : (rest : List Part) (stopped : Bool) (code : Option ℕ)

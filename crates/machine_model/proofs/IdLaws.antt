@@ -8,9 +8,13 @@ use Rattle.std.proofs.lemmas.List.Elements.{Contains-append_left, Contains-appen
 use Rattle.std.proofs.lemmas.List.Elements.{recursion_from_All}
 use Rattle.jdwp_commands.specs.Commands.{told_question}
 use Rattle.jdwp_commands.specs.declared.asked.Asked.TheVariants as commands
+use Rattle.machine_model.specs.Names.{a_written}
+use Rattle.machine_model.proofs.Standing.{needs_sizes}
+use Rattle.machine_model.proofs.WriteIds.{IsWrite, OfDeed, OfStore, written_fits, written_ids, written_sized}
+use Rattle.machine_model.specs.Names.{Store, Write, Writes, to_element, to_field, to_slot, variable_write}
 use Rattle.machine_model.specs.Ids.{Id, IsNull, class, ids_asked, ids_given, ids_of_composite}
 use Rattle.machine_model.specs.Ids.{ids_read, thread_in}
-use Rattle.machine_model.specs.Ids.{object}
+use Rattle.machine_model.specs.Ids.{frame, object}
 use Rattle.machine_model.specs.Names.{Classes, Clear, Deed, Dispose, Does, Effect, Exit, Item, Lines, Part, Question}
 use Rattle.machine_model.specs.Names.{Resume, Sent, Set, Success, Suspend, TargetCommand, Want, a_composite}
 use Rattle.machine_model.specs.Names.{a_question, a_raw, a_request, an_effect, target_end, thread_list}
@@ -28,14 +32,14 @@ use Rattle.machine_model.proofs.ItemIds.{HandStands, Waits, waiting_on}
 use Rattle.machine_model.proofs.HitIds.{ItemStands}
 use Rattle.machine_model.proofs.ThreadIds.{TellStands}
 use Rattle.machine_model.specs.Names.{Configured, EntryHeld, Functions, Options, Roots, Steps, StopsAt, Throws, Thrown}
-use Rattle.machine_model.specs.Names.{an_exception, exception_info, exception_text}
+use Rattle.machine_model.specs.Names.{Seen, an_exception, exception_info, exception_text}
 use Rattle.machine_model.specs.Names.{Body, Capabilities, Continued, Failed, Nothing, ShownVariable, breakpoint_list}
-use Rattle.machine_model.specs.Names.{container_children, frame_list, scope_list, variable_list}
+use Rattle.machine_model.specs.Names.{a_value, container_children, expression_value, frame_list, scope_list, variable_list}
 use Rattle.stop_refs.specs.declared.thing.FrameThing.{FrameThing}
 use Rattle.stop_refs.specs.declared.thing.Thing.{Thing}
 use Rattle.stop_refs.specs.declared.thing.Thing.TheVariants as things
 use Rattle.machine_model.proofs.PlanIds.{IsAskable, IsAsked, IsReplied, IsWanted, OfNamed, OfThread, OnSome, is_sizes}
-use Rattle.machine_model.proofs.PlanIds.{OfClass, OfFrameThing, OfObject, OfShownFrame, OfShownVariable, OfThing, OfThrown}
+use Rattle.machine_model.proofs.PlanIds.{OfClass, OfFrameThing, OfObject, OfShownFrame, OfSeen, OfShownVariable, OfThing, OfThrown}
 use Rattle.std.specs.Prelude.{zero, suc}
 use Rattle.machine_model.proofs.Standing.{IsKept, Near, OfBody, PartStands, asked_in, at_front, ids_said, left_in, queue_in}
 use Rattle.machine_model.proofs.StandingReplies.{queued_near, sizes_is}
@@ -67,12 +71,15 @@ module _ (P Q : Id → Type 0) (k : (id : Id) → P id → Q id) where
   weak_thing (things.Object one) h = k (object one.0) h
   weak_thing (things.Array one) h = k (object one.0) h
 
-  weak_variable : (one : ShownVariable) → OfShownVariable P one → OfShownVariable Q one
-  weak_variable one h = by_thing one.seen.thing h
+  weak_seen : (seen : Seen) → OfSeen P seen → OfSeen Q seen
+  weak_seen seen h = by_thing seen.thing h
     where
       by_thing : (thing : Option Thing) → OnSome (OfThing P) thing → OnSome (OfThing Q) thing
       by_thing None h = tt
       by_thing (Some thing) h = weak_thing thing h
+
+  weak_variable : (one : ShownVariable) → OfShownVariable P one → OfShownVariable Q one
+  weak_variable one h = weak_seen one.seen h
 
   weak_body : (body : Body) → OfBody P body → OfBody Q body
   weak_body (thread_list named) h = all_weak (OfNamed P) (OfNamed Q) (λ one. k _) named h
@@ -80,11 +87,21 @@ module _ (P Q : Id → Type 0) (k : (id : Id) → P id → Q id) where
       all_weak (OfShownFrame P) (OfShownFrame Q) (λ one. weak_frame one.frame) frames h
   weak_body (scope_list one) h = weak_frame one h
   weak_body (variable_list shown) h = all_weak (OfShownVariable P) (OfShownVariable Q) weak_variable shown h
+  weak_body (a_value seen) h = weak_seen seen h
+  weak_body (a_written seen) h = tt
   weak_body Nothing h = tt
   weak_body Capabilities h = tt
   weak_body (breakpoint_list rooted listed) h = tt
   weak_body Continued h = tt
   weak_body (an_exception id mode) h = tt
+
+  weak_store : (store : Store) → OfStore P store → OfStore Q store
+  weak_store (to_slot thread one slot) h = (k (object thread.0) h.0, k (frame thread.0 one.0) h.1)
+  weak_store (to_field one field) h = (k (object one.0) h.0, k _ h.1)
+  weak_store (to_element array index) h = k (object array.0) h
+
+  weak_write : (write : Write) → IsWrite P write → IsWrite Q write
+  weak_write write h = record { of_store = weak_store write.store h.of_store; plain = h.plain }
 
   weak_part : (part : Part) → PartStands P part → PartStands Q part
   weak_part (Part.Responds (Success body)) h = weak_body body h
@@ -96,7 +113,14 @@ module _ (P Q : Id → Type 0) (k : (id : Id) → P id → Q id) where
   weak_part (Part.Looks all_threads) h = tt
   weak_part (Part.Looks (thread_frames thread start levels)) h = k (object thread.0) h
   weak_part (Part.Looks (container_children thing filter start count)) h = weak_thing thing h
+  weak_part (Part.Looks (expression_value one expression)) h = weak_frame one h
+  weak_part (Part.Looks (variable_write thing name text)) h = weak_thing thing h
   weak_part (Part.Looks (exception_text thread one)) h = weak_object one.0 h
+  weak_part (Part.Sends (Writes write)) h = weak_write write h
+  weak_part (Part.Sends Suspend) h = tt
+  weak_part (Part.Sends (Resume suspension)) h = tt
+  weak_part (Part.Sends Dispose) h = tt
+  weak_part (Part.Sends Exit) h = tt
   weak_part (Part.Looks (exception_info thrown)) h = weak_object thrown.object.0 h
   weak_part (Part.Looks class_facts) h = tt
   weak_part (Part.Notes (Classes classes)) h = all_weak (OfClass P) (OfClass Q) (λ one. k _) classes h
@@ -178,6 +202,8 @@ weak_waits P Q k m w near = record {
     tells (Part.Looks all_threads) h = tt
     tells (Part.Looks (thread_frames thread start levels)) h = tt
     tells (Part.Looks (container_children thing filter start count)) h = tt
+    tells (Part.Looks (expression_value one expression)) h = tt
+    tells (Part.Looks (variable_write thing name text)) h = tt
     tells (Part.Looks (exception_info thrown)) h = tt
     tells (Part.Looks class_facts) h = tt
     tells (Part.Awaits guard) h = tt
@@ -244,11 +270,18 @@ always_kept {P} t r =
 
 -- What is sent --------------------------------------------------------------------------------------------------------
 
-deed_may : (P : Id → Type 0) (sized : Bool) (deed : Deed) → MaySend P sized (an_effect (Does deed))
-deed_may P sized Suspend = record { ids = tt; sized_first = refl; fits = λ used h. tt }
-deed_may P sized (Resume suspension) = record { ids = tt; sized_first = refl; fits = λ used h. tt }
-deed_may P sized Dispose = record { ids = tt; sized_first = refl; fits = λ used h. tt }
-deed_may P sized Exit = record { ids = tt; sized_first = refl; fits = λ used h. (tt, tt) }
+deed_may : (P : Id → Type 0) (sized : Bool) (deed : Deed) → OfDeed P deed
+    → (needs_sizes (Part.Sends deed) ≡ true → sized ≡ true) → MaySend P sized (an_effect (Does deed))
+deed_may P sized Suspend k needs = record { ids = tt; sized_first = refl; fits = λ used h. tt }
+deed_may P sized (Resume suspension) k needs = record { ids = tt; sized_first = refl; fits = λ used h. tt }
+deed_may P sized Dispose k needs = record { ids = tt; sized_first = refl; fits = λ used h. tt }
+deed_may P sized Exit k needs = record { ids = tt; sized_first = refl; fits = λ used h. (tt, tt) }
+deed_may P sized (Writes write) k needs = subst (λ (sized : Bool). MaySend P sized (an_effect (Does (Writes write))))
+    (sym (needs refl)) (record {
+      ids = written_ids P write k;
+      sized_first = written_sized write;
+      fits = λ used h. written_fits used write k.plain h;
+    })
 
 -- a command that clears has no id of the target's objects
 clear_may : (P : Id → Type 0) (sized : Bool) (wish : Wish) (request : ℕ) → MaySend P sized (an_effect
@@ -300,11 +333,13 @@ sends_may {P} {messages} {m} command null k move = by_move command (Some (Messag
   where
     by_move : {next : Machine} (command : TargetCommand) (said : Option Message) → said ≡ Some (Message.sends command)
         → Moves m said next → (is_gone m.state.phase ≡ false) × MaySend P (is_some m.state.sizes) command
-    by_move command said is (Moves.sends {deed = deed} free at near) =
-        let same : an_effect (Does deed) ≡ command = cc in (
+    by_move command said is (Moves.sends {rest = rest} {deed = deed} free at near) =
+        let same : an_effect (Does deed) ≡ command = cc in
+        let n = (at_front k at).near near in (
           near,
           subst (λ command. MaySend P (is_some m.state.sizes) command) same (deed_may P
-              (is_some m.state.sizes) deed),
+              (is_some m.state.sizes) deed n.parts.0 (λ needs. sized_by (is_some m.state.sizes)
+              (is_attached m.state.phase) (Part.Sends deed) rest n.order refl needs)),
         )
     by_move command said is (Moves.updates {effect = effect} {rest} free at due near) =
         let same : an_effect effect ≡ command = cc in

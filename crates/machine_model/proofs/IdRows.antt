@@ -1,6 +1,6 @@
 -- Ids in rows: those of what has a spelling fit the sizes, and what has ids and numbers alone has a spelling by its
 -- ids.
-use Rattle.std.proofs.Common.{◌≡◌, ◌<◌, ◌^◌, ◌&&◌, ℕ, Bool, true, false, List, [], ◌∷◌, ◌++◌, refl, length, nat_lt, arith}
+use Rattle.std.proofs.Common.{◌≡◌, ◌<◌, ◌^◌, ◌&&◌, ℕ, zero, suc, Bool, true, false, List, [], ◌∷◌, ◌++◌, refl, length, nat_lt, arith}
 use Rattle.std.specs.List.{AllByRecursion as All, flat_map}
 use Rattle.jdwp_commands.specs.Answers.{told_answer}
 use Rattle.jdwp_commands.specs.Items as items
@@ -26,7 +26,7 @@ use Rattle.jdwp_values.specs.Tags.{is_reference}
 use Rattle.jdwp_values.specs.declared.value.Value.{Value}
 use Rattle.jdwp_values.specs.declared.value.Value.TheVariants as values
 use Rattle.jdwp_commands.specs.Listed.{class_status_row, frame_row, loaded_class_row}
-use Rattle.machine_model.specs.Ids.{Id, class, field, frame, ids_of_composite, ids_of_event, ids_of_item}
+use Rattle.machine_model.specs.Ids.{Id, class, field, frame, id_of_object, ids_of_composite, ids_of_event, ids_of_item}
 use Rattle.machine_model.specs.Ids.{ids_of_listed, ids_of_part, ids_of_row}
 use Rattle.machine_model.specs.Ids.{ids_of_said, ids_of_saying, ids_of_simple, ids_of_value, method, no_thread, object}
 use Rattle.machine_model.specs.Names.{Composite}
@@ -81,14 +81,18 @@ simple_ids used thread parts.field_id x h = (h, tt)
 simple_ids used thread parts.frame_id x h = (h, tt)
 simple_ids used thread _ x h = tt
 
+object_ids : (used : IdSizes) (id : ℕ) → id < 256 ^ used.object → Fit used (id_of_object id)
+object_ids used zero h = tt
+object_ids used (suc id) h = (h, tt)
+
 value_ids : (used : IdSizes) (v : Value) → FitsValue used v → Fit used (ids_of_value v)
-value_ids used (values.Object x) h = (h, tt)
-value_ids used (values.Array x) h = (h, tt)
-value_ids used (values.String x) h = (h, tt)
-value_ids used (values.Thread x) h = (h, tt)
-value_ids used (values.ThreadGroup x) h = (h, tt)
-value_ids used (values.ClassLoader x) h = (h, tt)
-value_ids used (values.ClassObject x) h = (h, tt)
+value_ids used (values.Object x) h = object_ids used x.0 h
+value_ids used (values.Array x) h = object_ids used x.0 h
+value_ids used (values.String x) h = object_ids used x.0 h
+value_ids used (values.Thread x) h = object_ids used x.0 h
+value_ids used (values.ThreadGroup x) h = object_ids used x.0 h
+value_ids used (values.ClassLoader x) h = object_ids used x.0 h
+value_ids used (values.ClassObject x) h = object_ids used x.0 h
 value_ids used _ h = tt
 
 part_ids : (used : IdSizes) (thread : ℕ) (p : Part) (x : Of p) → FitsPart used p x → Fit used (ids_of_part thread p x)

@@ -11,6 +11,7 @@ use Rattle.jdwp_events.specs.declared.kind.Policy.TheVariants.{NoThread, EventTh
 use Rattle.machine_model.specs.Composites.{has_death, learnt_by, learnt_in, prepared_by, prepared_in, prepared_under}
 use Rattle.machine_model.specs.Due.{Picked, after_deed, asked_hand, passed_by, pick}
 use Rattle.machine_model.specs.Ids.{Id, class, ids_of_event}
+use Rattle.machine_model.specs.Names.{Writes}
 use Rattle.machine_model.specs.Names.{Attached, Fresh, Gone, Item, Phase, a_composite, a_raw, a_request}
 use Rattle.machine_model.specs.Names.{Part, Replied, TargetCommand, ThreadId, Want, a_question, an_effect, target_end}
 use Rattle.machine_model.specs.Names.{Classes, Configured, Deed, Dispose, EntryHeld, Event, Exit, Functions, Initialized}
@@ -228,6 +229,7 @@ deed_thrown P (Resume of_entry) state h = h
 deed_thrown P (Resume of_stop) state h = tt
 deed_thrown P Dispose state h = h
 deed_thrown P Exit state h = h
+deed_thrown P (Writes write) state h = h
 
 note_thrown : (P : Id → Type 0) (note : Note) (state : State) → NoteTells P note → All (OfThrown P) state.thrown
     → All (OfThrown P) (noted note state).thrown

@@ -11,6 +11,7 @@ use Rattle.machine_model.specs.Knowing.{says_dead, sizes_said, thread_numbers, t
 use Rattle.machine_model.specs.Knowing.{waiting_composites, watch_set, with_facts}
 use Rattle.jdwp_commands.specs.Answers.{kind_of_answer}
 use Rattle.jdwp_commands.specs.Commands.{kind_of}
+use Rattle.machine_model.specs.Names.{a_written}
 use Rattle.machine_model.specs.Names.{Answer, Attached, Capabilities, Classes, Clear, Command, Composite, Configured}
 use Rattle.machine_model.specs.Names.{Continued, Does, Effect, EntryHeld, Event, Failed, Fresh, Gone, Initialized}
 use Rattle.machine_model.specs.Names.{Item, Lines, NamedThread, Note, Nothing, Options, Outcome, Part, Phase}
@@ -19,7 +20,7 @@ use Rattle.machine_model.specs.Names.{a_composite, a_question, a_raw, a_request,
 use Rattle.machine_model.specs.Names.{an_event, breakpoint_list, entry_verified, some_news, target_end, thread_changed}
 use Rattle.machine_model.specs.Names.{thread_list}
 use Rattle.machine_model.specs.Names.{frame_list}
-use Rattle.machine_model.specs.Names.{scope_list, variable_list, Steps, StopsAt, Throws}
+use Rattle.machine_model.specs.Names.{a_value, scope_list, variable_list, Steps, StopsAt, Throws}
 use Rattle.machine_model.specs.Replying.{IsReply, ended_with, hand_replied, is_end, replied_to, sizes_in, unlisted_by}
 use Rattle.machine_model.specs.Replying.{knows_fact, learnt, still_unlisted, wire}
 use Rattle.machine_model.proofs.BindingFacts.{is_mapped}
@@ -153,6 +154,8 @@ response_view (Success Continued) m = refl
 response_view (Success (frame_list total frames)) m = refl
 response_view (Success (scope_list frame)) m = refl
 response_view (Success (variable_list shown)) m = refl
+response_view (Success (a_value seen)) m = refl
+response_view (Success (a_written seen)) m = refl
 response_view (Success (an_exception id mode)) m = refl
 response_view (Success (thread_list named)) m = refl
 response_view (Failed failure) m = refl
@@ -583,6 +586,8 @@ outcome_numbers numbers (Success (an_exception id mode)) state = no_numbers numb
 outcome_numbers numbers (Success (frame_list total frames)) state = no_numbers numbers state.threads
 outcome_numbers numbers (Success (scope_list frame)) state = no_numbers numbers state.threads
 outcome_numbers numbers (Success (variable_list shown)) state = no_numbers numbers state.threads
+outcome_numbers numbers (Success (a_value seen)) state = no_numbers numbers state.threads
+outcome_numbers numbers (Success (a_written seen)) state = no_numbers numbers state.threads
 outcome_numbers numbers (Success (breakpoint_list rooted listed)) state = no_numbers numbers state.threads
 outcome_numbers numbers (Success (thread_list named)) state = record {
   distinct = distinct_with state.threads named;

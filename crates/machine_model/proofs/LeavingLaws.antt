@@ -10,6 +10,7 @@ use Rattle.machine_model.specs.Due.Way.{greets as greets_way}
 use Rattle.machine_model.specs.Knowing.{is_farewell, is_fresh, view_of}
 use Rattle.machine_model.specs.Leaving.{IsFarewell, IsFirst, IsGreeting, IsInTurn, answers_farewell, deed_for}
 use Rattle.machine_model.specs.Leaving.{sends_farewell}
+use Rattle.machine_model.specs.Names.{Writes}
 use Rattle.machine_model.specs.Names.{Attach, Attached, Command, Deed, Disconnect, Dispose, Does, Doing, Exit, Fresh}
 use Rattle.machine_model.specs.Names.{Gone, Guard, Handshake, IdSizes, Item, Outcome, Part, Phase, Request, Resume}
 use Rattle.machine_model.specs.Names.{Suspend, TargetCommand, a_composite, a_question, a_raw, a_request, a_response}
@@ -138,6 +139,7 @@ deed_is : (aim : Aim) (deed : Deed) (responds ends leaves : Bool) → is_sends (
     → (exits : Bool) × (deed ≡ deed_for exits) × (leaves_well aim exits responds ends leaves ≡ true)
 deed_is aim Suspend responds ends leaves is h = cc
 deed_is aim (Resume suspension) responds ends leaves is h = cc
+deed_is aim (Writes write) responds ends leaves is h = cc
 deed_is aim Exit responds ends leaves is h = (true, refl, h)
 deed_is aim Dispose responds ends leaves is h = (false, refl, h)
 

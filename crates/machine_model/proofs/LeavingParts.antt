@@ -3,6 +3,7 @@ use Rattle.std.proofs.Common.{◌≡◌, Bool, true, false, cond, not, ◌||◌,
 use Rattle.std.proofs.Common.{arith}
 use Rattle.machine_model.specs.Knowing.{is_farewell}
 use Rattle.machine_model.specs.Lookups.{finished}
+use Rattle.machine_model.specs.Names.{Written}
 use Rattle.machine_model.specs.Names.{Attach, Attached, Choice, Command, Decides, Deed, Disconnect, Dispose, Doing}
 use Rattle.machine_model.specs.Names.{Exit, Finding, Fresh, Gone, Handshake, Item, Leaves, Lookup, News, Part, Phase}
 use Rattle.machine_model.specs.Names.{TellsNews, a_composite, a_raw, a_request, an_effect, target_end}
@@ -162,6 +163,7 @@ chosen_fits Decides state hand aim responds ends leaves is =
     of_decided (λ (parts : List Part). fits_before aim responds ends leaves parts ≡ true) refl refl (rw is refl)
     (λ stopped thrown halt. grind (arith, is)) state hand.item
 chosen_fits Stepped state hand aim responds ends leaves is = grind (arith, is)
+chosen_fits (Written seen) state hand aim responds ends leaves is = grind (arith, is)
 chosen_fits (Leaves exits) state hand aim responds ends leaves is = grind (arith, is)
 
 -- and leaves the target only in an attached session
@@ -183,6 +185,7 @@ chosen_attached Decides state hand =
     of_decided (λ (parts : List Part). sends_attached (is_attached state.phase) parts ≡ true) refl refl refl
     (λ stopped thrown halt. grind arith) state hand.item
 chosen_attached Stepped state hand = grind arith
+chosen_attached (Written seen) state hand = grind arith
 chosen_attached (Leaves exits) state hand = grind arith
 
 -- where it does, if the choice was to
@@ -191,6 +194,7 @@ pub chosen_leaves : (choice : Choice) (state : State) (hand : Hand) → is_leave
 chosen_leaves (TellsNews below) state hand is near = cc
 chosen_leaves Decides state hand is near = cc
 chosen_leaves Stepped state hand is near = cc
+chosen_leaves (Written seen) state hand is near = cc
 chosen_leaves (Leaves exits) state hand is near = grind (arith, is, near)
 
 -- what a look-up becomes leaves no target

@@ -76,9 +76,11 @@ pub mod ThreadIds
 pub mod ToldLaws
 pub mod ToldParts
 pub mod TurnLaws
+pub mod ValueExamples
 pub mod VariableExamples
 pub mod VerifiedLaws
 pub mod WaitingLaws
 pub mod WishIds
+pub mod WriteIds
 pub mod WishLemmas
 pub mod WorldLaws

@@ -59,8 +59,29 @@ use Rattle.machine_model.specs.Children.{of_classes, of_field, of_fields, of_ind
 use Rattle.machine_model.specs.Children.{reach, this_in, this_plan, variables_plan, visible_at}
 use Rattle.machine_model.specs.Children.{visible_plan, with_class, with_name, with_this}
 use Rattle.machine_model.specs.Facts.{above_in, fields_in}
-use Rattle.machine_model.specs.Ids.{field, frame, ids_of_value}
-use Rattle.machine_model.specs.Names.{Seen, container_children, variables_found}
+use Rattle.machine_model.specs.Ids.{field, frame, id_of_object, ids_of_value}
+use Rattle.machine_model.specs.Names.{Failure, Seen, Store, container_children, expression_value, no_value, value_found}
+use Rattle.machine_model.specs.Names.{variable_write}
+use Rattle.machine_model.specs.Children.{index_name}
+use Rattle.machine_model.specs.Writing.{Writing, child_named, child_written, digits_of, element_by, element_store}
+use Rattle.machine_model.specs.Writing.{field_store, field_written, index_written, is_index_name, local_written, slot_store}
+use Rattle.machine_model.specs.Writing.{value_for, write_by, write_with}
+use Rattle.machine_model.proofs.WriteIds.{OfStore, OfValueRead, value_read}
+use Rattle.std.specs.Str.Parse.{digits_value}
+use Rattle.std.specs.Prelude.{Result}
+use Rattle.machine_model.specs.Names.{variables_found}
+use Rattle.dap_messages.specs.Telling.{bad_index, no_such_name}
+use Rattle.field_exprs.specs.declared.expr.Expr.{Expr}
+use Rattle.field_exprs.specs.declared.expr.Head.{Head}
+use Rattle.field_exprs.specs.declared.expr.Head.TheVariants as heads
+use Rattle.field_exprs.specs.declared.expr.Hop.{Hop}
+use Rattle.field_exprs.specs.declared.expr.Hop.TheVariants as hops
+use Rattle.machine_model.specs.Children.{first_byte}
+use Rattle.machine_model.specs.Expressions.{Sought, as_length, as_this, class_field, element_hop, element_if, field_from}
+use Rattle.machine_model.specs.Expressions.{field_hop, field_named, field_value, found_or, head_in, hop_on, hops_on}
+use Rattle.machine_model.specs.Expressions.{index_on, length_hop, length_if, missing, name_on, named_head, named_in}
+use Rattle.machine_model.specs.Expressions.{on_value, one_of, shown_value, this_by, value_plan, variable_named}
+use Rattle.std.specs.Prelude.{Ok, Err, bytes_eq, find}
 use Rattle.stop_refs.specs.declared.thing.FrameThing.{FrameThing}
 use Rattle.stop_refs.specs.declared.thing.Thing.{Thing}
 use Rattle.stop_refs.specs.declared.thing.Thing.TheVariants as things
@@ -340,6 +361,11 @@ module _ (P : Id → Type 0) (null : P (class 0)) (sight : Sight) (known : Known
   by_id_row Good zero none some h k = h
   by_id_row Good (suc id) none some h k = k
 
+  object_row_of : {A : Type 0} (Good : A → Type 0) (id : ℕ) (none : Plan A) (some : ℕ → Plan A) → All P (id_of_object id)
+      → Row Good none → ((id : ℕ) → P (object id) → Row Good (some id)) → Row Good (by_id id none some)
+  object_row_of Good zero none some k h rest = h
+  object_row_of Good (suc id) none some k h rest = rest (suc id) k.0
+
   gives_row : {A : Type 0} (Good : A → Type 0) (a : A) → Good a → Row Good (gives a)
   unfolding need
   gives_row Good a k = k
@@ -378,16 +404,13 @@ module _ (P : Id → Type 0) (null : P (class 0)) (sight : Sight) (known : Known
   seen_row types v d k = by_value v.value k
     where
       by_value : (value : Value) → OfValue value → Row OfSeen (seen_by types v value)
-      by_value (values.Object o) k = by_id_row OfSeen o.0 _ _ (null_row types v d) (object_row types v.value o.0 k.0)
-      by_value (values.Array o) k = by_id_row OfSeen o.0 _ _ (null_row types v d) (array_row types v.value o.0 k.0)
-      by_value (values.String o) k = by_id_row OfSeen o.0 _ _ (null_row types v d) (string_row types v.value o.0 k.0)
-      by_value (values.Thread o) k = by_id_row OfSeen o.0 _ _ (null_row types v d) (object_row types v.value o.0 k.0)
-      by_value (values.ThreadGroup o) k =
-          by_id_row OfSeen o.0 _ _ (null_row types v d) (object_row types v.value o.0 k.0)
-      by_value (values.ClassLoader o) k =
-          by_id_row OfSeen o.0 _ _ (null_row types v d) (object_row types v.value o.0 k.0)
-      by_value (values.ClassObject o) k =
-          by_id_row OfSeen o.0 _ _ (null_row types v d) (object_row types v.value o.0 k.0)
+      by_value (values.Object o) k = object_row_of OfSeen o.0 _ _ k (null_row types v d) (object_row types v.value)
+      by_value (values.Array o) k = object_row_of OfSeen o.0 _ _ k (null_row types v d) (array_row types v.value)
+      by_value (values.String o) k = object_row_of OfSeen o.0 _ _ k (null_row types v d) (string_row types v.value)
+      by_value (values.Thread o) k = object_row_of OfSeen o.0 _ _ k (null_row types v d) (object_row types v.value)
+      by_value (values.ThreadGroup o) k = object_row_of OfSeen o.0 _ _ k (null_row types v d) (object_row types v.value)
+      by_value (values.ClassLoader o) k = object_row_of OfSeen o.0 _ _ k (null_row types v d) (object_row types v.value)
+      by_value (values.ClassObject o) k = object_row_of OfSeen o.0 _ _ k (null_row types v d) (object_row types v.value)
       by_value (values.Byte x) k = gives_row OfSeen _ tt
       by_value (values.Char x) k = gives_row OfSeen _ tt
       by_value (values.Double x) k = gives_row OfSeen _ tt
@@ -709,11 +732,252 @@ module _ (P : Id → Type 0) (null : P (class 0)) (sight : Sight) (known : Known
       (λ children h. every OfTwo (OfShownVariable P) (child_plan types) (child_row types) children h))
       (λ shown good. good)
 
+  -- an expression: each value on the way is of an id that was read
+  abbrev OfSought : Sought → Type 0
+  OfSought (Ok v) = OfDeclared v.declared × OfValue v.value
+  OfSought (Err failure) = Unit {0}
+
+  missing_row : (failure : Failure) → Row OfSought (missing failure)
+  missing_row failure = gives_row OfSought (Err failure) tt
+
+  on_row : (go : Valued → Plan Sought)
+      → ((v : Valued) → OfDeclared v.declared × OfValue v.value → Row OfSought (go v))
+      → (sought : Sought) → OfSought sought → Row OfSought (on_value go sought)
+  on_row go k (Ok v) h = k v h
+  on_row go k (Err failure) h = missing_row failure
+
+  one_stands : (declared : Declared) → OfDeclared declared → (found : List Value) → All OfValue found
+      → OfSought (one_of declared found)
+  one_stands declared d [] h = tt
+  one_stands declared d (value ∷ others) h = (d, h.0)
+
+  field_found : (name : List ℕ) (fields : List Field) → All OfField fields → OnSome OfField (find (λ f. bytes_eq f.name name) fields)
+  field_found name [] h = tt
+  field_found name (f ∷ fields) h = by_name (bytes_eq f.name name) (field_found name fields h.1)
+    where
+      by_name : (is : Bool) → OnSome OfField (find (λ f. bytes_eq f.name name) fields)
+          → OnSome OfField (cond is (Some f) (find (λ f. bytes_eq f.name name) fields))
+      by_name true rest = h.0
+      by_name false rest = rest
+
+  found_row : (found : Option Field) → OnSome OfField found → (above : Plan (Option Field))
+      → Row (OnSome OfField) above → Row (OnSome OfField) (found_or found above)
+  found_row (Some f) k above rest = gives_row (OnSome OfField) (Some f) k
+  found_row None k above rest = rest
+
+  field_from_row : (steps : ℕ) (met : List ℕ) (name : List ℕ) (c : ℕ) → OfNumber c
+      → Row (OnSome OfField) (field_from steps met name c)
+  unfolding field_from
+  field_from_row zero met name c k = gives_row (OnSome OfField) None tt
+  field_from_row (suc steps) met name zero k = gives_row (OnSome OfField) None tt
+  field_from_row (suc steps) met name (suc c) k = by_met (list_any (λ other. other == suc c) met)
+      (λ above good. field_from_row steps (met ++ suc c ∷ []) name above good)
+    where
+      next : Plan (Option Field)
+      next = chained (above_plan (suc c)) (λ above. field_from steps (met ++ suc c ∷ []) name above.0)
+
+      by_met : (is : Bool)
+          → ((above : ℕ) → OfNumber above → Row (OnSome OfField) (field_from steps (met ++ suc c ∷ []) name above))
+          → Row (OnSome OfField) (elim is [
+            | true ↦ gives None
+            | false ↦ chained (fields_plan (suc c)) (λ fields. found_or (field_named name fields) next)
+          ])
+      by_met true behind = gives_row (OnSome OfField) None tt
+      by_met false behind = chains (All OfField) (OnSome OfField) (fields_plan (suc c))
+          (λ fields. found_or (field_named name fields) next)
+          (asks (All OfField) fields_in (Want.Fact (questions.Fields (record { 0 = suc c })))
+          (record { ids = (k, tt); plain = refl; first = refl }) fields_heard)
+          (λ fields good. found_row (field_named name fields)
+          (field_found name (own_fields fields) (kept_all OfField _ fields good)) next
+          (chains (OfClass P) (OnSome OfField) (above_plan (suc c))
+          (λ above. field_from steps (met ++ suc c ∷ []) name above.0)
+          (asks (OfClass P) above_in (Want.Fact (questions.Superclass (record { 0 = suc c })))
+          (record { ids = (k, tt); plain = refl; first = refl }) above_heard)
+          (λ above good. behind above.0 good)))
+
+  field_value_row : (id : ℕ) → P (object id) → (f : Option Field) → OnSome OfField f → Row OfSought (field_value id f)
+  field_value_row id k None h = missing_row no_such_name
+  field_value_row id k (Some f) h = makes (All OfValue) OfSought (one_of (is_signature f.signature))
+      (field_values id (f.id ∷ [])) (field_values_row id k (f.id ∷ []) (h, tt) refl)
+      (λ found good. one_stands (is_signature f.signature) tt found good)
+
+  field_hop_row : (id : ℕ) → P (object id) → (name : List ℕ) → Row OfSought (field_hop name id)
+  field_hop_row id k name = chains (OfClass P) OfSought (class_of id) (class_field name id) (class_row_of id k)
+      (λ class good. chains (OnSome OfField) OfSought (field_from reach [] name class.0) (field_value id)
+      (field_from_row reach [] name class.0 good) (field_value_row id k))
+
+  length_hop_row : (id : ℕ) → P (object id) → (name : List ℕ) → Row OfSought (length_hop name id)
+  length_hop_row id k name = by_name (bytes_eq name (codes "length"))
+    where
+      by_name : (is : Bool) → Row OfSought (length_if is id)
+      by_name true = makes Any OfSought as_length (length_plan id) (length_row id k) (λ total any. (tt, tt))
+      by_name false = missing_row no_such_name
+
+  element_hop_row : (id : ℕ) → P (object id) → (i : ℕ) → Row OfSought (element_hop i id)
+  element_hop_row id k i = chains Any OfSought (length_plan id) (λ total. element_if (nat_lt i total) i id)
+      (length_row id k) (λ total any. inside (nat_lt i total))
+    where
+      inside : (is : Bool) → Row OfSought (element_if is i id)
+      inside true = makes (All OfValue) OfSought (one_of (element_of id)) (elements_plan id i 1) (elements_row id k i 1)
+          (λ found good. one_stands (element_of id) k found good)
+      inside false = missing_row bad_index
+
+  name_on_row : (name : List ℕ) (value : Value) → OfValue value → Row OfSought (name_on name value)
+  name_on_row name (values.Array o) k =
+      object_row_of OfSought o.0 (missing no_such_name) (length_hop name) k (missing_row no_such_name)
+      (λ id k. length_hop_row id k name)
+  name_on_row name (values.String o) k = missing_row no_such_name
+  name_on_row name (values.Object o) k =
+      object_row_of OfSought o.0 (missing no_such_name) (field_hop name) k (missing_row no_such_name)
+      (λ id k. field_hop_row id k name)
+  name_on_row name (values.Thread o) k =
+      object_row_of OfSought o.0 (missing no_such_name) (field_hop name) k (missing_row no_such_name)
+      (λ id k. field_hop_row id k name)
+  name_on_row name (values.ThreadGroup o) k =
+      object_row_of OfSought o.0 (missing no_such_name) (field_hop name) k (missing_row no_such_name)
+      (λ id k. field_hop_row id k name)
+  name_on_row name (values.ClassLoader o) k =
+      object_row_of OfSought o.0 (missing no_such_name) (field_hop name) k (missing_row no_such_name)
+      (λ id k. field_hop_row id k name)
+  name_on_row name (values.ClassObject o) k =
+      object_row_of OfSought o.0 (missing no_such_name) (field_hop name) k (missing_row no_such_name)
+      (λ id k. field_hop_row id k name)
+  name_on_row name _ k = missing_row no_such_name
+
+  index_on_row : (i : ℕ) (value : Value) → OfValue value → Row OfSought (index_on i value)
+  index_on_row i (values.Array o) k =
+      object_row_of OfSought o.0 (missing bad_index) (element_hop i) k (missing_row bad_index)
+      (λ id k. element_hop_row id k i)
+  index_on_row i _ k = missing_row bad_index
+
+  hop_row : (hop : Hop) (value : Value) → OfValue value → Row OfSought (hop_on hop value)
+  hop_row (hops.Field name) value k = name_on_row name value k
+  hop_row (hops.Index i) value k = index_on_row i value k
+
+  hops_row : (list : List Hop) (v : Valued) → OfDeclared v.declared × OfValue v.value → Row OfSought (hops_on list v)
+  hops_row [] v h = gives_row OfSought (Ok v) h
+  hops_row (hop ∷ others) v h = chains OfSought OfSought (hop_on hop v.value) (on_value (hops_on others))
+      (hop_row hop v.value h.1) (on_row (hops_on others) (hops_row others))
+
+  receiver_stands : (value : Value) (id : ℕ) → OfValue value → OfSought (this_by value id)
+  receiver_stands value zero k = tt
+  receiver_stands value (suc id) k = (tt, k)
+
+  named_head_row : (f : FrameThing) → OfFrameThing P f → (name : List ℕ) (found : Option Variable)
+      → Row OfSought (named_head f name found)
+  named_head_row f k name None =
+      chains OfValue OfSought (this_plan f) (name_on name) (this_row f k) (name_on_row name)
+  named_head_row f k name (Some v) = makes (All OfValue) OfSought (one_of (is_signature v.signature))
+      (slots_plan f (record { slot = v.slot; tag = first_byte v.signature } ∷ []))
+      (slots_row f k (record { slot = v.slot; tag = first_byte v.signature } ∷ []) refl)
+      (λ found good. one_stands (is_signature v.signature) tt found good)
+
+  head_row : (f : FrameThing) → OfFrameThing P f → (head : Head) → Row OfSought (head_in f head)
+  head_row f k heads.This = makes OfValue OfSought as_this (this_plan f) (this_row f k)
+      (λ value good. receiver_stands value (object_named value) good)
+  head_row f k (heads.Name name) = chains Any OfSought (variables_plan f.at.class f.at.method)
+      (λ variables. named_head f name (variable_named name f.at.index variables))
+      (asks Any listed_variables (Want.Fact (questions.VariableTable f.at.class f.at.method))
+      (record { ids = (k.2, (k.3, tt)); plain = refl; first = refl }) (λ heard any. tt))
+      (λ variables any. named_head_row f k name (variable_named name f.at.index variables))
+
+  shown_value_row : (types : Bool) (sought : Sought) → OfSought sought → Row (IsGood P) (shown_value types sought)
+  shown_value_row types (Ok v) h =
+      makes OfSeen (IsGood P) value_found (seen_plan types v) (seen_row types v h.0 h.1) (λ seen good. good)
+  shown_value_row types (Err failure) h = gives_row (IsGood P) (no_value failure) tt
+
+  value_row : (types : Bool) (f : FrameThing) → OfFrameThing P f → (e : Expr) → Row (IsGood P) (value_plan types f e)
+  value_row types f k e = chains OfSought (IsGood P) (named_in f e) (shown_value types)
+      (chains OfSought OfSought (head_in f e.head) (on_value (hops_on e.steps)) (head_row f k e.head)
+      (on_row (hops_on e.steps) (hops_row e.steps))) (shown_value_row types)
+
+  -- what is written stands where ids say that were read, and is null or no reference
+  stored : (w : Writing) (store : Option Store) → OnSome (OfStore P) store → (declared : List ℕ)
+      (value : Result Value Failure) → OfValueRead value → IsGood P (write_with w store declared value)
+  stored w None k declared (Ok value) h = tt
+  stored w (Some store) k declared (Ok value) h = record { of_store = k; plain = h }
+  stored w None k declared (Err failure) h = tt
+  stored w (Some store) k declared (Err failure) h = tt
+
+  child_row_written : (w : Writing) (store_in : Place → Option Store)
+      → ((place : Place) → OfPlace place → OnSome (OfStore P) (store_in place)) → (child : Option Child)
+      → OnSome OfChild child → Row (IsGood P) (child_written w store_in child)
+  child_row_written w store_in stores None h = gives_row (IsGood P) (no_value no_such_name) tt
+  child_row_written w store_in stores (Some child) h = makes Any (IsGood P)
+      (λ declared. write_with w (store_in child.place) declared (value_for declared w.text)) (declared_plan child.declared)
+      (declared_row child.declared h.0)
+      (λ declared any. stored w (store_in child.place) (stores child.place h.1) declared (value_for declared w.text)
+      (value_read declared w.text))
+
+  child_found : (name : List ℕ) (children : List Child) → All OfChild children → OnSome OfChild (child_named name children)
+  child_found name [] h = tt
+  child_found name (child ∷ children) h = by_name (bytes_eq child.name name) (child_found name children h.1)
+    where
+      by_name : (is : Bool) → OnSome OfChild (child_named name children)
+          → OnSome OfChild (cond is (Some child) (child_named name children))
+      by_name true rest = h.0
+      by_name false rest = rest
+
+  slot_stores : (f : FrameThing) → OfFrameThing P f → (place : Place) → OfPlace place
+      → OnSome (OfStore P) (slot_store f place)
+  slot_stores f k (is_known value) h = tt
+  slot_stores f k (in_slot slot tag) h = (k.0, k.1)
+  slot_stores f k (in_field one) h = tt
+  slot_stores f k (at_index i) h = tt
+
+  field_stores : (id : ℕ) → P (object id) → (place : Place) → OfPlace place → OnSome (OfStore P) (field_store id place)
+  field_stores id k (is_known value) h = tt
+  field_stores id k (in_slot slot tag) h = tt
+  field_stores id k (in_field one) h = (k, h)
+  field_stores id k (at_index i) h = tt
+
+  element_stores : (id : ℕ) → P (object id) → (place : Place) → OfPlace place
+      → OnSome (OfStore P) (element_store id place)
+  element_stores id k (is_known value) h = tt
+  element_stores id k (in_slot slot tag) h = tt
+  element_stores id k (in_field one) h = tt
+  element_stores id k (at_index i) h = k
+
+  local_written_row : (w : Writing) (f : FrameThing) → OfFrameThing P f → (name : List ℕ)
+      → Row (IsGood P) (local_written w f name)
+  local_written_row w f k name = chains (All OfChild) (IsGood P) (locals_plan f)
+      (λ children. child_written w (slot_store f) (child_named name children)) (locals_row f k)
+      (λ children h. child_row_written w (slot_store f) (slot_stores f k) (child_named name children)
+      (child_found name children h))
+
+  field_written_row : (w : Writing) (name : List ℕ) (id : ℕ) → P (object id) → Row (IsGood P) (field_written w name id)
+  field_written_row w name id k = chains (All OfChild) (IsGood P) (object_fields id)
+      (λ children. child_written w (field_store id) (child_named name children)) (object_fields_row id k)
+      (λ children h. child_row_written w (field_store id) (field_stores id k) (child_named name children)
+      (child_found name children h))
+
+  element_by_row : (w : Writing) (inside named : Bool) (id i : ℕ) → P (object id)
+      → Row (IsGood P) (element_by w inside named id i)
+  element_by_row w false named id i k = gives_row (IsGood P) (no_value bad_index) tt
+  element_by_row w true false id i k = gives_row (IsGood P) (no_value no_such_name) tt
+  element_by_row w true true id i k =
+      child_row_written w (element_store id) (element_stores id k) (Some (of_index id i)) (k, tt)
+
+  index_written_row : (w : Writing) (name : List ℕ) (is : Bool) (id : ℕ) → P (object id)
+      → Row (IsGood P) (index_written w name is id)
+  index_written_row w name false id k = gives_row (IsGood P) (no_value no_such_name) tt
+  index_written_row w name true id k = let i = digits_value 10 (digits_of name) in
+      chains Any (IsGood P) (length_plan id) (λ total. element_by w (nat_lt i total) (bytes_eq name (index_name i)) id i)
+      (length_row id k) (λ total any. element_by_row w (nat_lt i total) (bytes_eq name (index_name i)) id i k)
+
+  write_row : (w : Writing) (thing : Thing) → OfThing P thing → (name : List ℕ) → Row (IsGood P) (write_by w thing name)
+  write_row w (things.Frame f) k name = gives_row (IsGood P) (no_value no_such_name) tt
+  write_row w (things.Locals f) k name = local_written_row w f k name
+  write_row w (things.Object o) k name = by_id_row (IsGood P) o.0 (gives (no_value no_such_name)) (field_written w name)
+      (gives_row (IsGood P) (no_value no_such_name) tt) (field_written_row w name o.0 k)
+  write_row w (things.Array o) k name =
+      by_id_row (IsGood P) o.0 (gives (no_value no_such_name)) (index_written w name (is_index_name name))
+      (gives_row (IsGood P) (no_value no_such_name) tt) (index_written_row w name (is_index_name name) o.0 k)
+
   -- what was thrown, unless it is null
-  object_row_of : {A : Type 0} (Good : A → Type 0) (id : ℕ) (none : Plan A) (some : ℕ → Plan A) → OfObject P id
-      → Row Good none → ((id : ℕ) → P (object id) → Row Good (some id)) → Row Good (by_id id none some)
-  object_row_of Good zero none some k h rest = h
-  object_row_of Good (suc id) none some k h rest = rest (suc id) k
+  id_of : (id : ℕ) → OfObject P id → All P (id_of_object id)
+  id_of zero k = tt
+  id_of (suc id) k = (k, tt)
 
   name_row : (heard : Option Answer) → IsHeard P heard → Row Any (text_by heard)
   name_row (Some (answers.ObjectType tag c)) k = makes Any Any name_by (signature_of c) (signature_row c k.0) (λ name any. tt)
@@ -726,13 +990,13 @@ module _ (P : Id → Type 0) (null : P (class 0)) (sight : Sight) (known : Known
 
   exception_text_row : (id : ℕ) → OfObject P id → Row (IsGood P) (text_of_exception id)
   exception_text_row id k = makes Any (IsGood P) text_found (by_id id (gives None) named_plan)
-      (object_row_of Any id (gives None) named_plan k (gives_row Any None tt) named_row) (λ text any. tt)
+      (object_row_of Any id (gives None) named_plan (id_of id k) (gives_row Any None tt) named_row) (λ text any. tt)
 
   exception_row : (thrown : Thrown) → OfObject P thrown.object.0 → Row (IsGood P) (exception_plan thrown)
   exception_row thrown k = let name = (λ (id : ℕ). made_with class_name (type_plan id)) in
       makes Any (IsGood P) (λ id. exception_found id (mode_of thrown.caught))
       (by_id thrown.object.0 (gives (codes "null")) name)
-      (object_row_of Any thrown.object.0 (gives (codes "null")) name k (gives_row Any (codes "null") tt)
+      (object_row_of Any thrown.object.0 (gives (codes "null")) name (id_of thrown.object.0 k) (gives_row Any (codes "null") tt)
       (λ id k. makes Any Any class_name (type_plan id) (type_row id k) (λ name any. tt))) (λ id any. tt)
 
   -- all rows
@@ -742,6 +1006,9 @@ module _ (P : Id → Type 0) (null : P (class 0)) (sight : Sight) (known : Known
   rows_stand (thread_frames thread start levels) state same of = frames_row state thread of start levels
   rows_stand (container_children thing filter start count) state same of =
       children_row state.options.shows_types thing of filter start count
+  rows_stand (expression_value one expression) state same of =
+      value_row state.options.shows_types one of expression
+  rows_stand (variable_write thing name text) state same of = write_row _ thing of name
   rows_stand (exception_text thread one) state same of = exception_text_row one.0 of
   rows_stand (exception_info thrown) state same of = exception_row thrown of
   rows_stand class_facts state same of =

@@ -19,13 +19,14 @@ use Rattle.machine_model.specs.Breakpoints.{has_id, is_news, with_id}
 use Rattle.machine_model.specs.Composites.{change_told, changes_in}
 use Rattle.machine_model.specs.Due.{due}
 use Rattle.machine_model.specs.Lookups.{finished}
+use Rattle.machine_model.specs.Names.{Written, variable_write}
 use Rattle.machine_model.specs.Names.{Act, Attached, Choice, Clear, Command, Decides, Does, Effect, Failure, Finding}
 use Rattle.machine_model.specs.Names.{Fresh, Gone, Initialized, Item, Leaves, Lookup, News, Part, Phase, Question}
 use Rattle.machine_model.specs.Names.{Replied, Set, TellsNews, Terminated, a_composite, a_question, a_raw, a_request}
 use Rattle.machine_model.specs.Names.{a_stop, all_threads, an_effect, an_event, class_facts, entry_verified, some_news}
 use Rattle.machine_model.specs.Names.{target_end, thread_changed}
 use Rattle.machine_model.specs.Names.{thread_frames}
-use Rattle.machine_model.specs.Names.{container_children, exception_info, exception_text, Stepped}
+use Rattle.machine_model.specs.Names.{container_children, exception_info, exception_text, expression_value, Stepped}
 use Rattle.machine_model.specs.Outcomes.{result_of}
 use Rattle.machine_model.specs.Plans.{Result}
 use Rattle.machine_model.specs.Replying.{given_up, told_by}
@@ -93,6 +94,8 @@ found_same : (lookup : Lookup) (result : Result Finding) (state : State) (rest :
 found_same all_threads result state rest = refl
 found_same (thread_frames thread start levels) result state rest = refl
 found_same (container_children thing filter start count) result state rest = refl
+found_same (expression_value frame expression) result state rest = refl
+found_same (variable_write thing name text) result state rest = grind arith
 found_same (exception_text thread object) result state rest = refl
 found_same (exception_info thrown) result state rest = refl
 found_same class_facts result state rest = refl
@@ -222,6 +225,8 @@ unfolded Stepped state hand rest none =
     by_code : (code : Option ℕ) → has_told (stepped_by code ++ rest) ≡ has_told rest
     by_code None = refl
     by_code (Some code) = refl
+unfolded (Written seen) state hand rest none =
+    none_told state.bound state.wishes (chosen (Written seen) state hand ++ rest) (grind (arith, none))
 unfolded (Leaves exits) state hand rest none =
     none_told state.bound state.wishes (chosen (Leaves exits) state hand ++ rest) (grind (arith, none))
 

@@ -2,6 +2,7 @@
 use Rattle.std.proofs.Common.{◌≡◌, Bool, true, false, cond, not, ◌||◌, List, [], ◌∷◌, ◌++◌, Option, Some, None, refl}
 use Rattle.std.proofs.Common.{sym, ap, subst, ◌∙◌, append-nil, option_map, arith}
 use Rattle.machine_model.specs.Lookups.{finished}
+use Rattle.machine_model.specs.Names.{Written}
 use Rattle.machine_model.specs.Names.{Attached, Choice, Classes, ClientOptions, Command, Configured, Decides}
 use Rattle.machine_model.specs.Names.{EntryHeld, Event, Failure, Finding, Fresh, Gone, Initialized, Item, Leaves}
 use Rattle.machine_model.specs.Names.{Lines, Lookup, News, Note, Options, Outcome, Part, Phase, Replied, Request}
@@ -99,6 +100,7 @@ chosen_none Decides state hand =
     of_decided (λ (parts : List Part). no_options parts ≡ true) refl refl refl (λ stopped thrown halt. grind arith)
     state hand.item
 chosen_none Stepped state hand = grind arith
+chosen_none (Written seen) state hand = grind arith
 chosen_none (Leaves exits) state hand = grind arith
 
 found_none : (lookup : Lookup) (result : Result Finding) (state : State)

@@ -19,7 +19,9 @@ use Rattle.machine_model.specs.Ids.{object, thread_of}
 use Rattle.machine_model.specs.Keys.{same_question}
 use Rattle.machine_model.specs.Names.{Answer, Finding, Lookup, NamedThread, Question, Replied, Sent, ThreadId, Want}
 use Rattle.machine_model.specs.Names.{all_threads, an_answer, an_error, threads_found, classes_found, class_facts}
-use Rattle.machine_model.specs.Names.{ShownFrame, ShownVariable, container_children, frames_found, thread_frames}
+use Rattle.machine_model.specs.Names.{Seen, ShownFrame, ShownVariable, container_children, expression_value, frames_found, no_value, thread_frames}
+use Rattle.machine_model.specs.Names.{value_found, variable_write, write_found}
+use Rattle.machine_model.proofs.WriteIds.{IsWrite}
 use Rattle.machine_model.specs.Names.{Thrown, exception_found, exception_info, exception_text, text_found, variables_found}
 use Rattle.machine_model.specs.Plans.{Found, Need, Plan, Sight, after, answer_in, asks_for, beside, chained}
 use Rattle.machine_model.specs.Plans.{fails, found_at, found_from, gives, has, heard_of, lacks}
@@ -281,8 +283,11 @@ OfThing P (things.Array one) = P (object one.0)
 abbrev pub OfShownFrame : (Id → Type 0) → ShownFrame → Type 0
 OfShownFrame P shown = OfFrameThing P shown.frame
 
+abbrev pub OfSeen : (Id → Type 0) → Seen → Type 0
+OfSeen P seen = OnSome (OfThing P) seen.thing
+
 abbrev pub OfShownVariable : (Id → Type 0) → ShownVariable → Type 0
-OfShownVariable P shown = OnSome (OfThing P) shown.seen.thing
+OfShownVariable P shown = OfSeen P shown.seen
 
 -- what a look-up finds has ids that pass
 abbrev pub IsGood : (Id → Type 0) → Finding → Type 0
@@ -290,6 +295,9 @@ IsGood P (threads_found named) = All (OfNamed P) named
 IsGood P (classes_found classes) = All (OfClass P) classes
 IsGood P (frames_found total frames) = All (OfShownFrame P) frames
 IsGood P (variables_found shown) = All (OfShownVariable P) shown
+IsGood P (value_found seen) = OfSeen P seen
+IsGood P (no_value failure) = Unit {0}
+IsGood P (write_found write seen) = IsWrite P write
 IsGood P (text_found text) = Unit {0}
 IsGood P (exception_found name mode) = Unit {0}
 
@@ -298,6 +306,8 @@ abbrev pub OfLookup : (Id → Type 0) → Lookup → Type 0
 OfLookup P all_threads = Unit {0}
 OfLookup P (thread_frames thread start levels) = OfThread P thread
 OfLookup P (container_children thing filter start count) = OfThing P thing
+OfLookup P (expression_value one expression) = OfFrameThing P one
+OfLookup P (variable_write thing name text) = OfThing P thing
 OfLookup P (exception_text thread one) = OfObject P one.0
 OfLookup P (exception_info thrown) = OfObject P thrown.object.0
 OfLookup P class_facts = Unit {0}

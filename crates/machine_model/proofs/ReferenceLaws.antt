@@ -2,12 +2,13 @@
 use Rattle.std.proofs.Common.{◌≡◌, ◌≤◌, ◌<◌, ◌+◌, ℕ, zero, suc, Bool, true, false, cond, List, [], ◌∷◌, ◌++◌}
 use Rattle.std.proofs.Common.{filter, filter_map, length, map}
 use Rattle.std.proofs.Common.{Option, Some, None, refl, sym, ap, subst, ◌∙◌, arith, rules, append-nil, option_map}
-use Rattle.std.specs.Prelude.{if◌then◌else◌}
+use Rattle.std.specs.Prelude.{if◌then◌else◌, option_to_list}
 use Rattle.std.specs.List.{cons_option, list_any, position_or_len}
 use Rattle.std.proofs.lemmas.List.{append_assoc, length-append}
 use Rattle.machine_model.specs.Due.{after_deed}
 use Rattle.machine_model.specs.Frames.{frame_by, frame_told}
 use Rattle.machine_model.specs.Knowing.{may_send, view_of}
+use Rattle.machine_model.specs.Names.{Writes, a_written}
 use Rattle.machine_model.specs.Names.{Capabilities, Clear, ClientOptions, Continued, Deed, Dispose, Does, Effect, Event}
 use Rattle.machine_model.specs.Names.{Exit, Failed, Initialized, Item, Note, Nothing, Outcome, Part, Replied, Request}
 use Rattle.machine_model.specs.Names.{Resume, Set, ShownFrame, ShownVariable, Spot, Success, Suspend, TargetCommand}
@@ -24,7 +25,7 @@ use Rattle.machine_model.specs.Rows.{noted, taken}
 use Rattle.machine_model.specs.Runs.{Message, Run}
 use Rattle.machine_model.specs.State.{Hand, Machine, State, numbers_over}
 use Rattle.machine_model.specs.Telling.{after_event, event_told, numbered_by, outcome_told, response_to}
-use Rattle.machine_model.specs.Variables.{reference_of, variable_told}
+use Rattle.machine_model.specs.Variables.{reference_of, value_told, variable_told}
 use Rattle.machine_model.proofs.HeldLaws.{deed_may}
 use Rattle.machine_model.proofs.HoldingParts.{IsHolding, holding}
 use Rattle.machine_model.proofs.RequestSteps.{is_deed}
@@ -35,7 +36,7 @@ use Rattle.stop_refs.specs.Things.{same_thing}
 use Rattle.stop_refs.specs.declared.thing.Thing.{Thing}
 use Rattle.stop_refs.specs.declared.thing.Thing.TheVariants.{Frame as a_frame, Locals as some_locals}
 use Rattle.wish_sets.specs.Wishes.{WishChange, clears, next_change, sets}
-use Rattle.machine_model.specs.Names.{an_exception}
+use Rattle.machine_model.specs.Names.{a_value, an_exception}
 
 -- Places --------------------------------------------------------------------------------------------------------------
 
@@ -186,6 +187,11 @@ variable_numbers numbers (one ∷ shown) positive = by_thing one.seen.thing (var
     by_thing (Some thing) same = kept_number (number_of thing numbers) rest (omega (arith, positive))
         ∙ ap (λ (others : List ℕ). number_of thing numbers ∷ others) same
 
+value_numbers : (numbers : InHand) (thing : Option Thing) → 0 < numbers.past.next
+    → filter not_zero (reference_of numbers thing ∷ []) ≡ map (number_in numbers) (option_to_list thing)
+value_numbers numbers None positive = refl
+value_numbers numbers (Some thing) positive = kept_number (number_of thing numbers) [] (omega (arith, positive))
+
 -- Moves ---------------------------------------------------------------------------------------------------------------
 
 -- by the messages so far these are the numbers of the stop in hand
@@ -264,6 +270,7 @@ responded_on request (Success Capabilities) state h = aside state.numbers _ refl
 responded_on request (Success (breakpoint_list rooted listed)) state h = aside state.numbers _ refl refl h
 responded_on request (Success Continued) state h = aside state.numbers _ refl refl h
 responded_on request (Success (an_exception id mode)) state h = aside state.numbers _ refl refl h
+responded_on request (Success (a_written seen)) state h = aside state.numbers _ refl refl h
 responded_on request (Success (thread_list named)) state h = aside state.numbers _ refl refl h
 responded_on {messages} request (Success (frame_list total frames)) state h =
     by_things (things_of (frame_list total frames)) state.numbers _ refl
@@ -275,6 +282,11 @@ responded_on {messages} request (Success (variable_list shown)) state h =
     by_things (things_of (variable_list shown)) state.numbers _ refl
     (variable_numbers now shown (subst (λ (past : Past). 0 < past.next)
     (sym (past_kept (things_of (variable_list shown)) state.numbers)) (positive h).0)) h
+responded_on {messages} request (Success (a_value seen)) state h =
+    let now = with_things (things_of (a_value seen)) state.numbers in
+    by_things (things_of (a_value seen)) state.numbers _ refl
+    (value_numbers now seen.thing (subst (λ (past : Past). 0 < past.next)
+    (sym (past_kept (things_of (a_value seen)) state.numbers)) (positive h).0)) h
 
 told_on : {messages : List Message} (event : Event) (state : State) → AreOf messages state.numbers
     → AreOf (messages ++ Message.tells (an_event (event_told event (after_event event state))) ∷ [])
@@ -296,6 +308,7 @@ deed_on {messages} (Resume of_stop) state in_stop h =
     (numbers_over stopped state.numbers)) (sym (in_stop refl)) (spent state.numbers (ReferencesAre.resumed _ refl h))
 deed_on Dispose state in_stop h = aside state.numbers _ refl refl h
 deed_on Exit state in_stop h = aside state.numbers _ refl refl h
+deed_on (Writes write) state in_stop h = aside state.numbers _ refl refl h
 
 in_its_stop : {m : Machine} {hand : Hand} {deed : Deed} {rest : List Part} → IsHolding m
     → IsAt m hand (Part.Sends deed) rest → deed ≡ Resume of_stop → m.state.stopped ≡ true

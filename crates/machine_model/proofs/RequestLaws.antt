@@ -3,6 +3,7 @@ use Rattle.std.proofs.Common.{◌≡◌, ℕ, Bool, true, false, List, [], ◌�
 use Rattle.std.proofs.Common.{sym, ap, subst, ◌∙◌, inl, inr, arith}
 use Rattle.machine_model.specs.EventRequests.{IsSettled}
 use Rattle.machine_model.specs.Lookups.{finished}
+use Rattle.machine_model.specs.Names.{Written}
 use Rattle.machine_model.specs.Names.{Attached, Choice, Clear, Command, Decides, Does, Effect, Finding, Fresh}
 use Rattle.machine_model.specs.Names.{Initialized, Item, Leaves, Lookup, Note, Part, Phase, Replied, Set, TellsNews}
 use Rattle.machine_model.specs.Names.{Terminated, a_composite, a_question, a_raw, a_request, a_stop, an_answer}
@@ -111,6 +112,7 @@ chosen_needs attached (TellsNews below) state hand rest is =
     (news_of below state hand.item) rest) ∙ is
 chosen_needs attached Decides state hand rest is = refl
 chosen_needs attached Stepped state hand rest is = refl
+chosen_needs attached (Written seen) state hand rest is = grind (arith, is)
 chosen_needs attached (Leaves exits) state hand rest is = grind (arith, is)
 
 -- a part in front that isn't `updates` is done

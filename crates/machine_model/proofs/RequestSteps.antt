@@ -3,6 +3,7 @@ use Rattle.std.proofs.Common.{◌≡◌, Bool, true, false, cond, List, [], ◌�
 use Rattle.std.proofs.Common.{◌∙◌, ◌⊎◌, inl, inr, option_map, arith, ◌||◌}
 use Rattle.machine_model.specs.Due.{asked_hand, clear, load_of}
 use Rattle.machine_model.specs.Lookups.{finished}
+use Rattle.machine_model.specs.Names.{Written}
 use Rattle.machine_model.specs.Names.{Classes, Clear, Configured, Does, Doing, Effect, EntryHeld, Event, Lines, Note}
 use Rattle.machine_model.specs.Names.{Options, Outcome, Part, Phase, Question, Replied, Roots, Set, TargetCommand}
 use Rattle.machine_model.specs.Names.{Want, a_question, an_effect, Choice, Decides, Functions, Leaves, Stepped, Steps}
@@ -150,6 +151,7 @@ abbrev pub is_choice : Choice → Bool
 is_choice (TellsNews below) = false
 is_choice Decides = true
 is_choice Stepped = true
+is_choice (Written seen) = false
 is_choice (Leaves exits) = false
 
 abbrev pub decides : Part → Bool

@@ -29,7 +29,26 @@ use Rattle.machine_model.specs.Frames.{signature_plan as signature_of, source_pl
 use Rattle.machine_model.specs.Harmless.{is_harmless}
 use Rattle.machine_model.specs.Lookups.{name_plan, names_plan, threads_in, threads_plan}
 use Rattle.machine_model.specs.Names.{Answer, ClassId, ThreadId, Thrown, Want, exception_found, frames_found, text_found}
-use Rattle.machine_model.specs.Names.{variables_found}
+use Rattle.machine_model.specs.Names.{Failure, Store, no_value, value_found, variables_found}
+use Rattle.machine_model.specs.Children.{Place, index_name, of_index}
+use Rattle.machine_model.specs.Writing.{Writing, child_named, child_written, digits_of, element_by, element_store}
+use Rattle.machine_model.specs.Writing.{field_store, field_written, index_written, is_index_name, local_written, slot_store}
+use Rattle.machine_model.specs.Writing.{value_for, write_by, write_with}
+use Rattle.std.specs.Str.Parse.{digits_value}
+use Rattle.dap_messages.specs.Telling.{bad_index, no_such_name}
+use Rattle.field_exprs.specs.declared.expr.Expr.{Expr}
+use Rattle.field_exprs.specs.declared.expr.Head.{Head}
+use Rattle.field_exprs.specs.declared.expr.Head.TheVariants as heads
+use Rattle.field_exprs.specs.declared.expr.Hop.{Hop}
+use Rattle.field_exprs.specs.declared.expr.Hop.TheVariants as hops
+use Rattle.jdwp_values.specs.declared.class.Field.{Field}
+use Rattle.jdwp_values.specs.declared.class.Variable.{Variable}
+use Rattle.machine_model.specs.Children.{first_byte}
+use Rattle.machine_model.specs.Expressions.{Sought, as_length, as_this, class_field, element_hop, element_if, field_from}
+use Rattle.machine_model.specs.Expressions.{field_hop, field_named, field_value, found_or, head_in, hop_on, hops_on}
+use Rattle.machine_model.specs.Expressions.{index_on, length_hop, length_if, missing, name_on, named_head, named_in}
+use Rattle.machine_model.specs.Expressions.{on_value, one_of, shown_value, value_plan, variable_named}
+use Rattle.std.specs.Prelude.{Ok, Err, bytes_eq, nat_lt}
 use Rattle.machine_model.specs.Plans.{Plan, asking, both, chained, each, gives, made_with, question_of}
 use Rattle.machine_model.specs.State.{State}
 use Rattle.machine_model.specs.Values.{Declared, Valued, array_plan, array_seen, by_id, class_in, class_plan as class_of}
@@ -287,3 +306,156 @@ children_safe types thing filter start count = makes is_safe variables_found
     (chained (page_plan thing filter start count) (values_shown types))
     (chains is_safe (page_plan thing filter start count) (values_shown types) (page_safe thing filter start count)
     (every is_safe (child_plan types) (child_safe types)))
+
+-- Expressions ---------------------------------------------------------------------------------------------------------
+
+missing_safe : (failure : Failure) → Safe (missing failure)
+missing_safe failure = gives_safe (Err failure)
+
+on_safe : (go : Valued → Plan Sought) → ((v : Valued) → Safe (go v)) → (sought : Sought) → Safe (on_value go sought)
+on_safe go k (Ok v) = k v
+on_safe go k (Err failure) = missing_safe failure
+
+found_safe : (found : Option Field) (above : Plan (Option Field)) → Safe above → Safe (found_or found above)
+found_safe (Some f) above k = gives_safe (Some f)
+found_safe None above k = k
+
+field_from_safe : (steps : ℕ) (met : List ℕ) (name : List ℕ) (class : ℕ) → Safe (field_from steps met name class)
+unfolding field_from
+field_from_safe zero met name class = gives_safe None
+field_from_safe (suc steps) met name zero = gives_safe None
+field_from_safe (suc steps) met name (suc class) =
+    by_met (list_any (λ other. other == suc class) met) (field_from_safe steps (met ++ suc class ∷ []) name)
+  where
+    next : Plan (Option Field)
+    next = chained (above_plan (suc class)) (λ above. field_from steps (met ++ suc class ∷ []) name above.0)
+
+    by_met : (is : Bool) → ((above : ℕ) → Safe (field_from steps (met ++ suc class ∷ []) name above)) → Safe (elim is [
+      | true ↦ gives None
+      | false ↦ chained (fields_plan (suc class)) (λ fields. found_or (field_named name fields) next)
+    ])
+    by_met true behind = gives_safe None
+    by_met false behind = chains is_safe (fields_plan (suc class)) (λ fields. found_or (field_named name fields) next)
+        (asks is_safe fields_in (Want.Fact (questions.Fields (record { 0 = suc class }))) refl)
+        (λ fields. found_safe (field_named name fields) next (chains is_safe (above_plan (suc class))
+        (λ above. field_from steps (met ++ suc class ∷ []) name above.0)
+        (asks is_safe above_in (Want.Fact (questions.Superclass (record { 0 = suc class }))) refl)
+        (λ above. behind above.0)))
+
+field_value_safe : (id : ℕ) (f : Option Field) → Safe (field_value (suc id) f)
+field_value_safe id None = missing_safe no_such_name
+field_value_safe id (Some f) = makes is_safe (one_of (is_signature f.signature)) (field_values (suc id) (f.id ∷ []))
+    (field_values_safe id (f.id ∷ []))
+
+field_hop_safe : (name : List ℕ) (id : ℕ) → Safe (field_hop name (suc id))
+field_hop_safe name id = chains is_safe (class_of (suc id)) (class_field name (suc id)) (class_safe id)
+    (λ class. chains is_safe (field_from reach [] name class.0) (field_value (suc id))
+    (field_from_safe reach [] name class.0) (field_value_safe id))
+
+length_hop_safe : (name : List ℕ) (id : ℕ) → Safe (length_hop name (suc id))
+length_hop_safe name id = by_name (bytes_eq name (codes "length"))
+  where
+    by_name : (is : Bool) → Safe (length_if is (suc id))
+    by_name true = makes is_safe as_length (length_plan (suc id)) (length_safe id)
+    by_name false = missing_safe no_such_name
+
+element_hop_safe : (i id : ℕ) → Safe (element_hop i (suc id))
+element_hop_safe i id = chains is_safe (length_plan (suc id)) (λ total. element_if (nat_lt i total) i (suc id))
+    (length_safe id) (λ total. inside (nat_lt i total))
+  where
+    inside : (is : Bool) → Safe (element_if is i (suc id))
+    inside true = makes is_safe (one_of (element_of (suc id))) (elements_plan (suc id) i 1) (elements_safe id i 1)
+    inside false = missing_safe bad_index
+
+field_on_safe : (name : List ℕ) (id : ℕ) → Safe (by_id id (missing no_such_name) (field_hop name))
+field_on_safe name id =
+    by_id_safe id (missing no_such_name) (field_hop name) (missing_safe no_such_name) (field_hop_safe name)
+
+name_on_safe : (name : List ℕ) (value : Value) → Safe (name_on name value)
+name_on_safe name (values.Array o) =
+    by_id_safe o.0 (missing no_such_name) (length_hop name) (missing_safe no_such_name) (length_hop_safe name)
+name_on_safe name (values.String o) = missing_safe no_such_name
+name_on_safe name (values.Object o) = field_on_safe name o.0
+name_on_safe name (values.Thread o) = field_on_safe name o.0
+name_on_safe name (values.ThreadGroup o) = field_on_safe name o.0
+name_on_safe name (values.ClassLoader o) = field_on_safe name o.0
+name_on_safe name (values.ClassObject o) = field_on_safe name o.0
+name_on_safe name _ = missing_safe no_such_name
+
+index_on_safe : (i : ℕ) (value : Value) → Safe (index_on i value)
+index_on_safe i (values.Array o) =
+    by_id_safe o.0 (missing bad_index) (element_hop i) (missing_safe bad_index) (element_hop_safe i)
+index_on_safe i _ = missing_safe bad_index
+
+hop_safe : (hop : Hop) (value : Value) → Safe (hop_on hop value)
+hop_safe (hops.Field name) value = name_on_safe name value
+hop_safe (hops.Index i) value = index_on_safe i value
+
+hops_safe : (list : List Hop) (v : Valued) → Safe (hops_on list v)
+hops_safe [] v = gives_safe (Ok v)
+hops_safe (hop ∷ others) v = chains is_safe (hop_on hop v.value) (on_value (hops_on others)) (hop_safe hop v.value)
+    (on_safe (hops_on others) (hops_safe others))
+
+named_head_safe : (f : FrameThing) (name : List ℕ) (found : Option Variable) → Safe (named_head f name found)
+named_head_safe f name None = chains is_safe (this_plan f) (name_on name)
+    (asks is_safe this_in (Want.Must (questions.ThisObject f.thread f.frame)) refl) (name_on_safe name)
+named_head_safe f name (Some v) = makes is_safe (one_of (is_signature v.signature))
+    (slots_plan f (record { slot = v.slot; tag = first_byte v.signature } ∷ []))
+    (slots_safe f (record { slot = v.slot; tag = first_byte v.signature } ∷ []))
+
+head_safe : (f : FrameThing) (head : Head) → Safe (head_in f head)
+head_safe f heads.This = makes is_safe as_this (this_plan f)
+    (asks is_safe this_in (Want.Must (questions.ThisObject f.thread f.frame)) refl)
+head_safe f (heads.Name name) = chains is_safe (variables_plan f.at.class f.at.method)
+    (λ variables. named_head f name (variable_named name f.at.index variables))
+    (asks is_safe listed_variables (Want.Fact (questions.VariableTable f.at.class f.at.method)) refl)
+    (λ variables. named_head_safe f name (variable_named name f.at.index variables))
+
+shown_value_safe : (types : Bool) (sought : Sought) → Safe (shown_value types sought)
+shown_value_safe types (Ok v) = makes is_safe value_found (seen_plan types v) (seen_safe types v)
+shown_value_safe types (Err failure) = gives_safe (no_value failure)
+
+pub value_safe : (types : Bool) (f : FrameThing) (e : Expr) → Safe (value_plan types f e)
+value_safe types f e = chains is_safe (named_in f e) (shown_value types)
+    (chains is_safe (head_in f e.head) (on_value (hops_on e.steps)) (head_safe f e.head)
+    (on_safe (hops_on e.steps) (hops_safe e.steps))) (shown_value_safe types)
+
+-- Writing -------------------------------------------------------------------------------------------------------------
+
+child_written_safe : (w : Writing) (store_in : Place → Option Store) (child : Option Child)
+    → Safe (child_written w store_in child)
+child_written_safe w store_in None = gives_safe (no_value no_such_name)
+child_written_safe w store_in (Some child) = makes is_safe
+    (λ declared. write_with w (store_in child.place) declared (value_for declared w.text)) (declared_plan child.declared)
+    (declared_safe child.declared)
+
+local_written_safe : (w : Writing) (f : FrameThing) (name : List ℕ) → Safe (local_written w f name)
+local_written_safe w f name = chains is_safe (locals_plan f)
+    (λ children. child_written w (slot_store f) (child_named name children)) (locals_safe f)
+    (λ children. child_written_safe w (slot_store f) (child_named name children))
+
+field_written_safe : (w : Writing) (name : List ℕ) (id : ℕ) → Safe (field_written w name (suc id))
+field_written_safe w name id = chains is_safe (object_fields (suc id))
+    (λ children. child_written w (field_store (suc id)) (child_named name children)) (object_fields_safe id)
+    (λ children. child_written_safe w (field_store (suc id)) (child_named name children))
+
+element_by_safe : (w : Writing) (inside named : Bool) (id i : ℕ) → Safe (element_by w inside named (suc id) i)
+element_by_safe w false named id i = gives_safe (no_value bad_index)
+element_by_safe w true false id i = gives_safe (no_value no_such_name)
+element_by_safe w true true id i = child_written_safe w (element_store (suc id)) (Some (of_index (suc id) i))
+
+index_written_safe : (w : Writing) (name : List ℕ) (is : Bool) (id : ℕ) → Safe (index_written w name is (suc id))
+index_written_safe w name false id = gives_safe (no_value no_such_name)
+index_written_safe w name true id = let i = digits_value 10 (digits_of name) in
+    chains is_safe (length_plan (suc id))
+    (λ total. element_by w (nat_lt i total) (bytes_eq name (index_name i)) (suc id) i) (length_safe id)
+    (λ total. element_by_safe w (nat_lt i total) (bytes_eq name (index_name i)) id i)
+
+pub write_safe : (w : Writing) (thing : Thing) (name : List ℕ) → Safe (write_by w thing name)
+write_safe w (things.Frame f) name = gives_safe (no_value no_such_name)
+write_safe w (things.Locals f) name = local_written_safe w f name
+write_safe w (things.Object o) name = by_id_safe o.0 (gives (no_value no_such_name)) (field_written w name)
+    (gives_safe (no_value no_such_name)) (field_written_safe w name)
+write_safe w (things.Array o) name =
+    by_id_safe o.0 (gives (no_value no_such_name)) (index_written w name (is_index_name name))
+    (gives_safe (no_value no_such_name)) (index_written_safe w name (is_index_name name))

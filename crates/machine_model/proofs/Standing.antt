@@ -5,17 +5,19 @@ use Rattle.std.proofs.Common.{None, sym, ap, subst, ◌∙◌, append-nil, refl,
 use Rattle.std.specs.List.{AllByRecursion as All}
 use Rattle.std.proofs.lemmas.List.Concat.{flat_map-append}
 use Rattle.jdwp_commands.specs.declared.question.Question.TheVariants as questions
+use Rattle.machine_model.proofs.WriteIds.{OfDeed}
+use Rattle.machine_model.specs.Names.{Writes}
 use Rattle.machine_model.specs.Ids.{Id, ids_given}
 use Rattle.machine_model.specs.Names.{Body, Classes, Failed, IdSizes, Initialized, Lines, Outcome, Part, Sent, Success}
 use Rattle.machine_model.specs.Names.{TargetCommand, Want, a_question, an_effect, frame_list, scope_list, thread_list}
-use Rattle.machine_model.specs.Names.{variable_list, Functions, Steps}
+use Rattle.machine_model.specs.Names.{a_value, variable_list, Functions, Steps}
 use Rattle.machine_model.specs.Plans.{question_of}
 use Rattle.machine_model.specs.Replying.{waits_for}
 use Rattle.machine_model.specs.Runs.{Message}
 use Rattle.machine_model.specs.Spelling.{all_sizes, first_sizes, sizes_by, sizes_replied}
 use Rattle.machine_model.specs.State.{State, Hand, Machine, SizesRead, is_attached, is_gone, is_some}
 use Rattle.machine_model.proofs.PlanIds.{AreKnown, IsAsked, IsWanted, OfClass, OfFrameThing, OfLookup, OfNamed}
-use Rattle.machine_model.proofs.PlanIds.{OfShownFrame, OfShownVariable, OnSome, is_sizes}
+use Rattle.machine_model.proofs.PlanIds.{OfShownFrame, OfSeen, OfShownVariable, OnSome, is_sizes}
 use Rattle.machine_model.proofs.RequestSteps.{is_choice}
 use Rattle.machine_model.proofs.Stepping.{IsAt, with_said}
 use Rattle.machine_model.proofs.WishIds.{AreWished, IsShortFunction, IsShortKey, OfStep}
@@ -40,6 +42,7 @@ OfBody P (thread_list named) = All (OfNamed P) named
 OfBody P (frame_list total frames) = All (OfShownFrame P) frames
 OfBody P (scope_list one) = OfFrameThing P one
 OfBody P (variable_list shown) = All (OfShownVariable P) shown
+OfBody P (a_value seen) = OfSeen P seen
 OfBody P _ = Unit {0}
 
 abbrev pub OfOutcome : (Id → Type 0) → Outcome → Type 0
@@ -53,6 +56,7 @@ PartStands P (Part.Notes (Lines key path entries)) = IsShortKey key
 PartStands P (Part.Notes (Functions entries)) = All IsShortFunction entries
 PartStands P (Part.Notes (Steps step)) = OnSome (OfStep P) step
 PartStands P (Part.Looks lookup) = OfLookup P lookup
+PartStands P (Part.Sends deed) = OfDeed P deed
 PartStands P (Part.Notes (Classes classes)) = All (OfClass P) classes
 PartStands P _ = Unit {0}
 
@@ -60,6 +64,7 @@ PartStands P _ = Unit {0}
 
 abbrev pub needs_sizes : Part → Bool
 needs_sizes (Part.Looks lookup) = true
+needs_sizes (Part.Sends (Writes write)) = true
 needs_sizes Part.Updates = true
 needs_sizes (Part.Tells Initialized) = true
 needs_sizes (Part.Unfolds choice) = is_choice choice

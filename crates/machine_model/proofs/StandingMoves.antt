@@ -4,8 +4,10 @@ use Rattle.jdwp_events.specs.declared.kind.Policy.{Policy}
 use Rattle.std.proofs.Common.{◌≡◌, Bool, true, false, cond, List, [], ◌∷◌, ◌++◌, Option}
 use Rattle.std.proofs.Common.{Some, None, refl, sym, ap, subst, ◌∙◌, arith}
 use Rattle.std.specs.List.{AllByRecursion as All}
+use Rattle.machine_model.specs.Names.{Deed, Dispose, Exit, Resume, Suspend, Writes}
 use Rattle.machine_model.specs.Ids.{Id, class}
 use Rattle.machine_model.specs.Lookups.{finished, found_for, sight_of}
+use Rattle.machine_model.specs.Names.{Written, variable_write, write_found}
 use Rattle.machine_model.specs.Names.{Attach, Attached, BadArguments, Choice, Classes, Command}
 use Rattle.machine_model.specs.Names.{ConfigurationDone, Configured, Continue, Decides, Disconnect, Effect, EntryHeld}
 use Rattle.machine_model.specs.Names.{Event, Failed, Failure, Finding, Fresh, Gone, Initialize, Initialized, Item}
@@ -15,13 +17,17 @@ use Rattle.machine_model.specs.Names.{TellsNews, Terminated, ThreadId, Threads, 
 use Rattle.machine_model.specs.Names.{a_request, a_stop, all_threads, class_facts, classes_found}
 use Rattle.machine_model.specs.Names.{some_news, target_end, threads_found}
 use Rattle.machine_model.specs.Names.{Body, Scopes, StackTrace, Variables, container_children, frames_found, scope_list}
-use Rattle.machine_model.specs.Names.{thread_frames, variables_found}
-use Rattle.machine_model.specs.Lookups.{body_of, outcome_by, shown_by}
+use Rattle.machine_model.specs.Names.{Evaluate, SetVariable, expression_value, no_value, thread_frames, value_found, variables_found}
+use Rattle.machine_model.specs.Lookups.{body_of, outcome_by, shown_by, value_outcome}
 use Rattle.machine_model.specs.References.{has_room, things_of}
 use Rattle.dap_messages.specs.Telling.{references_spent}
 use Rattle.machine_model.specs.Plans.{Need, fails, has, lacks}
 use Rattle.machine_model.specs.Replying.{done_by}
 use Rattle.machine_model.proofs.Testing.{same_numbered}
+use Rattle.field_exprs.specs.Parsing.{parsed}
+use Rattle.field_exprs.specs.declared.expr.Expr.{Expr}
+use Rattle.machine_model.specs.Rows.{write_by, written_by}
+use Rattle.machine_model.specs.Rows.{evaluate_by}
 use Rattle.machine_model.specs.Rows.{chosen, configured_parts, continue_parts, failure_of, leaves, news_of, noted}
 use Rattle.machine_model.specs.Rows.{parts_by, parts_of, pause_parts, request_parts, row_of, thread_with, told_in}
 use Rattle.machine_model.specs.Rows.{wanting}
@@ -305,6 +311,22 @@ row_parts P (Variables arguments) state told told_things threw_them = by_thing (
         → All (PartStands P) (variables_parts arguments found)
     by_thing (Ok thing) k = (k, tt)
     by_thing (Err fault) k = (tt, tt)
+row_parts P (SetVariable arguments) state told told_things threw_them =
+    by_thing (container arguments.variables_reference state.numbers)
+    (told_container P arguments.variables_reference state.numbers told_things)
+  where
+    by_thing : (found : Result Thing RefFault) → OnFound (OfThing P) found → All (PartStands P) (write_by arguments found)
+    by_thing (Ok thing) k = (k, tt)
+    by_thing (Err fault) k = (tt, tt)
+row_parts P (Evaluate arguments) state told told_things threw_them =
+    by_frame (parsed arguments.expression) (frame arguments.frame_id state.numbers)
+    (told_frame P arguments.frame_id state.numbers told_things)
+  where
+    by_frame : (read : Result Expr ℕ) (found : Result FrameThing RefFault) → OnFound (OfFrameThing P) found
+        → All (PartStands P) (evaluate_by read found)
+    by_frame (Ok expression) (Ok one) k = (k, tt)
+    by_frame (Err place) (Ok one) k = (tt, tt)
+    by_frame read (Err fault) k = (tt, tt)
 row_parts P (Disconnect arguments) state told told_things threw_them = (tt, (tt, (tt, tt)))
 row_parts P Unsupported state told told_things threw_them = (tt, tt)
 row_parts P (BadArguments name) state told told_things threw_them = (tt, tt)
@@ -349,6 +371,11 @@ chosen_order Decides state hand sized attached rest h = in_any_order sized attac
 chosen_order Stepped state hand sized attached rest h =
     in_any_order sized attached (stepped_by (refused_with hand.effect) ++ rest)
     (sized_by sized attached (Part.Unfolds Stepped) rest h refl refl)
+chosen_order (Written seen) state hand sized attached rest h = by_code (refused_with hand.effect)
+  where
+    by_code : (code : Option ℕ) → in_order sized attached (written_by seen code ++ rest) ≡ true
+    by_code None = h
+    by_code (Some code) = h
 chosen_order (Leaves exits) state hand sized attached rest h = grind (arith, h)
 
 pub chosen_parts : (P : Id → Type 0) (choice : Choice) (state : State) (hand : Hand) (rest : List Part)
@@ -387,18 +414,27 @@ chosen_parts P Stepped state hand rest item h = by_code (refused_with hand.effec
     by_code : (code : Option ℕ) → All (PartStands P) (stepped_by code ++ rest)
     by_code None = (tt, (tt, h))
     by_code (Some code) = (tt, (tt, (tt, h)))
-chosen_parts P (Leaves exits) state hand rest item h = by_phase state.phase
+chosen_parts P (Written seen) state hand rest item h = by_code (refused_with hand.effect)
   where
-    by_phase : (phase : Phase) → All (PartStands P) (leaves phase exits ++ rest)
-    by_phase Fresh = h
-    by_phase Attached = (tt, h)
-    by_phase Gone = h
+    by_code : (code : Option ℕ) → All (PartStands P) (written_by seen code ++ rest)
+    by_code None = (tt, h)
+    by_code (Some code) = (tt, h)
+chosen_parts P (Leaves exits) state hand rest item h = by_phase state.phase exits
+  where
+    by_phase : (phase : Phase) (exits : Bool) → All (PartStands P) (leaves phase exits ++ rest)
+    by_phase Fresh exits = h
+    by_phase Attached true = (tt, h)
+    by_phase Attached false = (tt, h)
+    by_phase Gone exits = h
 
 body_good : (P : Id → Type 0) (finding : Finding) → IsGood P finding → OfBody P (body_of finding)
 body_good P (threads_found named) h = h
 body_good P (classes_found classes) h = tt
 body_good P (frames_found total frames) h = h
 body_good P (variables_found shown) h = h
+body_good P (value_found seen) h = h
+body_good P (no_value failure) h = tt
+body_good P (write_found write seen) h = tt
 body_good P (text_found text) h = tt
 body_good P (exception_found id mode) h = tt
 
@@ -407,6 +443,20 @@ outcome_good : (P : Id → Type 0) (numbers : InHand) (found : Need Finding) →
 outcome_good P numbers (has finding) h = shown_good P numbers (body_of finding) (body_good P finding h)
 outcome_good P numbers (fails fault) h = tt
 outcome_good P numbers (lacks want others) h = tt
+
+value_good : (P : Id → Type 0) (numbers : InHand) (found : Need Finding) → NeedStands P (IsGood P) found
+    → OfOutcome P (value_outcome numbers (result_of found))
+value_good P numbers (has (no_value failure)) h = tt
+value_good P numbers (has (threads_found named)) h = outcome_good P numbers (has (threads_found named)) h
+value_good P numbers (has (classes_found classes)) h = outcome_good P numbers (has (classes_found classes)) h
+value_good P numbers (has (frames_found total frames)) h = outcome_good P numbers (has (frames_found total frames)) h
+value_good P numbers (has (variables_found shown)) h = outcome_good P numbers (has (variables_found shown)) h
+value_good P numbers (has (value_found seen)) h = outcome_good P numbers (has (value_found seen)) h
+value_good P numbers (has (write_found write seen)) h = outcome_good P numbers (has (write_found write seen)) h
+value_good P numbers (has (text_found text)) h = outcome_good P numbers (has (text_found text)) h
+value_good P numbers (has (exception_found id mode)) h = outcome_good P numbers (has (exception_found id mode)) h
+value_good P numbers (fails fault) h = tt
+value_good P numbers (lacks want others) h = tt
 
 found_parts : (P : Id → Type 0) (lookup : Lookup) (found : Need Finding) (state : State) → NeedStands P (IsGood P) found
     → All (PartStands P) (finished lookup (result_of found) state)
@@ -419,10 +469,25 @@ found_parts P (exception_info thrown) (fails fault) state h = (tt, tt)
 found_parts P (exception_info thrown) (lacks want others) state h = (tt, tt)
 found_parts P (thread_frames thread start levels) found state h = (outcome_good P state.numbers found h, tt)
 found_parts P (container_children thing filter start count) found state h = (outcome_good P state.numbers found h, tt)
+found_parts P (expression_value one expression) found state h = (value_good P state.numbers found h, tt)
+found_parts P (variable_write thing name text) (has (write_found write seen)) state h = (h, (tt, tt))
+found_parts P (variable_write thing name text) (has (no_value failure)) state h = (tt, tt)
+found_parts P (variable_write thing name text) (has (threads_found named)) state h = (tt, tt)
+found_parts P (variable_write thing name text) (has (classes_found classes)) state h = (tt, tt)
+found_parts P (variable_write thing name text) (has (frames_found total frames)) state h = (tt, tt)
+found_parts P (variable_write thing name text) (has (variables_found shown)) state h = (tt, tt)
+found_parts P (variable_write thing name text) (has (value_found seen)) state h = (tt, tt)
+found_parts P (variable_write thing name text) (has (text_found found)) state h = (tt, tt)
+found_parts P (variable_write thing name text) (has (exception_found id mode)) state h = (tt, tt)
+found_parts P (variable_write thing name text) (fails fault) state h = (tt, tt)
+found_parts P (variable_write thing name text) (lacks want others) state h = (tt, tt)
 found_parts P class_facts (has (threads_found named)) state h = (tt, tt)
 found_parts P class_facts (has (classes_found classes)) state h = (h, tt)
 found_parts P class_facts (has (frames_found total frames)) state h = (tt, tt)
 found_parts P class_facts (has (variables_found shown)) state h = (tt, tt)
+found_parts P class_facts (has (value_found seen)) state h = (tt, tt)
+found_parts P class_facts (has (no_value failure)) state h = (tt, tt)
+found_parts P class_facts (has (write_found write seen)) state h = (tt, tt)
 found_parts P class_facts (has (text_found text)) state h = (tt, tt)
 found_parts P class_facts (has (exception_found id mode)) state h = (tt, tt)
 found_parts P class_facts (fails fault) state h = (tt, tt)
@@ -437,6 +502,15 @@ skipped_order rest (Skips.by_guard {guard} is) h = grind (arith, h, is)
 skipped_order {m} rest (Skips.by_wishes is) h =
     in_any_order _ _ rest (sized_by (is_some m.state.sizes) (is_attached m.state.phase) Part.Updates rest h refl refl)
 skipped_order rest (Skips.no_request is) h = h
+
+pub sent_order : (sized attached : Bool) (deed : Deed) (rest : List Part)
+    → in_order sized attached (Part.Sends deed ∷ rest) ≡ true → in_order sized attached rest ≡ true
+sent_order sized attached Suspend rest h = h
+sent_order sized attached (Resume suspension) rest h = h
+sent_order sized attached Dispose rest h = h
+sent_order sized attached Exit rest h = h
+sent_order sized attached (Writes write) rest h = in_any_order sized attached rest
+    (sized_by sized attached (Part.Sends (Writes write)) rest h refl refl)
 
 pub event_order : (state : State) (event : Event) (rest : List Part) → is_gone (after_event event state).phase ≡ false
     → in_order (is_some state.sizes) (is_attached state.phase) (Part.Tells event ∷ rest) ≡ true

@@ -11,6 +11,7 @@ use Rattle.machine_model.proofs.Testing.{same_noted, same_numbered, same_replied
 use Rattle.machine_model.proofs.Standing.{IsKept, at_front, ids_said, put_back, quiet_kept, same_state, stays}
 use Rattle.machine_model.proofs.Standing.{taken_out}
 use Rattle.machine_model.proofs.StandingMoves.{begun_order, begun_parts, chosen_order, chosen_parts, dropped_kept}
+use Rattle.machine_model.proofs.StandingMoves.{sent_order}
 use Rattle.machine_model.proofs.StandingMoves.{effect_same, event_order, event_same, found_kept}
 use Rattle.machine_model.proofs.StandingMoves.{note_same, skipped_order, told_same}
 use Rattle.machine_model.proofs.StandingMoves.{effect_wanted, event_wanted, told_wanted, note_wished}
@@ -59,7 +60,7 @@ kept_on messages m next said null w k (Moves.tells {rest = rest} {event} free at
 kept_on messages m next said null w k (Moves.sends {rest = rest} {deed} free at near) brought =
     stays (after_deed deed m.state) rest said (at_front k at)
     (record { sizes = refl; classes = refl; back = λ near. near }) refl
-    (λ near n. record { wanted = n.wanted; order = n.order; parts = n.parts.1 })
+    (λ near n. record { wanted = n.wanted; order = sent_order (is_some m.state.sizes) (is_attached m.state.phase) deed rest n.order; parts = n.parts.1 })
 kept_on messages m next said null w k (Moves.updates {rest = rest} free at is near) brought =
     quiet_kept m.state said (at_front k at) (same_state m.state) refl refl refl
 kept_on messages m next said null w k (Moves.greets free at is near) brought =

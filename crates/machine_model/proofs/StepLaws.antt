@@ -8,6 +8,7 @@ use Rattle.class_tables.specs.Lookups.{found_in}
 use Rattle.machine_model.specs.Due.{after_deed, asked_hand, due}
 use Rattle.machine_model.specs.Knowing.{lookup_stops, stopped_behind, stopped_told}
 use Rattle.machine_model.specs.Lookups.{finished}
+use Rattle.machine_model.specs.Names.{Written}
 use Rattle.machine_model.specs.Names.{Act, Attached, Choice, Classes, Command, Configured, Decides, Deed, Effect, EntryHeld, Event}
 use Rattle.machine_model.specs.Names.{Finding, Functions, HaltCause, Initialized, Item, Leaves, Lines, Lookup, Note, Options}
 use Rattle.machine_model.specs.Names.{Outcome, Part, Replied, Roots, Stepped, Steps, StopsAt, TargetCommand, TellsNews}
@@ -75,6 +76,7 @@ abbrev may_choose : Choice → List Part → Bool
 may_choose (TellsNews below) rest = true
 may_choose Decides rest = is_empty rest
 may_choose Stepped rest = is_empty rest
+may_choose (Written seen) rest = true
 may_choose (Leaves exits) rest = true
 
 abbrev may_part : Bool → Part → List Part → Bool
@@ -125,6 +127,7 @@ chosen_steps : (stopped steps : Bool) (choice : Choice) (state : State) (hand : 
     → steps_well stopped steps (chosen choice state hand ++ rest) ≡ true
 chosen_steps stopped steps (TellsNews below) state hand rest same is =
     told_alike (steps_well stopped steps) (λ news parts. refl) state.phase (news_of below state hand.item) rest ∙ is
+chosen_steps stopped steps (Written seen) state hand rest same is = grind (arith, is)
 chosen_steps stopped steps (Leaves exits) state hand rest same is = grind (arith, is)
 chosen_steps stopped steps Stepped state hand rest same is = by_rest rest (refused_with hand.effect) is
   where

@@ -5,11 +5,12 @@ use Rattle.std.proofs.Common.{sym, ap, subst, ◌∙◌, arith, option_map, ℕ}
 use Rattle.std.specs.List.{AllByRecursion as All}
 use Rattle.machine_model.specs.Due.{asked_hand, behind_first, lacked_by, newly_lacked, stopped_by, with_wants}
 use Rattle.machine_model.specs.Lookups.{finished}
+use Rattle.machine_model.specs.Names.{Writes, Written, variable_write}
 use Rattle.machine_model.specs.Names.{Attached, Choice, Decides, Deed, Dispose, Event, Exit, Finding, Fresh, Gone}
 use Rattle.machine_model.specs.Names.{Initialized, Item, Leaves, Lookup, Part, Phase, Question, Replied, Resume, Sent}
 use Rattle.machine_model.specs.Names.{Suspend, TellsNews, Terminated, Want, a_question, a_stop, all_threads}
 use Rattle.machine_model.specs.Names.{an_effect, class_facts, container_children, of_composite, of_entry, of_stop}
-use Rattle.machine_model.specs.Names.{Stepped, exception_info, exception_text, some_news, thread_frames}
+use Rattle.machine_model.specs.Names.{Stepped, exception_info, exception_text, expression_value, some_news, thread_frames}
 use Rattle.machine_model.specs.Outcomes.{result_of}
 use Rattle.machine_model.specs.Plans.{Result, asks_for, lacking, question_of}
 use Rattle.machine_model.specs.Replying.{filled, given_up, hand_replied, is_failed, is_waiting, unless_failed}
@@ -100,6 +101,7 @@ chosen_ends Decides state hand rest is =
     sym (decided_alike ends_ahead (λ thrown parts. refl) (λ stopping parts. refl) (λ thread object parts. refl)
     (λ parts. refl) (λ parts. refl) state hand.item rest) ∙ is
 chosen_ends Stepped state hand rest is = refl
+chosen_ends (Written seen) state hand rest is = grind (arith, is)
 chosen_ends (Leaves exits) state hand rest is = grind (arith, is)
 
 chosen_looks : (choice : Choice) (state : State) (hand : Hand) (rest : List Part)
@@ -114,6 +116,7 @@ chosen_looks Stepped state hand rest is = by_code (refused_with hand.effect)
     by_code : (code : Option ℕ) → frames_ahead (stepped_by code ++ rest) ≡ false
     by_code None = is
     by_code (Some code) = is
+chosen_looks (Written seen) state hand rest is = grind (arith, is)
 chosen_looks (Leaves exits) state hand rest is = grind (arith, is)
 
 found_ends : (lookup : Lookup) (result : Result Finding) (state : State) (rest : List Part)
@@ -121,6 +124,8 @@ found_ends : (lookup : Lookup) (result : Result Finding) (state : State) (rest :
 found_ends all_threads result state rest = refl
 found_ends (thread_frames thread start levels) result state rest = refl
 found_ends (container_children thing filter start count) result state rest = refl
+found_ends (expression_value frame expression) result state rest = refl
+found_ends (variable_write thing name text) result state rest = grind arith
 found_ends (exception_text thread object) result state rest = refl
 found_ends (exception_info thrown) result state rest = refl
 found_ends class_facts result state rest = refl
@@ -130,6 +135,8 @@ found_looks : (lookup : Lookup) (result : Result Finding) (state : State) (rest 
 found_looks all_threads result state rest = refl
 found_looks (thread_frames thread start levels) result state rest = refl
 found_looks (container_children thing filter start count) result state rest = refl
+found_looks (expression_value frame expression) result state rest = refl
+found_looks (variable_write thing name text) result state rest = grind arith
 found_looks (exception_text thread object) result state rest = refl
 found_looks (exception_info thrown) result state rest = refl
 found_looks class_facts result state rest = refl
@@ -177,6 +184,7 @@ sent_on m hand (Resume of_composite) q bare next phase stopped = behind next q (
 sent_on m hand (Resume of_entry) q bare next phase stopped = behind next q (noted_running m.state next phase stopped)
 sent_on m hand Dispose q bare next phase stopped = behind next q (noted_running m.state next phase stopped)
 sent_on m hand Exit q bare next phase stopped = behind next q (noted_running m.state next phase stopped)
+sent_on m hand (Writes write) q bare next phase stopped = behind next q (noted_running m.state next phase stopped)
 
 filled_calm : (question : Question) (replied : Replied) (asked : List Sent) → All IsCalmSent asked
     → All IsCalmSent (filled question replied asked)

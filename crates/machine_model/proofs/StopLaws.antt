@@ -22,7 +22,8 @@ use Rattle.machine_model.specs.Children.{object_named}
 use Rattle.machine_model.specs.Composites.{composite_parts, has_death}
 use Rattle.machine_model.specs.Due.{Load, asked_hand, busy, can_read, clear, due, hand_load, load_of, newly_lacked}
 use Rattle.machine_model.specs.Due.{wanted}
-use Rattle.machine_model.specs.Lookups.{finished, found_for, text_of}
+use Rattle.machine_model.specs.Lookups.{finished, found_for, text_of, written_parts}
+use Rattle.machine_model.specs.Names.{Written, classes_found, exception_found, frames_found, no_value, text_found, threads_found, value_found, variable_write, variables_found, write_found}
 use Rattle.machine_model.specs.Names.{Act, Attach, Attached, BadArguments, Choice, Command, ConfigurationDone}
 use Rattle.machine_model.specs.Names.{Continue, Decides, Deed, Disconnect, Does, Event, ExceptionInfo, Failure, Finding}
 use Rattle.machine_model.specs.Names.{Fresh, Gone, Halt, HaltCause, Hit, Initialize, Initialized, Item, Leaves, Lookup}
@@ -31,13 +32,17 @@ use Rattle.machine_model.specs.Names.{SetExceptionBreakpoints, SetFunctionBreakp
 use Rattle.machine_model.specs.Names.{Stepped, StopCause, Stopping, TargetCommand, TellsNews, Terminated, ThreadId}
 use Rattle.machine_model.specs.Names.{Threads, Thrown, Unsupported, Variables, Want, a_composite, a_question, a_raw}
 use Rattle.machine_model.specs.Names.{a_request, a_stop, all_threads, an_effect, an_event, by_client, by_exception}
-use Rattle.machine_model.specs.Names.{by_step, came_to, class_facts, container_children, entry_verified}
+use Rattle.machine_model.specs.Names.{Evaluate, SetVariable, by_step, came_to, class_facts, container_children, entry_verified, expression_value}
 use Rattle.machine_model.specs.Names.{exception_info, exception_text, has_stepped, of_composite, some_news, target_end}
 use Rattle.machine_model.specs.Names.{thread_changed, thread_frames, threw}
 use Rattle.machine_model.specs.Outcomes.{result_of}
-use Rattle.machine_model.specs.Plans.{Need, is_done}
+use Rattle.machine_model.specs.Plans.{Need, Result, gave, is_done, refused}
 use Rattle.machine_model.specs.Replying.{given_up, hand_replied}
 use Rattle.machine_model.specs.Requests.{Wishes}
+use Rattle.field_exprs.specs.Parsing.{parsed}
+use Rattle.field_exprs.specs.declared.expr.Expr.{Expr}
+use Rattle.machine_model.specs.Rows.{write_by, written_by}
+use Rattle.machine_model.specs.Rows.{evaluate_by}
 use Rattle.machine_model.specs.Rows.{chosen, configured_parts, continue_parts, end_parts, exception_parts, failure_of}
 use Rattle.machine_model.specs.Rows.{gone_parts, gone_row, gone_tail, has_response, leaves, news_of, parts_by, parts_of}
 use Rattle.machine_model.specs.Rows.{pause_parts, refused_with, request_parts, row_of, scopes_parts, stack_parts}
@@ -242,6 +247,8 @@ module _ (messages more : List Message) (item : Item) where
   look_still all_threads h = tt
   look_still (thread_frames thread start levels) h = tt
   look_still (container_children thing filter start count) h = tt
+  look_still (expression_value frame expression) h = tt
+  look_still (variable_write thing name text) h = tt
   look_still (exception_info thrown) h = tt
   look_still class_facts h = tt
 
@@ -326,6 +333,20 @@ row_tells messages item (Variables arguments) state is = by_thing (container arg
     by_thing : (found : prelude.Result Thing RefFault) → All (PartTells messages item) (variables_parts arguments found)
     by_thing (Ok thing) = (tt, tt)
     by_thing (Err fault) = (tt, tt)
+row_tells messages item (SetVariable arguments) state is =
+    by_thing (container arguments.variables_reference state.numbers)
+  where
+    by_thing : (found : prelude.Result Thing RefFault) → All (PartTells messages item) (write_by arguments found)
+    by_thing (Ok thing) = (tt, tt)
+    by_thing (Err fault) = (tt, tt)
+row_tells messages item (Evaluate arguments) state is =
+    by_frame (parsed arguments.expression) (frame arguments.frame_id state.numbers)
+  where
+    by_frame : (read : prelude.Result Expr ℕ) (found : prelude.Result FrameThing RefFault)
+        → All (PartTells messages item) (evaluate_by read found)
+    by_frame (Ok expression) (Ok one) = (tt, tt)
+    by_frame (Err place) (Ok one) = (tt, tt)
+    by_frame read (Err fault) = (tt, tt)
 row_tells messages item (Disconnect arguments) state is = (tt, (tt, (tt, tt)))
 row_tells messages item Unsupported state is = (tt, tt)
 row_tells messages item (BadArguments name) state is = (tt, tt)
@@ -366,6 +387,20 @@ found_tells : {messages : List Message} {m : Machine} {hand : Hand} → Run mess
 found_tells r is all_threads found needs done rest looks h = (tt, h)
 found_tells r is (thread_frames thread start levels) found needs done rest looks h = (tt, h)
 found_tells r is (container_children thing filter start count) found needs done rest looks h = (tt, h)
+found_tells r is (expression_value frame expression) found needs done rest looks h = (tt, h)
+found_tells {messages} {hand = hand} r is (variable_write thing name text) found needs done rest looks h = by_result (result_of found)
+  where
+    by_result : (result : Result Finding) → All (PartTells messages hand.item) (written_parts result ++ rest)
+    by_result (refused code) = (tt, h)
+    by_result (gave (write_found write seen)) = (tt, (tt, h))
+    by_result (gave (no_value failure)) = (tt, h)
+    by_result (gave (threads_found named)) = (tt, h)
+    by_result (gave (classes_found classes)) = (tt, h)
+    by_result (gave (frames_found total frames)) = (tt, h)
+    by_result (gave (variables_found shown)) = (tt, h)
+    by_result (gave (value_found seen)) = (tt, h)
+    by_result (gave (text_found text)) = (tt, h)
+    by_result (gave (exception_found id mode)) = (tt, h)
 found_tells {messages} {m} {hand} r is (exception_text thread object) found needs done rest looks h = (
   record {
     halt = record { cause = threw object; thread = thread };
@@ -460,6 +495,11 @@ chosen_tells {messages} {m} {hand} r is (Leaves exits) rest bound h = by_phase m
     by_phase Attached = (tt, h)
     by_phase Gone = h
 chosen_tells r is Decides rest bound h = decided_tells r is (bound refl) rest h
+chosen_tells {messages} {m} {hand} r is (Written seen) rest bound h = by_code (refused_with hand.effect)
+  where
+    by_code : (code : Option ℕ) → All (PartTells messages hand.item) (written_by seen code ++ rest)
+    by_code None = (tt, h)
+    by_code (Some code) = (tt, h)
 chosen_tells {messages} {m} {hand} r is Stepped rest bound h = by_code (refused_with hand.effect)
   where
     by_code : (code : Option ℕ) → All (PartTells messages hand.item) (stepped_by code ++ rest)
@@ -488,6 +528,8 @@ given_tells messages (Some hand) = by_item (has_response hand.parts) hand.item
     by_row item (StackTrace arguments) = (tt, tt)
     by_row item (Scopes arguments) = (tt, tt)
     by_row item (Variables arguments) = (tt, tt)
+    by_row item (SetVariable arguments) = (tt, tt)
+    by_row item (Evaluate arguments) = (tt, tt)
     by_row item Unsupported = (tt, tt)
     by_row item (BadArguments name) = (tt, tt)
 
@@ -509,6 +551,8 @@ given_tells messages (Some hand) = by_item (has_response hand.parts) hand.item
     by_tail item (StackTrace arguments) = tt
     by_tail item (Scopes arguments) = tt
     by_tail item (Variables arguments) = tt
+    by_tail item (SetVariable arguments) = tt
+    by_tail item (Evaluate arguments) = tt
     by_tail item Unsupported = tt
     by_tail item (BadArguments name) = tt
 
@@ -629,6 +673,8 @@ asked_stop messages m hand stop is reason stopped (a_request request) item pause
     by_command (StackTrace arguments) same pauses = cc
     by_command (Scopes arguments) same pauses = cc
     by_command (Variables arguments) same pauses = cc
+    by_command (SetVariable arguments) same pauses = cc
+    by_command (Evaluate arguments) same pauses = cc
     by_command (Disconnect arguments) same pauses = cc
     by_command Unsupported same pauses = cc
     by_command (BadArguments name) same pauses = cc

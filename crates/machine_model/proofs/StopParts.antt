@@ -5,13 +5,15 @@ use Rattle.std.proofs.Common.{ap, ℕ, Option, Some, None}
 use Rattle.std.specs.List.{AllByRecursion as All}
 use Rattle.class_tables.specs.Lookups.{found_in}
 use Rattle.jdwp_commands.specs.declared.question.Question.TheVariants as questions
+use Rattle.machine_model.specs.Names.{Writes, a_written}
 use Rattle.machine_model.specs.Classes.{classes_plan}
 use Rattle.machine_model.specs.Due.{is_listed, lacked_by, with_want, with_wants}
 use Rattle.machine_model.specs.Lookups.{finished, sight_of}
+use Rattle.machine_model.specs.Names.{Written, variable_write}
 use Rattle.machine_model.specs.Names.{Body, Capabilities, Choice, Continued, Decides, Failed, Finding, Item, Leaves}
 use Rattle.machine_model.specs.Names.{Lookup, Nothing, Outcome, Part, Question, Resume, Sent, Success, TellsNews}
 use Rattle.machine_model.specs.Names.{Want, all_threads, breakpoint_list, class_facts, classes_found}
-use Rattle.machine_model.specs.Names.{Stepped, container_children, exception_info, exception_text, of_stop}
+use Rattle.machine_model.specs.Names.{Stepped, container_children, exception_info, exception_text, expression_value, of_stop}
 use Rattle.machine_model.specs.Names.{thread_frames}
 use Rattle.machine_model.specs.Plans.{Result, lacking, made_with, need, question_of}
 use Rattle.machine_model.specs.Replying.{is_waiting}
@@ -45,6 +47,7 @@ abbrev pub is_bare_body : Body → Bool
 is_bare_body Nothing = true
 is_bare_body Capabilities = true
 is_bare_body Continued = true
+is_bare_body (a_written seen) = true
 is_bare_body (breakpoint_list rooted listed) = true
 is_bare_body _ = false
 
@@ -56,6 +59,7 @@ is_bare_outcome (Failed failure) = true
 abbrev pub is_bare : Part → Bool
 is_bare (Part.Responds outcome) = is_bare_outcome outcome
 is_bare (Part.Looks lookup) = false
+is_bare (Part.Sends (Writes write)) = false
 is_bare (Part.Awaits guard) = false
 is_bare (Part.Unfolds Decides) = false
 is_bare _ = true
@@ -99,6 +103,7 @@ chosen_bare Stepped state hand rest is = by_code (refused_with hand.effect)
     by_code : (code : Option ℕ) → bare_ends false (stepped_by code ++ rest) ≡ true
     by_code None = is
     by_code (Some code) = grind (arith, is)
+chosen_bare (Written seen) state hand rest is = grind (arith, is)
 chosen_bare (Leaves exits) state hand rest is = grind (arith, is)
 
 found_bare : (lookup : Lookup) (result : Result Finding) (state : State) (rest : List Part)
@@ -113,6 +118,8 @@ found_bare lookup result state rest is = by_lookup lookup
     by_lookup all_threads = no_end (ends_ahead rest) _ is
     by_lookup (thread_frames thread start levels) = no_end (ends_ahead rest) _ is
     by_lookup (container_children thing filter start count) = no_end (ends_ahead rest) _ is
+    by_lookup (expression_value frame expression) = no_end (ends_ahead rest) _ is
+    by_lookup (variable_write thing name text) = grind (arith, is)
     by_lookup (exception_text thread object) = no_end (ends_ahead rest) _ is
     by_lookup (exception_info thrown) = no_end (ends_ahead rest) _ is
     by_lookup class_facts = no_end (ends_ahead rest) _ is

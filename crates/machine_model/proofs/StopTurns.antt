@@ -2,6 +2,7 @@
 use Rattle.std.proofs.Common.{◌≡◌, Bool, true, false, List, [], ◌∷◌, Option, Some, None, refl, option_map, arith}
 use Rattle.machine_model.specs.Due.{after_deed, sent, stopped_by}
 use Rattle.machine_model.specs.Ids.{begins_stop, ids_given}
+use Rattle.machine_model.specs.Names.{Writes}
 use Rattle.machine_model.specs.Names.{Clear, Deed, Dispose, Does, Effect, Event, Exit, Initialized, Note, Part, Resume, Set}
 use Rattle.machine_model.specs.Names.{Suspend, Terminated, a_question, a_stop, an_effect, of_composite, of_entry, of_stop}
 use Rattle.machine_model.specs.Names.{some_news}
@@ -54,6 +55,7 @@ turns m next said (Moves.sends {deed = Resume of_entry} free at near) = Turns.go
 turns m next said (Moves.sends {deed = Resume of_stop} free at near) = Turns.ends at
 turns m next said (Moves.sends {deed = Dispose} free at near) = Turns.goes_on refl refl
 turns m next said (Moves.sends {deed = Exit} free at near) = Turns.goes_on refl refl
+turns m next said (Moves.sends {deed = Writes write} free at near) = Turns.goes_on refl refl
 turns m next said (Moves.updates {effect = effect} free at is near) =
     Turns.goes_on refl (request_quiet effect (due_request m.state.wishes effect is))
 turns m next said (Moves.greets free at is near) = Turns.goes_on refl refl

@@ -4,13 +4,14 @@ use Rattle.std.proofs.Common.{◌∙◌, option_map, arith, ℕ}
 use Rattle.machine_model.specs.Due.{asked_hand, due}
 use Rattle.machine_model.specs.Knowing.{held_in, held_with, lookup_stops, may_send, view_of}
 use Rattle.machine_model.specs.Lookups.{finished}
+use Rattle.machine_model.specs.Names.{Written, variable_write}
 use Rattle.machine_model.specs.Names.{Act, Attached, Choice, Command, Configured, Decides, Deed, Does, EntryHeld}
 use Rattle.machine_model.specs.Names.{Event, Failure, Finding, Item, Leaves, Lookup, Note, Part, Phase, Replied}
 use Rattle.machine_model.specs.Names.{Resume, Stopping, Suspension, TargetCommand, TellsNews, Want, a_composite}
 use Rattle.machine_model.specs.Names.{a_question, a_raw, a_request, a_stop, all_threads, an_effect, class_facts}
 use Rattle.machine_model.specs.Names.{of_composite, of_entry, of_stop, target_end}
 use Rattle.machine_model.specs.Names.{thread_frames}
-use Rattle.machine_model.specs.Names.{container_children, exception_info, exception_text, HaltCause, Stepped, ThreadId}
+use Rattle.machine_model.specs.Names.{container_children, exception_info, exception_text, expression_value, HaltCause, Stepped, ThreadId}
 use Rattle.machine_model.specs.Outcomes.{result_of}
 use Rattle.machine_model.specs.Plans.{Result}
 use Rattle.machine_model.specs.Replying.{hand_replied}
@@ -30,7 +31,7 @@ use Rattle.machine_model.proofs.Stepping.{IsAt, Loses, Moves, by_runs, moved}
 use Rattle.machine_model.proofs.Tables.{free, free_once, of_decided, told_alike}
 use Rattle.machine_model.proofs.Testing.{IsTest, Passed, same_noted, same_numbered, same_replied, tested, whole}
 use Rattle.machine_model.specs.Stops.{decided, surplus, told_part}
-use Rattle.machine_model.specs.Rows.{refused_with, stepped_by}
+use Rattle.machine_model.specs.Rows.{refused_with, stepped_by, written_by}
 use Rattle.machine_model.specs.Pending.{bit}
 use Rattle.machine_model.proofs.BindingHands.{binds_ahead}
 use Rattle.std.specs.Prelude.{◌+◌}
@@ -96,6 +97,7 @@ chosen_last Decides state hand rest is = let last = rest_last (Part.Unfolds Deci
         → resume_last (told_part cause thread ∷ surplus stopped ++ rest) ≡ true
     by_stop stopped cause thread = grind (arith, is)
 chosen_last Stepped state hand rest is = grind (arith, is)
+chosen_last (Written seen) state hand rest is = grind (arith, is)
 chosen_last (Leaves exits) state hand rest is = grind (arith, is)
 
 last_test : IsTest ends_resumed
@@ -156,6 +158,8 @@ found_same : (lookup : Lookup) (result : Result Finding) (state : State) (rest :
 found_same all_threads result state rest = refl
 found_same (thread_frames thread start levels) result state rest = refl
 found_same (container_children thing filter start count) result state rest = refl
+found_same (expression_value frame expression) result state rest = refl
+found_same (variable_write thing name text) result state rest = grind arith
 found_same (exception_text thread object) result state rest = refl
 found_same (exception_info thrown) result state rest = refl
 found_same class_facts result state rest = refl
@@ -180,6 +184,11 @@ chosen_resumed Stepped state hand rest is =
     attached_there true attached has is = refl
     attached_there false attached true is = is
     attached_there false attached false is = refl
+chosen_resumed (Written seen) state hand rest is = by_code (refused_with hand.effect)
+  where
+    by_code : (code : Option ℕ) → resumes_attached state.phase (written_by seen code ++ rest) ≡ true
+    by_code None = is
+    by_code (Some code) = is
 chosen_resumed (Leaves exits) state hand rest is = grind (arith, is)
 
 event_resumed : (event : Event) (state : State) (rest : List Part) → resumes_attached state.phase rest ≡ true

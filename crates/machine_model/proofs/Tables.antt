@@ -2,6 +2,7 @@
 use Rattle.std.proofs.Common.{◌≡◌, Bool, true, false, cond, not, ◌||◌, List, [], ◌∷◌, ◌++◌, Option, refl, arith, ◌∙◌}
 use Rattle.std.proofs.Common.{Some, None}
 use Rattle.machine_model.specs.Lookups.{finished, lookup_responds}
+use Rattle.machine_model.specs.Names.{Written}
 use Rattle.machine_model.specs.Names.{Attached, Choice, Classes, Command, Decides, EntryHeld, Failure, Finding, Fresh}
 use Rattle.machine_model.specs.Names.{Gone, Initialized, Item, Leaves, Lines, Lookup, News, Note, Part, Phase, Resume}
 use Rattle.machine_model.specs.Names.{Stopping, TellsNews, Terminated, a_composite, a_raw, a_request, a_stop}
@@ -184,6 +185,7 @@ chosen_block Decides state hand =
     of_decided (λ (parts : List Part). is_block false parts ≡ true) refl refl refl (λ stopped thrown halt. grind arith)
     state hand.item
 chosen_block Stepped state hand = grind arith
+chosen_block (Written seen) state hand = grind arith
 chosen_block (Leaves exits) state hand = grind arith
 
 pub finished_block : (lookup : Lookup) (result : Result Finding) (state : State)
@@ -419,6 +421,7 @@ followed_chosen Decides state hand rest is =
     decided_alike are_followed (λ thrown parts. refl) (λ stopping parts. refl) (λ thread object parts. refl)
     (λ parts. refl) (λ parts. refl) state hand.item rest ∙ is
 followed_chosen Stepped state hand rest is = grind (arith, is)
+followed_chosen (Written seen) state hand rest is = grind (arith, is)
 followed_chosen (Leaves exits) state hand rest is = grind (arith, is)
 
 pub followed_test : IsTest followed

@@ -1,15 +1,16 @@
 -- The ids of what was told by numbers in the stop in hand were read.
 use Rattle.std.proofs.Common.{◌≡◌, Bool, true, false, List, [], ◌∷◌, ◌++◌, Option, None, Some, filter_map, map, subst}
 use Rattle.std.proofs.Common.{sym}
-use Rattle.std.specs.Prelude.{if◌then◌else◌}
+use Rattle.std.specs.Prelude.{if◌then◌else◌, option_to_list}
 use Rattle.std.specs.List.{AllByRecursion as All, cons_option, list_any}
 use Rattle.machine_model.specs.Due.{after_deed}
 use Rattle.machine_model.specs.Ids.{Id}
+use Rattle.machine_model.specs.Names.{Writes, a_written}
 use Rattle.machine_model.specs.Names.{Capabilities, Continued, Deed, Dispose, Event, Exit, Failed, Initialized}
 use Rattle.machine_model.specs.Names.{Nothing, Outcome, Resume, ShownFrame, ShownVariable, Success, Suspend}
 use Rattle.machine_model.specs.Names.{Terminated, a_question, a_stop, breakpoint_list, entry_verified, frame_list}
 use Rattle.machine_model.specs.Names.{of_composite, of_entry, of_stop, scope_list, some_news, thread_changed, thread_list}
-use Rattle.machine_model.specs.Names.{variable_list}
+use Rattle.machine_model.specs.Names.{a_value, variable_list}
 use Rattle.machine_model.specs.References.{things_of, with_things}
 use Rattle.machine_model.specs.Runs.{Message}
 use Rattle.machine_model.specs.State.{Machine, State, is_gone, numbers_over}
@@ -73,12 +74,19 @@ responded_things P (Success Capabilities) state k h = h
 responded_things P (Success (breakpoint_list rooted listed)) state k h = h
 responded_things P (Success Continued) state k h = h
 responded_things P (Success (an_exception id mode)) state k h = h
+responded_things P (Success (a_written seen)) state k h = h
 responded_things P (Success (thread_list named)) state k h = h
 responded_things P (Success (frame_list total frames)) state k h =
     some_more P (things_of (frame_list total frames)) state.numbers (of_frames P frames k) h
 responded_things P (Success (scope_list one)) state k h = one_more P (some_locals one) state.numbers k h
 responded_things P (Success (variable_list shown)) state k h =
     some_more P (things_of (variable_list shown)) state.numbers (of_variables P shown k) h
+responded_things P (Success (a_value seen)) state k h =
+    some_more P (things_of (a_value seen)) state.numbers (of_option seen.thing k) h
+  where
+    of_option : (thing : Option Thing) → OnSome (OfThing P) thing → All (OfThing P) (option_to_list thing)
+    of_option None k = tt
+    of_option (Some thing) k = (k, tt)
 
 -- where a stop is over nothing is told in it
 over_things : (P : Id → Type 0) (stopped : Bool) (numbers : InHand) → AreThings P numbers
@@ -102,6 +110,7 @@ deed_things P (Resume of_entry) state h = h
 deed_things P (Resume of_stop) state h = over_things P state.stopped state.numbers h
 deed_things P Dispose state h = h
 deed_things P Exit state h = h
+deed_things P (Writes write) state h = h
 
 same_things : (P : Id → Type 0) (numbers now : InHand) → now ≡ numbers → AreThings P numbers → AreThings P now
 same_things P numbers now is h = subst (λ (numbers : InHand). AreThings P numbers) (sym is) h

@@ -11,6 +11,7 @@ use Rattle.jdwp_events.specs.declared.kind.Policy.TheVariants.{NoThread, EventTh
 use Rattle.machine_model.specs.Breakpoints.{newly_verified}
 use Rattle.machine_model.specs.Composites.{change_told, changes_in, composite_parts, has_death}
 use Rattle.machine_model.specs.Ids.{Id, ids_of_composite, ids_of_event}
+use Rattle.machine_model.specs.Names.{Written, a_written, classes_found, exception_found, frames_found, no_value, text_found, threads_found, value_found, variable_write, variables_found, write_found}
 use Rattle.machine_model.specs.Names.{Attach, Attached, BadArguments, Choice, Command, ConfigurationDone, Continue}
 use Rattle.machine_model.specs.Names.{Decides, Disconnect, Event, Failed, Failure, Fresh, Gone, Initialize, Initialized}
 use Rattle.machine_model.specs.Names.{Item, Leaves, Lookup, NamedThread, News, Outcome, Part, Pause, Phase, Replied}
@@ -19,11 +20,15 @@ use Rattle.machine_model.specs.Names.{ThreadId, Threads, Unsupported, a_composit
 use Rattle.machine_model.specs.Names.{breakpoint_list, class_facts, all_threads, thread_frames, Capabilities, Continued}
 use Rattle.machine_model.specs.Names.{Nothing, Note}
 use Rattle.machine_model.specs.Names.{entry_verified, frame_list, some_news, target_end, thread_changed, thread_list}
-use Rattle.machine_model.specs.Lookups.{finished}
+use Rattle.machine_model.specs.Lookups.{finished, written_parts}
 use Rattle.machine_model.specs.Names.{Finding, Hit}
-use Rattle.machine_model.specs.Names.{container_children, scope_list, variable_list}
-use Rattle.machine_model.specs.Plans.{Result}
+use Rattle.machine_model.specs.Names.{Evaluate, SetVariable, a_value, container_children, expression_value, scope_list, variable_list}
+use Rattle.machine_model.specs.Plans.{Result, gave, refused}
 use Rattle.machine_model.specs.Replying.{replied_to}
+use Rattle.field_exprs.specs.Parsing.{parsed}
+use Rattle.field_exprs.specs.declared.expr.Expr.{Expr}
+use Rattle.machine_model.specs.Rows.{write_by, written_by}
+use Rattle.machine_model.specs.Rows.{evaluate_by}
 use Rattle.machine_model.specs.Rows.{chosen, configured_parts, continue_parts, end_parts, failure_of}
 use Rattle.machine_model.specs.Rows.{leaves, news_of, noted, parts_by, parts_of, pause_parts, row_of, stack_parts}
 use Rattle.machine_model.specs.Rows.{taken, thread_with, told_in, wanting, gone_parts, gone_row, gone_tail}
@@ -106,6 +111,8 @@ responded_threads P (Success (breakpoint_list rooted listed)) state k h = h
 responded_threads P (Success (frame_list total frames)) state k h = h
 responded_threads P (Success (scope_list frame)) state k h = h
 responded_threads P (Success (variable_list shown)) state k h = h
+responded_threads P (Success (a_value seen)) state k h = h
+responded_threads P (Success (a_written seen)) state k h = h
 responded_threads P (Success Continued) state k h = h
 responded_threads P (Success (an_exception id mode)) state k h = h
 responded_threads P (Success (thread_list named)) state k h = some_more P state.threads named k h
@@ -191,6 +198,19 @@ row_tells P (Variables arguments) state told = by_thing (container arguments.var
     by_thing : (found : prelude.Result Thing RefFault) → All (TellStands P) (variables_parts arguments found)
     by_thing (Ok thing) = (tt, tt)
     by_thing (Err fault) = (tt, tt)
+row_tells P (SetVariable arguments) state told = by_thing (container arguments.variables_reference state.numbers)
+  where
+    by_thing : (found : prelude.Result Thing RefFault) → All (TellStands P) (write_by arguments found)
+    by_thing (Ok thing) = (tt, tt)
+    by_thing (Err fault) = (tt, tt)
+row_tells P (Evaluate arguments) state told =
+    by_frame (parsed arguments.expression) (frame arguments.frame_id state.numbers)
+  where
+    by_frame : (read : prelude.Result Expr ℕ) (found : prelude.Result FrameThing RefFault)
+        → All (TellStands P) (evaluate_by read found)
+    by_frame (Ok expression) (Ok one) = (tt, tt)
+    by_frame (Err place) (Ok one) = (tt, tt)
+    by_frame read (Err fault) = (tt, tt)
 row_tells P (Disconnect arguments) state told = (tt, (tt, (tt, tt)))
 row_tells P Unsupported state told = (tt, tt)
 row_tells P (BadArguments name) state told = (tt, tt)
@@ -229,6 +249,20 @@ pub found_tells : (P : Id → Type 0) (lookup : Lookup) (result : Result Finding
 found_tells P all_threads result state rest k h = (tt, h)
 found_tells P (thread_frames thread start levels) result state rest k h = (tt, h)
 found_tells P (container_children thing filter start count) result state rest k h = (tt, h)
+found_tells P (expression_value frame expression) result state rest k h = (tt, h)
+found_tells P (variable_write thing name text) result state rest k h = by_result result
+  where
+    by_result : (result : Result Finding) → All (TellStands P) (written_parts result ++ rest)
+    by_result (refused code) = (tt, h)
+    by_result (gave (write_found write seen)) = (tt, (tt, h))
+    by_result (gave (no_value failure)) = (tt, h)
+    by_result (gave (threads_found named)) = (tt, h)
+    by_result (gave (classes_found classes)) = (tt, h)
+    by_result (gave (frames_found total frames)) = (tt, h)
+    by_result (gave (variables_found shown)) = (tt, h)
+    by_result (gave (value_found seen)) = (tt, h)
+    by_result (gave (text_found text)) = (tt, h)
+    by_result (gave (exception_found id mode)) = (tt, h)
 found_tells P (exception_text thread one) result state rest k h = (k, h)
 found_tells P (exception_info thrown) result state rest k h = (tt, h)
 found_tells P class_facts result state rest k h = (tt, h)
@@ -293,6 +327,11 @@ chosen_tells P Decides state hand rest item h =
     by_stop true stopped false thrown k None hit = (tt, h)
     by_stop true stopped holds thrown k (Some halt) hit =
         (k, (tt, (tt, (told halt.cause halt.thread hit.0, by_surplus stopped))))
+chosen_tells P (Written seen) state hand rest item h = by_code (refused_with hand.effect)
+  where
+    by_code : (code : Option ℕ) → All (TellStands P) (written_by seen code ++ rest)
+    by_code None = (tt, h)
+    by_code (Some code) = (tt, h)
 chosen_tells P Stepped state hand rest item h = by_code (refused_with hand.effect)
   where
     by_code : (code : Option ℕ) → All (TellStands P) (stepped_by code ++ rest)

@@ -8,6 +8,7 @@ use Rattle.std.specs.Ordering.{nat_cmp, on}
 use Rattle.machine_model.specs.Breakpoints.{breakpoint_told, has_id, newly_verified, is_verified as is_told_verified}
 use Rattle.machine_model.specs.Breakpoints.{with_id, with_told}
 use Rattle.machine_model.specs.Lookups.{finished, plain_outcome, text_of}
+use Rattle.machine_model.specs.Names.{Seen, Written, a_written, variable_write, write_found}
 use Rattle.machine_model.specs.Names.{Attached, Capabilities, Choice, Clear, Continued, Decides, Does, Effect}
 use Rattle.machine_model.specs.Names.{Failed, Finding, Fresh, Gone, Initialized, Item, Leaves}
 use Rattle.machine_model.specs.Names.{ListedBreakpoint, Lookup, Nothing, Outcome, Part, Phase, Question, Replied}
@@ -16,10 +17,10 @@ use Rattle.machine_model.specs.Names.{a_question, a_raw, a_request, a_stop, all_
 use Rattle.machine_model.specs.Names.{an_error, breakpoint_list, class_facts, entry_verified, some_news}
 use Rattle.machine_model.specs.Names.{target_end, thread_changed, thread_list}
 use Rattle.machine_model.specs.Names.{classes_found, container_children, frame_list, frames_found, scope_list}
-use Rattle.machine_model.specs.Names.{thread_frames, threads_found, variable_list, variables_found, an_exception}
+use Rattle.machine_model.specs.Names.{thread_frames, threads_found, variable_list, variables_found, an_exception, a_value, expression_value, no_value, value_found}
 use Rattle.machine_model.specs.Names.{by_exception, exception_found, exception_info, exception_text, Stepped}
 use Rattle.machine_model.specs.Names.{text_found}
-use Rattle.machine_model.specs.Lookups.{body_of, outcome_by}
+use Rattle.machine_model.specs.Lookups.{body_of, outcome_by, refusal, value_outcome, written_parts}
 use Rattle.machine_model.specs.References.{has_room, things_of}
 use Rattle.stop_refs.specs.Numbers.{InHand}
 use Rattle.dap_messages.specs.Telling.{references_spent}
@@ -32,6 +33,7 @@ use Rattle.machine_model.specs.Replying.{hand_replied, told_by}
 use Rattle.machine_model.specs.Requests.{Wishes, request_in as request_id, set_to, wishes_after}
 use Rattle.machine_model.specs.Rest.{IsAtRest, request_in}
 use Rattle.machine_model.specs.Composites.{changes_in}
+use Rattle.machine_model.specs.Rows.{written_by}
 use Rattle.machine_model.specs.Rows.{chosen, each_told, leaves, news_of, refused_with, stepped_by, told_in}
 use Rattle.machine_model.specs.Runs.{Message, Run}
 use Rattle.machine_model.specs.State.{Hand, Machine, State, is_attached, is_gone}
@@ -237,6 +239,14 @@ module _ (id : ℕ) where
   stepped_covers state (Some code) rest calm c =
       becomes Stepped (stepped_by (Some code) ++ rest) rest calm refl refl refl c.noted c
 
+  written_covers : {asked : Bool} (state : State) (seen : Seen) (code : Option ℕ) (rest : List Part)
+      → Covers id asked state.wishes state.phase state.next_entry state.bound (Part.Unfolds (Written seen) ∷ rest)
+      → Covers id asked state.wishes state.phase state.next_entry state.bound (written_by seen code ++ rest)
+  written_covers state seen None rest c =
+      record { early = c.early; below = c.below; noted = c.noted; covered = c.covered; told = c.told }
+  written_covers state seen (Some code) rest c =
+      record { early = c.early; below = c.below; noted = c.noted; covered = c.covered; told = c.told }
+
   -- where it is decided how an item goes on no location is bare
   chosen_covers : {asked : Bool} (choice : Choice) (state : State) (hand : Hand) (rest : List Part)
       → is_gone state.phase ≡ false → (is_choice choice ≡ true → is_bare id state.wishes ≡ false)
@@ -246,6 +256,8 @@ module _ (id : ℕ) where
       news_covers state below hand.item rest state.phase refl near c
   chosen_covers Decides state hand rest near calm c = decided_covers state hand.item rest (calm refl) c
   chosen_covers Stepped state hand rest near calm c = stepped_covers state (refused_with hand.effect) rest (calm refl) c
+  chosen_covers (Written seen) state hand rest near calm c =
+      written_covers state seen (refused_with hand.effect) rest c
   chosen_covers (Leaves exits) state hand rest near calm c = leaves_covers state exits rest state.phase c
 
   -- Responses ---------------------------------------------------------------------------------------------------------
@@ -331,6 +343,8 @@ module _ (id : ℕ) where
       silent_covers (Success (scope_list frame)) state rest refl c
   responded_covers (Success (variable_list shown)) state rest c =
       silent_covers (Success (variable_list shown)) state rest refl c
+  responded_covers (Success (a_value seen)) state rest c = silent_covers (Success (a_value seen)) state rest refl c
+  responded_covers (Success (a_written seen)) state rest c = silent_covers (Success (a_written seen)) state rest refl c
   responded_covers (Success (an_exception text mode)) state rest c =
       silent_covers (Success (an_exception text mode)) state rest refl c
   responded_covers (Success (thread_list named)) state rest c =
@@ -397,8 +411,25 @@ module _ (id : ℕ) where
       by_room true (classes_found classes) = refl
       by_room true (frames_found total frames) = refl
       by_room true (variables_found shown) = refl
+      by_room true (value_found seen) = refl
+      by_room true (no_value failure) = refl
+      by_room true (write_found write seen) = refl
       by_room true (text_found text) = refl
       by_room true (exception_found text mode) = refl
+
+  value_shown : (asked : Bool) (numbers : InHand) (result : Result Finding)
+      → tells_it id asked (Part.Responds (value_outcome numbers result)) ≡ false
+  value_shown asked numbers (refused code) = refl
+  value_shown asked numbers (gave (no_value failure)) = refl
+  value_shown asked numbers (gave (threads_found named)) = none_shown asked numbers (gave (threads_found named))
+  value_shown asked numbers (gave (classes_found classes)) = none_shown asked numbers (gave (classes_found classes))
+  value_shown asked numbers (gave (frames_found total frames)) = none_shown asked numbers (gave (frames_found total frames))
+  value_shown asked numbers (gave (variables_found shown)) = none_shown asked numbers (gave (variables_found shown))
+  value_shown asked numbers (gave (value_found seen)) = none_shown asked numbers (gave (value_found seen))
+  value_shown asked numbers (gave (write_found write seen)) = none_shown asked numbers (gave (write_found write seen))
+  value_shown asked numbers (gave (text_found text)) = none_shown asked numbers (gave (text_found text))
+  value_shown asked numbers (gave (exception_found text mode)) =
+      none_shown asked numbers (gave (exception_found text mode))
 
   -- a look-up becomes a part that tells no breakpoint
   found_silent : {asked : Bool} {w : Wishes} {phase : Phase} {next : ℕ} {ids : List ℕ} (lookup : Lookup) (part : Part)
@@ -429,6 +460,34 @@ module _ (id : ℕ) where
       found_silent (container_children thing filter start count) (Part.Responds (outcome_by state.numbers result)) rest
       refl (none_shown asked state.numbers result) (ap (λ b. covers id asked b rest) (as_bare id (is_bare id w)))
       c.noted c
+  found_covers {asked} {w} (expression_value frame expression) result state rest c =
+      found_silent (expression_value frame expression) (Part.Responds (value_outcome state.numbers result)) rest
+      refl (value_shown asked state.numbers result) (ap (λ b. covers id asked b rest) (as_bare id (is_bare id w)))
+      c.noted c
+  found_covers {asked} {w} {phase} {next} {ids} (variable_write thing name text) result state rest c = by_result result
+    where
+      responds : (outcome : Outcome) → tells_it id asked (Part.Responds outcome) ≡ false
+          → Covers id asked w phase next ids (Part.Responds outcome ∷ rest)
+      responds outcome silent = found_silent (variable_write thing name text) (Part.Responds outcome) rest refl silent
+          (ap (λ b. covers id asked b rest) (as_bare id (is_bare id w))) c.noted c
+
+      by_result : (result : Result Finding) → Covers id asked w phase next ids (written_parts result ++ rest)
+      by_result (refused code) = responds (Failed (refusal code)) refl
+      by_result (gave (no_value failure)) = responds (Failed failure) refl
+      by_result (gave (write_found write seen)) = record {
+        early = c.early;
+        below = c.below;
+        noted = c.noted;
+        covered = λ is. ap (λ b. covers id asked b rest) (as_bare id (is_bare id w || false)) ∙ c.covered is;
+        told = c.told;
+      }
+      by_result (gave (threads_found named)) = responds (Success Nothing) refl
+      by_result (gave (classes_found classes)) = responds (Success Nothing) refl
+      by_result (gave (frames_found total frames)) = responds (Success Nothing) refl
+      by_result (gave (variables_found shown)) = responds (Success Nothing) refl
+      by_result (gave (value_found seen)) = responds (Success Nothing) refl
+      by_result (gave (text_found text)) = responds (Success Nothing) refl
+      by_result (gave (exception_found text mode)) = responds (Success Nothing) refl
   found_covers {asked} {w} (exception_text thread object) result state rest c =
       found_silent (exception_text thread object)
       (Part.Tells (a_stop (record { cause = by_exception (text_of result); thread = thread }))) rest refl refl

@@ -12,7 +12,7 @@ use Rattle.machine_model.specs.Names.{Disconnect, EntryHeld, Failure, Initialize
 use Rattle.machine_model.specs.Names.{Options, Part, Pause, Phase, Roots, SetBreakpoints, Success, TellsNews, ThreadId}
 use Rattle.machine_model.specs.Names.{Threads, Unsupported, a_composite, a_raw, a_request, breakpoint_list}
 use Rattle.machine_model.specs.Names.{class_facts, entry_verified, some_news, target_end}
-use Rattle.machine_model.specs.Names.{Scopes, StackTrace, Variables, ExceptionInfo, Functions, Next}
+use Rattle.machine_model.specs.Names.{Scopes, StackTrace, Variables, Evaluate, SetVariable, ExceptionInfo, Functions, Next}
 use Rattle.machine_model.specs.Names.{SetExceptionBreakpoints, SetFunctionBreakpoints, StepIn, StepOut, Steps}
 use Rattle.machine_model.specs.Names.{StopsAt, Throws, Thrown}
 use Rattle.std.specs.Prelude.{Result, Ok, Err, option_and_then}
@@ -22,6 +22,10 @@ use Rattle.stop_refs.specs.declared.thing.FrameThing.{FrameThing}
 use Rattle.stop_refs.specs.declared.thing.Thing.{Thing}
 use Rattle.machine_model.specs.Knowing.{is_fresh}
 use Rattle.machine_model.specs.Requests.{Wishes}
+use Rattle.field_exprs.specs.Parsing.{parsed}
+use Rattle.field_exprs.specs.declared.expr.Expr.{Expr}
+use Rattle.machine_model.specs.Rows.{write_by}
+use Rattle.machine_model.specs.Rows.{evaluate_by}
 use Rattle.machine_model.specs.Rows.{breakpoint_parts, configured_parts, continue_parts, end_parts, failure_of}
 use Rattle.machine_model.specs.Rows.{if_attached, noted, parts_by, parts_of, pause_parts, row_of, thread_with, wanting}
 use Rattle.machine_model.specs.Rows.{exception_parts, scopes_parts, stack_parts}
@@ -368,6 +372,19 @@ module _ (id : ℕ) where
           → AreNoted true state.phase state.next_entry (variables_parts arguments found)
       by_thing (Ok thing) = refl
       by_thing (Err fault) = refl
+  row_noted None (SetVariable arguments) state same = by_thing (container arguments.variables_reference state.numbers)
+    where
+      by_thing : (found : Result Thing RefFault) → AreNoted true state.phase state.next_entry (write_by arguments found)
+      by_thing (Ok thing) = refl
+      by_thing (Err fault) = refl
+  row_noted None (Evaluate arguments) state same =
+      by_frame (parsed arguments.expression) (frame arguments.frame_id state.numbers)
+    where
+      by_frame : (read : Result Expr ℕ) (found : Result FrameThing RefFault)
+          → AreNoted true state.phase state.next_entry (evaluate_by read found)
+      by_frame (Ok expression) (Ok one) = refl
+      by_frame (Err place) (Ok one) = refl
+      by_frame read (Err fault) = refl
   row_noted None (Disconnect arguments) state same = refl
   row_noted None Unsupported state same = refl
   row_noted None (BadArguments name) state same = refl

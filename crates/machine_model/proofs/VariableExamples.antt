@@ -40,7 +40,7 @@ use lib.Utf8.{encode}
 -- Words ---------------------------------------------------------------------------------------------------------------
 
 -- frames 1 and 2 were told
-abbrev shown : Machine
+abbrev pub shown : Machine
 shown = drive 8 known
 
 abbrev scopes_of : ℕ → Request
@@ -53,13 +53,13 @@ page_of reference filter start count = request 10
 abbrev children_of : ℕ → Request
 children_of reference = page_of reference Both 0 0
 
-abbrev upper : FrameId
+abbrev pub upper : FrameId
 upper = record { 0 = 131072 }
 
-abbrev object : ℕ → ObjectId
+abbrev pub object : ℕ → ObjectId
 object id = record { 0 = id }
 
-abbrev class : ℕ → ClassId
+abbrev pub class : ℕ → ClassId
 class id = record { 0 = id }
 
 abbrev local : List ℕ → List ℕ → ℤ → ℕ → ALocal
@@ -81,7 +81,7 @@ unfolding due wanted load_of newly_lacked next_change wished need chained made_w
     lossy_after is_utf8
 scopes = refl
 
-abbrev opened : Machine
+abbrev pub opened : Machine
 opened = drive 8 (heard shown (scopes_of 1))
 
 -- Variables of a frame ------------------------------------------------------------------------------------------------
@@ -93,7 +93,7 @@ unfolding due wanted load_of newly_lacked next_change wished need chained made_w
 asks_locals = refl
 
 -- in order of slots, without one that isn't visible there, and without `this`
-abbrev table : List ALocal
+abbrev pub table : List ALocal
 table = local (codes "a") (codes "[I") (pos 2) 3 ∷ local (codes "this") (codes "La/F;") (pos 0) 0
     ∷ local (codes "n") (codes "I") (pos 1) 5 ∷ local (codes "late") (codes "J") (pos 3) 6 ∷ []
 
@@ -158,10 +158,10 @@ shows_none = refl
 
 -- Fields of an object -------------------------------------------------------------------------------------------------
 
-abbrev numbered : Machine
+abbrev pub numbered : Machine
 numbered = drive 8 typed
 
-abbrev field : ℕ → List ℕ → List ℕ → ℤ → Field
+abbrev pub field : ℕ → List ℕ → List ℕ → ℤ → Field
 field id name signature bits =
     record { id = record { 0 = id }; name = name; signature = signature; bits = bits }
 

@@ -7,7 +7,7 @@ use Rattle.machine_model.specs.Lookups.{finished, found_for}
 use Rattle.machine_model.specs.Names.{Act, Deed, Dispose, Does, Effect, Exit, Finding, Guard, Handshake, IdSizes, Item}
 use Rattle.machine_model.specs.Names.{Lookup, Outcome, Part, Question, Resume, Sent, Suspend, Suspension, Want}
 use Rattle.machine_model.specs.Names.{a_composite, a_raw, a_request, an_event, of_composite, of_entry, of_stop}
-use Rattle.machine_model.specs.Names.{Thrown, target_end}
+use Rattle.machine_model.specs.Names.{Thrown, Writes, target_end}
 use Rattle.machine_model.specs.Plans.{Need, fails, gave, has, lacking, lacks, question_of, refused}
 use Rattle.machine_model.specs.Replying.{is_waiting, pending_of}
 use Rattle.machine_model.specs.Requests.{effect_due}
@@ -101,6 +101,7 @@ stopped_by Suspend stopped = true
 stopped_by (Resume suspension) stopped = still_stopped suspension stopped
 stopped_by Dispose stopped = stopped
 stopped_by Exit stopped = stopped
+stopped_by (Writes write) stopped = stopped
 
 abbrev pub still_held : Suspension → Bool → Bool
 still_held of_composite entry = entry
@@ -112,6 +113,7 @@ entry_by Suspend entry = entry
 entry_by (Resume suspension) entry = still_held suspension entry
 entry_by Dispose entry = entry
 entry_by Exit entry = entry
+entry_by (Writes write) entry = entry
 
 abbrev pub still_numbered : Suspension → Bool → InHand → InHand
 still_numbered of_composite stopped numbers = numbers
@@ -123,6 +125,7 @@ numbers_by Suspend stopped numbers = numbers
 numbers_by (Resume suspension) stopped numbers = still_numbered suspension stopped numbers
 numbers_by Dispose stopped numbers = numbers
 numbers_by Exit stopped numbers = numbers
+numbers_by (Writes write) stopped numbers = numbers
 
 -- what was thrown in a stop is known until it is over
 abbrev pub still_thrown : Suspension → List Thrown → List Thrown
@@ -135,6 +138,7 @@ thrown_by Suspend thrown = thrown
 thrown_by (Resume suspension) thrown = still_thrown suspension thrown
 thrown_by Dispose thrown = thrown
 thrown_by Exit thrown = thrown
+thrown_by (Writes write) thrown = thrown
 
 abbrev pub after_deed : Deed → State → State
 after_deed deed state = record state {

@@ -1,6 +1,6 @@
 -- The ids that stand in commands, in answers and in events, by their kinds, and that each in a command was read before
 -- it, a frame's in the stop in hand (JDWP, Detailed Command Information, common data types).
-use Rattle.std.specs.Prelude.{ℕ, ◌≡◌, ◌⊎◌, ◌∷◌, ◌++◌, Bool, true, false, List, []}
+use Rattle.std.specs.Prelude.{ℕ, zero, suc, ◌≡◌, ◌⊎◌, ◌∷◌, ◌++◌, Bool, true, false, List, []}
 use Rattle.std.specs.List.{AllByRecursion, Contains, flat_map}
 use Rattle.dap_messages.specs.declared.told.Event.TheVariants as told_events
 use Rattle.jdwp_commands.specs.Answers.{told_answer}
@@ -54,15 +54,20 @@ ids_of_simple thread parts.nothing x = []
 abbrev pub no_thread : ℕ
 no_thread = 0
 
+-- null has no id
+abbrev pub id_of_object : ℕ → List Id
+id_of_object zero = []
+id_of_object (suc id) = object (suc id) ∷ []
+
 -- that of a value, where it is an object's
 abbrev pub ids_of_value : Value → List Id
-ids_of_value (values.Object x) = object x.0 ∷ []
-ids_of_value (values.Array x) = object x.0 ∷ []
-ids_of_value (values.String x) = object x.0 ∷ []
-ids_of_value (values.Thread x) = object x.0 ∷ []
-ids_of_value (values.ThreadGroup x) = object x.0 ∷ []
-ids_of_value (values.ClassLoader x) = object x.0 ∷ []
-ids_of_value (values.ClassObject x) = object x.0 ∷ []
+ids_of_value (values.Object x) = id_of_object x.0
+ids_of_value (values.Array x) = id_of_object x.0
+ids_of_value (values.String x) = id_of_object x.0
+ids_of_value (values.Thread x) = id_of_object x.0
+ids_of_value (values.ThreadGroup x) = id_of_object x.0
+ids_of_value (values.ClassLoader x) = id_of_object x.0
+ids_of_value (values.ClassObject x) = id_of_object x.0
 ids_of_value _ = []
 
 -- those of a part; what is set of a field or an element has no tag, and is read as bytes

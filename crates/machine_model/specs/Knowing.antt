@@ -29,7 +29,7 @@ use Rattle.machine_model.specs.Names.{Item, Leaves, Note, Part, Phase, Question,
 use Rattle.machine_model.specs.Names.{Suspend, Suspension, TargetCommand, TellsNews, Terminated, ThreadId, Told}
 use Rattle.machine_model.specs.Names.{a_composite, a_question, a_response, a_stop, an_answer, an_effect, an_error}
 use Rattle.machine_model.specs.Names.{an_event, by_client, by_exception, by_step, exception_text, of_composite, of_entry}
-use Rattle.machine_model.specs.Names.{of_stop, some_news, Lookup, Stepped}
+use Rattle.machine_model.specs.Names.{of_stop, some_news, Lookup, Stepped, Writes, Written}
 use Rattle.machine_model.specs.Pending.{bit}
 use Rattle.machine_model.specs.Plans.{answer_in}
 use Rattle.machine_model.specs.Runs.{Message, Run}
@@ -215,6 +215,7 @@ deed_view (Resume suspension) view = record view {
 }
 deed_view Dispose view = view
 deed_view Exit view = view
+deed_view (Writes write) view = view
 
 abbrev pub effect_view : Effect → View → View
 effect_view (Does deed) view = deed_view deed view
@@ -286,6 +287,7 @@ may_do Suspend view = not view.stopped
 may_do (Resume suspension) view = cond (may_resume suspension view) (nat_lt 0 view.held) false
 may_do Dispose view = true
 may_do Exit view = true
+may_do (Writes write) view = true
 
 abbrev pub may_send : TargetCommand → View → Bool
 may_send (an_effect (Does deed)) view = may_do deed view
@@ -345,6 +347,7 @@ deed_owes Suspend = false
 deed_owes (Resume suspension) = undoes suspension
 deed_owes Dispose = false
 deed_owes Exit = false
+deed_owes (Writes write) = false
 
 abbrev pub note_owes : Note → Bool
 note_owes EntryHeld = true
@@ -354,6 +357,7 @@ abbrev pub choice_owes : Choice → Bool
 choice_owes (TellsNews below) = false
 choice_owes Decides = true
 choice_owes Stepped = false
+choice_owes (Written seen) = false
 choice_owes (Leaves exits) = false
 
 -- the look-up of what was thrown is told of as a stop
@@ -469,6 +473,8 @@ numbers_in_shape shapes.Continued = []
 numbers_in_shape (shapes.StackFrames frames total) = []
 numbers_in_shape (shapes.Scopes reference) = []
 numbers_in_shape (shapes.Variables variables) = []
+numbers_in_shape (shapes.Written value) = []
+numbers_in_shape (shapes.Evaluated value) = []
 numbers_in_shape (shapes.ExceptionInfo id mode) = []
 
 abbrev pub numbers_in_outcome : OutcomeTold → List ℕ

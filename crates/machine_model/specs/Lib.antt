@@ -9,6 +9,7 @@ pub mod Due
 pub mod EventRequests
 pub mod Events
 pub mod Exceptions
+pub mod Expressions
 pub mod Facts
 pub mod Frames
 pub mod Harmless
@@ -42,3 +43,4 @@ pub mod Telling
 pub mod Values
 pub mod Variables
 pub mod Waiting
+pub mod Writing

@@ -6,17 +6,20 @@ use Rattle.jdwp_commands.specs.declared.answer.Answer.TheVariants as answers
 use Rattle.jdwp_commands.specs.declared.question.Question.TheVariants as questions
 use Rattle.machine_model.specs.Classes.{classes_plan}
 use Rattle.machine_model.specs.Exceptions.{exception_plan, text_plan}
+use Rattle.machine_model.specs.Expressions.{value_plan}
 use Rattle.machine_model.specs.Frames.{frames_plan}
 use Rattle.machine_model.specs.Names.{Answer, Body, Classes, ClassId, Failed, Failure, Finding, Lookup, NamedThread}
-use Rattle.machine_model.specs.Names.{Nothing, Outcome, Part, Success, ThreadId, Want, all_threads, class_facts}
 use Rattle.machine_model.specs.Names.{classes_found, container_children, frame_list, frames_found, thread_frames}
 use Rattle.machine_model.specs.Names.{thread_list, threads_found, variable_list, variables_found, a_stop, an_exception}
-use Rattle.machine_model.specs.Names.{by_exception, exception_found, exception_info, exception_text, text_found}
+use Rattle.machine_model.specs.Names.{a_value, by_exception, exception_found, exception_info, exception_text, text_found}
+use Rattle.machine_model.specs.Names.{Nothing, Outcome, Part, Success, ThreadId, Want, Written, Writes, all_threads}
+use Rattle.machine_model.specs.Names.{class_facts, expression_value, no_value, value_found, variable_write, write_found}
 use Rattle.machine_model.specs.Plans.{Need, Plan, Result, Sight, asking, chained, each, gave, joined, made_with}
 use Rattle.machine_model.specs.Plans.{need, refused}
 use Rattle.machine_model.specs.References.{has_room, things_of}
 use Rattle.machine_model.specs.State.{Hand, State}
 use Rattle.machine_model.specs.Variables.{children_plan}
+use Rattle.machine_model.specs.Writing.{write_plan}
 use Rattle.stop_refs.specs.Numbers.{InHand}
 
 -- what an item sees: the facts that were learnt, and what was asked for it
@@ -52,6 +55,8 @@ plan all_threads state = threads_plan
 plan (thread_frames thread start levels) state = frames_plan state thread start levels
 plan (container_children thing filter start count) state =
     children_plan state.options.shows_types thing filter start count
+plan (expression_value frame expression) state = value_plan state.options.shows_types frame expression
+plan (variable_write thing name text) state = write_plan state.options.shows_types state.sizes thing name text
 plan (exception_text thread object) state = text_plan object.0
 plan (exception_info thrown) state = exception_plan thrown
 plan class_facts state =
@@ -71,6 +76,9 @@ classes_of (gave (threads_found named)) = []
 classes_of (gave (classes_found classes)) = classes
 classes_of (gave (frames_found total frames)) = []
 classes_of (gave (variables_found shown)) = []
+classes_of (gave (value_found seen)) = []
+classes_of (gave (no_value failure)) = []
+classes_of (gave (write_found write seen)) = []
 classes_of (gave (text_found text)) = []
 classes_of (gave (exception_found id mode)) = []
 classes_of (refused code) = []
@@ -81,6 +89,9 @@ text_of (gave (threads_found named)) = None
 text_of (gave (classes_found classes)) = None
 text_of (gave (frames_found total frames)) = None
 text_of (gave (variables_found shown)) = None
+text_of (gave (value_found seen)) = None
+text_of (gave (no_value failure)) = None
+text_of (gave (write_found write seen)) = None
 text_of (gave (text_found text)) = text
 text_of (gave (exception_found id mode)) = None
 text_of (refused code) = None
@@ -91,6 +102,9 @@ body_of (threads_found named) = thread_list named
 body_of (classes_found classes) = Nothing
 body_of (frames_found total frames) = frame_list total frames
 body_of (variables_found shown) = variable_list shown
+body_of (value_found seen) = a_value seen
+body_of (no_value failure) = Nothing
+body_of (write_found write seen) = Nothing
 body_of (text_found text) = Nothing
 body_of (exception_found id mode) = an_exception id mode
 
@@ -108,12 +122,33 @@ abbrev pub outcome_by : InHand → Result Finding → Outcome
 outcome_by numbers (gave finding) = shown_by numbers (body_of finding)
 outcome_by numbers (refused code) = Failed (refusal code)
 
+-- a value, unless there is none
+abbrev pub valued_by : InHand → Finding → Outcome
+valued_by numbers (no_value failure) = Failed failure
+valued_by numbers finding = shown_by numbers (body_of finding)
+
+abbrev pub value_outcome : InHand → Result Finding → Outcome
+value_outcome numbers (gave finding) = valued_by numbers finding
+value_outcome numbers (refused code) = Failed (refusal code)
+
+-- a value is written, and by the reply it is decided how it goes on; unless there is none to write
+abbrev pub write_parts : Finding → List Part
+write_parts (write_found write seen) = Part.Sends (Writes write) ∷ Part.Unfolds (Written seen) ∷ []
+write_parts (no_value failure) = Part.Responds (Failed failure) ∷ []
+write_parts finding = Part.Responds (Success Nothing) ∷ []
+
+abbrev pub written_parts : Result Finding → List Part
+written_parts (gave finding) = write_parts finding
+written_parts (refused code) = Part.Responds (Failed (refusal code)) ∷ []
+
 -- the parts that a result becomes
 abbrev pub finished : Lookup → Result Finding → State → List Part
 finished all_threads result state = Part.Responds (plain_outcome result) ∷ []
 finished (thread_frames thread start levels) result state = Part.Responds (outcome_by state.numbers result) ∷ []
 finished (container_children thing filter start count) result state =
     Part.Responds (outcome_by state.numbers result) ∷ []
+finished (expression_value frame expression) result state = Part.Responds (value_outcome state.numbers result) ∷ []
+finished (variable_write thing name text) result state = written_parts result
 finished (exception_text thread object) result state =
     Part.Tells (a_stop (record { cause = by_exception (text_of result); thread = thread })) ∷ []
 finished (exception_info thrown) result state = Part.Responds (plain_outcome result) ∷ []
@@ -124,6 +159,8 @@ abbrev pub lookup_responds : Lookup → Bool
 lookup_responds all_threads = true
 lookup_responds (thread_frames thread start levels) = true
 lookup_responds (container_children thing filter start count) = true
+lookup_responds (expression_value frame expression) = true
+lookup_responds (variable_write thing name text) = true
 lookup_responds (exception_text thread object) = false
 lookup_responds (exception_info thrown) = true
 lookup_responds class_facts = false

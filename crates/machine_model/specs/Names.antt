@@ -2,7 +2,7 @@
 pub use Rattle.dap_messages.specs.declared.requests.Command.{Command}
 pub use Rattle.dap_messages.specs.declared.requests.Command.TheVariants.{Initialize, Attach, ConfigurationDone}
 pub use Rattle.dap_messages.specs.declared.requests.Command.TheVariants.{SetBreakpoints, Threads, Continue, Pause}
-pub use Rattle.dap_messages.specs.declared.requests.Command.TheVariants.{StackTrace, Scopes, Variables}
+pub use Rattle.dap_messages.specs.declared.requests.Command.TheVariants.{StackTrace, Scopes, Variables, SetVariable, Evaluate}
 pub use Rattle.dap_messages.specs.declared.requests.Command.TheVariants.{SetFunctionBreakpoints, SetExceptionBreakpoints}
 pub use Rattle.dap_messages.specs.declared.requests.Command.TheVariants.{Next, StepIn, StepOut, ExceptionInfo}
 pub use Rattle.dap_messages.specs.declared.requests.Command.TheVariants.{Disconnect, Unsupported, BadArguments}
@@ -39,11 +39,12 @@ pub use Rattle.machine_model.specs.declared.parts.Body.TheVariants.{Breakpoints 
 pub use Rattle.machine_model.specs.declared.parts.Body.TheVariants.{Threads as thread_list, Continued}
 pub use Rattle.machine_model.specs.declared.parts.Body.TheVariants.{StackFrames as frame_list}
 pub use Rattle.machine_model.specs.declared.parts.Body.TheVariants.{Scopes as scope_list, Variables as variable_list}
+pub use Rattle.machine_model.specs.declared.parts.Body.TheVariants.{Value as a_value, Written as a_written}
 pub use Rattle.machine_model.specs.declared.parts.Body.TheVariants.{Exception as an_exception}
 pub use Rattle.machine_model.specs.declared.parts.Choice.{Choice}
-pub use Rattle.machine_model.specs.declared.parts.Choice.TheVariants.{TellsNews, Decides, Stepped, Leaves}
+pub use Rattle.machine_model.specs.declared.parts.Choice.TheVariants.{TellsNews, Decides, Stepped, Written, Leaves}
 pub use Rattle.machine_model.specs.declared.parts.Deed.{Deed}
-pub use Rattle.machine_model.specs.declared.parts.Deed.TheVariants.{Suspend, Resume, Dispose, Exit}
+pub use Rattle.machine_model.specs.declared.parts.Deed.TheVariants.{Suspend, Resume, Dispose, Exit, Writes}
 pub use Rattle.machine_model.specs.declared.parts.Event.{Event}
 pub use Rattle.machine_model.specs.declared.parts.Event.TheVariants.{Initialized, News as some_news, Terminated}
 pub use Rattle.machine_model.specs.declared.parts.Event.TheVariants.{Stopped as a_stop}
@@ -52,6 +53,8 @@ pub use Rattle.machine_model.specs.declared.parts.Finding.TheVariants.{Threads a
 pub use Rattle.machine_model.specs.declared.parts.Finding.TheVariants.{Classes as classes_found}
 pub use Rattle.machine_model.specs.declared.parts.Finding.TheVariants.{Frames as frames_found}
 pub use Rattle.machine_model.specs.declared.parts.Finding.TheVariants.{Variables as variables_found}
+pub use Rattle.machine_model.specs.declared.parts.Finding.TheVariants.{Value as value_found, NoValue as no_value}
+pub use Rattle.machine_model.specs.declared.parts.Finding.TheVariants.{Write as write_found}
 pub use Rattle.machine_model.specs.declared.parts.Finding.TheVariants.{ExceptionText as text_found}
 pub use Rattle.machine_model.specs.declared.parts.Finding.TheVariants.{Exception as exception_found}
 pub use Rattle.machine_model.specs.declared.parts.Finish.{Finish}
@@ -68,6 +71,7 @@ pub use Rattle.machine_model.specs.declared.parts.Lookup.TheVariants.{Threads as
 pub use Rattle.machine_model.specs.declared.parts.Lookup.TheVariants.{Classes as class_facts}
 pub use Rattle.machine_model.specs.declared.parts.Lookup.TheVariants.{Frames as thread_frames}
 pub use Rattle.machine_model.specs.declared.parts.Lookup.TheVariants.{Variables as container_children}
+pub use Rattle.machine_model.specs.declared.parts.Lookup.TheVariants.{Value as expression_value, Write as variable_write}
 pub use Rattle.machine_model.specs.declared.parts.Lookup.TheVariants.{ExceptionText as exception_text}
 pub use Rattle.machine_model.specs.declared.parts.Lookup.TheVariants.{Exception as exception_info}
 pub use Rattle.machine_model.specs.declared.parts.NamedThread.{NamedThread}
@@ -89,7 +93,11 @@ pub use Rattle.machine_model.specs.declared.parts.StopCause.{StopCause}
 pub use Rattle.machine_model.specs.declared.parts.StopCause.TheVariants.{Hit, Exception as by_exception}
 pub use Rattle.machine_model.specs.declared.parts.StopCause.TheVariants.{Step as by_step, Pause as by_client}
 pub use Rattle.machine_model.specs.declared.parts.Stopping.{Stopping}
+pub use Rattle.machine_model.specs.declared.parts.Store.{Store}
+pub use Rattle.machine_model.specs.declared.parts.Store.TheVariants.{Slot as to_slot, Field as to_field}
+pub use Rattle.machine_model.specs.declared.parts.Store.TheVariants.{Element as to_element}
 pub use Rattle.machine_model.specs.declared.parts.Suspension.{Suspension}
 pub use Rattle.machine_model.specs.declared.parts.Suspension.TheVariants.{Composite as of_composite, Entry as of_entry}
 pub use Rattle.machine_model.specs.declared.parts.Suspension.TheVariants.{Stop as of_stop}
 pub use Rattle.machine_model.specs.declared.parts.Thrown.{Thrown}
+pub use Rattle.machine_model.specs.declared.parts.Write.{Write}

@@ -27,6 +27,7 @@ abbrev pub references_in_shape : Shape → List ℕ
 references_in_shape (shapes.StackFrames frames total) = map frame_number frames
 references_in_shape (shapes.Scopes reference) = reference ∷ []
 references_in_shape (shapes.Variables variables) = filter not_zero (map variable_number variables)
+references_in_shape (shapes.Evaluated value) = filter not_zero (value.reference ∷ [])
 references_in_shape _ = []
 
 abbrev pub references_in_outcome : OutcomeTold → List ℕ

@@ -1,8 +1,8 @@
 -- Numbers of what is told in a stop: frames, their variables, objects and arrays (DAP specification, Overview, Lifetime
 -- of Objects References; Types, StackFrame, id; Types, Variable, variablesReference).
-use Rattle.std.specs.Prelude.{ℕ, ◌-◌, Bool, List, [], ◌∷◌, filter_map, fold, map, nat_le}
+use Rattle.std.specs.Prelude.{ℕ, ◌-◌, Bool, List, [], ◌∷◌, filter_map, fold, map, nat_le, option_to_list}
 use Rattle.machine_model.specs.Names.{Body, Capabilities, Continued, Nothing, ShownFrame, ShownVariable, breakpoint_list}
-use Rattle.machine_model.specs.Names.{an_exception, frame_list, scope_list, thread_list, variable_list}
+use Rattle.machine_model.specs.Names.{a_value, a_written, an_exception, frame_list, scope_list, thread_list, variable_list}
 use Rattle.stop_refs.specs.Numbers.{InHand, next_in, room, with_thing}
 use Rattle.stop_refs.specs.declared.thing.Thing.{Thing}
 use Rattle.stop_refs.specs.declared.thing.Thing.TheVariants.{Frame as a_frame, Locals as some_locals}
@@ -17,6 +17,8 @@ things_of (an_exception id mode) = []
 things_of (frame_list total frames) = map (λ (shown : ShownFrame). a_frame shown.frame) frames
 things_of (scope_list frame) = some_locals frame ∷ []
 things_of (variable_list shown) = filter_map (λ (shown : ShownVariable). shown.seen.thing) shown
+things_of (a_value seen) = option_to_list seen.thing
+things_of (a_written seen) = []
 things_of (thread_list named) = []
 
 -- they are told, each under the number that it has or gets

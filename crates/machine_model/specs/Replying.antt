@@ -18,11 +18,12 @@ use Rattle.machine_model.specs.Classes.{classes_in, with_listed}
 use Rattle.machine_model.specs.Facts.{above_in, fact_known, fields_in, lines_in, methods_in, source_in, variables_in}
 use Rattle.machine_model.specs.Names.{Answer, Clear, Deed, Dispose, Does, Doing, Effect, Exit, Phase, Question}
 use Rattle.machine_model.specs.Names.{Replied, Resume, Sent, Set, Suspend, TargetCommand, Want, a_question, an_answer}
-use Rattle.machine_model.specs.Names.{an_effect, an_error, target_end}
+use Rattle.machine_model.specs.Names.{Writes, an_effect, an_error, target_end}
 use Rattle.machine_model.specs.Plans.{answer_in, asks_for, question_of}
 use Rattle.machine_model.specs.Requests.{clear_of, request_in, set_of, wishes_after}
 use Rattle.machine_model.specs.Rows.{gone_parts, has_response}
 use Rattle.machine_model.specs.State.{Hand, Machine, SizesRead, State, is_gone, is_none, is_some, lost}
+use Rattle.machine_model.specs.Writing.{written_by}
 use Rattle.wish_sets.specs.declared.wish.Wish.{Wish}
 use Rattle.wish_sets.specs.declared.wish.Wish.TheVariants as wish
 
@@ -33,6 +34,7 @@ wire_deed Suspend = effects.Suspend
 wire_deed (Resume suspension) = effects.Resume
 wire_deed Dispose = effects.Dispose
 wire_deed Exit = effects.Exit (pos 0)
+wire_deed (Writes write) = written_by write
 
 abbrev pub wire_effect : Effect → WireEffect
 wire_effect (Does deed) = wire_deed deed
@@ -57,6 +59,7 @@ is_essential_deed Suspend = true
 is_essential_deed (Resume suspension) = true
 is_essential_deed Dispose = false
 is_essential_deed Exit = false
+is_essential_deed (Writes write) = false
 
 abbrev pub is_essential_effect : Effect → Bool
 is_essential_effect (Clear wish request) = true

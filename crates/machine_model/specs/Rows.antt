@@ -3,10 +3,13 @@ use Rattle.std.specs.Prelude.{ℕ, ◌+◌, ◌-◌, ◌==◌, ◌∷◌, ◌++�
 use Rattle.std.specs.Prelude.{Option, None, Some, Result, Ok, Err, find, option_and_then, slice_get}
 use Rattle.class_tables.specs.Lookups.{found_in}
 use Rattle.dap_messages.specs.Telling.{already_attached, bad_arguments, not_attached, not_stopped, target_gone}
-use Rattle.dap_messages.specs.Telling.{unknown_thread, unsupported}
+use Rattle.dap_messages.specs.Telling.{bad_expression, unknown_thread, unsupported}
 use Rattle.dap_messages.specs.declared.requests.InitializeArguments.{InitializeArguments}
+use Rattle.dap_messages.specs.declared.requests.SetVariableArguments.{SetVariableArguments}
 use Rattle.dap_messages.specs.declared.requests.StackTraceArguments.{StackTraceArguments}
 use Rattle.dap_messages.specs.declared.requests.VariablesArguments.{VariablesArguments}
+use Rattle.field_exprs.specs.Parsing.{parsed}
+use Rattle.field_exprs.specs.declared.expr.Expr.{Expr}
 use Rattle.machine_model.specs.Breakpoints.{entry_of, function_listed, functions_from, functions_wished, key_of}
 use Rattle.machine_model.specs.Breakpoints.{lines_wished, newly_verified, numbered_from}
 use Rattle.machine_model.specs.Composites.{changes_in, composite_parts, has_death, learnt_by}
@@ -23,7 +26,8 @@ use Rattle.machine_model.specs.Names.{by_client, class_facts, entry_verified, of
 use Rattle.machine_model.specs.Names.{Variables, container_children, scope_list, thread_frames, Doing, Functions}
 use Rattle.machine_model.specs.Names.{ExceptionInfo, Next, SetExceptionBreakpoints, SetFunctionBreakpoints, StepIn}
 use Rattle.machine_model.specs.Names.{StepOut, Stepped, Steps, StopsAt, Replied, Throws, Thrown, an_answer, an_error}
-use Rattle.machine_model.specs.Names.{exception_info}
+use Rattle.machine_model.specs.Names.{Evaluate, SetVariable, Seen, Written, a_written, exception_info, expression_value}
+use Rattle.machine_model.specs.Names.{variable_write}
 use Rattle.machine_model.specs.State.{Hand, State, is_some}
 use Rattle.machine_model.specs.Stops.{decided}
 use Rattle.machine_model.specs.Variables.{reference_failure}
@@ -130,6 +134,20 @@ variables_parts arguments (Ok thing) =
     Part.Looks (container_children thing arguments.filter arguments.start arguments.count) ∷ []
 variables_parts arguments (Err fault) = Part.Responds (Failed (reference_failure fault)) ∷ []
 
+-- a value is written to a child of a container (DAP specification, SetVariable request)
+abbrev pub write_by : SetVariableArguments → Result Thing RefFault → List Part
+write_by arguments (Ok thing) = Part.Looks (variable_write thing arguments.name arguments.value) ∷ []
+write_by arguments (Err fault) = Part.Responds (Failed (reference_failure fault)) ∷ []
+
+-- The value of an expression in a frame; a text that is none fails at its place (DAP specification, Evaluate request).
+abbrev pub evaluate_parts : FrameThing → Result Expr ℕ → List Part
+evaluate_parts frame (Ok expression) = Part.Looks (expression_value frame expression) ∷ []
+evaluate_parts frame (Err place) = Part.Responds (Failed (bad_expression place)) ∷ []
+
+abbrev pub evaluate_by : Result Expr ℕ → Result FrameThing RefFault → List Part
+evaluate_by read (Ok frame) = evaluate_parts frame read
+evaluate_by read (Err fault) = Part.Responds (Failed (reference_failure fault)) ∷ []
+
 abbrev pub stepped_thread : State → ℕ → Option ThreadId
 stepped_thread state number = option_and_then thread_there (thread_with state.threads number)
 
@@ -159,6 +177,10 @@ row_of (StackTrace arguments) state = stack_parts (thread_with state.threads arg
 row_of (Scopes arguments) state = scopes_parts state.numbers (frame arguments.frame_id state.numbers)
 row_of (Variables arguments) state =
     variables_parts arguments (container arguments.variables_reference state.numbers)
+row_of (SetVariable arguments) state =
+    write_by arguments (container arguments.variables_reference state.numbers)
+row_of (Evaluate arguments) state =
+    evaluate_by (parsed arguments.expression) (frame arguments.frame_id state.numbers)
 row_of (Disconnect arguments) state =
     Part.Unfolds (Leaves arguments.terminate_debuggee) ∷ Part.Responds (Success Nothing) ∷ Part.Ends Done ∷ []
 row_of Unsupported state = Part.Responds (Failed unsupported) ∷ []
@@ -189,6 +211,8 @@ wanting (Pause arguments) = wants_target
 wanting (StackTrace arguments) = wants_stop
 wanting (Scopes arguments) = wants_target
 wanting (Variables arguments) = wants_target
+wanting (SetVariable arguments) = wants_target
+wanting (Evaluate arguments) = wants_target
 wanting (Disconnect arguments) = wants_nothing
 wanting Unsupported = wants_nothing
 wanting (BadArguments name) = wants_nothing
@@ -272,11 +296,17 @@ abbrev pub stepped_by : Option ℕ → List Part
 stepped_by None = Part.Sends (Resume of_stop) ∷ Part.Responds (Success Nothing) ∷ []
 stepped_by (Some code) = Part.Notes (Steps None) ∷ Part.Updates ∷ Part.Responds (Failed (refusal code)) ∷ []
 
+-- Once a value is written it is told; where it was refused the request fails.
+abbrev pub written_by : Seen → Option ℕ → List Part
+written_by seen None = Part.Responds (Success (a_written seen)) ∷ []
+written_by seen (Some code) = Part.Responds (Failed (refusal code)) ∷ []
+
 -- the table of choices: what a part becomes when its turn comes
 abbrev pub chosen : Choice → State → Hand → List Part
 chosen (TellsNews below) state hand = told_in state.phase (news_of below state hand.item)
 chosen Decides state hand = decided state hand.item
 chosen Stepped state hand = stepped_by (refused_with hand.effect)
+chosen (Written seen) state hand = written_by seen (refused_with hand.effect)
 chosen (Leaves exits) state hand = leaves state.phase exits
 
 -- whether it brings the response
@@ -284,6 +314,7 @@ abbrev pub choice_responds : Choice → Bool
 choice_responds (TellsNews below) = false
 choice_responds Decides = false
 choice_responds Stepped = true
+choice_responds (Written seen) = true
 choice_responds (Leaves exits) = false
 
 -- Notes ---------------------------------------------------------------------------------------------------------------

@@ -17,10 +17,10 @@ use Rattle.machine_model.specs.Names.{Attached, Body, Capabilities, Continued, E
 use Rattle.machine_model.specs.Names.{Initialized, NamedThread, News, Nothing, Outcome, Phase, Request, StopCause, Success}
 use Rattle.machine_model.specs.Names.{Terminated, ThreadId, Told, a_response, a_stop, breakpoint_list, by_client}
 use Rattle.machine_model.specs.Names.{entry_verified, frame_list, scope_list, some_news, thread_changed, thread_list}
-use Rattle.machine_model.specs.Names.{an_exception, by_exception, by_step, variable_list}
+use Rattle.machine_model.specs.Names.{a_value, a_written, an_exception, by_exception, by_step, variable_list}
 use Rattle.machine_model.specs.References.{things_of, with_things}
 use Rattle.machine_model.specs.State.{State, lost}
-use Rattle.machine_model.specs.Variables.{variable_told}
+use Rattle.machine_model.specs.Variables.{value_told, variable_told}
 use Rattle.stop_refs.specs.Numbers.{number_of, with_thing}
 use Rattle.stop_refs.specs.declared.thing.Thing.TheVariants.{Locals as some_locals}
 use Rattle.wish_sets.specs.Entries.{entries_at}
@@ -60,6 +60,9 @@ numbered (frame_list total frames) state =
 numbered (scope_list frame) state = record state { numbers = with_thing (some_locals frame) state.numbers }
 numbered (variable_list shown) state =
     record state { numbers = with_things (things_of (variable_list shown)) state.numbers }
+numbered (a_value seen) state =
+    record state { numbers = with_things (things_of (a_value seen)) state.numbers }
+numbered (a_written seen) state = state
 numbered (an_exception id mode) state = state
 numbered (thread_list named) state = record state { threads = with_threads state.threads named }
 
@@ -78,6 +81,8 @@ body_told (frame_list total frames) state =
     shapes.StackFrames (map (frame_told state.options state.numbers) frames) total
 body_told (scope_list frame) state = shapes.Scopes (number_of (some_locals frame) state.numbers)
 body_told (variable_list shown) state = shapes.Variables (map (variable_told state.numbers) shown)
+body_told (a_value seen) state = shapes.Evaluated (value_told state.numbers seen)
+body_told (a_written seen) state = shapes.Written (record { value = seen.text; kind = seen.kind })
 body_told (an_exception id mode) state = shapes.ExceptionInfo id mode
 body_told (thread_list named) state = shapes.Threads (map (thread_told state.threads) named)
 

@@ -5,6 +5,7 @@ use Rattle.std.specs.Prelude.{Option, None, Some}
 use Rattle.dap_messages.specs.Telling.{stale as stale_failure, unknown_reference, wrong_kind}
 use Rattle.dap_messages.specs.declared.requests.Filter.{Filter}
 use Rattle.dap_messages.specs.declared.requests.Filter.TheVariants.{Both, Indexed, Named}
+use Rattle.dap_messages.specs.declared.told.Evaluated.{Evaluated}
 use Rattle.dap_messages.specs.declared.told.Variable.{Variable}
 use Rattle.jdwp_commands.specs.declared.answer.Answer.TheVariants as answers
 use Rattle.jdwp_commands.specs.declared.listed.Slot.{Slot}
@@ -163,6 +164,15 @@ variable_told numbers shown = record {
   kind = shown.seen.kind;
   indexed = shown.seen.indexed;
   reference = reference_of numbers shown.seen.thing;
+}
+
+-- the value of an expression as it is told (DAP specification, Evaluate request)
+abbrev pub value_told : InHand → Seen → Evaluated
+value_told numbers seen = record {
+  result = seen.text;
+  kind = seen.kind;
+  indexed = seen.indexed;
+  reference = reference_of numbers seen.thing;
 }
 
 -- why a number can't be read back (DAP specification, Overview, Lifetime of Objects References)

@@ -31,5 +31,5 @@ pub use options::ClientOptions;
 pub use parts::{
     Body, Choice, Deed, Event, Finding, Finish, Guard, Halt, HaltCause, ListedBreakpoint, Lookup,
     NamedThread, News, Note, Outcome, Part, Seen, ShownFrame, ShownVariable, Spot, StopCause,
-    Stopping, Suspension, Thrown,
+    Stopping, Store, Suspension, Thrown, Write,
 };

@@ -2,7 +2,8 @@
 
 use crate::options::ClientOptions;
 use dap_messages::{BreakMode, Failure, Filter, Source};
-use jdwp_values::{ClassId, Location, ObjectId, ThreadId};
+use field_exprs::Expr;
+use jdwp_values::{ClassId, FieldId, FrameId, Location, ObjectId, ThreadId, Value};
 use stop_refs::{FrameThing, Thing};
 use wire_core::{Blob, List, Text};
 use wish_sets::{FunctionEntry, LineEntry, StepWish, VerifiedEntry};
@@ -78,6 +79,10 @@ pub enum Body {
     Scopes(FrameThing),
     /// Children of a container.
     Variables(List<ShownVariable>),
+    /// The value of an expression.
+    Value(Seen),
+    /// A value that was written.
+    Written(Seen),
     /// The whole target runs on.
     Continued,
     /// The type of what was thrown, and when a thread stops at it.
@@ -162,7 +167,35 @@ pub enum Suspension {
     Stop,
 }
 
-/// What an item does to the target, but for event requests (JDWP, VirtualMachine command set).
+/// Where a value stands: in a slot of a frame, in a field of an object, or in an array, counted from 0 (JDWP, StackFrame,
+/// ObjectReference and ArrayReference command sets, SetValues).
+#[derive(Clone, Copy, Debug, PartialEq, Eq)]
+pub enum Store {
+    Slot {
+        thread: ThreadId,
+        frame: FrameId,
+        slot: i32,
+    },
+    Field {
+        object: ObjectId,
+        field: FieldId,
+    },
+    Element {
+        array: ObjectId,
+        index: i32,
+    },
+}
+
+/// A value that is written, where to, and how many bytes an object's id takes.
+#[derive(Clone, Copy, Debug, PartialEq, Eq)]
+pub struct Write {
+    pub store: Store,
+    pub value: Value,
+    pub size: u32,
+}
+
+/// What an item does to the target, but for event requests (JDWP, VirtualMachine command set; JDWP, StackFrame,
+/// ObjectReference and ArrayReference command sets, SetValues).
 #[derive(Clone, Copy, Debug, PartialEq, Eq)]
 pub enum Deed {
     /// The whole target is suspended once more, for a stop.
@@ -171,10 +204,12 @@ pub enum Deed {
     Resume(Suspension),
     Dispose,
     Exit,
+    /// A value is written.
+    Writes(Write),
 }
 
 /// What is looked up, and for what.
-#[derive(Clone, Copy, Debug, PartialEq, Eq)]
+#[derive(Debug, Drop)]
 pub enum Lookup {
     /// All threads and their names, for the response to `threads` (DAP specification, Threads request).
     Threads,
@@ -191,6 +226,18 @@ pub enum Lookup {
         filter: Filter,
         start: u32,
         count: u32,
+    },
+    /// The value of an expression in a frame (DAP specification, Evaluate request).
+    Value {
+        frame: FrameThing,
+        expression: Expr,
+    },
+    /// Where the child of a container stands that has this name, and the value that this text is there (DAP specification,
+    /// SetVariable request).
+    Write {
+        thing: Thing,
+        name: Text,
+        text: Text,
     },
     /// The type of this object that a thread threw, for the event `stopped` (DAP specification, Events, Stopped, text).
     ExceptionText {
@@ -217,6 +264,15 @@ pub enum Finding {
     },
     /// Children of a container.
     Variables(List<ShownVariable>),
+    /// A value.
+    Value(Seen),
+    /// There is no such value, and why.
+    NoValue(Failure),
+    /// What is written, and how the value is shown.
+    Write {
+        write: Write,
+        seen: Seen,
+    },
     /// The name of a type, where it is known.
     ExceptionText(Option<Text>),
     /// The type of what was thrown, and when a thread stops at it.
@@ -273,7 +329,7 @@ pub enum Note {
 }
 
 /// What is decided when its turn comes.
-#[derive(Clone, Copy, Debug, PartialEq, Eq)]
+#[derive(Debug, Drop)]
 pub enum Choice {
     /// The client is told of each breakpoint that is verified now and wasn't told to be, of those with an id below this
     /// one, and then of each thread whose start or end the item tells (DAP specification, Events, Breakpoint and Thread).
@@ -284,6 +340,9 @@ pub enum Choice {
     /// The event request of a step was set, and the target runs on; or it was refused, and the request fails (DAP
     /// specification, Next, StepIn and StepOut requests).
     Stepped,
+    /// A value was written, which is shown so; or it was refused, and the request fails (DAP specification, SetVariable
+    /// request).
+    Written(Seen),
     /// A target that is attached is left; it ends where this holds (DAP specification, Disconnect request).
     Leaves(bool),
 }
