@@ -32,6 +32,11 @@ use Rattle.machine_model.specs.Plans.{Result}
 use Rattle.machine_model.specs.Requests.{Wishes}
 use Rattle.machine_model.specs.declared.parts.News.{News}
 use Rattle.machine_model.specs.declared.parts.News.TheVariants.{Verified as entry_verified}
+use Rattle.field_exprs.specs.Parsing.{parsed}
+use Rattle.field_exprs.specs.declared.expr.Expr.{Expr}
+use Rattle.machine_model.specs.Rows.{evaluate_by, write_by, written_by}
+use Rattle.machine_model.specs.declared.parts.Seen.{Seen}
+use Rattle.dap_messages.specs.declared.requests.SetVariableArguments.{SetVariableArguments}
 use Rattle.machine_model.specs.Rows.{chosen, configured_parts, continue_parts, end_parts, failure_of, news_of, noted}
 use Rattle.machine_model.specs.Rows.{parts_by, parts_of, pause_parts, row_of, scopes_parts, stack_parts, thread_with, told_in}
 use Rattle.machine_model.specs.Rows.{variables_parts, wanting}
@@ -48,6 +53,7 @@ use Rattle.machine_model.specs.declared.parts.Thrown.{Thrown}
 use Rattle.wish_sets.specs.declared.wish.Depth.{Depth}
 use Rattle.wish_sets.specs.declared.wish.Depth.TheVariants.{Into, Out, Over}
 use Rattle.jdwp_values.specs.declared.id.ThreadId.{ThreadId}
+use Rattle.bridge_core.specs.Names.{Evaluate, SetVariable, Written}
 use Rattle.bridge_core.specs.Names.{Attached, Choice, Classes, Command, ConfigurationDone, Configured, Continue}
 use Rattle.bridge_core.specs.Names.{Decides, EntryHeld, Event, Failure, Finding, Fresh, Gone, Item, Leaves, Lines}
 use Rattle.bridge_core.specs.Names.{Lookup, Note, Options, Outcome, Part, Pause, Phase, Roots, SetBreakpoints}
@@ -208,6 +214,10 @@ stepped_lines : (code : Option ℕ) → lines_in (stepped_by code) ≡ 0
 stepped_lines None = refl
 stepped_lines (Some code) = refl
 
+written_lines : (seen : Seen) (code : Option ℕ) → lines_in (written_by seen code) ≡ 0
+written_lines seen None = refl
+written_lines seen (Some code) = refl
+
 pub chosen_lines : (choice : Choice) (state : State) (hand : Hand) → lines_in (chosen choice state hand) ≡ 0
 chosen_lines (TellsNews below) state hand = by_phase state.phase (news_of below state hand.item)
   where
@@ -219,6 +229,7 @@ chosen_lines (TellsNews below) state hand = by_phase state.phase (news_of below 
 chosen_lines Decides state hand =
     of_decided (λ (parts : List Part). lines_in parts ≡ 0) refl refl refl hit_lines state hand.item
 chosen_lines Stepped state hand = stepped_lines (refused_with hand.effect)
+chosen_lines (Written seen) state hand = written_lines seen (refused_with hand.effect)
 chosen_lines (Leaves exits) state hand = grind arith
 
 configured_lines : (entry : Bool) → lines_in (configured_parts entry) ≡ 0
@@ -249,6 +260,17 @@ variables_lines : (arguments : VariablesArguments) (found : prelude.Result Thing
 variables_lines arguments (Ok thing) = refl
 variables_lines arguments (Err fault) = refl
 
+write_lines : (arguments : SetVariableArguments) (found : prelude.Result Thing RefFault)
+    → lines_in (write_by arguments found) ≡ 0
+write_lines arguments (Ok thing) = refl
+write_lines arguments (Err fault) = refl
+
+evaluate_lines : (read : prelude.Result Expr ℕ) (found : prelude.Result FrameThing RefFault)
+    → lines_in (evaluate_by read found) ≡ 0
+evaluate_lines (Ok expression) (Ok one) = refl
+evaluate_lines (Err place) (Ok one) = refl
+evaluate_lines read (Err fault) = refl
+
 step_lines : (depth : Depth) (thread : Option ThreadId) → lines_in (step_parts depth thread) ≡ 0
 step_lines depth None = refl
 step_lines depth (Some thread) = refl
@@ -277,6 +299,10 @@ row_lines (StackTrace arguments) state =
 row_lines (Scopes arguments) state = scopes_lines state.numbers (frame arguments.frame_id state.numbers)
 row_lines (Variables arguments) state =
     variables_lines arguments (container arguments.variables_reference state.numbers)
+row_lines (SetVariable arguments) state =
+    write_lines arguments (container arguments.variables_reference state.numbers)
+row_lines (Evaluate arguments) state =
+    evaluate_lines (parsed arguments.expression) (frame arguments.frame_id state.numbers)
 row_lines command state = grind arith
 
 parts_lines : (failure : Option Failure) (row : List Part) → lines_in (parts_by failure row) ≤ lines_in row

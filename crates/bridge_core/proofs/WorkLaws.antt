@@ -11,6 +11,7 @@ use Rattle.machine_model.specs.Due.{is_full, lacking_more, lets, load_of, looked
 use Rattle.machine_model.specs.Due.{pick, queued, queued_next, responded, updated, waiting, wanted, wanted_in, way}
 use Rattle.machine_model.specs.Due.Way.{passes, greets as greets_way, holds as holds_way, asks as asks_way}
 use Rattle.machine_model.specs.Lookups.{finished, found_for}
+use Rattle.bridge_core.specs.Names.{Evaluate, SetVariable, Written}
 use Rattle.bridge_core.specs.Names.{Act, Attach, Attached, BadArguments, Choice, Command, ConfigurationDone, Continue}
 use Rattle.bridge_core.specs.Names.{Decides, Disconnect, Does, Effect, Event, Failure, Finding, Fresh, Gone}
 use Rattle.bridge_core.specs.Names.{Initialize, Item, Leaves, Lookup, Note, Outcome, Part, Pause, Phase, Question}
@@ -25,6 +26,11 @@ use Rattle.machine_model.specs.Requests.{effect_due}
 use Rattle.jdwp_values.specs.declared.id.ThreadId.{ThreadId}
 use Rattle.machine_model.specs.Composites.{changes_in, composite_parts, has_death}
 use Rattle.machine_model.specs.declared.parts.News.{News}
+use Rattle.field_exprs.specs.Parsing.{parsed}
+use Rattle.field_exprs.specs.declared.expr.Expr.{Expr}
+use Rattle.machine_model.specs.Rows.{evaluate_by, write_by, written_by}
+use Rattle.machine_model.specs.declared.parts.Seen.{Seen}
+use Rattle.dap_messages.specs.declared.requests.SetVariableArguments.{SetVariableArguments}
 use Rattle.machine_model.specs.Rows.{chosen, configured_parts, continue_parts, end_parts, failure_of, leaves, news_of}
 use Rattle.machine_model.specs.Rows.{noted, parts_by, parts_of, pause_parts, row_of, scopes_parts, stack_parts, thread_with}
 use Rattle.machine_model.specs.Rows.{variables_parts}
@@ -201,6 +207,10 @@ stepped_light : (most : ℕ) (code : Option ℕ) → weights most (stepped_by co
 stepped_light most None = omega arith
 stepped_light most (Some code) = omega arith
 
+written_light : (most : ℕ) (seen : Seen) (code : Option ℕ) → weights most (written_by seen code) < 5
+written_light most seen None = omega arith
+written_light most seen (Some code) = omega arith
+
 chosen_light : (most : ℕ) (choice : Choice) (state : State) (hand : Hand)
     → length (all_entries state.wishes.wanted) + length (changes_in hand.item) ≤ most
     → weights most (chosen choice state hand) < choice_weight most choice
@@ -211,6 +221,7 @@ chosen_light most Decides state hand few =
     of_decided (λ (parts : List Part). weights most parts < 20) (omega arith) (omega arith) (omega arith)
     (hit_light most) state hand.item
 chosen_light most Stepped state hand few = stepped_light most (refused_with hand.effect)
+chosen_light most (Written seen) state hand few = written_light most seen (refused_with hand.effect)
 chosen_light most (Leaves exits) state hand few = leaves_light most exits state
 
 configured_light : (most : ℕ) (entry : Bool) → weights most (configured_parts entry) < 60 + most
@@ -242,6 +253,17 @@ variables_light : (most : ℕ) (arguments : VariablesArguments) (found : prelude
 variables_light most arguments (Ok thing) = omega arith
 variables_light most arguments (Err fault) = omega arith
 
+write_light : (most : ℕ) (arguments : SetVariableArguments) (found : prelude.Result Thing RefFault)
+    → weights most (write_by arguments found) < 60 + most
+write_light most arguments (Ok thing) = omega arith
+write_light most arguments (Err fault) = omega arith
+
+evaluate_light : (most : ℕ) (read : prelude.Result Expr ℕ) (found : prelude.Result FrameThing RefFault)
+    → weights most (evaluate_by read found) < 60 + most
+evaluate_light most (Ok expression) (Ok one) = omega arith
+evaluate_light most (Err place) (Ok one) = omega arith
+evaluate_light most read (Err fault) = omega arith
+
 step_light : (most : ℕ) (depth : Depth) (thread : Option ThreadId) → weights most (step_parts depth thread) < 60 + most
 step_light most depth None = omega arith
 step_light most depth (Some thread) = omega arith
@@ -272,6 +294,10 @@ row_light most (Scopes arguments) state =
     scopes_light most state.numbers (frame arguments.frame_id state.numbers)
 row_light most (Variables arguments) state =
     variables_light most arguments (container arguments.variables_reference state.numbers)
+row_light most (SetVariable arguments) state =
+    write_light most arguments (container arguments.variables_reference state.numbers)
+row_light most (Evaluate arguments) state =
+    evaluate_light most (parsed arguments.expression) (frame arguments.frame_id state.numbers)
 row_light most (Disconnect arguments) state = omega arith
 row_light most Unsupported state = omega arith
 row_light most (BadArguments name) state = omega arith
@@ -372,6 +398,7 @@ weight_fewer : (few many : ℕ) (part : Part) → few ≤ many → weight few pa
 weight_fewer few many (Part.Unfolds (TellsNews below)) less = omega (arith, less)
 weight_fewer few many (Part.Unfolds Decides) less = omega arith
 weight_fewer few many (Part.Unfolds Stepped) less = omega arith
+weight_fewer few many (Part.Unfolds (Written seen)) less = omega arith
 weight_fewer few many (Part.Unfolds (Leaves exits)) less = omega arith
 weight_fewer few many (Part.Looks lookup) less = omega arith
 weight_fewer few many (Part.Responds outcome) less = omega arith

@@ -5,6 +5,7 @@ pub use Rattle.dap_messages.specs.declared.requests.Command.TheVariants.{Continu
 pub use Rattle.dap_messages.specs.declared.requests.Command.TheVariants.{Scopes, SetBreakpoints, StackTrace, Threads, Unsupported}
 pub use Rattle.dap_messages.specs.declared.requests.Command.TheVariants.{ExceptionInfo, Next, SetExceptionBreakpoints}
 pub use Rattle.dap_messages.specs.declared.requests.Command.TheVariants.{SetFunctionBreakpoints, StepIn, StepOut, Variables}
+pub use Rattle.dap_messages.specs.declared.requests.Command.TheVariants.{Evaluate, SetVariable}
 pub use Rattle.dap_messages.specs.declared.requests.Request.{Request}
 pub use Rattle.dap_messages.specs.declared.told.Failure.{Failure}
 pub use Rattle.dap_messages.specs.declared.told.Told.{Told}
@@ -26,7 +27,7 @@ pub use Rattle.machine_model.specs.declared.items.Item.TheVariants.{Request as a
 pub use Rattle.machine_model.specs.declared.items.Phase.{Phase}
 pub use Rattle.machine_model.specs.declared.items.Phase.TheVariants.{Attached, Fresh, Gone}
 pub use Rattle.machine_model.specs.declared.parts.Choice.{Choice}
-pub use Rattle.machine_model.specs.declared.parts.Choice.TheVariants.{Decides, Leaves, Stepped, TellsNews}
+pub use Rattle.machine_model.specs.declared.parts.Choice.TheVariants.{Decides, Leaves, Stepped, TellsNews, Written}
 pub use Rattle.machine_model.specs.declared.parts.Deed.TheVariants.{Resume}
 pub use Rattle.machine_model.specs.declared.parts.Event.{Event}
 pub use Rattle.machine_model.specs.declared.parts.Finding.{Finding}

@@ -2,7 +2,7 @@
 use Rattle.std.specs.Prelude.{ℕ, ◌+◌, ◌-◌, ◌*◌, Bool, true, false, List, [], ◌∷◌, length, Option, Some, None}
 use Rattle.std.specs.List.{flat_map}
 use Rattle.bridge_core.specs.Names.{Act, Choice, Command, Decides, Functions, Item, Leaves, Lines, Note, Part, Sent}
-use Rattle.bridge_core.specs.Names.{SetBreakpoints, SetFunctionBreakpoints, Stepped, TellsNews, a_composite, a_raw, a_request, target_end}
+use Rattle.bridge_core.specs.Names.{SetBreakpoints, SetFunctionBreakpoints, Stepped, Written, TellsNews, a_composite, a_raw, a_request, target_end}
 use Rattle.machine_model.specs.Composites.{changes_in}
 use Rattle.machine_model.specs.Replying.{unanswered}
 use Rattle.machine_model.specs.State.{Hand, Machine, is_empty, is_flying}
@@ -78,6 +78,7 @@ abbrev pub choice_weight : ℕ → Choice → ℕ
 choice_weight most (TellsNews below) = 10 + most
 choice_weight most Decides = 20
 choice_weight most Stepped = 10
+choice_weight most (Written seen) = 5
 choice_weight most (Leaves exits) = 10
 
 -- a part weighs more than those that it may become, where there is at most so much news

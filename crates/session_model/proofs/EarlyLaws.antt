@@ -20,6 +20,7 @@ use Rattle.machine_model.proofs.PendingLaws.{all_open}
 use Rattle.machine_model.proofs.PlanIds.{is_sizes}
 use Rattle.machine_model.proofs.Stepping.{Moves, by_runs, with_said}
 use Rattle.machine_model.proofs.TurnLaws.{Turns, turned}
+use Rattle.session_model.specs.Names.{Writes}
 use Rattle.session_model.specs.Names.{Clear, Composite, Deed, Dispose, Does, Exit, Question, Replied, Resume, Set}
 use Rattle.session_model.specs.Names.{Suspend, TargetCommand, Told, a_question, a_response, an_answer, an_effect}
 use Rattle.session_model.specs.Names.{an_error, an_event}
@@ -71,6 +72,7 @@ done_alike Suspend a b h = h
 done_alike (Resume suspension) a b h = h
 done_alike Dispose a b h = h
 done_alike Exit a b h = h
+done_alike (Writes write) a b h = h
 
 sent_alike : (command : TargetCommand) (a b : View) → Alike a b → Alike (sent_view command a) (sent_view command b)
 sent_alike (a_question question) a b h = h
@@ -135,6 +137,7 @@ done_none Suspend view is = is
 done_none (Resume suspension) view is = is
 done_none Dispose view is = is
 done_none Exit view is = is
+done_none (Writes write) view is = is
 
 sent_none : (command : TargetCommand) (view : View) → is_some (sent_view command view).sizes ≡ false
     → is_some view.sizes ≡ false
@@ -224,6 +227,7 @@ early_wire (an_effect (Does Suspend)) is = refl
 early_wire (an_effect (Does (Resume suspension))) is = refl
 early_wire (an_effect (Does Dispose)) is = refl
 early_wire (an_effect (Does Exit)) is = refl
+early_wire (an_effect (Does (Writes write))) is = cc
 early_wire (an_effect (Set wish)) is = cc
 early_wire (an_effect (Clear wish request)) is = cc
 

@@ -16,6 +16,13 @@ use Rattle.machine_model.specs.Outcomes.{result_of}
 use Rattle.machine_model.specs.Plans.{Result}
 use Rattle.machine_model.specs.Replying.{given_up, hand_replied}
 use Rattle.machine_model.specs.Rest.{request_in}
+use Rattle.field_exprs.specs.Parsing.{parsed}
+use Rattle.field_exprs.specs.declared.expr.Expr.{Expr}
+use Rattle.dap_messages.specs.declared.requests.Command.TheVariants.{Evaluate, SetVariable}
+use Rattle.session_model.specs.Names.{Written}
+use Rattle.machine_model.specs.Rows.{evaluate_by, write_by, written_by}
+use Rattle.machine_model.specs.declared.parts.Seen.{Seen}
+use Rattle.dap_messages.specs.declared.requests.SetVariableArguments.{SetVariableArguments}
 use Rattle.machine_model.specs.Rows.{chosen, configured_parts, continue_parts, end_parts, failure_of, gone_parts}
 use Rattle.machine_model.specs.Rows.{has_response, is_response, news_of, parts_by, parts_of, pause_parts}
 use Rattle.machine_model.specs.Rows.{request_parts, row_of, thread_with, told_in, wanting}
@@ -127,6 +134,17 @@ variables_on : (arguments : VariablesArguments) (found : prelude.Result Thing Re
 variables_on arguments (Ok thing) = refl
 variables_on arguments (Err fault) = refl
 
+write_on : (arguments : SetVariableArguments) (found : prelude.Result Thing RefFault)
+    → goes_on false (write_by arguments found) ≡ true
+write_on arguments (Ok thing) = refl
+write_on arguments (Err fault) = refl
+
+evaluate_on : (read : prelude.Result Expr ℕ) (found : prelude.Result FrameThing RefFault)
+    → goes_on false (evaluate_by read found) ≡ true
+evaluate_on (Ok expression) (Ok one) = refl
+evaluate_on (Err place) (Ok one) = refl
+evaluate_on read (Err fault) = refl
+
 step_on_row : (depth : Depth) (thread : Option ThreadId) → goes_on false (step_parts depth thread) ≡ true
 step_on_row depth None = refl
 step_on_row depth (Some thread) = refl
@@ -153,6 +171,9 @@ row_on (Pause arguments) state = pause_on state.stopped (thread_with state.threa
 row_on (StackTrace arguments) state = stack_on arguments (thread_with state.threads arguments.thread_id)
 row_on (Scopes arguments) state = scopes_on state.numbers (frame arguments.frame_id state.numbers)
 row_on (Variables arguments) state = variables_on arguments (container arguments.variables_reference state.numbers)
+row_on (SetVariable arguments) state = write_on arguments (container arguments.variables_reference state.numbers)
+row_on (Evaluate arguments) state =
+    evaluate_on (parsed arguments.expression) (frame arguments.frame_id state.numbers)
 row_on (Disconnect arguments) state = refl
 row_on Unsupported state = refl
 row_on (BadArguments name) state = refl
@@ -243,6 +264,7 @@ chosen_silent Decides state hand rest leaving is = by_item hand.item leaving
     by_item (a_raw at body) leaving = cc
     by_item target_end leaving = cc
 chosen_silent Stepped state hand rest leaving is = cc
+chosen_silent (Written seen) state hand rest leaving is = cc
 chosen_silent (Leaves exits) state hand rest leaving is = grind arith
 
 -- no choice ends the session
@@ -258,6 +280,10 @@ stepped_none : (code : Option ℕ) → no_end (stepped_by code) ≡ true
 stepped_none None = refl
 stepped_none (Some code) = refl
 
+written_none : (seen : Seen) (code : Option ℕ) → no_end (written_by seen code) ≡ true
+written_none seen None = refl
+written_none seen (Some code) = refl
+
 chosen_none : (choice : Choice) (state : State) (hand : Hand) → no_end (chosen choice state hand) ≡ true
 chosen_none (TellsNews below) state hand =
     let news = news_of below state hand.item in
@@ -266,6 +292,7 @@ chosen_none (TellsNews below) state hand =
 chosen_none Decides state hand =
     of_decided (λ (parts : List Part). no_end parts ≡ true) refl refl refl hit_none state hand.item
 chosen_none Stepped state hand = stepped_none (refused_with hand.effect)
+chosen_none (Written seen) state hand = written_none seen (refused_with hand.effect)
 chosen_none (Leaves exits) state hand = grind arith
 
 -- a response that is a success is a response

@@ -15,11 +15,11 @@ use Rattle.machine_model.specs.State.{Machine, SizesRead, is_attached, is_some}
 use Rattle.machine_model.proofs.IdLaws.{IsIdTest, always_kept}
 use Rattle.machine_model.proofs.PlanIds.{IsWanted, is_sizes}
 use Rattle.machine_model.proofs.RestLaws.{near_asks}
-use Rattle.machine_model.proofs.Standing.{IsKept, at_front, in_order, queue_in}
+use Rattle.machine_model.proofs.Standing.{IsKept, at_front, awaits_sizes, in_order, needs_sizes, queue_in}
 use Rattle.machine_model.proofs.StandingReplies.{sizes_is}
 use Rattle.machine_model.proofs.Stepping.{Loses, Moves, moved}
-use Rattle.session_model.specs.Names.{a_question, an_effect, Clear, Dispose, Does, Exit, Part, Resume, Set, Suspend}
-use Rattle.session_model.specs.Names.{TargetCommand}
+use Rattle.session_model.specs.Names.{a_question, an_effect, Clear, Deed, Dispose, Does, Exit, Part, Resume, Set, Suspend}
+use Rattle.session_model.specs.Names.{TargetCommand, Writes}
 
 -- Sizes that were read are one ----------------------------------------------------------------------------------------
 
@@ -83,6 +83,7 @@ one_read sizes a b first second is =
 -- such as may be sent before: they have no ids
 abbrev pub is_early : TargetCommand → Bool
 is_early (a_question question) = is_sizes question
+is_early (an_effect (Does (Writes write))) = false
 is_early (an_effect (Does deed)) = true
 is_early (an_effect (Set wish)) = false
 is_early (an_effect (Clear wish request)) = false
@@ -102,6 +103,7 @@ early_alike (an_effect (Does Suspend)) is a b = refl
 early_alike (an_effect (Does (Resume suspension))) is a b = refl
 early_alike (an_effect (Does Dispose)) is a b = refl
 early_alike (an_effect (Does Exit)) is a b = refl
+early_alike (an_effect (Does (Writes write))) is a b = cc
 early_alike (an_effect (Set wish)) is a b = cc
 early_alike (an_effect (Clear wish request)) is a b = cc
 
@@ -119,18 +121,32 @@ any_id = record {
   brings = λ messages m next message k moves near. all_any (ids_given message);
 }
 
-not_behind : (sized attached : Bool) (rest : List Part) → sized ≡ false
-    → in_order sized attached (Part.Updates ∷ rest) ≡ true → ⊥
-not_behind sized true rest none is = let no : in_order sized true (Part.Updates ∷ rest) ≡ false = rw none refl in cc
-not_behind sized false rest none is = let no : in_order sized false (Part.Updates ∷ rest) ≡ false = rw none refl in cc
+not_behind : (part : Part) (sized attached : Bool) (rest : List Part) → awaits_sizes part ≡ false → needs_sizes part ≡ true
+    → sized ≡ false → in_order sized attached (part ∷ rest) ≡ true → ⊥
+not_behind part sized true rest awaits needs none is =
+    let no : in_order sized true (part ∷ rest) ≡ false = rw none refl in cc
+not_behind part sized false rest awaits needs none is =
+    let no : in_order sized false (part ∷ rest) ≡ false = rw (none, awaits, needs) refl in cc
+
+-- nothing is written before
+early_deed : (deed : Deed) (sized attached : Bool) (rest : List Part) → sized ≡ false
+    → in_order sized attached (Part.Sends deed ∷ rest) ≡ true → is_early (an_effect (Does deed)) ≡ true
+early_deed Suspend sized attached rest none is = refl
+early_deed (Resume suspension) sized attached rest none is = refl
+early_deed Dispose sized attached rest none is = refl
+early_deed Exit sized attached rest none is = refl
+early_deed (Writes write) sized attached rest none is =
+    absurd (not_behind (Part.Sends (Writes write)) sized attached rest refl refl none is)
 
 pub early_sent : {messages : List Message} {m next : Machine} (command : TargetCommand) (said : Option Message)
     → IsKept (Any messages) messages m → is_some m.state.sizes ≡ false → said ≡ Some (Message.sends command)
     → Moves m said next → is_early command ≡ true
-early_sent command said k none is (Moves.sends {deed = deed} free at near) =
-    let same : an_effect (Does deed) ≡ command = cc in ap is_early (sym same)
+early_sent {m = m} command said k none is (Moves.sends {rest = rest} {deed = deed} free at near) =
+    let same : an_effect (Does deed) ≡ command = cc in
+    ap is_early (sym same) ∙ early_deed deed (is_some m.state.sizes) (is_attached m.state.phase) rest none
+    ((at_front k at).near near).order
 early_sent {m = m} command said k none is (Moves.updates {rest = rest} free at due near) =
-    absurd (not_behind (is_some m.state.sizes) (is_attached m.state.phase) rest none
+    absurd (not_behind Part.Updates (is_some m.state.sizes) (is_attached m.state.phase) rest refl refl none
     ((at_front k at).near near).order)
 early_sent {messages} {m} command said k none is (Moves.asks {hand} {want} {wants} free room held are) =
     let same : a_question (question_of want) ≡ command = cc in

@@ -21,9 +21,9 @@ pub use Rattle.machine_model.specs.declared.items.Phase.{Phase}
 pub use Rattle.machine_model.specs.declared.items.Phase.TheVariants.{Attached, Fresh, Gone}
 pub use Rattle.machine_model.specs.declared.parts.Body.TheVariants.{Nothing}
 pub use Rattle.machine_model.specs.declared.parts.Choice.{Choice}
-pub use Rattle.machine_model.specs.declared.parts.Choice.TheVariants.{Decides, Leaves, Stepped, TellsNews}
+pub use Rattle.machine_model.specs.declared.parts.Choice.TheVariants.{Decides, Leaves, Stepped, TellsNews, Written}
 pub use Rattle.machine_model.specs.declared.parts.Deed.{Deed}
-pub use Rattle.machine_model.specs.declared.parts.Deed.TheVariants.{Dispose, Exit, Resume, Suspend}
+pub use Rattle.machine_model.specs.declared.parts.Deed.TheVariants.{Dispose, Exit, Resume, Suspend, Writes}
 pub use Rattle.machine_model.specs.declared.parts.Event.{Event}
 pub use Rattle.machine_model.specs.declared.parts.Finding.{Finding}
 pub use Rattle.machine_model.specs.declared.parts.Finish.{Finish}
