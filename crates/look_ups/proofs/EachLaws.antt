@@ -1,10 +1,11 @@
 -- Look-ups side by side, from the last to the first.
 use Prim.Native.Nat.{zero}
 use lib.ListN.{get_or}
-use Rattle.std.proofs.Common.{◌≡◌, ◌≤◌, ◌<◌, ◌-◌, ◌+◌, ℕ, suc, List, [], ◌∷◌, drop, length, refl, sym, ap, ◌∙◌, arith}
+use Rattle.std.proofs.Common.{◌≡◌, ◌≤◌, ◌<◌, ◌-◌, ℕ, suc, List, [], ◌∷◌, drop, length, refl, sym, ap, ◌∙◌, arith}
 use Rattle.machine_model.specs.Plans.{Need, Plan, Sight, after, beside, each, has, need}
 
-nothing_left : {A : Type 0} (xs : List A) (n : ℕ) → length xs ≤ n → drop n xs ≡ []
+-- past the end nothing is left
+pub nothing_left : {A : Type 0} (xs : List A) (n : ℕ) → length xs ≤ n → drop n xs ≡ []
 nothing_left [] Prim.Native.Nat.zero past = refl
 nothing_left [] (suc n) past = refl
 nothing_left (x ∷ xs) Prim.Native.Nat.zero past = absurd (omega (arith, past))
@@ -16,7 +17,8 @@ pub none_left : {A B : Type 0} (sight : Sight) (f : A → Plan B) (xs : List A) 
 unfolding need each
 none_left sight f xs n past = sym (ap (λ left. need sight (each f left)) (nothing_left xs n past))
 
-left_at : {A : Type 0} (xs : List A) (i : ℕ) (x : A) → i < length xs → x ≡ get_or xs i x
+-- at a place within, what is left begins with what stands there
+pub left_at : {A : Type 0} (xs : List A) (i : ℕ) (x : A) → i < length xs → x ≡ get_or xs i x
     → drop i xs ≡ x ∷ drop (suc i) xs
 left_at [] i x lower is = absurd (omega (arith, lower))
 left_at (y ∷ xs) Prim.Native.Nat.zero x lower is = ap (λ z. z ∷ xs) (sym is)

@@ -5,4 +5,7 @@ pub mod FieldLaws
 pub mod MetLaws
 pub mod NeedLaws
 pub mod PageLaws
+pub mod SearchLaws
 pub mod SlotLaws
+pub mod StepLaws
+pub mod WriteLaws

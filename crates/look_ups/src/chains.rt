@@ -2,7 +2,7 @@
 //! Superclass).
 ghost use Rattle.std.specs.Prelude.{◌≡◌, [], IfOk, option_copied};
 ghost use Rattle.class_tables.specs.Lookups.{found_in};
-ghost use Rattle.machine_model.specs.Children.{above_plan, chain, chain_fields, class_fields, reach};
+ghost use Rattle.machine_model.specs.Children.{above_plan, chain, chain_fields, class_fields, fields_plan, reach};
 ghost use Rattle.machine_model.specs.Facts.{above_in, fields_in};
 ghost use Rattle.machine_model.specs.Plans.{answer_in, each, need};
 ghost use Rattle.look_ups.specs.Needs.{need_of, need_with, seen_by};
@@ -19,8 +19,8 @@ use std::alloc::Global;
 use std::collections::VecDeque;
 use wire_core::NoMemory;
 
-// So many classes are followed upwards at most.
-const REACH: u64 = 1 << 40;
+/// So many classes are followed upwards at most.
+pub(crate) const REACH: u64 = 1 << 40;
 
 // The fields of a class in a reply.
 fn fields_in(replied: &Replied) -> &[Field]
@@ -56,8 +56,28 @@ fn known_above(classes: &Classes, class: ClassId) -> Option<ClassId>
     classes.class(class)?.above
 }
 
+/// The fields of a class (JDWP, ReferenceType command set, Fields).
+#[tactic(auto, unfolding(machine_model::specs::Plans::need))]
+pub(crate) fn fields_need<'a>(
+    alloc: Global,
+    sight: Sight<'a>,
+    class: ClassId,
+) -> Result<Need<&'a [Field]>, NoMemory>
+    ensures { IfOk result (λ found. need_with (λ fields. fields.now) found
+        ≡ need (seen_by sight.entry) (fields_plan class.0)) }
+{
+    if let Some(fields) = known_fields(sight.classes, class) {
+        return Ok(Need::Has(fields));
+    }
+    match fact_replied(alloc, sight.asked, Question::Fields(class))? {
+        Need::Has(replied) => Ok(Need::Has(fields_in(replied))),
+        Need::Fails { place, code } => Ok(Need::Fails { place, code }),
+        Need::Lacks { first, others } => Ok(Need::Lacks { first, others }),
+    }
+}
+
 // A class with its fields.
-#[tactic(auto, unfolding(machine_model::specs::Plans::need, machine_model::specs::Plans::made_with))]
+#[tactic(auto, using(machine_model::proofs::PlanIds::need_made))]
 fn class_fields<'a>(
     alloc: Global,
     sight: Sight<'a>,
@@ -65,22 +85,20 @@ fn class_fields<'a>(
 ) -> Result<Need<ClassFields<'a>>, NoMemory>
     ensures { IfOk result (λ found. need_of found ≡ need (seen_by sight.entry) (class_fields class.0)) }
 {
-    if let Some(fields) = known_fields(sight.classes, class) {
-        return Ok(Need::Has(ClassFields { class, fields }));
-    }
-    match fact_replied(alloc, sight.asked, Question::Fields(class))? {
-        Need::Has(replied) => Ok(Need::Has(ClassFields {
-            class,
-            fields: fields_in(replied),
-        })),
+    match fields_need(alloc, sight, class)? {
+        Need::Has(fields) => Ok(Need::Has(ClassFields { class, fields })),
         Need::Fails { place, code } => Ok(Need::Fails { place, code }),
         Need::Lacks { first, others } => Ok(Need::Lacks { first, others }),
     }
 }
 
-// The class that a class extends.
+/// The class that a class extends (JDWP, ClassType command set, Superclass).
 #[tactic(auto, unfolding(machine_model::specs::Plans::need))]
-fn above_need(alloc: Global, sight: Sight<'_>, class: ClassId) -> Result<Need<ClassId>, NoMemory>
+pub(crate) fn above_need(
+    alloc: Global,
+    sight: Sight<'_>,
+    class: ClassId,
+) -> Result<Need<ClassId>, NoMemory>
     ensures { IfOk result (λ found. need_of found ≡ need (seen_by sight.entry) (above_plan class.0)) }
 {
     if let Some(above) = known_above(sight.classes, class) {
@@ -93,8 +111,8 @@ fn above_need(alloc: Global, sight: Sight<'_>, class: ClassId) -> Result<Need<Cl
     }
 }
 
-// Whether a class is followed further: it is one, and wasn't met.
-fn is_further(met: &MetClasses, class: ClassId) -> bool
+/// Whether a class is followed further: it is one, and wasn't met.
+pub(crate) fn is_further(met: &MetClasses, class: ClassId) -> bool
     ensures { result ≡ is_further met.now class.0 }
 {
     class.0 != 0 && !met.has(class.0)

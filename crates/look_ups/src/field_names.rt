@@ -88,8 +88,8 @@ impl Hash for Name {
     }
 }
 
-// A field of the class itself, and not of its objects (Java Virtual Machine Specification, Fields, ACC_STATIC).
-fn is_static(bits: i32) -> bool
+/// A field of the class itself, and not of its objects (Java Virtual Machine Specification, Fields, ACC_STATIC).
+pub(crate) fn is_static(bits: i32) -> bool
     ensures { result ≡ is_static bits }
 {
     if bits < 0 {

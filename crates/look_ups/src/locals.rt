@@ -46,9 +46,13 @@ fn this_in(answer: &Answer) -> Value
     }
 }
 
-// The receiver of a frame's method.
+/// The receiver of a frame's method (JDWP, StackFrame command set, ThisObject).
 #[tactic(auto, unfolding(machine_model::specs::Plans::need))]
-fn this_need(alloc: Global, sight: Sight<'_>, frame: FrameThing) -> Result<Need<Value>, NoMemory>
+pub(crate) fn this_need(
+    alloc: Global,
+    sight: Sight<'_>,
+    frame: FrameThing,
+) -> Result<Need<Value>, NoMemory>
     ensures { IfOk result (λ found. need_of found ≡ need (seen_by sight.entry) (this_plan frame)) }
 {
     let question = Question::ThisObject {
@@ -83,9 +87,9 @@ fn known_variables(classes: &Classes, class: ClassId, method: MethodId) -> Optio
     }
 }
 
-// The variables of a method.
+/// The variables of a method; none where they are absent (JDWP, Method command set, VariableTable).
 #[tactic(auto, using(crate::proofs::ChildLaws::variables_learnt, crate::proofs::ChildLaws::variables_said), unfolding(machine_model::specs::Plans::need))]
-fn variables_need<'a>(
+pub(crate) fn variables_need<'a>(
     alloc: Global,
     sight: Sight<'a>,
     class: ClassId,

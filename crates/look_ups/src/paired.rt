@@ -120,7 +120,7 @@ pub(crate) fn page(
     Ok(Vec::from(shown))
 }
 
-fn of_index(alloc: Global, array: u64, index: u32) -> Result<Child, NoMemory>
+pub(crate) fn of_index(alloc: Global, array: u64, index: u32) -> Result<Child, NoMemory>
     ensures { IfOk result (λ child. child ≡ of_index array index) }
 {
     Ok(Child {

@@ -81,9 +81,9 @@ fn element_need(alloc: Global, sight: Sight<'_>, id: u64) -> Result<Need<Blob>, 
     }
 }
 
-// The signature of a place.
+/// The signature of a place.
 #[tactic(auto, unfolding(machine_model::specs::Plans::need))]
-fn declared_need(
+pub(crate) fn declared_need(
     alloc: Global,
     sight: Sight<'_>,
     declared: &Declared,

@@ -21,8 +21,8 @@ use stop_refs::Thing;
 use value_views::{Known, value_text};
 use wire_core::{Blob, NoMemory, Text};
 
-// A value with no children.
-fn childless(text: Text, kind: Option<Text>) -> Seen
+/// A value with no children.
+pub(crate) fn childless(text: Text, kind: Option<Text>) -> Seen
     ensures { result ≡ childless text kind }
 {
     Seen {

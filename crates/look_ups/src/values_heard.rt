@@ -13,8 +13,8 @@ use std::alloc::Global;
 use stop_refs::FrameThing;
 use wire_core::{List, NoMemory};
 
-// The greatest number that is asked for.
-const LAST_ASKED: u32 = 2147483647;
+// The greatest int.
+const LAST_INT: u32 = 2147483647;
 
 // The values in an answer (JDWP, StackFrame, ObjectReference and ArrayReference command sets, GetValues).
 fn values_in(answer: &Answer) -> &[Value]
@@ -94,11 +94,11 @@ pub(crate) fn fields_heard<'a>(
     )
 }
 
-// A number as it is asked for; one of 2^31 or more isn't.
-fn as_asked(number: u32) -> Result<i32, NoMemory>
-    ensures { IfOk result (λ asked. asked ≡ pos number) }
+/// A number as an int; one of 2^31 or more is none, and no target tells or takes it.
+pub(crate) fn as_int(number: u32) -> Result<i32, NoMemory>
+    ensures { IfOk result (λ int. int ≡ pos number) }
 {
-    if number > LAST_ASKED {
+    if number > LAST_INT {
         return Err(NoMemory);
     }
     Ok(number as i32)
@@ -124,8 +124,8 @@ pub(crate) fn elements_heard<'a>(
         sight,
         Question::GetElements {
             array: ObjectId(array),
-            first: as_asked(start)?,
-            length: as_asked(count)?,
+            first: as_int(start)?,
+            length: as_int(count)?,
         },
     )
 }
