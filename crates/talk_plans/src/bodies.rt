@@ -13,7 +13,7 @@ use crate::hits::has_line;
 use crate::news::news_told;
 use crate::state::State;
 use crate::threads::ThreadNumbers;
-use crate::variable_numbers::{scope_told, variables_told};
+use crate::variable_numbers::{scope_told, value_told, variables_told, written_told};
 use dap_messages::{
     Breakpoint, Event as EventTold, Outcome as OutcomeTold, Request, Response, Shape, StopReason,
     Stopped, Thread, Told,
@@ -119,6 +119,8 @@ fn body_told(alloc: Global, body: &Body, state: &mut State) -> Result<Shape, NoM
             let told = variables_told(alloc, &mut state.numbers, shown.as_slice())?;
             Ok(Shape::Variables(told))
         }
+        Body::Value(seen) => Ok(Shape::Evaluated(value_told(alloc, &mut state.numbers, seen)?)),
+        Body::Written(seen) => Ok(Shape::Written(written_told(alloc, seen)?)),
         Body::Threads(named) => {
             add_threads(&mut state.threads, named.as_slice())?;
             Ok(Shape::Threads(threads_told(alloc, &state.threads, named.as_slice())?))

@@ -55,6 +55,7 @@ pub(crate) fn entry_by(deed: Deed, entry: bool) -> bool
         Deed::Resume(suspension) => still_held(suspension, entry),
         Deed::Dispose => entry,
         Deed::Exit => entry,
+        Deed::Writes(_) => entry,
     }
 }
 
@@ -78,6 +79,7 @@ pub(crate) fn forget_thrown(alloc: Global, deed: Deed, thrown: &mut List<Thrown>
         Deed::Resume(suspension) => resume_thrown(alloc, suspension, thrown),
         Deed::Dispose => {}
         Deed::Exit => {}
+        Deed::Writes(_) => {}
     }
 }
 

@@ -1,16 +1,21 @@
 //! What becomes of a look-up that is done.
 ghost use Rattle.std.specs.Prelude.{◌≡◌, IfOk};
-ghost use Rattle.machine_model.specs.Lookups.{classes_of, finished, refusal, text_of};
+ghost use Rattle.machine_model.specs.Lookups.{classes_of, finished, refusal, text_of, valued_by, write_parts};
+ghost use Rattle.talk_plans.specs.Numbering.{stop_of};
 ghost use Rattle.machine_model.specs.Plans.{gave, refused};
 ghost use Rattle.machine_model.specs.declared.parts.Event.TheVariants.{Stopped as a_stop};
 ghost use Rattle.machine_model.specs.declared.parts.Part.TheVariants as parts;
 ghost use Rattle.machine_model.specs.declared.parts.StopCause.TheVariants.{Exception as by_exception};
 
+use crate::numbers::Numbers;
 use crate::references::{body_of, shown_by};
+use crate::rows::failing;
 use crate::state::State;
 use dap_messages::Failure;
 use jdwp_values::{ClassId, ThreadId};
-use machine_model::{Event, Finding, Lookup, Note, Outcome, Part, StopCause, Stopping};
+use machine_model::{
+    Body, Choice, Deed, Event, Finding, Lookup, Note, Outcome, Part, StopCause, Stopping,
+};
 use std::alloc::Global;
 use std::collections::VecDeque;
 use wire_core::{List, NoMemory, Text};
@@ -34,6 +39,9 @@ fn classes_of(alloc: Global, finding: Finding) -> List<ClassId>
         Finding::Threads(_) => List::new(alloc),
         Finding::Frames { .. } => List::new(alloc),
         Finding::Variables(_) => List::new(alloc),
+        Finding::Value(_) => List::new(alloc),
+        Finding::NoValue(_) => List::new(alloc),
+        Finding::Write { .. } => List::new(alloc),
         Finding::ExceptionText(_) => List::new(alloc),
         Finding::Exception { .. } => List::new(alloc),
         Finding::Classes(classes) => classes,
@@ -48,6 +56,9 @@ fn text_of(finding: Finding) -> Option<Text>
         Finding::Threads(_) => None,
         Finding::Frames { .. } => None,
         Finding::Variables(_) => None,
+        Finding::Value(_) => None,
+        Finding::NoValue(_) => None,
+        Finding::Write { .. } => None,
         Finding::ExceptionText(text) => text,
         Finding::Exception { .. } => None,
         Finding::Classes(_) => None,
@@ -64,14 +75,41 @@ fn told_thrown(thread: ThreadId, text: Option<Text>) -> Part
     }))
 }
 
+// A value, unless there is none.
+fn valued_by(alloc: Global, numbers: &Numbers, finding: Finding) -> Result<Outcome, NoMemory>
+    ensures { IfOk result (λ outcome. outcome ≡ valued_by (stop_of numbers.now) finding) }
+{
+    match finding {
+        Finding::NoValue(failure) => Ok(Outcome::Failure(failure)),
+        finding => shown_by(alloc, numbers, body_of(finding)),
+    }
+}
+
+// A value is written, and by the reply it is decided how it goes on; unless there is none to write.
+fn write_parts(alloc: Global, finding: Finding) -> Result<VecDeque<Part>, NoMemory>
+    ensures { IfOk result (λ parts. parts.items ≡ write_parts finding) }
+{
+    match finding {
+        Finding::Write { write, seen } => Ok(VecDeque::from_array(
+            alloc,
+            [
+                Part::Sends(Deed::Writes(write)),
+                Part::Unfolds(Choice::Written(seen)),
+            ],
+        )?),
+        Finding::NoValue(failure) => failing(alloc, failure),
+        _ => Ok(VecDeque::from_array(alloc, [Part::Responds(Outcome::Success(Body::Nothing))])?),
+    }
+}
+
 /// The parts that a look-up becomes that found something.
 pub(crate) fn found_parts(
     alloc: Global,
-    lookup: Lookup,
+    lookup: &Lookup,
     finding: Finding,
     state: &State,
 ) -> Result<VecDeque<Part>, NoMemory>
-    ensures { IfOk result (λ parts. parts.items ≡ finished lookup (gave finding) state.now) }
+    ensures { IfOk result (λ parts. parts.items ≡ finished lookup.now (gave finding) state.now) }
 {
     match lookup {
         Lookup::Threads => Ok(VecDeque::from_array(
@@ -86,9 +124,14 @@ pub(crate) fn found_parts(
             alloc,
             [Part::Responds(shown_by(alloc, &state.numbers, body_of(finding))?)],
         )?),
+        Lookup::Value { .. } => Ok(VecDeque::from_array(
+            alloc,
+            [Part::Responds(valued_by(alloc, &state.numbers, finding)?)],
+        )?),
+        Lookup::Write { .. } => write_parts(alloc, finding),
         Lookup::ExceptionText { thread, .. } => Ok(VecDeque::from_array(
             alloc,
-            [told_thrown(thread, text_of(finding))],
+            [told_thrown(*thread, text_of(finding))],
         )?),
         Lookup::Exception(_) => Ok(VecDeque::from_array(
             alloc,
@@ -104,11 +147,11 @@ pub(crate) fn found_parts(
 /// The parts that a look-up becomes that was refused with an error.
 pub(crate) fn refused_parts(
     alloc: Global,
-    lookup: Lookup,
+    lookup: &Lookup,
     code: u16,
     state: &State,
 ) -> Result<VecDeque<Part>, NoMemory>
-    ensures { IfOk result (λ parts. parts.items ≡ finished lookup (refused code) state.now) }
+    ensures { IfOk result (λ parts. parts.items ≡ finished lookup.now (refused code) state.now) }
 {
     match lookup {
         Lookup::Threads => Ok(VecDeque::from_array(
@@ -123,8 +166,10 @@ pub(crate) fn refused_parts(
             alloc,
             [Part::Responds(Outcome::Failure(refusal(code)))],
         )?),
+        Lookup::Value { .. } => failing(alloc, refusal(code)),
+        Lookup::Write { .. } => failing(alloc, refusal(code)),
         Lookup::ExceptionText { thread, .. } => {
-            Ok(VecDeque::from_array(alloc, [told_thrown(thread, None)])?)
+            Ok(VecDeque::from_array(alloc, [told_thrown(*thread, None)])?)
         }
         Lookup::Exception(_) => Ok(VecDeque::from_array(
             alloc,

@@ -37,6 +37,7 @@ mod stops;
 mod talk;
 mod threads;
 mod thrown;
+mod values;
 mod variable_numbers;
 mod variable_rows;
 mod wire;

@@ -119,5 +119,6 @@ pub(crate) fn send(alloc: Global, deed: Deed, numbers: &mut Numbers) -> Result<(
         }
         Deed::Dispose => Ok(()),
         Deed::Exit => Ok(()),
+        Deed::Writes(_) => Ok(()),
     }
 }

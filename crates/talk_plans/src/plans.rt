@@ -16,6 +16,7 @@ use crate::class_plans::{all_found, all_lacking};
 use crate::frames::frames_need;
 use crate::state::State;
 use crate::thrown::{exception_need, text_need};
+use crate::values::{value_need, write_need};
 use jdwp_commands::{Answer, Question, Replied};
 use jdwp_values::ThreadId;
 use look_ups::{Asked, QuestionKey, Sight, variables_need};
@@ -181,11 +182,11 @@ fn children_found(found: look_ups::Need<List<ShownVariable>>) -> Need
 #[tactic(auto, using(machine_model::proofs::PlanIds::need_made), unfolding(crate::specs::FramePlanning::stack_in))]
 pub(crate) fn found_for(
     alloc: Global,
-    lookup: Lookup,
+    lookup: &Lookup,
     state: &State,
     asked: &Asked,
 ) -> Result<Need, NoMemory>
-    ensures { IfOk result (λ found. need_of found ≡ need (sight_in state.now asked.now) (plan lookup state.now)) }
+    ensures { IfOk result (λ found. need_of found ≡ need (sight_in state.now asked.now) (plan lookup.now state.now)) }
 {
     match lookup {
         Lookup::Threads => threads_need(alloc, state, asked),
@@ -193,7 +194,7 @@ pub(crate) fn found_for(
             thread,
             start,
             levels,
-        } => frames_need(alloc, state, asked, thread, start, levels),
+        } => frames_need(alloc, state, asked, *thread, *start, *levels),
         Lookup::Variables {
             thing,
             filter,
@@ -205,11 +206,13 @@ pub(crate) fn found_for(
                 asked,
             };
             let types = state.options.shows_types;
-            let found = variables_need(alloc, sight, types, thing, filter, start, count)?;
+            let found = variables_need(alloc, sight, types, *thing, *filter, *start, *count)?;
             Ok(children_found(found))
         }
-        Lookup::ExceptionText { object, .. } => text_need(alloc, state, asked, object),
-        Lookup::Exception(thrown) => exception_need(alloc, state, asked, thrown),
+        Lookup::Value { frame, expression } => value_need(alloc, state, asked, *frame, expression),
+        Lookup::Write { thing, name, text } => write_need(alloc, state, asked, *thing, name, text),
+        Lookup::ExceptionText { object, .. } => text_need(alloc, state, asked, *object),
+        Lookup::Exception(thrown) => exception_need(alloc, state, asked, *thrown),
         Lookup::Classes => classes_need(alloc, state, asked),
     }
 }

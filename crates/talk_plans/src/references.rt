@@ -1,5 +1,5 @@
 //! The numbers of frames and containers: those that a response tells, and what a request names by one.
-ghost use Rattle.std.specs.Prelude.{◌≡◌, ◌++◌, filter_map, map, IfOk, OnOk};
+ghost use Rattle.std.specs.Prelude.{◌≡◌, ◌++◌, filter_map, map, option_to_list, IfOk, OnOk};
 ghost use Rattle.machine_model.specs.Lookups.{body_of, shown_by};
 ghost use Rattle.machine_model.specs.References.{has_room, things_of, with_things};
 ghost use Rattle.machine_model.specs.declared.parts.ShownFrame.{ShownFrame as AFrame};
@@ -43,6 +43,16 @@ pub(crate) fn variable_things(
     Ok(things)
 }
 
+/// The container that a value is, as things that have numbers.
+pub(crate) fn value_things(alloc: Global, thing: Option<Thing>) -> Result<List<Thing>, NoMemory>
+    ensures { IfOk result (λ things. things ≡ option_to_list thing) }
+{
+    match thing {
+        None => Ok(List::new(alloc)),
+        Some(thing) => Ok(List::from_slice(alloc, &[thing])?),
+    }
+}
+
 // What a body tells by numbers, in order.
 fn things_of(alloc: Global, body: &Body) -> Result<List<Thing>, NoMemory>
     ensures { IfOk result (λ things. things ≡ things_of body.now) }
@@ -56,6 +66,8 @@ fn things_of(alloc: Global, body: &Body) -> Result<List<Thing>, NoMemory>
         Body::StackFrames { frames, .. } => frame_things(alloc, frames.as_slice()),
         Body::Scopes(frame) => Ok(List::from_slice(alloc, &[Thing::Locals(*frame)])?),
         Body::Variables(shown) => variable_things(alloc, shown.as_slice()),
+        Body::Value(seen) => value_things(alloc, seen.thing),
+        Body::Written(_) => Ok(List::new(alloc)),
         Body::Threads(_) => Ok(List::new(alloc)),
     }
 }
@@ -114,6 +126,9 @@ pub(crate) fn body_of(finding: Finding) -> Body
         Finding::Threads(named) => Body::Threads(named),
         Finding::Frames { total, frames } => Body::StackFrames { total, frames },
         Finding::Variables(shown) => Body::Variables(shown),
+        Finding::Value(seen) => Body::Value(seen),
+        Finding::NoValue(_) => Body::Nothing,
+        Finding::Write { .. } => Body::Nothing,
         Finding::ExceptionText(_) => Body::Nothing,
         Finding::Exception { id, mode } => Body::Exception { id, mode },
         Finding::Classes(_) => Body::Nothing,

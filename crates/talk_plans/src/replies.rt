@@ -138,6 +138,7 @@ fn leaves(effect: &Effect) -> bool
         Effect::Does(Deed::Resume(_)) => false,
         Effect::Does(Deed::Dispose) => true,
         Effect::Does(Deed::Exit) => true,
+        Effect::Does(Deed::Writes(_)) => false,
         Effect::Set(_) => false,
         Effect::Clear { .. } => false,
     }

@@ -19,7 +19,7 @@ use crate::run_rows::{configured_row, continue_row, pause_row, stack_row};
 use crate::state::State;
 use crate::step_rows::{exception_row, exceptions_row, refused_with, step_row, stepped_by};
 use crate::stops::decided;
-use crate::variable_rows::{scopes_row, variables_row};
+use crate::variable_rows::{evaluate_row, scopes_row, variables_row, write_row, written_by};
 use dap_messages::{Command, Failure, InitializeArguments};
 use machine_model::{
     Body, Choice, ClientOptions, Deed, Doing, Event, Finish, Guard, Item, Lookup, Note, Outcome,
@@ -104,6 +104,8 @@ fn row_of(alloc: Global, command: &Command, state: &State) -> Result<VecDeque<Pa
         Command::StackTrace(arguments) => stack_row(alloc, *arguments, state),
         Command::Scopes(arguments) => scopes_row(alloc, *arguments, state),
         Command::Variables(arguments) => variables_row(alloc, *arguments, state),
+        Command::SetVariable(arguments) => write_row(alloc, arguments, state),
+        Command::Evaluate(arguments) => evaluate_row(alloc, arguments, state),
         Command::Disconnect(arguments) => disconnect_row(alloc, arguments.terminate_debuggee),
         Command::Unsupported => failing(alloc, Failure::unsupported()),
         Command::BadArguments(name) => {
@@ -176,6 +178,8 @@ fn failure_of(command: &Command, state: &State) -> Option<Failure>
         Command::StackTrace(_) => if_stopped(state.is_stopped(), state.phase),
         Command::Scopes(_) => if_attached(state.phase),
         Command::Variables(_) => if_attached(state.phase),
+        Command::SetVariable(_) => if_attached(state.phase),
+        Command::Evaluate(_) => if_attached(state.phase),
         Command::Disconnect(_) => None,
         Command::Unsupported => None,
         Command::BadArguments(_) => None,
@@ -260,30 +264,34 @@ pub(crate) fn chosen(
         Choice::TellsNews(below) => told_news(alloc, below, state, item),
         Choice::Decides => decided(alloc, state, item),
         Choice::Stepped => stepped_by(alloc, refused_with(effect)),
+        Choice::Written(seen) => written_by(alloc, seen, refused_with(effect)),
         Choice::Leaves(exits) => leaves(alloc, state.phase, exits),
     }
 }
 
-fn lookup_responds(lookup: Lookup) -> bool
-    ensures { result ≡ lookup_responds lookup }
+fn lookup_responds(lookup: &Lookup) -> bool
+    ensures { result ≡ lookup_responds lookup.now }
 {
     match lookup {
         Lookup::Threads => true,
         Lookup::Frames { .. } => true,
         Lookup::Variables { .. } => true,
+        Lookup::Value { .. } => true,
+        Lookup::Write { .. } => true,
         Lookup::ExceptionText { .. } => false,
         Lookup::Exception(_) => true,
         Lookup::Classes => false,
     }
 }
 
-fn choice_responds(choice: Choice) -> bool
-    ensures { result ≡ choice_responds choice }
+fn choice_responds(choice: &Choice) -> bool
+    ensures { result ≡ choice_responds choice.now }
 {
     match choice {
         Choice::TellsNews(_) => false,
         Choice::Decides => false,
         Choice::Stepped => true,
+        Choice::Written(_) => true,
         Choice::Leaves(_) => false,
     }
 }
@@ -293,8 +301,8 @@ fn is_response(part: &Part) -> bool
 {
     match part {
         Part::Responds(_) => true,
-        Part::Looks(lookup) => lookup_responds(*lookup),
-        Part::Unfolds(choice) => choice_responds(*choice),
+        Part::Looks(lookup) => lookup_responds(lookup),
+        Part::Unfolds(choice) => choice_responds(choice),
         Part::Tells(_) => false,
         Part::Sends(_) => false,
         Part::Awaits(_) => false,

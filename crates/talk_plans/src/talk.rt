@@ -132,11 +132,8 @@ impl Talk {
     {
         match self.parts.front() {
             Some(Part::Looks(lookup)) => {
-                look_ahead(alloc, *lookup, state)?;
-                lacking(
-                    alloc,
-                    found_for(alloc, *lookup, state, self.asking.asked())?,
-                )
+                look_ahead(alloc, lookup, state)?;
+                lacking(alloc, found_for(alloc, lookup, state, self.asking.asked())?)
             }
             Some(Part::Awaits(guard)) => awaited(alloc, *guard, state),
             _ => Ok(VecDeque::new(alloc)),
@@ -245,14 +242,14 @@ impl Talk {
             → step_of m next state.now self.new ≡ does m state.now self.old (parts.Looks lookup)) }
         ensures same { OnOk result (StaysSized state.now self.old state.now self.new) }
     {
-        match found_for(alloc, lookup, state, self.asking.asked())? {
+        match found_for(alloc, &lookup, state, self.asking.asked())? {
             Need::Has(finding) => {
-                let parts = found_parts(alloc, lookup, finding, state)?;
+                let parts = found_parts(alloc, &lookup, finding, state)?;
                 put_first(parts, &mut self.parts)?;
                 Ok(Next::Go)
             }
             Need::Fails { place: _, code } => {
-                let parts = refused_parts(alloc, lookup, code, state)?;
+                let parts = refused_parts(alloc, &lookup, code, state)?;
                 put_first(parts, &mut self.parts)?;
                 Ok(Next::Go)
             }
@@ -328,13 +325,15 @@ fn passed(_outcome: Outcome) -> Next
 }
 
 // Before classes are gone through, it is found out which may lack something, once all are listed.
-fn look_ahead(alloc: Global, lookup: Lookup, state: &mut State) -> Result<(), NoMemory>
+fn look_ahead(alloc: Global, lookup: &Lookup, state: &mut State) -> Result<(), NoMemory>
     ensures { OnOk result (state.new ≡ state.old) }
 {
     match lookup {
         Lookup::Threads => Ok(()),
         Lookup::Frames { .. } => Ok(()),
         Lookup::Variables { .. } => Ok(()),
+        Lookup::Value { .. } => Ok(()),
+        Lookup::Write { .. } => Ok(()),
         Lookup::ExceptionText { .. } => Ok(()),
         Lookup::Exception(_) => Ok(()),
         Lookup::Classes => {

@@ -1,16 +1,16 @@
 //! How the variables of a frame and the children of a container are told, each under its number.
-ghost use Rattle.std.specs.Prelude.{◌≡◌, filter_map, map, IfOk, OnOk};
+ghost use Rattle.std.specs.Prelude.{◌≡◌, filter_map, map, option_to_list, IfOk, OnOk};
 ghost use Rattle.machine_model.specs.References.{with_things};
-ghost use Rattle.machine_model.specs.Variables.{reference_of, variable_told};
+ghost use Rattle.machine_model.specs.Variables.{reference_of, value_told, variable_told};
 ghost use Rattle.machine_model.specs.declared.parts.ShownVariable.{ShownVariable as AVariable};
 ghost use Rattle.stop_refs.specs.Numbers.{number_of, with_thing};
 ghost use Rattle.stop_refs.specs.declared.thing.Thing.TheVariants.{Locals as some_locals};
 ghost use Rattle.talk_plans.specs.Numbering.{has_stop, stop_of};
 
 use crate::numbers::Numbers;
-use crate::references::{number_things, variable_things};
-use dap_messages::Variable;
-use machine_model::ShownVariable;
+use crate::references::{number_things, value_things, variable_things};
+use dap_messages::{Evaluated, Variable, Written};
+use machine_model::{Seen, ShownVariable};
 use std::alloc::Global;
 use stop_refs::{FrameThing, Stop, Thing};
 use wire_core::{List, NoMemory, Text};
@@ -68,6 +68,49 @@ fn variable_told(alloc: Global, stop: &Stop, shown: &ShownVariable) -> Result<Va
         kind: kind_copy(alloc, &shown.seen.kind)?,
         indexed: shown.seen.indexed,
         reference: reference_of(stop, &shown.seen.thing)?,
+    })
+}
+
+// The value of an expression as it is told, which has its number where it is a container.
+fn value_of(alloc: Global, numbers: &Numbers, seen: &Seen) -> Result<Evaluated, NoMemory>
+    ensures { IfOk result (λ told. told ≡ value_told (stop_of numbers.now) seen.now) }
+{
+    let Numbers::Stopped(stop) = numbers else {
+        return Err(NoMemory);
+    };
+    Ok(Evaluated {
+        result: Text::from_str(alloc, seen.text.as_str())?,
+        kind: kind_copy(alloc, &seen.kind)?,
+        indexed: seen.indexed,
+        reference: reference_of(stop, &seen.thing)?,
+    })
+}
+
+/// The value of an expression as it is told, once it has its number where it is a container. `NoMemory` comes where memory is
+/// refused, where the number has no room, and where no stop is in hand (DAP specification, Evaluate request).
+pub(crate) fn value_told(
+    alloc: Global,
+    numbers: &mut Numbers,
+    seen: &Seen,
+) -> Result<Evaluated, NoMemory>
+    ensures told { IfOk result (λ told. told
+        ≡ value_told (with_things (option_to_list seen.now.thing) (stop_of numbers.old)) seen.now) }
+    ensures numbers { OnOk result (stop_of numbers.new
+        ≡ with_things (option_to_list seen.now.thing) (stop_of numbers.old)) }
+    ensures stopped { OnOk result (has_stop numbers.new ≡ has_stop numbers.old) }
+{
+    let things = value_things(alloc, seen.thing)?;
+    number_things(numbers, things.as_slice())?;
+    value_of(alloc, numbers, seen)
+}
+
+/// A value that was written, as it is told (DAP specification, SetVariable request).
+pub(crate) fn written_told(alloc: Global, seen: &Seen) -> Result<Written, NoMemory>
+    ensures { IfOk result (λ told. told ≡ record { value = seen.now.text; kind = seen.now.kind }) }
+{
+    Ok(Written {
+        value: Text::from_str(alloc, seen.text.as_str())?,
+        kind: kind_copy(alloc, &seen.kind)?,
     })
 }
 
