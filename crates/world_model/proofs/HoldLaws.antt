@@ -9,54 +9,18 @@ use Rattle.std.proofs.lemmas.Map.Keys.{IsDistinct-push, IsDistinct-head, IsDisti
 use Rattle.world_model.specs.declared.rows.Installed.{Installed}
 use Rattle.world_model.specs.Requests.{behind_id, is_in_use, free_from}
 use Rattle.world_model.specs.Sound.{IsRequest, IsHold}
+use Rattle.world_model.proofs.FilterLaws.{all_left, distinct_left}
 
 abbrev number_of : Installed → ℕ
 number_of row = row.request
 
--- Filters ------------------------------------------------------------------------------------------------------------
-
-all_at : {A : Type 0} (P : A → Type 0) (b : Bool) (x : A) (xs : List A) → P x → AllByRecursion P xs
-    → AllByRecursion P (cond b (x ∷ xs) xs)
-all_at P true x xs p h = (p, h)
-all_at P false x xs p h = h
-
-all_left : {A : Type 0} (P : A → Type 0) (passes : A → Bool) (xs : List A) → AllByRecursion P xs
-    → AllByRecursion P (filter passes xs)
-all_left P passes [] h = tt
-all_left P passes (x ∷ xs) h = all_at P (passes x) x (filter passes xs) h.0 (all_left P passes xs h.1)
-
-apart_at : (n : ℕ) (b : Bool) (row : Installed) (rows : List Installed) → nat_eq n row.request ≡ false
-    → AllByRecursion (λ y. nat_eq n y ≡ false) (map number_of rows)
-    → AllByRecursion (λ y. nat_eq n y ≡ false) (map number_of (cond b (row ∷ rows) rows))
-apart_at n true row rows p h = (p, h)
-apart_at n false row rows p h = h
-
-apart_left : (n : ℕ) (passes : Installed → Bool) (rows : List Installed)
-    → AllByRecursion (λ y. nat_eq n y ≡ false) (map number_of rows)
-    → AllByRecursion (λ y. nat_eq n y ≡ false) (map number_of (filter passes rows))
-apart_left n passes [] h = tt
-apart_left n passes (row ∷ rows) h =
-    apart_at n (passes row) row (filter passes rows) h.0 (apart_left n passes rows h.1)
-
-distinct_at : (b : Bool) (row : Installed) (rows : List Installed)
-    → AllByRecursion (λ y. nat_eq row.request y ≡ false) (map number_of rows) → IsDistinct nat_eq (map number_of rows)
-    → IsDistinct nat_eq (map number_of (cond b (row ∷ rows) rows))
-distinct_at true row rows p h = IsDistinct-cons nat_eq row.request (map number_of rows) p h
-distinct_at false row rows p h = h
-
-distinct_left : (passes : Installed → Bool) (rows : List Installed) → IsDistinct nat_eq (map number_of rows)
-    → IsDistinct nat_eq (map number_of (filter passes rows))
-distinct_left passes [] h = h
-distinct_left passes (row ∷ rows) h =
-    distinct_at (passes row) row (filter passes rows)
-    (apart_left row.request passes rows (IsDistinct-head nat_eq row.request (map number_of rows) h))
-    (distinct_left passes rows (IsDistinct-tail nat_eq row.request (map number_of rows) h))
+-- Fewer requests ------------------------------------------------------------------------------------------------------
 
 -- fewer requests
 pub hold_left : (passes : Installed → Bool) (rows : List Installed) (next count : ℕ) → IsHold rows next count
     → IsHold (filter passes rows) next count
 hold_left passes rows next count h = record {
-  distinct = distinct_left passes rows h.distinct;
+  distinct = distinct_left number_of passes rows h.distinct;
   numbers = all_left (λ row. IsRequest row.request) passes rows h.numbers;
   next_number = h.next_number;
   few = h.few;

@@ -1,6 +1,12 @@
+pub mod FilterLaws
 pub mod KeptLaws
 pub mod HoldLaws
 pub mod SoundLaws
 pub mod ReferenceLaws
 pub mod StoringLaws
 pub mod ChangeLaws
+pub mod HitLaws
+pub mod MoveLaws
+pub mod WatchLaws
+pub mod FrameLaws
+pub mod MoveSound

@@ -51,7 +51,7 @@ unfolding IsDistinct
 distinct_front [] ys h = tt
 distinct_front (x ∷ xs) ys h = (all_front (λ y. nat_eq x y ≡ false) xs ys h.0, distinct_front xs ys h.1)
 
-put_sound : (w : World) (put : Put) → IsSound w → FitsValue w.sizes put.value → IsSound (with_put w put)
+pub put_sound : (w : World) (put : Put) → IsSound w → FitsValue w.sizes put.value → IsSound (with_put w put)
 put_sound w put s fits = record {
   program = s.program;
   values = record {

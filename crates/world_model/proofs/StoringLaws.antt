@@ -188,7 +188,7 @@ from_bytes w bytes kind v s h =
 
 -- What is put --------------------------------------------------------------------------------------------------------
 
-put_fits : (w : World) (id : ObjectId) (field : FieldId) (found : Result Value ℕ) (put : Put)
+pub put_fits : (w : World) (id : ObjectId) (field : FieldId) (found : Result Value ℕ) (put : Put)
     → ((v : Value) → found ≡ Ok v → FitsValue w.sizes v) → put_of id field found ≡ Ok put → FitsValue w.sizes put.value
 put_fits w id field (Err code) put is h = absurd cc
 put_fits w id field (Ok v) put is h =

@@ -8,5 +8,9 @@ pub mod Replies
 pub mod Requests
 pub mod Storing
 pub mod Effects
+pub mod Happenings
+pub mod Emitting
+pub mod Moving
+pub mod MoveFacts
 pub mod Kept
 pub mod Sound

@@ -6,6 +6,8 @@ use Rattle.std.specs.Prelude.{option_map, option_and_then, option_to_list, Resul
 use Rattle.std.specs.List.{list_any, ends_with}
 use Rattle.std.specs.Option.{option_map_or}
 use Rattle.std.specs.Ordering.{int_eq}
+use Rattle.jdwp_values.specs.declared.id.ClassId.{ClassId}
+use Rattle.jdwp_values.specs.declared.id.MethodId.{MethodId}
 use Rattle.jdwp_values.specs.declared.id.ThreadId.{ThreadId}
 use Rattle.jdwp_values.specs.declared.class.Line.{Line}
 use Rattle.jdwp_events.specs.declared.kind.EventKind.{EventKind}
@@ -165,11 +167,15 @@ free_id w = free_from w.requests w.requests w.next_request
 abbrev pub known_entries : WorldMethod → List Line
 known_entries row = if is_native row then [] else option_map_or (λ lines. lines) row.lines []
 
--- the line at which a frame stands, where its method has lines
+-- the line of a place in a method's code, where the method has lines
+abbrev pub line_at : World → ClassId → MethodId → ℕ → Option ℤ
+line_at w class method index =
+    option_and_then (λ row. option_map (λ entry. entry.line) (entry_at index (known_entries row)))
+    (method_in w class method)
+
+-- the line at which a frame stands
 abbrev pub line_of_frame : World → WorldFrame → Option ℤ
-line_of_frame w row =
-    option_and_then (λ method. option_map (λ entry. entry.line) (entry_at row.index (known_entries method)))
-    (method_in w row.class row.method)
+line_of_frame w row = line_at w row.class row.method row.index
 
 -- the innermost frame of a thread
 abbrev pub innermost : World → ThreadId → Option WorldFrame

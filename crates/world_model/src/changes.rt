@@ -73,8 +73,8 @@ fn request_copy(alloc: Global, row: &Installed) -> Result<Installed, NoMemory>
     })
 }
 
-// Whether two kinds are one.
-fn same_event(a: EventKind, b: EventKind) -> bool
+/// Whether two kinds are one.
+pub(crate) fn same_event(a: EventKind, b: EventKind) -> bool
     ensures { result ≡ same_event a b }
 {
     a.byte() == b.byte()
@@ -198,8 +198,8 @@ fn slots_with(
     Ok(list)
 }
 
-// Whether a frame is that of a thread with an id.
-fn is_frame(thread: ThreadId, frame: FrameId, row: &WorldFrame) -> bool
+/// Whether a frame is that of a thread with an id.
+pub(crate) fn is_frame(thread: ThreadId, frame: FrameId, row: &WorldFrame) -> bool
     ensures { result ≡ is_frame thread frame row.now }
 {
     row.thread.0 == thread.0 && row.id.0 == frame.0

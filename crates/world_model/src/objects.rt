@@ -41,8 +41,8 @@ fn is_thread(world: &World, id: ObjectId) -> bool
     is_alive(world, ThreadId(id.0))
 }
 
-// The object's id behind the tag of what it is.
-fn reference_to(world: &World, id: ObjectId) -> Option<Value>
+/// The object's id behind the tag of what it is.
+pub(crate) fn reference_to(world: &World, id: ObjectId) -> Option<Value>
     ensures { result ≡ reference_to world.now id }
 {
     if let Some(row) = object_in(world, id) {
@@ -72,8 +72,8 @@ pub(crate) fn reference_in(world: &World, id: ObjectId) -> Option<Value>
     }
 }
 
-// Whether there is an object, of whatever kind.
-fn is_there(world: &World, id: ObjectId) -> bool
+/// Whether there is an object, of whatever kind.
+pub(crate) fn is_there(world: &World, id: ObjectId) -> bool
     ensures { result ≡ is_there world.now id }
 {
     reference_to(world, id).is_some()

@@ -1,7 +1,8 @@
 //! Where the thread of a step stands as its event request is set.
 ghost use Rattle.std.specs.Prelude.{◌≡◌, option_copied, option_map};
 ghost use Rattle.class_tables.specs.Lines.{entry_at};
-ghost use Rattle.world_model.specs.Requests.{known_entries, line_of_frame, innermost, line_of_thread, frames_under};
+ghost use Rattle.world_model.specs.Requests.{known_entries, line_at, line_of_frame, innermost};
+ghost use Rattle.world_model.specs.Requests.{line_of_thread, frames_under};
 ghost use Rattle.world_model.specs.Requests.{step_start};
 ghost use Rattle.world_model.specs.Requests.{thread_of_step, stepping};
 
@@ -10,7 +11,7 @@ use crate::rows::{StepStart, WorldFrame, WorldMethod};
 use crate::world::World;
 use class_tables::entry_at;
 use jdwp_events::Modifier;
-use jdwp_values::{Line, ThreadId};
+use jdwp_values::{ClassId, Line, MethodId, ThreadId};
 
 // The entries of a method's line table: none where it is native or they are not known.
 fn known_entries(row: &WorldMethod) -> &[Line]
@@ -25,16 +26,23 @@ fn known_entries(row: &WorldMethod) -> &[Line]
     }
 }
 
-// The line at which a frame stands, where its method has lines.
+/// The line of a place in a method's code, where the method has lines.
+pub(crate) fn line_at(world: &World, class: ClassId, method: MethodId, index: u64) -> Option<i32>
+    ensures { result ≡ line_at world.now class method index }
+{
+    let method = method_in(world, class, method)?;
+    Some(entry_at(index, known_entries(method))?.line)
+}
+
+// The line at which a frame stands.
 fn line_of_frame(world: &World, row: &WorldFrame) -> Option<i32>
     ensures { result ≡ line_of_frame world.now row.now }
 {
-    let method = method_in(world, row.class, row.method)?;
-    Some(entry_at(row.index, known_entries(method))?.line)
+    line_at(world, row.class, row.method, row.index)
 }
 
-// The innermost frame of a thread.
-fn innermost(world: &World, thread: ThreadId) -> Option<&WorldFrame>
+/// The innermost frame of a thread.
+pub(crate) fn innermost(world: &World, thread: ThreadId) -> Option<&WorldFrame>
     ensures { option_copied result ≡ innermost world.now thread }
 {
     world
@@ -51,8 +59,8 @@ fn line_of_thread(world: &World, thread: ThreadId) -> Option<i32>
     line_of_frame(world, innermost(world, thread)?)
 }
 
-// How many frames a thread has.
-fn frames_under(frames: &[WorldFrame], thread: ThreadId) -> usize
+/// How many frames a thread has.
+pub(crate) fn frames_under(frames: &[WorldFrame], thread: ThreadId) -> usize
     ensures { result ≡ frames_under frames.now thread }
 {
     frames.iter().filter(|row| row.thread.0 == thread.0).count()

@@ -48,8 +48,8 @@ fn referred(value: &Value) -> Option<ObjectId>
     }
 }
 
-// A value as it is kept: a reference behind the tag of what it is.
-fn kept_value(world: &World, value: Value) -> Found<Value>
+/// A value as it is kept: a reference behind the tag of what it is.
+pub(crate) fn kept_value(world: &World, value: Value) -> Found<Value>
     ensures { result ≡ kept_value world.now value }
 {
     match referred(&value) {
