@@ -97,7 +97,7 @@ fn add_field(
     })
 }
 
-fn sizes() -> Result<IdSizes, NoMemory> {
+pub(crate) fn sizes() -> Result<IdSizes, NoMemory> {
     match IdSizes::new([8, 8, 8, 8, 4]) {
         Ok(sizes) => Ok(sizes),
         Err(_) => Err(NoMemory),
@@ -105,7 +105,7 @@ fn sizes() -> Result<IdSizes, NoMemory> {
 }
 
 // Nothing is in this world, and all threads are suspended once.
-fn empty(alloc: Global, sizes: IdSizes) -> World {
+pub(crate) fn empty(alloc: Global, sizes: IdSizes) -> World {
     World {
         sizes,
         classes: List::new(alloc),
@@ -221,7 +221,7 @@ enum Act<'a> {
 }
 
 // A value that goes at the end of a scope is taken apart in the proof of that scope: large ones are let go by a call.
-fn text_of(alloc: Global, replied: Replied) -> Result<String, NoMemory> {
+pub(crate) fn text_of(alloc: Global, replied: Replied) -> Result<String, NoMemory> {
     let text = format!(in alloc; "{replied:?}");
     drop(replied);
     Ok(text?)
