@@ -9,6 +9,12 @@ mod composites;
 #[cfg(test)]
 mod courses;
 #[cfg(test)]
+mod editors;
+#[cfg(test)]
+mod evaluation_failures;
+#[cfg(test)]
+mod evaluations;
+#[cfg(test)]
 mod exception_infos;
 #[cfg(test)]
 mod exceptions;
@@ -21,9 +27,13 @@ mod function_hits;
 #[cfg(test)]
 mod functions;
 #[cfg(test)]
+mod hops;
+#[cfg(test)]
 mod keys;
 #[cfg(test)]
 mod listed_classes;
+#[cfg(test)]
+mod results;
 #[cfg(test)]
 mod sessions;
 #[cfg(test)]
@@ -46,3 +56,7 @@ mod unbound_functions;
 mod values;
 #[cfg(test)]
 mod variables;
+#[cfg(test)]
+mod write_failures;
+#[cfg(test)]
+mod writes;

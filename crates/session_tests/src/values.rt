@@ -91,11 +91,11 @@ const VARIABLES_SHOWN: &[u8] =
     \"seq\":7,\"success\":true,\"type\":\"response\"}";
 
 // A static method has no object (JDWP, StackFrame command set, ThisObject).
-const NO_OBJECT: &[u8] =
+pub(crate) const NO_OBJECT: &[u8] =
     b"\x00\x00\x00\x14\x00\x00\x00\x0c\x80\x00\x00\x4c\x00\x00\x00\x00\x00\x00\x00\x00";
 
 // Variables of all kinds (JDWP, Constants, Tag).
-const KINDS_TOLD: &[u8] =
+pub(crate) const KINDS_TOLD: &[u8] =
     b"\x00\x00\x01\x85\x00\x00\x00\x0d\x80\x00\x00\x00\x00\x00\x00\x00\x00\x00\x0d\x00\x00\x00\x00\x00\x00\x00\x00\x00\
     \x00\x00\x01b\x00\x00\x00\x01B\x00\x00\x00\x06\x00\x00\x00\x00\x00\x00\x00\x00\x00\x00\x00\x00\x00\x00\x00\x01c\x00\
     \x00\x00\x01C\x00\x00\x00\x06\x00\x00\x00\x01\x00\x00\x00\x00\x00\x00\x00\x00\x00\x00\x00\x01d\x00\x00\x00\x01D\x00\
@@ -176,7 +176,9 @@ const VARIABLES: Stage<'static> = Stage {
     ],
 };
 
-// What sessions begin with: a stop, with a frame and its scope; and with its variables.
+// What sessions begin with: a stop, with a frame; with its scope; and with its variables.
+pub(crate) const WITH_FRAME: &[Stage<'static>] = &[ATTACHES, BINDS, STOPS, TRACES];
+
 pub(crate) const WITH_SCOPE: &[Stage<'static>] = &[ATTACHES, BINDS, STOPS, TRACES, SCOPES];
 
 pub(crate) const WITH_VARIABLES: &[Stage<'static>] = &[
