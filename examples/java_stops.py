@@ -26,6 +26,10 @@ runs to its end, which is told, and the client disconnects.
 - An exception that is caught and one that nothing catches are told where they are thrown, with their types, by the
   filters that are set then.
 - A breakpoint of a function stops in each method of that name, and in a class that is loaded later.
+- `evaluate` gives the values of variables, of fields through the classes above, and of elements and lengths. It refuses
+  what isn't there, as a variable out of its scope or a field of a string.
+- `setVariable` writes variables, fields and elements: `variables` shows what was written, and the Java program prints
+  it. What can't be written is refused, and nothing changes.
 - 1,000 hits, each continued, are told one by one, as many as a debugger by the Java Debug Interface counts.
 
 Where there is no JDK, or none with an agent for JDWP, it says so in one line, and its status is 0.
@@ -43,9 +47,10 @@ import time
 from building import plainly, program_of
 from java_machine import DEBUGGER, EXAMPLES, JavaProgram, compiled, hits_by_jdi, lacking
 from over_tcp import Program
-from sessions import RUNS_ON, TERMINATED, Session, begin, bound, ended, failed, go_on, has_to_be, hit, leaves, left
-from sessions import line_of, says, stack, stopped, succeeded
+from sessions import RUNS_ON, STALE, TERMINATED, UNKNOWN, WRONG, Session, ask_of, begin, bound, children, ended, failed
+from sessions import go_on, has_to_be, hit, leaves, left, line_of, says, scope, stack, stopped, succeeded
 from step_cases import STEP_CASES
+from value_cases import VALUE_CASES
 
 COPIES = 6
 ROUNDS = 20
@@ -53,8 +58,6 @@ STOPS = 2
 HITS = 1000
 # A number that no thread, frame or thing gets.
 NOBODY = 2147483647
-# Failures of numbers.
-STALE, UNKNOWN, WRONG = (5, "stale"), (6, "unknownReference"), (7, "wrongKind")
 # How many elements an array has, and windows of it, each with those that it shows: at most 10,000.
 ELEMENTS = 25000
 WINDOWS = (
@@ -331,30 +334,10 @@ def frame(number, printed):
     return {"id": number, "name": name, "line": int(line), "column": 1, "source": {"name": file, "path": path}}
 
 
-def ask_of(session, command, number, **window):
-    """What a response says of the frame or the thing of a number."""
-    return session.ask(command, {"frameId" if command == "scopes" else "variablesReference": number, **window})
-
-
 def are_refused(session, due):
     """What isn't shown, each with its failure."""
     for (command, number), failure in due.items():
         has_to_be("%s of %d" % (command, number), ask_of(session, command, number), failed(*failure))
-
-
-def scope(number):
-    """The variables of a frame, under a number (DAP specification, Types, Scope)."""
-    told = {"expensive": False, "name": "Locals", "presentationHint": "locals", "variablesReference": number}
-    return {"scopes": [told]}
-
-
-def children(session, number, **window):
-    """What a thing holds, all of it or a window (DAP specification, Variables request)."""
-    said = ask_of(session, "variables", number, **window)
-    if not said["success"]:
-        raise ValueError("variables of %d: %r" % (number, said))
-    has_to_be("what it shows", list(said["body"]), ["variables"])
-    return said["body"]["variables"]
 
 
 def windows_of(session, number):
@@ -444,6 +427,7 @@ CASES = (
     (killed_in_a_stop, False, "stops.Between"),
     (a_thousand_hits, True, "stops.Rounds", str(HITS)),
     *STEP_CASES,
+    *VALUE_CASES,
 )
 
 

@@ -9,6 +9,8 @@ from over_tcp import CAPABILITIES, compact, request
 
 TERMINATED = {"event": "terminated"}
 RUNS_ON = {"success": True, "body": {"allThreadsContinued": True}}
+# Failures of numbers.
+STALE, UNKNOWN, WRONG = (5, "stale"), (6, "unknownReference"), (7, "wrongKind")
 
 
 def has_to_be(what, found, due):
@@ -147,6 +149,26 @@ def stack(session, number, **window):
     has_to_be("whether stackTrace succeeds", said["success"], True)
     has_to_be("what it shows", sorted(said["body"]), ["stackFrames", "totalFrames"])
     return said["body"]["stackFrames"], said["body"]["totalFrames"]
+
+
+def ask_of(session, command, number, **window):
+    """What a response says of the frame or the thing of a number."""
+    return session.ask(command, {"frameId" if command == "scopes" else "variablesReference": number, **window})
+
+
+def scope(number):
+    """The variables of a frame, under a number (DAP specification, Types, Scope)."""
+    told = {"expensive": False, "name": "Locals", "presentationHint": "locals", "variablesReference": number}
+    return {"scopes": [told]}
+
+
+def children(session, number, **window):
+    """What a thing holds, all of it or a window (DAP specification, Variables request)."""
+    said = ask_of(session, "variables", number, **window)
+    if not said["success"]:
+        raise ValueError("variables of %d: %r" % (number, said))
+    has_to_be("what it shows", list(said["body"]), ["variables"])
+    return said["body"]["variables"]
 
 
 def ended(java, bridge, session):
