@@ -1,601 +1,214 @@
-use crate::courses::{ATTACHES, Came, Stage, check_stages};
-use crate::frames::SHOWS;
-use crate::stops::{BINDS, STOPS};
-use crate::values::{ASK_THIS, ASK_TYPE, NO_OBJECT, THE_OBJECT, WITH_FRAME};
+use crate::courses::check;
 use std::test::Fail;
-use wire_core::Side;
 
-// The client asks for the value of an expression (DAP specification, Evaluate request).
-pub(crate) const EVALUATE_N: &[u8] =
-    b"Content-Length: 90\r\n\r\n{\"seq\":4,\"type\":\"request\",\"command\":\"evaluate\",\"arguments\":{\
-    \"expression\":\"n\",\"frameId\":1}}";
+const HEADS: &str = r#"
+# a variable: its table is asked for once, and its value each time
+session attaches binds stops traces
+client {"seq":4,"type":"request","command":"evaluate","arguments":{"expression":"n","frameId":1}}
+target reply 12 00000000 00000006 0000000000000000 00000007 "objects" 00000013 "[Ljava/lang/Object;" 0000000a 00000003 0000000000000000 00000001 "a" 00000002 "[I" 0000000c 00000002 0000000000000005 00000001 "n" 00000001 "I" 00000001 00000001 0000000000000000 00000004 "past" 00000001 "J" 00000005 00000004 0000000000000006 00000005 "later" 00000001 "I" 00000003 00000005 0000000000000000 00000004 "this" 0000000e "Lcom/acme/Foo;" 0000000c 00000000
+target reply 13 00000001 49 fffffffb
+client {"seq":5,"type":"request","command":"evaluate","arguments":{"expression":" \tn\t ","frameId":1}}
+target reply 14 00000001 49 00000006
+told {"body":{"result":"-5","variablesReference":0},"command":"evaluate","request_seq":4,"seq":6,"success":true,"type":"response"}
+told {"body":{"result":"6","variablesReference":0},"command":"evaluate","request_seq":5,"seq":7,"success":true,"type":"response"}
+sent command 12 6.2 0000000000000010 0000000000000003
+sent command 13 16.1 0000000000000007 0000000000000040 00000001 00000001 49
+sent command 14 16.1 0000000000000007 0000000000000040 00000001 00000001 49
+sent command 15 1.6
 
-const EVALUATE_THIS: &[u8] =
-    b"Content-Length: 93\r\n\r\n{\"seq\":4,\"type\":\"request\",\"command\":\"evaluate\",\"arguments\":{\
-    \"expression\":\"this\",\"frameId\":1}}";
+# the receiver, which keeps its number
+session attaches binds stops traces
+client {"seq":4,"type":"request","command":"evaluate","arguments":{"expression":"this","frameId":1}}
+target reply 12 4c 0000000000000051
+target reply 13 01 0000000000000010
+client {"seq":5,"type":"request","command":"evaluate","arguments":{"expression":"this","frameId":1}}
+target reply 14 4c 0000000000000051
+target reply 15 01 0000000000000010
+told {"body":{"result":"com.acme.Foo@51","variablesReference":2},"command":"evaluate","request_seq":4,"seq":6,"success":true,"type":"response"}
+told {"body":{"result":"com.acme.Foo@51","variablesReference":2},"command":"evaluate","request_seq":5,"seq":7,"success":true,"type":"response"}
+sent command 12 16.3 0000000000000007 0000000000000040
+sent command 13 9.1 0000000000000051
+sent command 14 16.3 0000000000000007 0000000000000040
+sent command 15 9.1 0000000000000051
+sent command 16 1.6
 
-// Nothing has this name.
-pub(crate) const NO_SUCH_NAME: &[u8] =
-    b"Content-Length: 152\r\n\r\n{\"body\":{\"error\":{\"format\":\"noSuchName\",\"id\":11}},\"command\":\"evaluate\",\
-    \"message\":\"noSuchName\",\"request_seq\":4,\"seq\":6,\"success\":false,\"type\":\"response\"}";
+# a field of the receiver, from its class upwards; what is no variable here and no field is none
+session attaches binds stops traces
+client {"seq":4,"type":"request","command":"evaluate","arguments":{"expression":"id","frameId":1}}
+target reply 12 00000000 00000006 0000000000000000 00000007 "objects" 00000013 "[Ljava/lang/Object;" 0000000a 00000003 0000000000000000 00000001 "a" 00000002 "[I" 0000000c 00000002 0000000000000005 00000001 "n" 00000001 "I" 00000001 00000001 0000000000000000 00000004 "past" 00000001 "J" 00000005 00000004 0000000000000006 00000005 "later" 00000001 "I" 00000003 00000005 0000000000000000 00000004 "this" 0000000e "Lcom/acme/Foo;" 0000000c 00000000
+target reply 13 4c 0000000000000051
+target reply 14 01 0000000000000010
+target reply 15 00000003 0000000000000001 00000002 "id" 00000001 "I" 00000002 0000000000000002 00000004 "made" 00000001 "J" 00000008 0000000000000003 00000004 "name" 00000012 "Ljava/lang/String;" 00000012
+target reply 16 00000001 49 00000005
+client {"seq":5,"type":"request","command":"evaluate","arguments":{"expression":"next","frameId":1}}
+target reply 17 4c 0000000000000051
+target reply 18 01 0000000000000010
+target reply 19 0000000000000020
+target reply 20 00000003 0000000000000004 00000002 "id" 00000001 "J" 00000000 0000000000000005 00000003 "all" 00000001 "I" 00000019 0000000000000006 00000004 "next" 0000000c "Lorg/x/Main;" 00000004
+target reply 21 00000001 4c 0000000000000051
+client {"seq":6,"type":"request","command":"evaluate","arguments":{"expression":"zz","frameId":1}}
+target reply 22 4c 0000000000000051
+target reply 23 01 0000000000000010
+target reply 24 0000000000000000
+client {"seq":7,"type":"request","command":"evaluate","arguments":{"expression":"made","frameId":1}}
+target reply 25 4c 0000000000000051
+target reply 26 01 0000000000000010
+client {"seq":8,"type":"request","command":"evaluate","arguments":{"expression":"all","frameId":1}}
+target reply 27 4c 0000000000000051
+target reply 28 01 0000000000000010
+client {"seq":9,"type":"request","command":"evaluate","arguments":{"expression":"past","frameId":1}}
+target reply 29 4c 0000000000000051
+target reply 30 01 0000000000000010
+client {"seq":10,"type":"request","command":"evaluate","arguments":{"expression":"later","frameId":1}}
+target reply 31 4c 0000000000000051
+target reply 32 01 0000000000000010
+told {"body":{"result":"5","variablesReference":0},"command":"evaluate","request_seq":4,"seq":6,"success":true,"type":"response"}
+told {"body":{"result":"com.acme.Foo@51","variablesReference":2},"command":"evaluate","request_seq":5,"seq":7,"success":true,"type":"response"}
+told {"body":{"error":{"format":"noSuchName","id":11}},"command":"evaluate","message":"noSuchName","request_seq":6,"seq":8,"success":false,"type":"response"}
+told {"body":{"error":{"format":"noSuchName","id":11}},"command":"evaluate","message":"noSuchName","request_seq":7,"seq":9,"success":false,"type":"response"}
+told {"body":{"error":{"format":"noSuchName","id":11}},"command":"evaluate","message":"noSuchName","request_seq":8,"seq":10,"success":false,"type":"response"}
+told {"body":{"error":{"format":"noSuchName","id":11}},"command":"evaluate","message":"noSuchName","request_seq":9,"seq":11,"success":false,"type":"response"}
+told {"body":{"error":{"format":"noSuchName","id":11}},"command":"evaluate","message":"noSuchName","request_seq":10,"seq":12,"success":false,"type":"response"}
+sent command 12 6.2 0000000000000010 0000000000000003
+sent command 13 16.3 0000000000000007 0000000000000040
+sent command 14 9.1 0000000000000051
+sent command 15 2.4 0000000000000010
+sent command 16 9.2 0000000000000051 00000001 0000000000000001
+sent command 17 16.3 0000000000000007 0000000000000040
+sent command 18 9.1 0000000000000051
+sent command 19 3.1 0000000000000010
+sent command 20 2.4 0000000000000020
+sent command 21 9.2 0000000000000051 00000001 0000000000000006
+sent command 22 16.3 0000000000000007 0000000000000040
+sent command 23 9.1 0000000000000051
+sent command 24 3.1 0000000000000020
+sent command 25 16.3 0000000000000007 0000000000000040
+sent command 26 9.1 0000000000000051
+sent command 27 16.3 0000000000000007 0000000000000040
+sent command 28 9.1 0000000000000051
+sent command 29 16.3 0000000000000007 0000000000000040
+sent command 30 9.1 0000000000000051
+sent command 31 16.3 0000000000000007 0000000000000040
+sent command 32 9.1 0000000000000051
+sent command 33 1.6
 
-// The variables of the frame's method are asked for (JDWP, Method command set, VariableTable).
-pub(crate) const ASK_TABLE: &[u8] =
-    b"\x00\x00\x00\x1b\x00\x00\x00\x0c\x00\x06\x02\x00\x00\x00\x00\x00\x00\x00\x10\x00\x00\x00\x00\x00\x00\x00\x03";
+# of some variables of a name the one in the lowest slot, and of these the one that is listed first; names are
+# compared as bytes
+session attaches binds stops traces
+client {"seq":4,"type":"request","command":"evaluate","arguments":{"expression":"x","frameId":1}}
+target reply 12 00000000 00000005 0000000000000000 00000001 "x" 00000001 "J" 0000000c 00000002 0000000000000000 00000001 "x" 00000001 "I" 0000000c 00000001 0000000000000000 00000001 "x" 00000001 "Z" 0000000c 00000001 0000000000000000 00000002 "é" 00000001 "S" 0000000c 00000003 0000000000000000 00000001 ff 00000001 "B" 0000000c 00000004
+target reply 13 00000001 49 00000007
+client {"seq":5,"type":"request","command":"evaluate","arguments":{"expression":"é","frameId":1}}
+target reply 14 00000001 53 fffe
+client {"seq":6,"type":"request","command":"evaluate","arguments":{"expression":"�","frameId":1}}
+target reply 15 4c 0000000000000000
+told {"body":{"result":"7","variablesReference":0},"command":"evaluate","request_seq":4,"seq":6,"success":true,"type":"response"}
+told {"body":{"result":"-2","variablesReference":0},"command":"evaluate","request_seq":5,"seq":7,"success":true,"type":"response"}
+told {"body":{"error":{"format":"noSuchName","id":11}},"command":"evaluate","message":"noSuchName","request_seq":6,"seq":8,"success":false,"type":"response"}
+sent command 12 6.2 0000000000000010 0000000000000003
+sent command 13 16.1 0000000000000007 0000000000000040 00000001 00000001 49
+sent command 14 16.1 0000000000000007 0000000000000040 00000001 00000003 53
+sent command 15 16.3 0000000000000007 0000000000000040
+sent command 16 1.6
 
-pub(crate) const TABLE: &[u8] =
-    b"\x00\x00\x00\xdf\x00\x00\x00\x0c\x80\x00\x00\x00\x00\x00\x00\x00\x00\x00\x06\x00\x00\x00\x00\x00\x00\x00\x00\x00\
-    \x00\x00\x07objects\x00\x00\x00\x13[Ljava/lang/Object;\x00\x00\x00\x0a\x00\x00\x00\x03\x00\x00\x00\x00\x00\x00\x00\
-    \x00\x00\x00\x00\x01a\x00\x00\x00\x02[I\x00\x00\x00\x0c\x00\x00\x00\x02\x00\x00\x00\x00\x00\x00\x00\x05\x00\x00\x00\
-    \x01n\x00\x00\x00\x01I\x00\x00\x00\x01\x00\x00\x00\x01\x00\x00\x00\x00\x00\x00\x00\x00\x00\x00\x00\x04past\x00\x00\
-    \x00\x01J\x00\x00\x00\x05\x00\x00\x00\x04\x00\x00\x00\x00\x00\x00\x00\x06\x00\x00\x00\x05later\x00\x00\x00\x01I\x00\
-    \x00\x00\x03\x00\x00\x00\x05\x00\x00\x00\x00\x00\x00\x00\x00\x00\x00\x00\x04this\x00\x00\x00\x0eLcom/acme/Foo;\x00\
-    \x00\x00\x0c\x00\x00\x00\x00";
+# a static method has no receiver, and so no fields of it
+session attaches binds stops traces
+client {"seq":4,"type":"request","command":"evaluate","arguments":{"expression":"this","frameId":1}}
+target reply 12 4c 0000000000000000
+client {"seq":5,"type":"request","command":"evaluate","arguments":{"expression":"this.id","frameId":1}}
+target reply 13 4c 0000000000000000
+client {"seq":6,"type":"request","command":"evaluate","arguments":{"expression":"id","frameId":1}}
+target reply 14 00000000 00000006 0000000000000000 00000007 "objects" 00000013 "[Ljava/lang/Object;" 0000000a 00000003 0000000000000000 00000001 "a" 00000002 "[I" 0000000c 00000002 0000000000000005 00000001 "n" 00000001 "I" 00000001 00000001 0000000000000000 00000004 "past" 00000001 "J" 00000005 00000004 0000000000000006 00000005 "later" 00000001 "I" 00000003 00000005 0000000000000000 00000004 "this" 0000000e "Lcom/acme/Foo;" 0000000c 00000000
+target reply 15 4c 0000000000000000
+told {"body":{"error":{"format":"noSuchName","id":11}},"command":"evaluate","message":"noSuchName","request_seq":4,"seq":6,"success":false,"type":"response"}
+told {"body":{"error":{"format":"noSuchName","id":11}},"command":"evaluate","message":"noSuchName","request_seq":5,"seq":7,"success":false,"type":"response"}
+told {"body":{"error":{"format":"noSuchName","id":11}},"command":"evaluate","message":"noSuchName","request_seq":6,"seq":8,"success":false,"type":"response"}
+sent command 12 16.3 0000000000000007 0000000000000040
+sent command 13 16.3 0000000000000007 0000000000000040
+sent command 14 6.2 0000000000000010 0000000000000003
+sent command 15 16.3 0000000000000007 0000000000000040
+sent command 16 1.6
+"#;
 
-// The receiver, its class and the fields of that (JDWP, StackFrame command set, ThisObject; JDWP, ObjectReference
-// command set, ReferenceType; JDWP, ReferenceType command set, Fields).
-const ASK_RECEIVER: &[u8] =
-    b"\x00\x00\x00\x1b\x00\x00\x00\x0d\x00\x10\x03\x00\x00\x00\x00\x00\x00\x00\x07\x00\x00\x00\x00\x00\x00\x00\x40";
+const ABSENT: &str = r#"
+# variables, fields and a class above that aren't told are none, and aren't asked for again
+session attaches binds stops traces
+client {"seq":4,"type":"request","command":"evaluate","arguments":{"expression":"n","frameId":1}}
+target error 12 101
+target reply 13 4c 0000000000000051
+target reply 14 01 0000000000000010
+target error 15 21
+target reply 16 0000000000000020
+target reply 17 00000003 0000000000000004 00000002 "id" 00000001 "J" 00000000 0000000000000005 00000003 "all" 00000001 "I" 00000019 0000000000000006 00000004 "next" 0000000c "Lorg/x/Main;" 00000004
+target error 18 21
+client {"seq":5,"type":"request","command":"evaluate","arguments":{"expression":"n","frameId":1}}
+target reply 19 4c 0000000000000051
+target reply 20 01 0000000000000010
+told {"body":{"error":{"format":"noSuchName","id":11}},"command":"evaluate","message":"noSuchName","request_seq":4,"seq":6,"success":false,"type":"response"}
+told {"body":{"error":{"format":"noSuchName","id":11}},"command":"evaluate","message":"noSuchName","request_seq":5,"seq":7,"success":false,"type":"response"}
+sent command 12 6.2 0000000000000010 0000000000000003
+sent command 13 16.3 0000000000000007 0000000000000040
+sent command 14 9.1 0000000000000051
+sent command 15 2.4 0000000000000010
+sent command 16 3.1 0000000000000010
+sent command 17 2.4 0000000000000020
+sent command 18 3.1 0000000000000020
+sent command 19 16.3 0000000000000007 0000000000000040
+sent command 20 9.1 0000000000000051
+sent command 21 1.6
 
-const RECEIVER: &[u8] =
-    b"\x00\x00\x00\x14\x00\x00\x00\x0d\x80\x00\x00\x4c\x00\x00\x00\x00\x00\x00\x00\x51";
+# a class that was met ends the chain
+session attaches binds stops traces
+client {"seq":4,"type":"request","command":"evaluate","arguments":{"expression":"zz","frameId":1}}
+target reply 12 00000000 00000006 0000000000000000 00000007 "objects" 00000013 "[Ljava/lang/Object;" 0000000a 00000003 0000000000000000 00000001 "a" 00000002 "[I" 0000000c 00000002 0000000000000005 00000001 "n" 00000001 "I" 00000001 00000001 0000000000000000 00000004 "past" 00000001 "J" 00000005 00000004 0000000000000006 00000005 "later" 00000001 "I" 00000003 00000005 0000000000000000 00000004 "this" 0000000e "Lcom/acme/Foo;" 0000000c 00000000
+target reply 13 4c 0000000000000051
+target reply 14 01 0000000000000010
+target reply 15 00000003 0000000000000001 00000002 "id" 00000001 "I" 00000002 0000000000000002 00000004 "made" 00000001 "J" 00000008 0000000000000003 00000004 "name" 00000012 "Ljava/lang/String;" 00000012
+target reply 16 0000000000000020
+target reply 17 00000003 0000000000000004 00000002 "id" 00000001 "J" 00000000 0000000000000005 00000003 "all" 00000001 "I" 00000019 0000000000000006 00000004 "next" 0000000c "Lorg/x/Main;" 00000004
+target reply 18 0000000000000010
+told {"body":{"error":{"format":"noSuchName","id":11}},"command":"evaluate","message":"noSuchName","request_seq":4,"seq":6,"success":false,"type":"response"}
+sent command 12 6.2 0000000000000010 0000000000000003
+sent command 13 16.3 0000000000000007 0000000000000040
+sent command 14 9.1 0000000000000051
+sent command 15 2.4 0000000000000010
+sent command 16 3.1 0000000000000010
+sent command 17 2.4 0000000000000020
+sent command 18 3.1 0000000000000020
+sent command 19 1.6
 
-const ASK_ITS_CLASS: &[u8] =
-    b"\x00\x00\x00\x13\x00\x00\x00\x0e\x00\x09\x01\x00\x00\x00\x00\x00\x00\x00\x51";
+# a signature that isn't told is empty
+session attaches binds stops traces
+client {"seq":4,"type":"request","command":"evaluate","arguments":{"expression":"this","frameId":1}}
+target reply 12 4c 0000000000000051
+target reply 13 01 0000000000000020
+target error 14 21
+told {"body":{"result":"@51","variablesReference":2},"command":"evaluate","request_seq":4,"seq":6,"success":true,"type":"response"}
+sent command 12 16.3 0000000000000007 0000000000000040
+sent command 13 9.1 0000000000000051
+sent command 14 2.1 0000000000000020
+sent command 15 1.6
+"#;
 
-const ITS_CLASS: &[u8] =
-    b"\x00\x00\x00\x14\x00\x00\x00\x0e\x80\x00\x00\x01\x00\x00\x00\x00\x00\x00\x00\x10";
-
-const ASK_ITS_FIELDS: &[u8] =
-    b"\x00\x00\x00\x13\x00\x00\x00\x0f\x00\x02\x04\x00\x00\x00\x00\x00\x00\x00\x10";
-
-const ITS_FIELDS: &[u8] =
-    b"\x00\x00\x00\x69\x00\x00\x00\x0f\x80\x00\x00\x00\x00\x00\x03\x00\x00\x00\x00\x00\x00\x00\x01\x00\x00\x00\x02\
-    id\x00\x00\x00\x01I\x00\x00\x00\x02\x00\x00\x00\x00\x00\x00\x00\x02\x00\x00\x00\x04made\x00\x00\x00\x01J\x00\x00\
-    \x00\x08\x00\x00\x00\x00\x00\x00\x00\x03\x00\x00\x00\x04name\x00\x00\x00\x12Ljava/lang/String;\x00\x00\x00\x12";
-
-const HEADS: &[Stage<'static>] = &[
-    // a variable: its table is asked for once, and its value each time
-    Stage {
-        steps: &[
-            Came::Bytes(Side::Client, EVALUATE_N),
-            Came::Bytes(Side::Target, TABLE),
-            Came::Bytes(
-                Side::Target,
-                b"\x00\x00\x00\x14\x00\x00\x00\x0d\x80\x00\x00\x00\x00\x00\x01\x49\xff\xff\xff\xfb",
-            ),
-            Came::Bytes(
-                Side::Client,
-                b"Content-Length: 96\r\n\r\n{\"seq\":5,\"type\":\"request\",\"command\":\"evaluate\",\"arguments\":{\
-                \"expression\":\" \\tn\\t \",\"frameId\":1}}",
-            ),
-            Came::Bytes(
-                Side::Target,
-                b"\x00\x00\x00\x14\x00\x00\x00\x0e\x80\x00\x00\x00\x00\x00\x01\x49\x00\x00\x00\x06",
-            ),
-        ],
-        told: &[
-            b"Content-Length: 125\r\n\r\n{\"body\":{\"result\":\"-5\",\"variablesReference\":0},\
-            \"command\":\"evaluate\",\"request_seq\":4,\"seq\":6,\"success\":true,\"type\":\"response\"}",
-            b"Content-Length: 124\r\n\r\n{\"body\":{\"result\":\"6\",\"variablesReference\":0},\
-            \"command\":\"evaluate\",\"request_seq\":5,\"seq\":7,\"success\":true,\"type\":\"response\"}",
-        ],
-        sent: &[
-            ASK_TABLE,
-            b"\x00\x00\x00\x24\x00\x00\x00\x0d\x00\x10\x01\x00\x00\x00\x00\x00\x00\x00\x07\x00\x00\x00\x00\x00\x00\x00\
-            \x40\x00\x00\x00\x01\x00\x00\x00\x01\x49",
-            b"\x00\x00\x00\x24\x00\x00\x00\x0e\x00\x10\x01\x00\x00\x00\x00\x00\x00\x00\x07\x00\x00\x00\x00\x00\x00\x00\
-            \x40\x00\x00\x00\x01\x00\x00\x00\x01\x49",
-            b"\x00\x00\x00\x0b\x00\x00\x00\x0f\x00\x01\x06",
-        ],
-    },
-    // the receiver, which keeps its number
-    Stage {
-        steps: &[
-            Came::Bytes(Side::Client, EVALUATE_THIS),
-            Came::Bytes(Side::Target, THE_OBJECT),
-            Came::Bytes(
-                Side::Target,
-                b"\x00\x00\x00\x14\x00\x00\x00\x0d\x80\x00\x00\x01\x00\x00\x00\x00\x00\x00\x00\x10",
-            ),
-            Came::Bytes(
-                Side::Client,
-                b"Content-Length: 93\r\n\r\n{\"seq\":5,\"type\":\"request\",\"command\":\"evaluate\",\"arguments\":{\
-                \"expression\":\"this\",\"frameId\":1}}",
-            ),
-            Came::Bytes(
-                Side::Target,
-                b"\x00\x00\x00\x14\x00\x00\x00\x0e\x80\x00\x00\x4c\x00\x00\x00\x00\x00\x00\x00\x51",
-            ),
-            Came::Bytes(
-                Side::Target,
-                b"\x00\x00\x00\x14\x00\x00\x00\x0f\x80\x00\x00\x01\x00\x00\x00\x00\x00\x00\x00\x10",
-            ),
-        ],
-        told: &[
-            b"Content-Length: 138\r\n\r\n{\"body\":{\"result\":\"com.acme.Foo@51\",\"variablesReference\":2},\
-            \"command\":\"evaluate\",\"request_seq\":4,\"seq\":6,\"success\":true,\"type\":\"response\"}",
-            b"Content-Length: 138\r\n\r\n{\"body\":{\"result\":\"com.acme.Foo@51\",\"variablesReference\":2},\
-            \"command\":\"evaluate\",\"request_seq\":5,\"seq\":7,\"success\":true,\"type\":\"response\"}",
-        ],
-        sent: &[
-            ASK_THIS,
-            b"\x00\x00\x00\x13\x00\x00\x00\x0d\x00\x09\x01\x00\x00\x00\x00\x00\x00\x00\x51",
-            b"\x00\x00\x00\x1b\x00\x00\x00\x0e\x00\x10\x03\x00\x00\x00\x00\x00\x00\x00\x07\x00\x00\x00\x00\x00\x00\x00\
-            \x40",
-            ASK_TYPE,
-            b"\x00\x00\x00\x0b\x00\x00\x00\x10\x00\x01\x06",
-        ],
-    },
-    // a field of the receiver, from its class upwards; what is no variable here and no field is none
-    Stage {
-        steps: &[
-            Came::Bytes(
-                Side::Client,
-                b"Content-Length: 91\r\n\r\n{\"seq\":4,\"type\":\"request\",\"command\":\"evaluate\",\"arguments\":{\
-                \"expression\":\"id\",\"frameId\":1}}",
-            ),
-            Came::Bytes(Side::Target, TABLE),
-            Came::Bytes(Side::Target, RECEIVER),
-            Came::Bytes(Side::Target, ITS_CLASS),
-            Came::Bytes(Side::Target, ITS_FIELDS),
-            Came::Bytes(
-                Side::Target,
-                b"\x00\x00\x00\x14\x00\x00\x00\x10\x80\x00\x00\x00\x00\x00\x01\x49\x00\x00\x00\x05",
-            ),
-            Came::Bytes(
-                Side::Client,
-                b"Content-Length: 93\r\n\r\n{\"seq\":5,\"type\":\"request\",\"command\":\"evaluate\",\"arguments\":{\
-                \"expression\":\"next\",\"frameId\":1}}",
-            ),
-            Came::Bytes(
-                Side::Target,
-                b"\x00\x00\x00\x14\x00\x00\x00\x11\x80\x00\x00\x4c\x00\x00\x00\x00\x00\x00\x00\x51",
-            ),
-            Came::Bytes(
-                Side::Target,
-                b"\x00\x00\x00\x14\x00\x00\x00\x12\x80\x00\x00\x01\x00\x00\x00\x00\x00\x00\x00\x10",
-            ),
-            Came::Bytes(
-                Side::Target,
-                b"\x00\x00\x00\x13\x00\x00\x00\x13\x80\x00\x00\x00\x00\x00\x00\x00\x00\x00\x20",
-            ),
-            Came::Bytes(
-                Side::Target,
-                b"\x00\x00\x00\x62\x00\x00\x00\x14\x80\x00\x00\x00\x00\x00\x03\x00\x00\x00\x00\x00\x00\x00\x04\x00\x00\
-                \x00\x02id\x00\x00\x00\x01J\x00\x00\x00\x00\x00\x00\x00\x00\x00\x00\x00\x05\x00\x00\x00\x03all\x00\x00\
-                \x00\x01I\x00\x00\x00\x19\x00\x00\x00\x00\x00\x00\x00\x06\x00\x00\x00\x04next\x00\x00\x00\x0c\
-                Lorg/x/Main;\x00\x00\x00\x04",
-            ),
-            Came::Bytes(
-                Side::Target,
-                b"\x00\x00\x00\x18\x00\x00\x00\x15\x80\x00\x00\x00\x00\x00\x01\x4c\x00\x00\x00\x00\x00\x00\x00\x51",
-            ),
-            Came::Bytes(
-                Side::Client,
-                b"Content-Length: 91\r\n\r\n{\"seq\":6,\"type\":\"request\",\"command\":\"evaluate\",\"arguments\":{\
-                \"expression\":\"zz\",\"frameId\":1}}",
-            ),
-            Came::Bytes(
-                Side::Target,
-                b"\x00\x00\x00\x14\x00\x00\x00\x16\x80\x00\x00\x4c\x00\x00\x00\x00\x00\x00\x00\x51",
-            ),
-            Came::Bytes(
-                Side::Target,
-                b"\x00\x00\x00\x14\x00\x00\x00\x17\x80\x00\x00\x01\x00\x00\x00\x00\x00\x00\x00\x10",
-            ),
-            Came::Bytes(
-                Side::Target,
-                b"\x00\x00\x00\x13\x00\x00\x00\x18\x80\x00\x00\x00\x00\x00\x00\x00\x00\x00\x00",
-            ),
-            Came::Bytes(
-                Side::Client,
-                b"Content-Length: 93\r\n\r\n{\"seq\":7,\"type\":\"request\",\"command\":\"evaluate\",\"arguments\":{\
-                \"expression\":\"made\",\"frameId\":1}}",
-            ),
-            Came::Bytes(
-                Side::Target,
-                b"\x00\x00\x00\x14\x00\x00\x00\x19\x80\x00\x00\x4c\x00\x00\x00\x00\x00\x00\x00\x51",
-            ),
-            Came::Bytes(
-                Side::Target,
-                b"\x00\x00\x00\x14\x00\x00\x00\x1a\x80\x00\x00\x01\x00\x00\x00\x00\x00\x00\x00\x10",
-            ),
-            Came::Bytes(
-                Side::Client,
-                b"Content-Length: 92\r\n\r\n{\"seq\":8,\"type\":\"request\",\"command\":\"evaluate\",\"arguments\":{\
-                \"expression\":\"all\",\"frameId\":1}}",
-            ),
-            Came::Bytes(
-                Side::Target,
-                b"\x00\x00\x00\x14\x00\x00\x00\x1b\x80\x00\x00\x4c\x00\x00\x00\x00\x00\x00\x00\x51",
-            ),
-            Came::Bytes(
-                Side::Target,
-                b"\x00\x00\x00\x14\x00\x00\x00\x1c\x80\x00\x00\x01\x00\x00\x00\x00\x00\x00\x00\x10",
-            ),
-            Came::Bytes(
-                Side::Client,
-                b"Content-Length: 93\r\n\r\n{\"seq\":9,\"type\":\"request\",\"command\":\"evaluate\",\"arguments\":{\
-                \"expression\":\"past\",\"frameId\":1}}",
-            ),
-            Came::Bytes(
-                Side::Target,
-                b"\x00\x00\x00\x14\x00\x00\x00\x1d\x80\x00\x00\x4c\x00\x00\x00\x00\x00\x00\x00\x51",
-            ),
-            Came::Bytes(
-                Side::Target,
-                b"\x00\x00\x00\x14\x00\x00\x00\x1e\x80\x00\x00\x01\x00\x00\x00\x00\x00\x00\x00\x10",
-            ),
-            Came::Bytes(
-                Side::Client,
-                b"Content-Length: 95\r\n\r\n{\"seq\":10,\"type\":\"request\",\"command\":\"evaluate\",\"arguments\":{\
-                \"expression\":\"later\",\"frameId\":1}}",
-            ),
-            Came::Bytes(
-                Side::Target,
-                b"\x00\x00\x00\x14\x00\x00\x00\x1f\x80\x00\x00\x4c\x00\x00\x00\x00\x00\x00\x00\x51",
-            ),
-            Came::Bytes(
-                Side::Target,
-                b"\x00\x00\x00\x14\x00\x00\x00\x20\x80\x00\x00\x01\x00\x00\x00\x00\x00\x00\x00\x10",
-            ),
-        ],
-        told: &[
-            b"Content-Length: 124\r\n\r\n{\"body\":{\"result\":\"5\",\"variablesReference\":0},\
-            \"command\":\"evaluate\",\"request_seq\":4,\"seq\":6,\"success\":true,\"type\":\"response\"}",
-            b"Content-Length: 138\r\n\r\n{\"body\":{\"result\":\"com.acme.Foo@51\",\"variablesReference\":2},\
-            \"command\":\"evaluate\",\"request_seq\":5,\"seq\":7,\"success\":true,\"type\":\"response\"}",
-            b"Content-Length: 152\r\n\r\n{\"body\":{\"error\":{\"format\":\"noSuchName\",\"id\":11}},\
-            \"command\":\"evaluate\",\"message\":\"noSuchName\",\"request_seq\":6,\"seq\":8,\"success\":false,\
-            \"type\":\"response\"}",
-            b"Content-Length: 152\r\n\r\n{\"body\":{\"error\":{\"format\":\"noSuchName\",\"id\":11}},\
-            \"command\":\"evaluate\",\"message\":\"noSuchName\",\"request_seq\":7,\"seq\":9,\"success\":false,\
-            \"type\":\"response\"}",
-            b"Content-Length: 153\r\n\r\n{\"body\":{\"error\":{\"format\":\"noSuchName\",\"id\":11}},\
-            \"command\":\"evaluate\",\"message\":\"noSuchName\",\"request_seq\":8,\"seq\":10,\"success\":false,\
-            \"type\":\"response\"}",
-            b"Content-Length: 153\r\n\r\n{\"body\":{\"error\":{\"format\":\"noSuchName\",\"id\":11}},\
-            \"command\":\"evaluate\",\"message\":\"noSuchName\",\"request_seq\":9,\"seq\":11,\"success\":false,\
-            \"type\":\"response\"}",
-            b"Content-Length: 154\r\n\r\n{\"body\":{\"error\":{\"format\":\"noSuchName\",\"id\":11}},\
-            \"command\":\"evaluate\",\"message\":\"noSuchName\",\"request_seq\":10,\"seq\":12,\"success\":false,\
-            \"type\":\"response\"}",
-        ],
-        sent: &[
-            ASK_TABLE,
-            ASK_RECEIVER,
-            ASK_ITS_CLASS,
-            ASK_ITS_FIELDS,
-            b"\x00\x00\x00\x1f\x00\x00\x00\x10\x00\x09\x02\x00\x00\x00\x00\x00\x00\x00\x51\x00\x00\x00\x01\x00\x00\x00\
-            \x00\x00\x00\x00\x01",
-            b"\x00\x00\x00\x1b\x00\x00\x00\x11\x00\x10\x03\x00\x00\x00\x00\x00\x00\x00\x07\x00\x00\x00\x00\x00\x00\x00\
-            \x40",
-            b"\x00\x00\x00\x13\x00\x00\x00\x12\x00\x09\x01\x00\x00\x00\x00\x00\x00\x00\x51",
-            b"\x00\x00\x00\x13\x00\x00\x00\x13\x00\x03\x01\x00\x00\x00\x00\x00\x00\x00\x10",
-            b"\x00\x00\x00\x13\x00\x00\x00\x14\x00\x02\x04\x00\x00\x00\x00\x00\x00\x00\x20",
-            b"\x00\x00\x00\x1f\x00\x00\x00\x15\x00\x09\x02\x00\x00\x00\x00\x00\x00\x00\x51\x00\x00\x00\x01\x00\x00\x00\
-            \x00\x00\x00\x00\x06",
-            b"\x00\x00\x00\x1b\x00\x00\x00\x16\x00\x10\x03\x00\x00\x00\x00\x00\x00\x00\x07\x00\x00\x00\x00\x00\x00\x00\
-            \x40",
-            b"\x00\x00\x00\x13\x00\x00\x00\x17\x00\x09\x01\x00\x00\x00\x00\x00\x00\x00\x51",
-            b"\x00\x00\x00\x13\x00\x00\x00\x18\x00\x03\x01\x00\x00\x00\x00\x00\x00\x00\x20",
-            b"\x00\x00\x00\x1b\x00\x00\x00\x19\x00\x10\x03\x00\x00\x00\x00\x00\x00\x00\x07\x00\x00\x00\x00\x00\x00\x00\
-            \x40",
-            b"\x00\x00\x00\x13\x00\x00\x00\x1a\x00\x09\x01\x00\x00\x00\x00\x00\x00\x00\x51",
-            b"\x00\x00\x00\x1b\x00\x00\x00\x1b\x00\x10\x03\x00\x00\x00\x00\x00\x00\x00\x07\x00\x00\x00\x00\x00\x00\x00\
-            \x40",
-            b"\x00\x00\x00\x13\x00\x00\x00\x1c\x00\x09\x01\x00\x00\x00\x00\x00\x00\x00\x51",
-            b"\x00\x00\x00\x1b\x00\x00\x00\x1d\x00\x10\x03\x00\x00\x00\x00\x00\x00\x00\x07\x00\x00\x00\x00\x00\x00\x00\
-            \x40",
-            b"\x00\x00\x00\x13\x00\x00\x00\x1e\x00\x09\x01\x00\x00\x00\x00\x00\x00\x00\x51",
-            b"\x00\x00\x00\x1b\x00\x00\x00\x1f\x00\x10\x03\x00\x00\x00\x00\x00\x00\x00\x07\x00\x00\x00\x00\x00\x00\x00\
-            \x40",
-            b"\x00\x00\x00\x13\x00\x00\x00\x20\x00\x09\x01\x00\x00\x00\x00\x00\x00\x00\x51",
-            b"\x00\x00\x00\x0b\x00\x00\x00\x21\x00\x01\x06",
-        ],
-    },
-    // of some variables of a name the one in the lowest slot, and of these the one that is listed first; names are
-    // compared as bytes
-    Stage {
-        steps: &[
-            Came::Bytes(
-                Side::Client,
-                b"Content-Length: 90\r\n\r\n{\"seq\":4,\"type\":\"request\",\"command\":\"evaluate\",\"arguments\":{\
-                \"expression\":\"x\",\"frameId\":1}}",
-            ),
-            Came::Bytes(
-                Side::Target,
-                b"\x00\x00\x00\x96\x00\x00\x00\x0c\x80\x00\x00\x00\x00\x00\x00\x00\x00\x00\x05\x00\x00\x00\x00\x00\x00\
-                \x00\x00\x00\x00\x00\x01x\x00\x00\x00\x01J\x00\x00\x00\x0c\x00\x00\x00\x02\x00\x00\x00\x00\x00\x00\x00\
-                \x00\x00\x00\x00\x01x\x00\x00\x00\x01I\x00\x00\x00\x0c\x00\x00\x00\x01\x00\x00\x00\x00\x00\x00\x00\x00\
-                \x00\x00\x00\x01x\x00\x00\x00\x01Z\x00\x00\x00\x0c\x00\x00\x00\x01\x00\x00\x00\x00\x00\x00\x00\x00\x00\
-                \x00\x00\x02\xc3\xa9\x00\x00\x00\x01S\x00\x00\x00\x0c\x00\x00\x00\x03\x00\x00\x00\x00\x00\x00\x00\x00\
-                \x00\x00\x00\x01\xff\x00\x00\x00\x01B\x00\x00\x00\x0c\x00\x00\x00\x04",
-            ),
-            Came::Bytes(
-                Side::Target,
-                b"\x00\x00\x00\x14\x00\x00\x00\x0d\x80\x00\x00\x00\x00\x00\x01\x49\x00\x00\x00\x07",
-            ),
-            Came::Bytes(
-                Side::Client,
-                b"Content-Length: 91\r\n\r\n{\"seq\":5,\"type\":\"request\",\"command\":\"evaluate\",\"arguments\":{\
-                \"expression\":\"\xc3\xa9\",\"frameId\":1}}",
-            ),
-            Came::Bytes(
-                Side::Target,
-                b"\x00\x00\x00\x12\x00\x00\x00\x0e\x80\x00\x00\x00\x00\x00\x01\x53\xff\xfe",
-            ),
-            Came::Bytes(
-                Side::Client,
-                b"Content-Length: 92\r\n\r\n{\"seq\":6,\"type\":\"request\",\"command\":\"evaluate\",\"arguments\":{\
-                \"expression\":\"\xef\xbf\xbd\",\"frameId\":1}}",
-            ),
-            Came::Bytes(
-                Side::Target,
-                b"\x00\x00\x00\x14\x00\x00\x00\x0f\x80\x00\x00\x4c\x00\x00\x00\x00\x00\x00\x00\x00",
-            ),
-        ],
-        told: &[
-            b"Content-Length: 124\r\n\r\n{\"body\":{\"result\":\"7\",\"variablesReference\":0},\
-            \"command\":\"evaluate\",\"request_seq\":4,\"seq\":6,\"success\":true,\"type\":\"response\"}",
-            b"Content-Length: 125\r\n\r\n{\"body\":{\"result\":\"-2\",\"variablesReference\":0},\
-            \"command\":\"evaluate\",\"request_seq\":5,\"seq\":7,\"success\":true,\"type\":\"response\"}",
-            b"Content-Length: 152\r\n\r\n{\"body\":{\"error\":{\"format\":\"noSuchName\",\"id\":11}},\
-            \"command\":\"evaluate\",\"message\":\"noSuchName\",\"request_seq\":6,\"seq\":8,\"success\":false,\
-            \"type\":\"response\"}",
-        ],
-        sent: &[
-            ASK_TABLE,
-            b"\x00\x00\x00\x24\x00\x00\x00\x0d\x00\x10\x01\x00\x00\x00\x00\x00\x00\x00\x07\x00\x00\x00\x00\x00\x00\x00\
-            \x40\x00\x00\x00\x01\x00\x00\x00\x01\x49",
-            b"\x00\x00\x00\x24\x00\x00\x00\x0e\x00\x10\x01\x00\x00\x00\x00\x00\x00\x00\x07\x00\x00\x00\x00\x00\x00\x00\
-            \x40\x00\x00\x00\x01\x00\x00\x00\x03\x53",
-            b"\x00\x00\x00\x1b\x00\x00\x00\x0f\x00\x10\x03\x00\x00\x00\x00\x00\x00\x00\x07\x00\x00\x00\x00\x00\x00\x00\
-            \x40",
-            b"\x00\x00\x00\x0b\x00\x00\x00\x10\x00\x01\x06",
-        ],
-    },
-    // a static method has no receiver, and so no fields of it
-    Stage {
-        steps: &[
-            Came::Bytes(Side::Client, EVALUATE_THIS),
-            Came::Bytes(Side::Target, NO_OBJECT),
-            Came::Bytes(
-                Side::Client,
-                b"Content-Length: 96\r\n\r\n{\"seq\":5,\"type\":\"request\",\"command\":\"evaluate\",\"arguments\":{\
-                \"expression\":\"this.id\",\"frameId\":1}}",
-            ),
-            Came::Bytes(
-                Side::Target,
-                b"\x00\x00\x00\x14\x00\x00\x00\x0d\x80\x00\x00\x4c\x00\x00\x00\x00\x00\x00\x00\x00",
-            ),
-            Came::Bytes(
-                Side::Client,
-                b"Content-Length: 91\r\n\r\n{\"seq\":6,\"type\":\"request\",\"command\":\"evaluate\",\"arguments\":{\
-                \"expression\":\"id\",\"frameId\":1}}",
-            ),
-            Came::Bytes(
-                Side::Target,
-                b"\x00\x00\x00\xdf\x00\x00\x00\x0e\x80\x00\x00\x00\x00\x00\x00\x00\x00\x00\x06\x00\x00\x00\x00\x00\x00\
-                \x00\x00\x00\x00\x00\x07objects\x00\x00\x00\x13[Ljava/lang/Object;\x00\x00\x00\x0a\x00\x00\x00\x03\x00\
-                \x00\x00\x00\x00\x00\x00\x00\x00\x00\x00\x01a\x00\x00\x00\x02[I\x00\x00\x00\x0c\x00\x00\x00\x02\x00\x00\
-                \x00\x00\x00\x00\x00\x05\x00\x00\x00\x01n\x00\x00\x00\x01I\x00\x00\x00\x01\x00\x00\x00\x01\x00\x00\x00\
-                \x00\x00\x00\x00\x00\x00\x00\x00\x04past\x00\x00\x00\x01J\x00\x00\x00\x05\x00\x00\x00\x04\x00\x00\x00\
-                \x00\x00\x00\x00\x06\x00\x00\x00\x05later\x00\x00\x00\x01I\x00\x00\x00\x03\x00\x00\x00\x05\x00\x00\x00\
-                \x00\x00\x00\x00\x00\x00\x00\x00\x04this\x00\x00\x00\x0eLcom/acme/Foo;\x00\x00\x00\x0c\x00\x00\x00\
-                \x00",
-            ),
-            Came::Bytes(
-                Side::Target,
-                b"\x00\x00\x00\x14\x00\x00\x00\x0f\x80\x00\x00\x4c\x00\x00\x00\x00\x00\x00\x00\x00",
-            ),
-        ],
-        told: &[
-            NO_SUCH_NAME,
-            b"Content-Length: 152\r\n\r\n{\"body\":{\"error\":{\"format\":\"noSuchName\",\"id\":11}},\
-            \"command\":\"evaluate\",\"message\":\"noSuchName\",\"request_seq\":5,\"seq\":7,\"success\":false,\
-            \"type\":\"response\"}",
-            b"Content-Length: 152\r\n\r\n{\"body\":{\"error\":{\"format\":\"noSuchName\",\"id\":11}},\
-            \"command\":\"evaluate\",\"message\":\"noSuchName\",\"request_seq\":6,\"seq\":8,\"success\":false,\
-            \"type\":\"response\"}",
-        ],
-        sent: &[
-            ASK_THIS,
-            ASK_RECEIVER,
-            b"\x00\x00\x00\x1b\x00\x00\x00\x0e\x00\x06\x02\x00\x00\x00\x00\x00\x00\x00\x10\x00\x00\x00\x00\x00\x00\x00\
-            \x03",
-            b"\x00\x00\x00\x1b\x00\x00\x00\x0f\x00\x10\x03\x00\x00\x00\x00\x00\x00\x00\x07\x00\x00\x00\x00\x00\x00\x00\
-            \x40",
-            b"\x00\x00\x00\x0b\x00\x00\x00\x10\x00\x01\x06",
-        ],
-    },
-];
-
-const ABSENT: &[Stage<'static>] = &[
-    // variables, fields and a class above that aren't told are none, and aren't asked for again
-    Stage {
-        steps: &[
-            Came::Bytes(Side::Client, EVALUATE_N),
-            Came::Bytes(
-                Side::Target,
-                b"\x00\x00\x00\x0b\x00\x00\x00\x0c\x80\x00\x65",
-            ),
-            Came::Bytes(Side::Target, RECEIVER),
-            Came::Bytes(Side::Target, ITS_CLASS),
-            Came::Bytes(
-                Side::Target,
-                b"\x00\x00\x00\x0b\x00\x00\x00\x0f\x80\x00\x15",
-            ),
-            Came::Bytes(
-                Side::Target,
-                b"\x00\x00\x00\x13\x00\x00\x00\x10\x80\x00\x00\x00\x00\x00\x00\x00\x00\x00\x20",
-            ),
-            Came::Bytes(
-                Side::Target,
-                b"\x00\x00\x00\x62\x00\x00\x00\x11\x80\x00\x00\x00\x00\x00\x03\x00\x00\x00\x00\x00\x00\x00\x04\x00\x00\
-                \x00\x02id\x00\x00\x00\x01J\x00\x00\x00\x00\x00\x00\x00\x00\x00\x00\x00\x05\x00\x00\x00\x03all\x00\x00\
-                \x00\x01I\x00\x00\x00\x19\x00\x00\x00\x00\x00\x00\x00\x06\x00\x00\x00\x04next\x00\x00\x00\x0c\
-                Lorg/x/Main;\x00\x00\x00\x04",
-            ),
-            Came::Bytes(
-                Side::Target,
-                b"\x00\x00\x00\x0b\x00\x00\x00\x12\x80\x00\x15",
-            ),
-            Came::Bytes(
-                Side::Client,
-                b"Content-Length: 90\r\n\r\n{\"seq\":5,\"type\":\"request\",\"command\":\"evaluate\",\"arguments\":{\
-                \"expression\":\"n\",\"frameId\":1}}",
-            ),
-            Came::Bytes(
-                Side::Target,
-                b"\x00\x00\x00\x14\x00\x00\x00\x13\x80\x00\x00\x4c\x00\x00\x00\x00\x00\x00\x00\x51",
-            ),
-            Came::Bytes(
-                Side::Target,
-                b"\x00\x00\x00\x14\x00\x00\x00\x14\x80\x00\x00\x01\x00\x00\x00\x00\x00\x00\x00\x10",
-            ),
-        ],
-        told: &[
-            NO_SUCH_NAME,
-            b"Content-Length: 152\r\n\r\n{\"body\":{\"error\":{\"format\":\"noSuchName\",\"id\":11}},\
-            \"command\":\"evaluate\",\"message\":\"noSuchName\",\"request_seq\":5,\"seq\":7,\"success\":false,\
-            \"type\":\"response\"}",
-        ],
-        sent: &[
-            ASK_TABLE,
-            ASK_RECEIVER,
-            ASK_ITS_CLASS,
-            ASK_ITS_FIELDS,
-            b"\x00\x00\x00\x13\x00\x00\x00\x10\x00\x03\x01\x00\x00\x00\x00\x00\x00\x00\x10",
-            b"\x00\x00\x00\x13\x00\x00\x00\x11\x00\x02\x04\x00\x00\x00\x00\x00\x00\x00\x20",
-            b"\x00\x00\x00\x13\x00\x00\x00\x12\x00\x03\x01\x00\x00\x00\x00\x00\x00\x00\x20",
-            b"\x00\x00\x00\x1b\x00\x00\x00\x13\x00\x10\x03\x00\x00\x00\x00\x00\x00\x00\x07\x00\x00\x00\x00\x00\x00\x00\
-            \x40",
-            b"\x00\x00\x00\x13\x00\x00\x00\x14\x00\x09\x01\x00\x00\x00\x00\x00\x00\x00\x51",
-            b"\x00\x00\x00\x0b\x00\x00\x00\x15\x00\x01\x06",
-        ],
-    },
-    // a class that was met ends the chain
-    Stage {
-        steps: &[
-            Came::Bytes(
-                Side::Client,
-                b"Content-Length: 91\r\n\r\n{\"seq\":4,\"type\":\"request\",\"command\":\"evaluate\",\"arguments\":{\
-                \"expression\":\"zz\",\"frameId\":1}}",
-            ),
-            Came::Bytes(Side::Target, TABLE),
-            Came::Bytes(Side::Target, RECEIVER),
-            Came::Bytes(Side::Target, ITS_CLASS),
-            Came::Bytes(Side::Target, ITS_FIELDS),
-            Came::Bytes(
-                Side::Target,
-                b"\x00\x00\x00\x13\x00\x00\x00\x10\x80\x00\x00\x00\x00\x00\x00\x00\x00\x00\x20",
-            ),
-            Came::Bytes(
-                Side::Target,
-                b"\x00\x00\x00\x62\x00\x00\x00\x11\x80\x00\x00\x00\x00\x00\x03\x00\x00\x00\x00\x00\x00\x00\x04\x00\x00\
-                \x00\x02id\x00\x00\x00\x01J\x00\x00\x00\x00\x00\x00\x00\x00\x00\x00\x00\x05\x00\x00\x00\x03all\x00\x00\
-                \x00\x01I\x00\x00\x00\x19\x00\x00\x00\x00\x00\x00\x00\x06\x00\x00\x00\x04next\x00\x00\x00\x0c\
-                Lorg/x/Main;\x00\x00\x00\x04",
-            ),
-            Came::Bytes(
-                Side::Target,
-                b"\x00\x00\x00\x13\x00\x00\x00\x12\x80\x00\x00\x00\x00\x00\x00\x00\x00\x00\x10",
-            ),
-        ],
-        told: &[NO_SUCH_NAME],
-        sent: &[
-            ASK_TABLE,
-            ASK_RECEIVER,
-            ASK_ITS_CLASS,
-            ASK_ITS_FIELDS,
-            b"\x00\x00\x00\x13\x00\x00\x00\x10\x00\x03\x01\x00\x00\x00\x00\x00\x00\x00\x10",
-            b"\x00\x00\x00\x13\x00\x00\x00\x11\x00\x02\x04\x00\x00\x00\x00\x00\x00\x00\x20",
-            b"\x00\x00\x00\x13\x00\x00\x00\x12\x00\x03\x01\x00\x00\x00\x00\x00\x00\x00\x20",
-            b"\x00\x00\x00\x0b\x00\x00\x00\x13\x00\x01\x06",
-        ],
-    },
-    // a signature that isn't told is empty
-    Stage {
-        steps: &[
-            Came::Bytes(Side::Client, EVALUATE_THIS),
-            Came::Bytes(Side::Target, THE_OBJECT),
-            Came::Bytes(
-                Side::Target,
-                b"\x00\x00\x00\x14\x00\x00\x00\x0d\x80\x00\x00\x01\x00\x00\x00\x00\x00\x00\x00\x20",
-            ),
-            Came::Bytes(
-                Side::Target,
-                b"\x00\x00\x00\x0b\x00\x00\x00\x0e\x80\x00\x15",
-            ),
-        ],
-        told: &[
-            b"Content-Length: 126\r\n\r\n{\"body\":{\"result\":\"@51\",\"variablesReference\":2},\
-            \"command\":\"evaluate\",\"request_seq\":4,\"seq\":6,\"success\":true,\"type\":\"response\"}",
-        ],
-        sent: &[
-            ASK_THIS,
-            b"\x00\x00\x00\x13\x00\x00\x00\x0d\x00\x09\x01\x00\x00\x00\x00\x00\x00\x00\x51",
-            b"\x00\x00\x00\x13\x00\x00\x00\x0e\x00\x02\x01\x00\x00\x00\x00\x00\x00\x00\x20",
-            b"\x00\x00\x00\x0b\x00\x00\x00\x0f\x00\x01\x06",
-        ],
-    },
-];
-
-const IN_CALLER: &[Stage<'static>] = &[
-    // in the frame of the caller
-    Stage {
-        steps: &[
-            Came::Bytes(
-                Side::Client,
-                b"Content-Length: 93\r\n\r\n{\"seq\":4,\"type\":\"request\",\"command\":\"evaluate\",\"arguments\":{\
-                \"expression\":\"args\",\"frameId\":2}}",
-            ),
-            Came::Bytes(
-                Side::Target,
-                b"\x00\x00\x00\x42\x00\x00\x00\x10\x80\x00\x00\x00\x00\x00\x00\x00\x00\x00\x01\x00\x00\x00\x00\x00\x00\
-                \x00\x00\x00\x00\x00\x04args\x00\x00\x00\x13[Ljava/lang/String;\x00\x00\x00\x0a\x00\x00\x00\x00",
-            ),
-            Came::Bytes(
-                Side::Target,
-                b"\x00\x00\x00\x18\x00\x00\x00\x11\x80\x00\x00\x00\x00\x00\x01\x5b\x00\x00\x00\x00\x00\x00\x00\x00",
-            ),
-            Came::Bytes(
-                Side::Client,
-                b"Content-Length: 93\r\n\r\n{\"seq\":5,\"type\":\"request\",\"command\":\"evaluate\",\"arguments\":{\
-                \"expression\":\"this\",\"frameId\":2}}",
-            ),
-            Came::Bytes(
-                Side::Target,
-                b"\x00\x00\x00\x14\x00\x00\x00\x12\x80\x00\x00\x4c\x00\x00\x00\x00\x00\x00\x00\x00",
-            ),
-        ],
-        told: &[
-            b"Content-Length: 127\r\n\r\n{\"body\":{\"result\":\"null\",\"variablesReference\":0},\
-            \"command\":\"evaluate\",\"request_seq\":4,\"seq\":6,\"success\":true,\"type\":\"response\"}",
-            b"Content-Length: 152\r\n\r\n{\"body\":{\"error\":{\"format\":\"noSuchName\",\"id\":11}},\
-            \"command\":\"evaluate\",\"message\":\"noSuchName\",\"request_seq\":5,\"seq\":7,\"success\":false,\
-            \"type\":\"response\"}",
-        ],
-        sent: &[
-            b"\x00\x00\x00\x1b\x00\x00\x00\x10\x00\x06\x02\x00\x00\x00\x00\x00\x00\x00\x20\x00\x00\x00\x00\x00\x00\x00\
-            \x04",
-            b"\x00\x00\x00\x24\x00\x00\x00\x11\x00\x10\x01\x00\x00\x00\x00\x00\x00\x00\x07\x00\x00\x00\x00\x00\x00\x00\
-            \x41\x00\x00\x00\x01\x00\x00\x00\x00\x5b",
-            b"\x00\x00\x00\x1b\x00\x00\x00\x12\x00\x10\x03\x00\x00\x00\x00\x00\x00\x00\x07\x00\x00\x00\x00\x00\x00\x00\
-            \x41",
-            b"\x00\x00\x00\x0b\x00\x00\x00\x13\x00\x01\x06",
-        ],
-    },
-];
-
-// The frames of a thread are shown: the upper one under the number 1, its caller's under 2.
-const WITH_CALLER: &[Stage<'static>] = &[ATTACHES, BINDS, STOPS, SHOWS];
+const IN_CALLER: &str = r#"
+# in the frame of the caller
+session attaches binds stops shows
+client {"seq":4,"type":"request","command":"evaluate","arguments":{"expression":"args","frameId":2}}
+target reply 16 00000000 00000001 0000000000000000 00000004 "args" 00000013 "[Ljava/lang/String;" 0000000a 00000000
+target reply 17 00000001 5b 0000000000000000
+client {"seq":5,"type":"request","command":"evaluate","arguments":{"expression":"this","frameId":2}}
+target reply 18 4c 0000000000000000
+told {"body":{"result":"null","variablesReference":0},"command":"evaluate","request_seq":4,"seq":6,"success":true,"type":"response"}
+told {"body":{"error":{"format":"noSuchName","id":11}},"command":"evaluate","message":"noSuchName","request_seq":5,"seq":7,"success":false,"type":"response"}
+sent command 16 6.2 0000000000000020 0000000000000004
+sent command 17 16.1 0000000000000007 0000000000000041 00000001 00000000 5b
+sent command 18 16.3 0000000000000007 0000000000000041
+sent command 19 1.6
+"#;
 
 #[test]
 fn an_expression_begins_with_a_variable_or_a_field(rt: HostRuntime) -> Result<(), Fail> {
-    check_stages(rt.alloc(), WITH_FRAME, HEADS)?;
-    check_stages(rt.alloc(), WITH_FRAME, ABSENT)?;
-    check_stages(rt.alloc(), WITH_CALLER, IN_CALLER)
+    check(rt.alloc(), HEADS)?;
+    check(rt.alloc(), ABSENT)?;
+    check(rt.alloc(), IN_CALLER)
 }

@@ -31,13 +31,15 @@ mod hops;
 #[cfg(test)]
 mod keys;
 #[cfg(test)]
-mod listed_classes;
+mod messages;
 #[cfg(test)]
 mod results;
 #[cfg(test)]
 mod sessions;
 #[cfg(test)]
 mod stack_traces;
+#[cfg(test)]
+mod stages;
 #[cfg(test)]
 mod step_depths;
 #[cfg(test)]

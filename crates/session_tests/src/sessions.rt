@@ -1,987 +1,463 @@
-use crate::courses::{ATTACH, ATTACHES, ATTACHING, Came, Course, SENT_ATTACHED, USUAL, check};
-use dap_frames::FrameFault;
-use jdwp_packets::PacketFault;
-use session_model::{ClientFault, Ending, Limits, TargetFault};
+use crate::courses::check;
 use std::test::Fail;
-use wire_core::Side;
 
-const CAPABILITIES: &[u8] =
-    b"Content-Length: 424\r\n\r\n{\"body\":{\"exceptionBreakpointFilters\":[{\"filter\":\"caught\",\"label\":\"Caught exceptions\"},{\"filter\":\"uncaught\",\"label\":\"Uncaught exceptions\"}],\"supportTerminateDebuggee\":true,\"supportsConfigurationDoneRequest\":true,\"supportsEvaluateForHovers\":true,\"supportsExceptionInfoRequest\":true,\"supportsFunctionBreakpoints\":true,\"supportsSetVariable\":true},\"command\":\"initialize\",\"request_seq\":1,\"seq\":1,\"success\":true,\"type\":\"response\"}";
+const A_CLIENT_ALONE: &str = r#"
+# two requests, each as one frame
+session
+client {"seq":1,"type":"request","command":"initialize","arguments":{"adapterID":"jdwp"}}
+client {"seq":2,"type":"request","command":"disconnect"}
+told {"body":{"exceptionBreakpointFilters":[{"filter":"caught","label":"Caught exceptions"},{"filter":"uncaught","label":"Uncaught exceptions"}],"supportTerminateDebuggee":true,"supportsConfigurationDoneRequest":true,"supportsEvaluateForHovers":true,"supportsExceptionInfoRequest":true,"supportsFunctionBreakpoints":true,"supportsSetVariable":true},"command":"initialize","request_seq":1,"seq":1,"success":true,"type":"response"}
+told {"command":"disconnect","request_seq":2,"seq":2,"success":true,"type":"response"}
+ending Done
 
-const INITIALIZE: &[u8] =
-    b"Content-Length: 82\r\n\r\n{\"seq\":1,\"type\":\"request\",\"command\":\"initialize\",\"arguments\":{\"adapterID\":\"jdwp\"}}";
+# cut in a header, with bytes of the other side in between
+session
+client "Content-Len"
+target 4a445750
+client "gth: 82" 0d0a0d0a '{"seq":1,"type":"request","command":"initialize","arguments":{"adapterID":"jdwp"}}'
+client {"seq":2,"type":"request","command":"disconnect"}
+told {"body":{"exceptionBreakpointFilters":[{"filter":"caught","label":"Caught exceptions"},{"filter":"uncaught","label":"Uncaught exceptions"}],"supportTerminateDebuggee":true,"supportsConfigurationDoneRequest":true,"supportsEvaluateForHovers":true,"supportsExceptionInfoRequest":true,"supportsFunctionBreakpoints":true,"supportsSetVariable":true},"command":"initialize","request_seq":1,"seq":1,"success":true,"type":"response"}
+told {"command":"disconnect","request_seq":2,"seq":2,"success":true,"type":"response"}
+ending Done
 
-const DISCONNECT: &[u8] =
-    b"Content-Length: 49\r\n\r\n{\"seq\":2,\"type\":\"request\",\"command\":\"disconnect\"}";
+# cut inside a character; then the client's stream ends
+session
+client "Content-Length: 41" 0d0a0d0a '{"seq":1,"type":"request","command":"' c3
+client a9 '"}'
+told {"body":{"error":{"format":"unsupported","id":1}},"command":"é","message":"unsupported","request_seq":1,"seq":1,"success":false,"type":"response"}
 
-const DISCONNECTED: &[u8] =
-    b"Content-Length: 81\r\n\r\n{\"command\":\"disconnect\",\"request_seq\":2,\"seq\":2,\"success\":true,\"type\":\"response\"}";
-
-const ATTACH_FAILED: &[u8] =
-    b"Content-Length: 150\r\n\r\n{\"body\":{\"error\":{\"format\":\"targetGone\",\"id\":10}},\"command\":\"attach\",\"message\":\"targetGone\",\"request_seq\":1,\"seq\":1,\"success\":false,\"type\":\"response\"}";
-
-const TERMINATED: &[u8] =
-    b"Content-Length: 45\r\n\r\n{\"event\":\"terminated\",\"seq\":2,\"type\":\"event\"}";
-
-const TERMINATED_THIRD: &[u8] =
-    b"Content-Length: 45\r\n\r\n{\"event\":\"terminated\",\"seq\":3,\"type\":\"event\"}";
-
-const A_CLIENT_ALONE: &[Course<'static>] = &[
-    // two requests, each as one frame
-    Course {
-        first: &[],
-        steps: &[
-            Came::Bytes(Side::Client, INITIALIZE),
-            Came::Bytes(Side::Client, DISCONNECT),
-        ],
-        limits: USUAL,
-        failing: &[],
-        told: &[CAPABILITIES, DISCONNECTED],
-        sent: &[],
-        ending: Ending::Done,
-    },
-    // cut in a header, with bytes of the other side in between
-    Course {
-        first: &[],
-        steps: &[
-            Came::Bytes(Side::Client, b"Content-Len"),
-            Came::Bytes(Side::Target, b"JDWP"),
-            Came::Bytes(
-                Side::Client,
-                b"gth: 82\r\n\r\n{\"seq\":1,\"type\":\"request\",\"command\":\"initialize\",\"arguments\":{\"adapterID\":\"jdwp\"}}",
-            ),
-            Came::Bytes(Side::Client, DISCONNECT),
-        ],
-        limits: USUAL,
-        failing: &[],
-        told: &[CAPABILITIES, DISCONNECTED],
-        sent: &[],
-        ending: Ending::Done,
-    },
-    // cut inside a character; then the client's stream ends
-    Course {
-        first: &[],
-        steps: &[
-            Came::Bytes(
-                Side::Client,
-                b"Content-Length: 41\r\n\r\n{\"seq\":1,\"type\":\"request\",\"command\":\"\xc3",
-            ),
-            Came::Bytes(Side::Client, b"\xa9\"}"),
-        ],
-        limits: USUAL,
-        failing: &[],
-        told: &[
-            b"Content-Length: 147\r\n\r\n{\"body\":{\"error\":{\"format\":\"unsupported\",\"id\":1}},\"command\":\"\xc3\xa9\",\"message\":\"unsupported\",\"request_seq\":1,\"seq\":1,\"success\":false,\"type\":\"response\"}",
-        ],
-        sent: &[],
-        ending: Ending::Left,
-    },
-    // a client that leaves before it attaches
-    Course {
-        first: &[],
-        steps: &[Came::Shut(Side::Client)],
-        limits: USUAL,
-        failing: &[],
-        told: &[],
-        sent: &[],
-        ending: Ending::Left,
-    },
-];
-
-const ATTACHED: &[Course<'static>] = &[
-    // and one that leaves its target to run on
-    Course {
-        first: &[ATTACHES],
-        steps: &[Came::Shut(Side::Client)],
-        limits: USUAL,
-        failing: &[],
-        told: &[],
-        sent: &[b"\x00\x00\x00\x0b\x00\x00\x00\x04\x00\x01\x06"],
-        ending: Ending::Left,
-    },
-    // the target exits, and its stream ends before its reply
-    Course {
-        first: &[ATTACHES],
-        steps: &[
-            Came::Bytes(
-                Side::Client,
-                b"Content-Length: 88\r\n\r\n{\"seq\":2,\"type\":\"request\",\"command\":\"disconnect\",\"arguments\":{\"terminateDebuggee\":true}}",
-            ),
-            Came::Shut(Side::Target),
-        ],
-        limits: USUAL,
-        failing: &[],
-        told: &[
-            b"Content-Length: 81\r\n\r\n{\"command\":\"disconnect\",\"request_seq\":2,\"seq\":3,\"success\":true,\"type\":\"response\"}",
-        ],
-        sent: &[b"\x00\x00\x00\x0f\x00\x00\x00\x04\x00\x01\n\x00\x00\x00\x00"],
-        ending: Ending::Done,
-    },
-    // attached twice
-    Course {
-        first: &[ATTACHES],
-        steps: &[
-            Came::Bytes(
-                Side::Client,
-                b"Content-Length: 84\r\n\r\n{\"seq\":2,\"type\":\"request\",\"command\":\"attach\",\"arguments\":{\"sourceRoots\":[\"/p/src\"]}}",
-            ),
-            Came::Bytes(
-                Side::Client,
-                b"Content-Length: 49\r\n\r\n{\"seq\":3,\"type\":\"request\",\"command\":\"disconnect\"}",
-            ),
-            Came::Bytes(
-                Side::Target,
-                b"\x00\x00\x00\x0b\x00\x00\x00\x04\x80\x00\x00",
-            ),
-        ],
-        limits: USUAL,
-        failing: &[],
-        told: &[
-            b"Content-Length: 160\r\n\r\n{\"body\":{\"error\":{\"format\":\"alreadyAttached\",\"id\":16}},\"command\":\"attach\",\"message\":\"alreadyAttached\",\"request_seq\":2,\"seq\":3,\"success\":false,\"type\":\"response\"}",
-            b"Content-Length: 81\r\n\r\n{\"command\":\"disconnect\",\"request_seq\":3,\"seq\":4,\"success\":true,\"type\":\"response\"}",
-        ],
-        sent: &[b"\x00\x00\x00\x0b\x00\x00\x00\x04\x00\x01\x06"],
-        ending: Ending::Done,
-    },
-    // without roots, and without a target
-    Course {
-        first: &[],
-        steps: &[
-            Came::Bytes(
-                Side::Client,
-                b"Content-Length: 45\r\n\r\n{\"seq\":1,\"type\":\"request\",\"command\":\"attach\"}",
-            ),
-            Came::Bytes(
-                Side::Client,
-                b"Content-Length: 46\r\n\r\n{\"seq\":2,\"type\":\"request\",\"command\":\"threads\"}",
-            ),
-        ],
-        limits: USUAL,
-        failing: &[],
-        told: &[
-            b"Content-Length: 165\r\n\r\n{\"body\":{\"error\":{\"format\":\"badArguments sourceRoots\",\"id\":2}},\"command\":\"attach\",\"message\":\"badArguments\",\"request_seq\":1,\"seq\":1,\"success\":false,\"type\":\"response\"}",
-            b"Content-Length: 152\r\n\r\n{\"body\":{\"error\":{\"format\":\"notAttached\",\"id\":3}},\"command\":\"threads\",\"message\":\"notAttached\",\"request_seq\":2,\"seq\":2,\"success\":false,\"type\":\"response\"}",
-        ],
-        sent: &[],
-        ending: Ending::Left,
-    },
-    // the wishes are refused, and the session goes on
-    Course {
-        first: &[],
-        steps: &[
-            Came::Bytes(Side::Client, ATTACH),
-            Came::Bytes(Side::Target, b"JDWP-Handshake"),
-            Came::Bytes(
-                Side::Target,
-                b"\x00\x00\x00\x1f\x00\x00\x00\x01\x80\x00\x00\x00\x00\x00\x08\x00\x00\x00\x08\x00\x00\x00\x08\x00\x00\x00\x08\x00\x00\x00\x08",
-            ),
-            Came::Bytes(Side::Target, b"\x00\x00\x00\x0b\x00\x00\x00\x02\x80\x00c"),
-            Came::Bytes(Side::Target, b"\x00\x00\x00\x0b\x00\x00\x00\x03\x80\x00c"),
-        ],
-        limits: USUAL,
-        failing: &[],
-        told: &[
-            b"Content-Length: 77\r\n\r\n{\"command\":\"attach\",\"request_seq\":1,\"seq\":1,\"success\":true,\"type\":\"response\"}",
-            b"Content-Length: 46\r\n\r\n{\"event\":\"initialized\",\"seq\":2,\"type\":\"event\"}",
-        ],
-        sent: &[
-            b"JDWP-Handshake",
-            b"\x00\x00\x00\x0b\x00\x00\x00\x01\x00\x01\x07",
-            b"\x00\x00\x00\x11\x00\x00\x00\x02\x00\x0f\x01\x06\x00\x00\x00\x00\x00",
-            b"\x00\x00\x00\x11\x00\x00\x00\x03\x00\x0f\x01\x07\x00\x00\x00\x00\x00",
-            b"\x00\x00\x00\x0b\x00\x00\x00\x04\x00\x01\x06",
-        ],
-        ending: Ending::Left,
-    },
-];
-
-// A reply of twenty threads, with the ids 1 to 20.
-const TWENTY: &[u8] = b"\x00\x00\x00\xaf\x00\x00\x00\x04\x80\x00\x00\x00\x00\x00\x14\
-    \x00\x00\x00\x00\x00\x00\x00\x01\x00\x00\x00\x00\x00\x00\x00\x02\x00\x00\x00\x00\x00\x00\x00\x03\x00\x00\x00\x00\x00\x00\x00\x04\
-    \x00\x00\x00\x00\x00\x00\x00\x05\x00\x00\x00\x00\x00\x00\x00\x06\x00\x00\x00\x00\x00\x00\x00\x07\x00\x00\x00\x00\x00\x00\x00\x08\
-    \x00\x00\x00\x00\x00\x00\x00\x09\x00\x00\x00\x00\x00\x00\x00\x0a\x00\x00\x00\x00\x00\x00\x00\x0b\x00\x00\x00\x00\x00\x00\x00\x0c\
-    \x00\x00\x00\x00\x00\x00\x00\x0d\x00\x00\x00\x00\x00\x00\x00\x0e\x00\x00\x00\x00\x00\x00\x00\x0f\x00\x00\x00\x00\x00\x00\x00\x10\
-    \x00\x00\x00\x00\x00\x00\x00\x11\x00\x00\x00\x00\x00\x00\x00\x12\x00\x00\x00\x00\x00\x00\x00\x13\x00\x00\x00\x00\x00\x00\x00\x14";
-
-// The names of the first sixteen threads are asked.
-const SIXTEEN_ASKED: &[u8] =
-    b"\x00\x00\x00\x13\x00\x00\x00\x05\x00\x0b\x01\x00\x00\x00\x00\x00\x00\x00\x01\
-    \x00\x00\x00\x13\x00\x00\x00\x06\x00\x0b\x01\x00\x00\x00\x00\x00\x00\x00\x02\
-    \x00\x00\x00\x13\x00\x00\x00\x07\x00\x0b\x01\x00\x00\x00\x00\x00\x00\x00\x03\
-    \x00\x00\x00\x13\x00\x00\x00\x08\x00\x0b\x01\x00\x00\x00\x00\x00\x00\x00\x04\
-    \x00\x00\x00\x13\x00\x00\x00\x09\x00\x0b\x01\x00\x00\x00\x00\x00\x00\x00\x05\
-    \x00\x00\x00\x13\x00\x00\x00\x0a\x00\x0b\x01\x00\x00\x00\x00\x00\x00\x00\x06\
-    \x00\x00\x00\x13\x00\x00\x00\x0b\x00\x0b\x01\x00\x00\x00\x00\x00\x00\x00\x07\
-    \x00\x00\x00\x13\x00\x00\x00\x0c\x00\x0b\x01\x00\x00\x00\x00\x00\x00\x00\x08\
-    \x00\x00\x00\x13\x00\x00\x00\x0d\x00\x0b\x01\x00\x00\x00\x00\x00\x00\x00\x09\
-    \x00\x00\x00\x13\x00\x00\x00\x0e\x00\x0b\x01\x00\x00\x00\x00\x00\x00\x00\x0a\
-    \x00\x00\x00\x13\x00\x00\x00\x0f\x00\x0b\x01\x00\x00\x00\x00\x00\x00\x00\x0b\
-    \x00\x00\x00\x13\x00\x00\x00\x10\x00\x0b\x01\x00\x00\x00\x00\x00\x00\x00\x0c\
-    \x00\x00\x00\x13\x00\x00\x00\x11\x00\x0b\x01\x00\x00\x00\x00\x00\x00\x00\x0d\
-    \x00\x00\x00\x13\x00\x00\x00\x12\x00\x0b\x01\x00\x00\x00\x00\x00\x00\x00\x0e\
-    \x00\x00\x00\x13\x00\x00\x00\x13\x00\x0b\x01\x00\x00\x00\x00\x00\x00\x00\x0f\
-    \x00\x00\x00\x13\x00\x00\x00\x14\x00\x0b\x01\x00\x00\x00\x00\x00\x00\x00\x10";
-
-// Their names come, the last one first.
-const SIXTEEN_NAMED: &[u8] = b"\x00\x00\x00\x10\x00\x00\x00\x14\x80\x00\x00\x00\x00\x00\x01p\
-    \x00\x00\x00\x10\x00\x00\x00\x13\x80\x00\x00\x00\x00\x00\x01o\
-    \x00\x00\x00\x10\x00\x00\x00\x12\x80\x00\x00\x00\x00\x00\x01n\
-    \x00\x00\x00\x10\x00\x00\x00\x11\x80\x00\x00\x00\x00\x00\x01m\
-    \x00\x00\x00\x10\x00\x00\x00\x10\x80\x00\x00\x00\x00\x00\x01l\
-    \x00\x00\x00\x10\x00\x00\x00\x0f\x80\x00\x00\x00\x00\x00\x01k\
-    \x00\x00\x00\x10\x00\x00\x00\x0e\x80\x00\x00\x00\x00\x00\x01j\
-    \x00\x00\x00\x10\x00\x00\x00\x0d\x80\x00\x00\x00\x00\x00\x01i\
-    \x00\x00\x00\x10\x00\x00\x00\x0c\x80\x00\x00\x00\x00\x00\x01h\
-    \x00\x00\x00\x10\x00\x00\x00\x0b\x80\x00\x00\x00\x00\x00\x01g\
-    \x00\x00\x00\x10\x00\x00\x00\x0a\x80\x00\x00\x00\x00\x00\x01f\
-    \x00\x00\x00\x10\x00\x00\x00\x09\x80\x00\x00\x00\x00\x00\x01e\
-    \x00\x00\x00\x10\x00\x00\x00\x08\x80\x00\x00\x00\x00\x00\x01d\
-    \x00\x00\x00\x10\x00\x00\x00\x07\x80\x00\x00\x00\x00\x00\x01c\
-    \x00\x00\x00\x10\x00\x00\x00\x06\x80\x00\x00\x00\x00\x00\x01b\
-    \x00\x00\x00\x10\x00\x00\x00\x05\x80\x00\x00\x00\x00\x00\x01a";
-
-// The names of the other four are asked.
-const FOUR_ASKED: &[u8] =
-    b"\x00\x00\x00\x13\x00\x00\x00\x15\x00\x0b\x01\x00\x00\x00\x00\x00\x00\x00\x11\
-    \x00\x00\x00\x13\x00\x00\x00\x16\x00\x0b\x01\x00\x00\x00\x00\x00\x00\x00\x12\
-    \x00\x00\x00\x13\x00\x00\x00\x17\x00\x0b\x01\x00\x00\x00\x00\x00\x00\x00\x13\
-    \x00\x00\x00\x13\x00\x00\x00\x18\x00\x0b\x01\x00\x00\x00\x00\x00\x00\x00\x14";
-
-// These come, the last one first, too.
-const FOUR_NAMED: &[u8] = b"\x00\x00\x00\x10\x00\x00\x00\x18\x80\x00\x00\x00\x00\x00\x01t\
-    \x00\x00\x00\x10\x00\x00\x00\x17\x80\x00\x00\x00\x00\x00\x01s\
-    \x00\x00\x00\x10\x00\x00\x00\x16\x80\x00\x00\x00\x00\x00\x01r\
-    \x00\x00\x00\x10\x00\x00\x00\x15\x80\x00\x00\x00\x00\x00\x01q";
-
-// What the client is told of the twenty.
-const TOLD_TWENTY: &[u8] =
-    b"Content-Length: 510\r\n\r\n{\"body\":{\"threads\":[{\"id\":1,\"name\":\"a\"},{\"id\":2,\"name\":\"b\"},{\"id\":3,\"name\":\"c\"},{\"id\":4,\"name\":\"d\"},{\"id\":5,\"name\":\"e\"},{\"id\":6,\"name\":\"f\"},{\"id\":7,\"name\":\"g\"},{\"id\":8,\"name\":\"h\"},{\"id\":9,\"name\":\"i\"},{\"id\":10,\"name\":\"j\"},{\"id\":11,\"name\":\"k\"},{\"id\":12,\"name\":\"l\"},{\"id\":13,\"name\":\"m\"},{\"id\":14,\"name\":\"n\"},{\"id\":15,\"name\":\"o\"},{\"id\":16,\"name\":\"p\"},{\"id\":17,\"name\":\"q\"},{\"id\":18,\"name\":\"r\"},{\"id\":19,\"name\":\"s\"},{\"id\":20,\"name\":\"t\"}]},\"command\":\"threads\",\"request_seq\":2,\"seq\":3,\"success\":true,\"type\":\"response\"}";
-
-const THREADS: &[Course<'static>] = &[
-    // two threads, of which one has no name any more; then the target is left
-    Course {
-        first: &[ATTACHES],
-        steps: &[
-            Came::Bytes(
-                Side::Client,
-                b"Content-Length: 46\r\n\r\n{\"seq\":2,\"type\":\"request\",\"command\":\"threads\"}",
-            ),
-            Came::Bytes(
-                Side::Target,
-                b"\x00\x00\x00\x1f\x00\x00\x00\x04\x80\x00\x00\x00\x00\x00\x02\x00\x00\x00\x00\x00\x00\x00\x01\x00\x00\x00\x00\x00\x00\x00\x02",
-            ),
-            Came::Bytes(
-                Side::Target,
-                b"\x00\x00\x00\x13\x00\x00\x00\x05\x80\x00\x00\x00\x00\x00\x04main",
-            ),
-            Came::Bytes(Side::Target, b"\x00\x00\x00\x0b\x00\x00\x00\x06\x80\x00\r"),
-            Came::Bytes(
-                Side::Client,
-                b"Content-Length: 49\r\n\r\n{\"seq\":3,\"type\":\"request\",\"command\":\"disconnect\"}",
-            ),
-            Came::Bytes(
-                Side::Target,
-                b"\x00\x00\x00\x0b\x00\x00\x00\x07\x80\x00\x00",
-            ),
-        ],
-        limits: USUAL,
-        failing: &[],
-        told: &[
-            b"Content-Length: 122\r\n\r\n{\"body\":{\"threads\":[{\"id\":1,\"name\":\"main\"}]},\"command\":\"threads\",\"request_seq\":2,\"seq\":3,\"success\":true,\"type\":\"response\"}",
-            b"Content-Length: 81\r\n\r\n{\"command\":\"disconnect\",\"request_seq\":3,\"seq\":4,\"success\":true,\"type\":\"response\"}",
-        ],
-        sent: &[
-            b"\x00\x00\x00\x0b\x00\x00\x00\x04\x00\x01\x04",
-            b"\x00\x00\x00\x13\x00\x00\x00\x05\x00\x0b\x01\x00\x00\x00\x00\x00\x00\x00\x01",
-            b"\x00\x00\x00\x13\x00\x00\x00\x06\x00\x0b\x01\x00\x00\x00\x00\x00\x00\x00\x02",
-            b"\x00\x00\x00\x0b\x00\x00\x00\x07\x00\x01\x06",
-        ],
-        ending: Ending::Done,
-    },
-    // threads keep their numbers
-    Course {
-        first: &[ATTACHES],
-        steps: &[
-            Came::Bytes(
-                Side::Client,
-                b"Content-Length: 46\r\n\r\n{\"seq\":2,\"type\":\"request\",\"command\":\"threads\"}",
-            ),
-            Came::Bytes(
-                Side::Target,
-                b"\x00\x00\x00\x17\x00\x00\x00\x04\x80\x00\x00\x00\x00\x00\x01\x00\x00\x00\x00\x00\x00\x00\x07",
-            ),
-            Came::Bytes(
-                Side::Target,
-                b"\x00\x00\x00\x10\x00\x00\x00\x05\x80\x00\x00\x00\x00\x00\x01a",
-            ),
-            Came::Bytes(
-                Side::Client,
-                b"Content-Length: 46\r\n\r\n{\"seq\":3,\"type\":\"request\",\"command\":\"threads\"}",
-            ),
-            Came::Bytes(
-                Side::Target,
-                b"\x00\x00\x00\x1f\x00\x00\x00\x06\x80\x00\x00\x00\x00\x00\x02\x00\x00\x00\x00\x00\x00\x00\x09\x00\x00\x00\x00\x00\x00\x00\x07",
-            ),
-            Came::Bytes(
-                Side::Target,
-                b"\x00\x00\x00\x12\x00\x00\x00\x07\x80\x00\x00\x00\x00\x00\x03b\xffc",
-            ),
-            Came::Bytes(
-                Side::Target,
-                b"\x00\x00\x00\x10\x00\x00\x00\x08\x80\x00\x00\x00\x00\x00\x01a",
-            ),
-        ],
-        limits: USUAL,
-        failing: &[],
-        told: &[
-            b"Content-Length: 119\r\n\r\n{\"body\":{\"threads\":[{\"id\":1,\"name\":\"a\"}]},\"command\":\"threads\",\"request_seq\":2,\"seq\":3,\"success\":true,\"type\":\"response\"}",
-            b"Content-Length: 143\r\n\r\n{\"body\":{\"threads\":[{\"id\":2,\"name\":\"b\xef\xbf\xbdc\"},{\"id\":1,\"name\":\"a\"}]},\"command\":\"threads\",\"request_seq\":3,\"seq\":4,\"success\":true,\"type\":\"response\"}",
-        ],
-        sent: &[
-            b"\x00\x00\x00\x0b\x00\x00\x00\x04\x00\x01\x04",
-            b"\x00\x00\x00\x13\x00\x00\x00\x05\x00\x0b\x01\x00\x00\x00\x00\x00\x00\x00\x07",
-            b"\x00\x00\x00\x0b\x00\x00\x00\x06\x00\x01\x04",
-            b"\x00\x00\x00\x13\x00\x00\x00\x07\x00\x0b\x01\x00\x00\x00\x00\x00\x00\x00\x09",
-            b"\x00\x00\x00\x13\x00\x00\x00\x08\x00\x0b\x01\x00\x00\x00\x00\x00\x00\x00\x07",
-            b"\x00\x00\x00\x0b\x00\x00\x00\x09\x00\x01\x06",
-        ],
-        ending: Ending::Left,
-    },
-    // sixteen names are asked at once, the others as replies come
-    Course {
-        first: &[ATTACHES],
-        steps: &[
-            Came::Bytes(
-                Side::Client,
-                b"Content-Length: 46\r\n\r\n{\"seq\":2,\"type\":\"request\",\"command\":\"threads\"}",
-            ),
-            Came::Bytes(Side::Target, TWENTY),
-            Came::Bytes(
-                Side::Client,
-                b"Content-Length: 49\r\n\r\n{\"seq\":3,\"type\":\"request\",\"command\":\"disconnect\"}",
-            ),
-            Came::Bytes(Side::Target, SIXTEEN_NAMED),
-            Came::Bytes(Side::Target, FOUR_NAMED),
-            Came::Bytes(
-                Side::Target,
-                b"\x00\x00\x00\x0b\x00\x00\x00\x19\x80\x00\x00",
-            ),
-        ],
-        limits: USUAL,
-        failing: &[],
-        told: &[
-            TOLD_TWENTY,
-            b"Content-Length: 81\r\n\r\n{\"command\":\"disconnect\",\"request_seq\":3,\"seq\":4,\"success\":true,\"type\":\"response\"}",
-        ],
-        sent: &[
-            b"\x00\x00\x00\x0b\x00\x00\x00\x04\x00\x01\x04",
-            SIXTEEN_ASKED,
-            FOUR_ASKED,
-            b"\x00\x00\x00\x0b\x00\x00\x00\x19\x00\x01\x06",
-        ],
-        ending: Ending::Done,
-    },
-    // no more than sixteen are asked before a reply
-    Course {
-        first: &[ATTACHES],
-        steps: &[
-            Came::Bytes(
-                Side::Client,
-                b"Content-Length: 46\r\n\r\n{\"seq\":2,\"type\":\"request\",\"command\":\"threads\"}",
-            ),
-            Came::Bytes(Side::Target, TWENTY),
-        ],
-        limits: USUAL,
-        failing: &[],
-        told: &[],
-        sent: &[
-            b"\x00\x00\x00\x0b\x00\x00\x00\x04\x00\x01\x04",
-            SIXTEEN_ASKED,
-            b"\x00\x00\x00\x0b\x00\x00\x00\x15\x00\x01\x06",
-        ],
-        ending: Ending::Left,
-    },
-];
-
-const ENDS: &[Course<'static>] = &[
-    // the target's end, with requests open
-    Course {
-        first: &[ATTACHES],
-        steps: &[
-            Came::Bytes(
-                Side::Client,
-                b"Content-Length: 46\r\n\r\n{\"seq\":2,\"type\":\"request\",\"command\":\"threads\"}Content-Length: 46\r\n\r\n{\"seq\":3,\"type\":\"request\",\"command\":\"threads\"}Content-Length: 46\r\n\r\n{\"seq\":4,\"type\":\"request\",\"command\":\"threads\"}",
-            ),
-            Came::Shut(Side::Target),
-            Came::Bytes(
-                Side::Client,
-                b"Content-Length: 49\r\n\r\n{\"seq\":5,\"type\":\"request\",\"command\":\"disconnect\"}",
-            ),
-        ],
-        limits: USUAL,
-        failing: &[],
-        told: &[
-            b"Content-Length: 151\r\n\r\n{\"body\":{\"error\":{\"format\":\"targetGone\",\"id\":10}},\"command\":\"threads\",\"message\":\"targetGone\",\"request_seq\":2,\"seq\":3,\"success\":false,\"type\":\"response\"}",
-            b"Content-Length: 151\r\n\r\n{\"body\":{\"error\":{\"format\":\"targetGone\",\"id\":10}},\"command\":\"threads\",\"message\":\"targetGone\",\"request_seq\":3,\"seq\":4,\"success\":false,\"type\":\"response\"}",
-            b"Content-Length: 151\r\n\r\n{\"body\":{\"error\":{\"format\":\"targetGone\",\"id\":10}},\"command\":\"threads\",\"message\":\"targetGone\",\"request_seq\":4,\"seq\":5,\"success\":false,\"type\":\"response\"}",
-            b"Content-Length: 45\r\n\r\n{\"event\":\"terminated\",\"seq\":6,\"type\":\"event\"}",
-            b"Content-Length: 81\r\n\r\n{\"command\":\"disconnect\",\"request_seq\":5,\"seq\":7,\"success\":true,\"type\":\"response\"}",
-        ],
-        sent: &[b"\x00\x00\x00\x0b\x00\x00\x00\x04\x00\x01\x04"],
-        ending: Ending::Done,
-    },
-    // an error of a dead target is its end, once; what comes of it later changes nothing
-    Course {
-        first: &[ATTACHES],
-        steps: &[
-            Came::Bytes(
-                Side::Client,
-                b"Content-Length: 46\r\n\r\n{\"seq\":2,\"type\":\"request\",\"command\":\"threads\"}",
-            ),
-            Came::Bytes(
-                Side::Target,
-                b"\x00\x00\x00\x1f\x00\x00\x00\x04\x80\x00\x00\x00\x00\x00\x02\x00\x00\x00\x00\x00\x00\x00\x01\x00\x00\x00\x00\x00\x00\x00\x02",
-            ),
-            Came::Bytes(Side::Target, b"\x00\x00\x00\x0b\x00\x00\x00\x06\x80\x00p"),
-            Came::Bytes(
-                Side::Target,
-                b"\x00\x00\x00\x13\x00\x00\x00\x05\x80\x00\x00\x00\x00\x00\x04main",
-            ),
-            Came::Bytes(
-                Side::Target,
-                b"\x00\x00\x00\x1d\x00\x00\x00\x01\x00\x40\x64\x00\x00\x00\x00\x01\x06\x00\x00\x00\x01\x00\x00\x00\x00\x00\x00\x00\x01",
-            ),
-            Came::Shut(Side::Target),
-            Came::Bytes(
-                Side::Client,
-                b"Content-Length: 84\r\n\r\n{\"seq\":3,\"type\":\"request\",\"command\":\"attach\",\"arguments\":{\"sourceRoots\":[\"/p/src\"]}}",
-            ),
-        ],
-        limits: USUAL,
-        failing: &[],
-        told: &[
-            b"Content-Length: 151\r\n\r\n{\"body\":{\"error\":{\"format\":\"targetGone\",\"id\":10}},\"command\":\"threads\",\"message\":\"targetGone\",\"request_seq\":2,\"seq\":3,\"success\":false,\"type\":\"response\"}",
-            b"Content-Length: 45\r\n\r\n{\"event\":\"terminated\",\"seq\":4,\"type\":\"event\"}",
-            b"Content-Length: 150\r\n\r\n{\"body\":{\"error\":{\"format\":\"targetGone\",\"id\":10}},\"command\":\"attach\",\"message\":\"targetGone\",\"request_seq\":3,\"seq\":5,\"success\":false,\"type\":\"response\"}",
-        ],
-        sent: &[
-            b"\x00\x00\x00\x0b\x00\x00\x00\x04\x00\x01\x04",
-            b"\x00\x00\x00\x13\x00\x00\x00\x05\x00\x0b\x01\x00\x00\x00\x00\x00\x00\x00\x01",
-            b"\x00\x00\x00\x13\x00\x00\x00\x06\x00\x0b\x01\x00\x00\x00\x00\x00\x00\x00\x02",
-        ],
-        ending: Ending::Left,
-    },
-    // which threads there are is refused
-    Course {
-        first: &[ATTACHES],
-        steps: &[
-            Came::Bytes(
-                Side::Client,
-                b"Content-Length: 46\r\n\r\n{\"seq\":2,\"type\":\"request\",\"command\":\"threads\"}",
-            ),
-            Came::Bytes(Side::Target, b"\x00\x00\x00\x0b\x00\x00\x00\x04\x80\x00\n"),
-            Came::Bytes(
-                Side::Client,
-                b"Content-Length: 46\r\n\r\n{\"seq\":3,\"type\":\"request\",\"command\":\"threads\"}",
-            ),
-            Came::Bytes(
-                Side::Target,
-                b"\x00\x00\x00\x0b\x00\x00\x00\x05\x80\x01\xf7",
-            ),
-        ],
-        limits: USUAL,
-        failing: &[],
-        told: &[
-            b"Content-Length: 156\r\n\r\n{\"body\":{\"error\":{\"format\":\"unknownThread\",\"id\":8}},\"command\":\"threads\",\"message\":\"unknownThread\",\"request_seq\":2,\"seq\":3,\"success\":false,\"type\":\"response\"}",
-            b"Content-Length: 156\r\n\r\n{\"body\":{\"error\":{\"format\":\"targetError 503\",\"id\":9}},\"command\":\"threads\",\"message\":\"targetError\",\"request_seq\":3,\"seq\":4,\"success\":false,\"type\":\"response\"}",
-        ],
-        sent: &[
-            b"\x00\x00\x00\x0b\x00\x00\x00\x04\x00\x01\x04",
-            b"\x00\x00\x00\x0b\x00\x00\x00\x05\x00\x01\x04",
-            b"\x00\x00\x00\x0b\x00\x00\x00\x06\x00\x01\x06",
-        ],
-        ending: Ending::Left,
-    },
-];
-
-const REFUSED: &[Course<'static>] = &[
-    // a size of ids that is none
-    Course {
-        first: &[],
-        steps: &[
-            Came::Bytes(Side::Client, ATTACH),
-            Came::Bytes(Side::Target, b"JDWP-Handshake"),
-            Came::Bytes(
-                Side::Target,
-                b"\x00\x00\x00\x1f\x00\x00\x00\x01\x80\x00\x00\x00\x00\x00\x08\x00\x00\x00\x08\x00\x00\x00\x09\x00\x00\x00\x08\x00\x00\x00\x08",
-            ),
-        ],
-        limits: USUAL,
-        failing: &[],
-        told: &[ATTACH_FAILED, TERMINATED],
-        sent: &[
-            b"JDWP-Handshake",
-            b"\x00\x00\x00\x0b\x00\x00\x00\x01\x00\x01\x07",
-        ],
-        ending: Ending::BadTarget {
-            fault: TargetFault::BadSizes,
-            at: 33,
-            id: 0,
-        },
-    },
-    // a reply to no command
-    Course {
-        first: &[ATTACHES],
-        steps: &[Came::Bytes(Side::Target, b"\x00\x00\x00\x0b\x00\x00\x00c\x80\x00\x00")],
-        limits: USUAL,
-        failing: &[],
-        told: &[TERMINATED_THIRD],
-        sent: &[],
-        ending: Ending::BadTarget {
-            fault: TargetFault::UnknownReply,
-            at: 75,
-            id: 99,
-        },
-    },
-    // the sizes of ids are refused
-    Course {
-        first: &[],
-        steps: &[
-            Came::Bytes(Side::Client, ATTACH),
-            Came::Bytes(Side::Target, b"JDWP-Handshake"),
-            Came::Bytes(Side::Target, b"\x00\x00\x00\x0b\x00\x00\x00\x01\x80\x00\r"),
-        ],
-        limits: USUAL,
-        failing: &[],
-        told: &[ATTACH_FAILED, TERMINATED],
-        sent: &[
-            b"JDWP-Handshake",
-            b"\x00\x00\x00\x0b\x00\x00\x00\x01\x00\x01\x07",
-        ],
-        ending: Ending::TargetRefused {
-            set: 1,
-            command: 7,
-            code: 13,
-        },
-    },
-];
-
-const FAULTS: &[Course<'static>] = &[
-    // a packet that is too short
-    Course {
-        first: &[ATTACHES],
-        steps: &[Came::Bytes(Side::Target, b"\x00\x00\x00\n")],
-        limits: USUAL,
-        failing: &[],
-        told: &[TERMINATED_THIRD],
-        sent: &[],
-        ending: Ending::BadTarget {
-            fault: TargetFault::Packet(PacketFault::ShortLength),
-            at: 75,
-            id: 0,
-        },
-    },
-    // an event of no kind
-    Course {
-        first: &[ATTACHES],
-        steps: &[Came::Bytes(
-            Side::Target,
-            b"\x00\x00\x00\x11\x00\x00\x00\x01\x00@d\x00\x00\x00\x00\x01\x03",
-        )],
-        limits: USUAL,
-        failing: &[],
-        told: &[TERMINATED_THIRD],
-        sent: &[],
-        ending: Ending::BadTarget {
-            fault: TargetFault::BadKind,
-            at: 91,
-            id: 0,
-        },
-    },
-    // a command of another set
-    Course {
-        first: &[ATTACHES],
-        steps: &[Came::Bytes(
-            Side::Target,
-            b"\x00\x00\x00\x0b\x00\x00\x00\x01\x00\x01\x64",
-        )],
-        limits: USUAL,
-        failing: &[],
-        told: &[TERMINATED_THIRD],
-        sent: &[],
-        ending: Ending::BadTarget {
-            fault: TargetFault::BadCommand,
-            at: 75,
-            id: 0,
-        },
-    },
-    // an event of no kind, which comes before it can be read
-    Course {
-        first: &[],
-        steps: &[
-            Came::Bytes(Side::Client, ATTACH),
-            Came::Bytes(
-                Side::Target,
-                b"JDWP-Handshake\x00\x00\x00\x11\x00\x00\x00\x01\x00\x40\x64\x00\x00\x00\x00\x01\x03",
-            ),
-            Came::Bytes(
-                Side::Target,
-                b"\x00\x00\x00\x1f\x00\x00\x00\x01\x80\x00\x00\x00\x00\x00\x08\x00\x00\x00\x08\x00\x00\x00\x08\x00\x00\x00\x08\x00\x00\x00\x08",
-            ),
-        ],
-        limits: USUAL,
-        failing: &[],
-        told: &[ATTACH_FAILED, TERMINATED],
-        sent: &[
-            b"JDWP-Handshake",
-            b"\x00\x00\x00\x0b\x00\x00\x00\x01\x00\x01\x07",
-        ],
-        ending: Ending::BadTarget {
-            fault: TargetFault::BadKind,
-            at: 30,
-            id: 0,
-        },
-    },
-    // no handshake
-    Course {
-        first: &[],
-        steps: &[Came::Bytes(Side::Target, b"JDWX")],
-        limits: USUAL,
-        failing: &[],
-        told: &[
-            b"Content-Length: 45\r\n\r\n{\"event\":\"terminated\",\"seq\":1,\"type\":\"event\"}",
-        ],
-        sent: &[],
-        ending: Ending::BadTarget {
-            fault: TargetFault::Packet(PacketFault::BadHandshake),
-            at: 3,
-            id: 0,
-        },
-    },
-];
-
-const LIMITS: &[Course<'static>] = &[
-    // nothing comes for long
-    Course {
-        first: &[],
-        steps: &[Came::Quiet, Came::Quiet, Came::Quiet],
-        limits: Limits {
-            turns: 99,
-            quiet: 3,
-            waiting: 9,
-        },
-        failing: &[],
-        told: &[
-            b"Content-Length: 45\r\n\r\n{\"event\":\"terminated\",\"seq\":1,\"type\":\"event\"}",
-        ],
-        sent: &[],
-        ending: Ending::Idle,
-    },
-    // and then something does
-    Course {
-        first: &[],
-        steps: &[
-            Came::Quiet,
-            Came::Quiet,
-            Came::Bytes(
-                Side::Client,
-                b"Content-Length: 49\r\n\r\n{\"seq\":1,\"type\":\"request\",\"command\":\"disconnect\"}",
-            ),
-            Came::Quiet,
-        ],
-        limits: Limits {
-            turns: 99,
-            quiet: 3,
-            waiting: 9,
-        },
-        failing: &[],
-        told: &[
-            b"Content-Length: 81\r\n\r\n{\"command\":\"disconnect\",\"request_seq\":1,\"seq\":1,\"success\":true,\"type\":\"response\"}",
-        ],
-        sent: &[],
-        ending: Ending::Done,
-    },
-    // all turns are taken
-    Course {
-        first: &[],
-        steps: &[Came::Quiet, Came::Quiet],
-        limits: Limits {
-            turns: 2,
-            quiet: 9,
-            waiting: 9,
-        },
-        failing: &[],
-        told: &[],
-        sent: &[],
-        ending: Ending::Spent,
-    },
-    // too many requests wait
-    Course {
-        first: &[ATTACHES],
-        steps: &[Came::Bytes(
-            Side::Client,
-            b"Content-Length: 46\r\n\r\n{\"seq\":2,\"type\":\"request\",\"command\":\"threads\"}Content-Length: 46\r\n\r\n{\"seq\":3,\"type\":\"request\",\"command\":\"threads\"}Content-Length: 46\r\n\r\n{\"seq\":4,\"type\":\"request\",\"command\":\"threads\"}",
-        )],
-        limits: Limits {
-            turns: 99,
-            quiet: 9,
-            waiting: 1,
-        },
-        failing: &[],
-        told: &[],
-        sent: &[
-            b"\x00\x00\x00\x0b\x00\x00\x00\x04\x00\x01\x04",
-            b"\x00\x00\x00\x0b\x00\x00\x00\x05\x00\x01\x06",
-        ],
-        ending: Ending::Flood,
-    },
-];
-
-const LINKS: &[Course<'static>] = &[
-    // a send to the client that fails
-    Course {
-        first: &[],
-        steps: &[
-            Came::Bytes(Side::Client, INITIALIZE),
-            Came::Bytes(Side::Client, DISCONNECT),
-        ],
-        limits: USUAL,
-        failing: &[(Side::Client, 1, 5)],
-        told: &[CAPABILITIES, b"Conte"],
-        sent: &[],
-        ending: Ending::ClientLink,
-    },
-    // a send to the target that fails
-    Course {
-        first: &[],
-        steps: &[Came::Bytes(Side::Client, ATTACH)],
-        limits: USUAL,
-        failing: &[(Side::Target, 0, 5)],
-        told: &[ATTACH_FAILED, TERMINATED],
-        sent: &[b"JDWP-"],
-        ending: Ending::TargetLink,
-    },
-    // and then one of the last words
-    Course {
-        first: &[],
-        steps: &[Came::Bytes(Side::Client, ATTACH)],
-        limits: USUAL,
-        failing: &[(Side::Target, 0, 5), (Side::Client, 1, 3)],
-        told: &[ATTACH_FAILED, b"Con"],
-        sent: &[b"JDWP-"],
-        ending: Ending::TargetLink,
-    },
-    // it fails inside `initialized`, before the target counts as attached
-    Course {
-        first: &[],
-        steps: &ATTACHING,
-        limits: USUAL,
-        failing: &[(Side::Client, 1, 45)],
-        told: &[
-            b"Content-Length: 77\r\n\r\n{\"command\":\"attach\",\"request_seq\":1,\"seq\":1,\"success\":true,\"type\":\"response\"}",
-            b"Content-Length: 46\r\n\r\n{\"event\":\"initialized\",",
-        ],
-        sent: &SENT_ATTACHED,
-        ending: Ending::ClientLink,
-    },
-    // and inside what is told next: the target is left to run on
-    Course {
-        first: &[ATTACHES],
-        steps: &[Came::Bytes(
-            Side::Client,
-            b"Content-Length: 84\r\n\r\n{\"seq\":2,\"type\":\"request\",\"command\":\"attach\",\"arguments\":{\"sourceRoots\":[\"/p/src\"]}}",
-        )],
-        limits: USUAL,
-        failing: &[(Side::Client, 2, 5)],
-        told: &[b"Conte"],
-        sent: &[b"\x00\x00\x00\x0b\x00\x00\x00\x04\x00\x01\x06"],
-        ending: Ending::ClientLink,
-    },
-    // the target's link fails
-    Course {
-        first: &[ATTACHES],
-        steps: &[Came::Failed(Side::Target)],
-        limits: USUAL,
-        failing: &[],
-        told: &[TERMINATED_THIRD],
-        sent: &[],
-        ending: Ending::TargetLink,
-    },
-    // the client's link fails
-    Course {
-        first: &[ATTACHES],
-        steps: &[Came::Failed(Side::Client)],
-        limits: USUAL,
-        failing: &[],
-        told: &[],
-        sent: &[b"\x00\x00\x00\x0b\x00\x00\x00\x04\x00\x01\x06"],
-        ending: Ending::ClientLink,
-    },
-];
-
-const CLIENT_FAULTS: &[Course<'static>] = &[
-    // a byte that no frame has there
-    Course {
-        first: &[],
-        steps: &[
-            Came::Bytes(Side::Client, INITIALIZE),
-            Came::Bytes(Side::Client, b"Length 1"),
-        ],
-        limits: USUAL,
-        failing: &[],
-        told: &[CAPABILITIES],
-        sent: &[],
-        ending: Ending::BadClient {
-            fault: ClientFault::Frame(FrameFault::BadHeader),
-            at: 110,
-        },
-    },
-    Course {
-        first: &[],
-        steps: &[Came::Bytes(Side::Client, b"Content-Length: 16777217\r\n\r\n")],
-        limits: USUAL,
-        failing: &[],
-        told: &[],
-        sent: &[],
-        ending: Ending::BadClient {
-            fault: ClientFault::Frame(FrameFault::TooLong),
-            at: 23,
-        },
-    },
-    Course {
-        first: &[],
-        steps: &[Came::Bytes(Side::Client, b"Content-Length: 00000000002\r\n\r\n")],
-        limits: USUAL,
-        failing: &[],
-        told: &[],
-        sent: &[],
-        ending: Ending::BadClient {
-            fault: ClientFault::Frame(FrameFault::BadLength),
-            at: 26,
-        },
-    },
-    Course {
-        first: &[],
-        steps: &[Came::Bytes(Side::Client, b"X: y\r\n\r")],
-        limits: USUAL,
-        failing: &[],
-        told: &[],
-        sent: &[],
-        ending: Ending::BadClient {
-            fault: ClientFault::Frame(FrameFault::NoLength),
-            at: 6,
-        },
-    },
-    Course {
-        first: &[],
-        steps: &[Came::Bytes(
-            Side::Client,
-            b"Content-Length: 2\r\nContent-Length: 2\r\n\r\n{}",
-        )],
-        limits: USUAL,
-        failing: &[],
-        told: &[],
-        sent: &[],
-        ending: Ending::BadClient {
-            fault: ClientFault::Frame(FrameFault::TwoLengths),
-            at: 33,
-        },
-    },
-    // a body that is no message
-    Course {
-        first: &[],
-        steps: &[Came::Bytes(Side::Client, b"Content-Length: 1\r\n\r\n}")],
-        limits: USUAL,
-        failing: &[],
-        told: &[],
-        sent: &[],
-        ending: Ending::BadClient {
-            fault: ClientFault::NotJson,
-            at: 21,
-        },
-    },
-    Course {
-        first: &[],
-        steps: &[Came::Bytes(Side::Client, b"Content-Length: 2\r\n\r\n{}")],
-        limits: USUAL,
-        failing: &[],
-        told: &[],
-        sent: &[],
-        ending: Ending::BadClient {
-            fault: ClientFault::NotAMessage,
-            at: 21,
-        },
-    },
-];
+# a client that leaves before it attaches
+session
+shut client
+"#;
 
 #[test]
 fn a_client_is_answered_without_a_target(rt: HostRuntime) -> Result<(), Fail> {
-    for course in A_CLIENT_ALONE {
-        check(rt.alloc(), course)?;
-    }
-    Ok(())
+    check(rt.alloc(), A_CLIENT_ALONE)
 }
+
+const ATTACHED: &str = r#"
+# and one that leaves its target to run on
+session attaches
+shut client
+sent command 4 1.6
+
+# the target exits, and its stream ends before its reply
+session attaches
+client {"seq":2,"type":"request","command":"disconnect","arguments":{"terminateDebuggee":true}}
+shut target
+told {"command":"disconnect","request_seq":2,"seq":3,"success":true,"type":"response"}
+sent command 4 1.10 00000000
+ending Done
+
+# attached twice
+session attaches
+client {"seq":2,"type":"request","command":"attach","arguments":{"sourceRoots":["/p/src"]}}
+client {"seq":3,"type":"request","command":"disconnect"}
+target reply 4
+told {"body":{"error":{"format":"alreadyAttached","id":16}},"command":"attach","message":"alreadyAttached","request_seq":2,"seq":3,"success":false,"type":"response"}
+told {"command":"disconnect","request_seq":3,"seq":4,"success":true,"type":"response"}
+sent command 4 1.6
+ending Done
+
+# without roots, and without a target
+session
+client {"seq":1,"type":"request","command":"attach"}
+client {"seq":2,"type":"request","command":"threads"}
+told {"body":{"error":{"format":"badArguments sourceRoots","id":2}},"command":"attach","message":"badArguments","request_seq":1,"seq":1,"success":false,"type":"response"}
+told {"body":{"error":{"format":"notAttached","id":3}},"command":"threads","message":"notAttached","request_seq":2,"seq":2,"success":false,"type":"response"}
+
+# the wishes are refused, and the session goes on
+session
+client {"seq":1,"type":"request","command":"attach","arguments":{"sourceRoots":["/p/src"]}}
+target "JDWP-Handshake"
+target reply 1 00000008 00000008 00000008 00000008 00000008
+target error 2 99
+target error 3 99
+told {"command":"attach","request_seq":1,"seq":1,"success":true,"type":"response"}
+told {"event":"initialized","seq":2,"type":"event"}
+sent "JDWP-Handshake"
+sent command 1 1.7
+sent command 2 15.1 06 00 00000000
+sent command 3 15.1 07 00 00000000
+sent command 4 1.6
+"#;
 
 #[test]
 fn a_session_attaches_and_leaves(rt: HostRuntime) -> Result<(), Fail> {
-    for course in ATTACHED {
-        check(rt.alloc(), course)?;
-    }
-    Ok(())
+    check(rt.alloc(), ATTACHED)
 }
+
+const THREADS: &str = r#"
+# two threads, of which one has no name any more; then the target is left
+session attaches
+client {"seq":2,"type":"request","command":"threads"}
+target reply 4 00000002 0000000000000001 0000000000000002
+target reply 5 00000004 "main"
+target error 6 13
+client {"seq":3,"type":"request","command":"disconnect"}
+target reply 7
+told {"body":{"threads":[{"id":1,"name":"main"}]},"command":"threads","request_seq":2,"seq":3,"success":true,"type":"response"}
+told {"command":"disconnect","request_seq":3,"seq":4,"success":true,"type":"response"}
+sent command 4 1.4
+sent command 5 11.1 0000000000000001
+sent command 6 11.1 0000000000000002
+sent command 7 1.6
+ending Done
+
+# threads keep their numbers
+session attaches
+client {"seq":2,"type":"request","command":"threads"}
+target reply 4 00000001 0000000000000007
+target reply 5 00000001 "a"
+client {"seq":3,"type":"request","command":"threads"}
+target reply 6 00000002 0000000000000009 0000000000000007
+target reply 7 00000003 62ff63
+target reply 8 00000001 "a"
+told {"body":{"threads":[{"id":1,"name":"a"}]},"command":"threads","request_seq":2,"seq":3,"success":true,"type":"response"}
+told {"body":{"threads":[{"id":2,"name":"b�c"},{"id":1,"name":"a"}]},"command":"threads","request_seq":3,"seq":4,"success":true,"type":"response"}
+sent command 4 1.4
+sent command 5 11.1 0000000000000007
+sent command 6 1.4
+sent command 7 11.1 0000000000000009
+sent command 8 11.1 0000000000000007
+sent command 9 1.6
+
+# sixteen names are asked at once, the others as replies come
+session attaches
+client {"seq":2,"type":"request","command":"threads"}
+target reply 4 00000014 0000000000000001 0000000000000002 0000000000000003 0000000000000004 0000000000000005 0000000000000006 0000000000000007 0000000000000008 0000000000000009 000000000000000a 000000000000000b 000000000000000c 000000000000000d 000000000000000e 000000000000000f 0000000000000010 0000000000000011 0000000000000012 0000000000000013 0000000000000014
+client {"seq":3,"type":"request","command":"disconnect"}
+target reply 20 00000001 "p" | reply 19 00000001 "o" | reply 18 00000001 "n" | reply 17 00000001 "m" | reply 16 00000001 "l" | reply 15 00000001 "k" | reply 14 00000001 "j" | reply 13 00000001 "i" | reply 12 00000001 "h" | reply 11 00000001 "g" | reply 10 00000001 "f" | reply 9 00000001 "e" | reply 8 00000001 "d" | reply 7 00000001 "c" | reply 6 00000001 "b" | reply 5 00000001 "a"
+target reply 24 00000001 "t" | reply 23 00000001 "s" | reply 22 00000001 "r" | reply 21 00000001 "q"
+target reply 25
+told {"body":{"threads":[{"id":1,"name":"a"},{"id":2,"name":"b"},{"id":3,"name":"c"},{"id":4,"name":"d"},{"id":5,"name":"e"},{"id":6,"name":"f"},{"id":7,"name":"g"},{"id":8,"name":"h"},{"id":9,"name":"i"},{"id":10,"name":"j"},{"id":11,"name":"k"},{"id":12,"name":"l"},{"id":13,"name":"m"},{"id":14,"name":"n"},{"id":15,"name":"o"},{"id":16,"name":"p"},{"id":17,"name":"q"},{"id":18,"name":"r"},{"id":19,"name":"s"},{"id":20,"name":"t"}]},"command":"threads","request_seq":2,"seq":3,"success":true,"type":"response"}
+told {"command":"disconnect","request_seq":3,"seq":4,"success":true,"type":"response"}
+sent command 4 1.4
+sent command 5 11.1 0000000000000001
+sent command 6 11.1 0000000000000002
+sent command 7 11.1 0000000000000003
+sent command 8 11.1 0000000000000004
+sent command 9 11.1 0000000000000005
+sent command 10 11.1 0000000000000006
+sent command 11 11.1 0000000000000007
+sent command 12 11.1 0000000000000008
+sent command 13 11.1 0000000000000009
+sent command 14 11.1 000000000000000a
+sent command 15 11.1 000000000000000b
+sent command 16 11.1 000000000000000c
+sent command 17 11.1 000000000000000d
+sent command 18 11.1 000000000000000e
+sent command 19 11.1 000000000000000f
+sent command 20 11.1 0000000000000010
+sent command 21 11.1 0000000000000011
+sent command 22 11.1 0000000000000012
+sent command 23 11.1 0000000000000013
+sent command 24 11.1 0000000000000014
+sent command 25 1.6
+ending Done
+
+# no more than sixteen are asked before a reply
+session attaches
+client {"seq":2,"type":"request","command":"threads"}
+target reply 4 00000014 0000000000000001 0000000000000002 0000000000000003 0000000000000004 0000000000000005 0000000000000006 0000000000000007 0000000000000008 0000000000000009 000000000000000a 000000000000000b 000000000000000c 000000000000000d 000000000000000e 000000000000000f 0000000000000010 0000000000000011 0000000000000012 0000000000000013 0000000000000014
+sent command 4 1.4
+sent command 5 11.1 0000000000000001
+sent command 6 11.1 0000000000000002
+sent command 7 11.1 0000000000000003
+sent command 8 11.1 0000000000000004
+sent command 9 11.1 0000000000000005
+sent command 10 11.1 0000000000000006
+sent command 11 11.1 0000000000000007
+sent command 12 11.1 0000000000000008
+sent command 13 11.1 0000000000000009
+sent command 14 11.1 000000000000000a
+sent command 15 11.1 000000000000000b
+sent command 16 11.1 000000000000000c
+sent command 17 11.1 000000000000000d
+sent command 18 11.1 000000000000000e
+sent command 19 11.1 000000000000000f
+sent command 20 11.1 0000000000000010
+sent command 21 1.6
+"#;
 
 #[test]
 fn threads_have_numbers_and_names(rt: HostRuntime) -> Result<(), Fail> {
-    for course in THREADS {
-        check(rt.alloc(), course)?;
-    }
-    Ok(())
+    check(rt.alloc(), THREADS)
 }
+
+const ENDS: &str = r#"
+# the target's end, with requests open
+session attaches
+client {"seq":2,"type":"request","command":"threads"} | {"seq":3,"type":"request","command":"threads"} | {"seq":4,"type":"request","command":"threads"}
+shut target
+client {"seq":5,"type":"request","command":"disconnect"}
+told {"body":{"error":{"format":"targetGone","id":10}},"command":"threads","message":"targetGone","request_seq":2,"seq":3,"success":false,"type":"response"}
+told {"body":{"error":{"format":"targetGone","id":10}},"command":"threads","message":"targetGone","request_seq":3,"seq":4,"success":false,"type":"response"}
+told {"body":{"error":{"format":"targetGone","id":10}},"command":"threads","message":"targetGone","request_seq":4,"seq":5,"success":false,"type":"response"}
+told {"event":"terminated","seq":6,"type":"event"}
+told {"command":"disconnect","request_seq":5,"seq":7,"success":true,"type":"response"}
+sent command 4 1.4
+ending Done
+
+# an error of a dead target is its end, once; what comes of it later changes nothing
+session attaches
+client {"seq":2,"type":"request","command":"threads"}
+target reply 4 00000002 0000000000000001 0000000000000002
+target error 6 112
+target reply 5 00000004 "main"
+target command 1 64.100 00 00000001 06 00000001 0000000000000001
+shut target
+client {"seq":3,"type":"request","command":"attach","arguments":{"sourceRoots":["/p/src"]}}
+told {"body":{"error":{"format":"targetGone","id":10}},"command":"threads","message":"targetGone","request_seq":2,"seq":3,"success":false,"type":"response"}
+told {"event":"terminated","seq":4,"type":"event"}
+told {"body":{"error":{"format":"targetGone","id":10}},"command":"attach","message":"targetGone","request_seq":3,"seq":5,"success":false,"type":"response"}
+sent command 4 1.4
+sent command 5 11.1 0000000000000001
+sent command 6 11.1 0000000000000002
+
+# which threads there are is refused
+session attaches
+client {"seq":2,"type":"request","command":"threads"}
+target error 4 10
+client {"seq":3,"type":"request","command":"threads"}
+target error 5 503
+told {"body":{"error":{"format":"unknownThread","id":8}},"command":"threads","message":"unknownThread","request_seq":2,"seq":3,"success":false,"type":"response"}
+told {"body":{"error":{"format":"targetError 503","id":9}},"command":"threads","message":"targetError","request_seq":3,"seq":4,"success":false,"type":"response"}
+sent command 4 1.4
+sent command 5 1.4
+sent command 6 1.6
+"#;
 
 #[test]
 fn a_target_ends(rt: HostRuntime) -> Result<(), Fail> {
-    for course in ENDS {
-        check(rt.alloc(), course)?;
-    }
-    Ok(())
+    check(rt.alloc(), ENDS)
 }
+
+const REFUSED: &str = r#"
+# a size of ids that is none
+session
+client {"seq":1,"type":"request","command":"attach","arguments":{"sourceRoots":["/p/src"]}}
+target "JDWP-Handshake"
+target reply 1 00000008 00000008 00000009 00000008 00000008
+told {"body":{"error":{"format":"targetGone","id":10}},"command":"attach","message":"targetGone","request_seq":1,"seq":1,"success":false,"type":"response"}
+told {"event":"terminated","seq":2,"type":"event"}
+sent "JDWP-Handshake"
+sent command 1 1.7
+ending BadTarget { fault: BadSizes, at: 33, id: 0 }
+
+# a reply to no command
+session attaches
+target reply 99
+told {"event":"terminated","seq":3,"type":"event"}
+ending BadTarget { fault: UnknownReply, at: 75, id: 99 }
+
+# the sizes of ids are refused
+session
+client {"seq":1,"type":"request","command":"attach","arguments":{"sourceRoots":["/p/src"]}}
+target "JDWP-Handshake"
+target error 1 13
+told {"body":{"error":{"format":"targetGone","id":10}},"command":"attach","message":"targetGone","request_seq":1,"seq":1,"success":false,"type":"response"}
+told {"event":"terminated","seq":2,"type":"event"}
+sent "JDWP-Handshake"
+sent command 1 1.7
+ending TargetRefused { set: 1, command: 7, code: 13 }
+"#;
 
 #[test]
 fn replies_of_a_target_are_refused(rt: HostRuntime) -> Result<(), Fail> {
-    for course in REFUSED {
-        check(rt.alloc(), course)?;
-    }
-    Ok(())
+    check(rt.alloc(), REFUSED)
 }
+
+const FAULTS: &str = r#"
+# a packet that is too short
+session attaches
+target 0000000a
+told {"event":"terminated","seq":3,"type":"event"}
+ending BadTarget { fault: Packet(ShortLength), at: 75, id: 0 }
+
+# an event of no kind
+session attaches
+target command 1 64.100 00000000 0103
+told {"event":"terminated","seq":3,"type":"event"}
+ending BadTarget { fault: BadKind, at: 91, id: 0 }
+
+# a command of another set
+session attaches
+target command 1 1.100
+told {"event":"terminated","seq":3,"type":"event"}
+ending BadTarget { fault: BadCommand, at: 75, id: 0 }
+
+# an event of no kind, which comes before it can be read
+session
+client {"seq":1,"type":"request","command":"attach","arguments":{"sourceRoots":["/p/src"]}}
+target "JDWP-Handshake" | command 1 64.100 00000000 0103
+target reply 1 00000008 00000008 00000008 00000008 00000008
+told {"body":{"error":{"format":"targetGone","id":10}},"command":"attach","message":"targetGone","request_seq":1,"seq":1,"success":false,"type":"response"}
+told {"event":"terminated","seq":2,"type":"event"}
+sent "JDWP-Handshake"
+sent command 1 1.7
+ending BadTarget { fault: BadKind, at: 30, id: 0 }
+
+# no handshake
+session
+target 4a445758
+told {"event":"terminated","seq":1,"type":"event"}
+ending BadTarget { fault: Packet(BadHandshake), at: 3, id: 0 }
+"#;
 
 #[test]
 fn packets_of_a_target_are_refused(rt: HostRuntime) -> Result<(), Fail> {
-    for course in FAULTS {
-        check(rt.alloc(), course)?;
-    }
-    Ok(())
+    check(rt.alloc(), FAULTS)
 }
+
+const LIMITS: &str = r#"
+# nothing comes for long
+session
+limits 99 3 9
+quiet
+quiet
+quiet
+told {"event":"terminated","seq":1,"type":"event"}
+ending Idle
+
+# and then something does
+session
+limits 99 3 9
+quiet
+quiet
+client {"seq":1,"type":"request","command":"disconnect"}
+quiet
+told {"command":"disconnect","request_seq":1,"seq":1,"success":true,"type":"response"}
+ending Done
+
+# all turns are taken
+session
+limits 2 9 9
+quiet
+quiet
+ending Spent
+
+# too many requests wait
+session attaches
+limits 99 9 1
+client {"seq":2,"type":"request","command":"threads"} | {"seq":3,"type":"request","command":"threads"} | {"seq":4,"type":"request","command":"threads"}
+sent command 4 1.4
+sent command 5 1.6
+ending Flood
+"#;
 
 #[test]
 fn limits_end_a_session(rt: HostRuntime) -> Result<(), Fail> {
-    for course in LIMITS {
-        check(rt.alloc(), course)?;
-    }
-    Ok(())
+    check(rt.alloc(), LIMITS)
 }
+
+const LINKS: &str = r#"
+# a send to the client that fails
+session
+cut client 1 5
+client {"seq":1,"type":"request","command":"initialize","arguments":{"adapterID":"jdwp"}}
+client {"seq":2,"type":"request","command":"disconnect"}
+told {"body":{"exceptionBreakpointFilters":[{"filter":"caught","label":"Caught exceptions"},{"filter":"uncaught","label":"Uncaught exceptions"}],"supportTerminateDebuggee":true,"supportsConfigurationDoneRequest":true,"supportsEvaluateForHovers":true,"supportsExceptionInfoRequest":true,"supportsFunctionBreakpoints":true,"supportsSetVariable":true},"command":"initialize","request_seq":1,"seq":1,"success":true,"type":"response"}
+told "Conte"
+ending ClientLink
+
+# a send to the target that fails
+session
+cut target 0 5
+client {"seq":1,"type":"request","command":"attach","arguments":{"sourceRoots":["/p/src"]}}
+told {"body":{"error":{"format":"targetGone","id":10}},"command":"attach","message":"targetGone","request_seq":1,"seq":1,"success":false,"type":"response"}
+told {"event":"terminated","seq":2,"type":"event"}
+sent 4a445750 2d
+ending TargetLink
+
+# and then one of the last words
+session
+cut target 0 5
+cut client 1 3
+client {"seq":1,"type":"request","command":"attach","arguments":{"sourceRoots":["/p/src"]}}
+told {"body":{"error":{"format":"targetGone","id":10}},"command":"attach","message":"targetGone","request_seq":1,"seq":1,"success":false,"type":"response"}
+told "Con"
+sent 4a445750 2d
+ending TargetLink
+
+# it fails inside `initialized`, before the target counts as attached
+session
+cut client 1 45
+client {"seq":1,"type":"request","command":"attach","arguments":{"sourceRoots":["/p/src"]}}
+target "JDWP-Handshake"
+target reply 1 00000008 00000008 00000008 00000008 00000008
+target reply 2 00000001
+target reply 3 00000002
+told {"command":"attach","request_seq":1,"seq":1,"success":true,"type":"response"}
+told "Content-Length: 46" 0d0a0d0a '{"event":"initialized",'
+sent "JDWP-Handshake"
+sent command 1 1.7
+sent command 2 15.1 06 00 00000000
+sent command 3 15.1 07 00 00000000
+ending ClientLink
+
+# and inside what is told next: the target is left to run on
+session attaches
+cut client 2 5
+client {"seq":2,"type":"request","command":"attach","arguments":{"sourceRoots":["/p/src"]}}
+told "Conte"
+sent command 4 1.6
+ending ClientLink
+
+# the target's link fails
+session attaches
+failed target
+told {"event":"terminated","seq":3,"type":"event"}
+ending TargetLink
+
+# the client's link fails
+session attaches
+failed client
+sent command 4 1.6
+ending ClientLink
+"#;
 
 #[test]
 fn links_fail(rt: HostRuntime) -> Result<(), Fail> {
-    for course in LINKS {
-        check(rt.alloc(), course)?;
-    }
-    Ok(())
+    check(rt.alloc(), LINKS)
 }
+
+const CLIENT_FAULTS: &str = r#"
+# a byte that no frame has there
+session
+client {"seq":1,"type":"request","command":"initialize","arguments":{"adapterID":"jdwp"}}
+client "Length 1"
+told {"body":{"exceptionBreakpointFilters":[{"filter":"caught","label":"Caught exceptions"},{"filter":"uncaught","label":"Uncaught exceptions"}],"supportTerminateDebuggee":true,"supportsConfigurationDoneRequest":true,"supportsEvaluateForHovers":true,"supportsExceptionInfoRequest":true,"supportsFunctionBreakpoints":true,"supportsSetVariable":true},"command":"initialize","request_seq":1,"seq":1,"success":true,"type":"response"}
+ending BadClient { fault: Frame(BadHeader), at: 110 }
+
+session
+client "Content-Length: 16777217" 0d0a0d0a
+ending BadClient { fault: Frame(TooLong), at: 23 }
+
+session
+client "Content-Length: 00000000002" 0d0a0d0a
+ending BadClient { fault: Frame(BadLength), at: 26 }
+
+session
+client "X: y" 0d0a0d
+ending BadClient { fault: Frame(NoLength), at: 6 }
+
+session
+client "Content-Length: 2" 0d0a "Content-Length: 2" 0d0a0d0a "{}"
+ending BadClient { fault: Frame(TwoLengths), at: 33 }
+
+# a body that is no message
+session
+client "Content-Length: 1" 0d0a0d0a "}"
+ending BadClient { fault: NotJson, at: 21 }
+
+session
+client {}
+ending BadClient { fault: NotAMessage, at: 21 }
+"#;
 
 #[test]
 fn bytes_of_a_client_are_refused(rt: HostRuntime) -> Result<(), Fail> {
-    for course in CLIENT_FAULTS {
-        check(rt.alloc(), course)?;
-    }
-    Ok(())
+    check(rt.alloc(), CLIENT_FAULTS)
 }

@@ -1,1213 +1,457 @@
-use crate::composites::{RESUME, RESUMED};
-use crate::courses::{ATTACHES, Came, Course, USUAL, check};
-use crate::frames::{
-    ASK_BOTH, ASK_COUNT, ASK_FILE, ASK_NAMES, ASK_SIGNATURE, ASK_TABLE, ASK_TOP, BOTH, FILE, ONE,
-    SHOWS, SIGNATURE, TABLE, THREE, TOP, TOP_SHOWN, TRACE, TWO,
-};
-use crate::stops::{
-    BINDS, CONTINUE, CONTINUED, DISPOSE, DISPOSE_FIRST, DISPOSE_NEXT, OTHER_HIT, STOPS,
-};
-use session_model::Ending;
+use crate::courses::check;
 use std::test::Fail;
-use wire_core::Side;
 
-const QUESTIONS: &[Course<'static>] = &[
-    // each once: two frames are in one method, and three in one class
-    Course {
-        first: &[ATTACHES, BINDS, STOPS],
-        steps: &[
-            Came::Bytes(Side::Client, TRACE),
-            Came::Bytes(Side::Target, THREE),
-            Came::Bytes(
-                Side::Target,
-                b"\x00\x00\x00\x72\x00\x00\x00\x0b\x80\x00\x00\x00\x00\x00\x03\x00\x00\x00\x00\x00\x00\x00\x41\x01\x00\
-                \x00\x00\x00\x00\x00\x00\x20\x00\x00\x00\x00\x00\x00\x00\x04\x00\x00\x00\x00\x00\x00\x00\x03\x00\x00\
-                \x00\x00\x00\x00\x00\x42\x01\x00\x00\x00\x00\x00\x00\x00\x20\x00\x00\x00\x00\x00\x00\x00\x04\x00\x00\
-                \x00\x00\x00\x00\x00\x08\x00\x00\x00\x00\x00\x00\x00\x43\x01\x00\x00\x00\x00\x00\x00\x00\x20\x00\x00\
-                \x00\x00\x00\x00\x00\x05\x00\x00\x00\x00\x00\x00\x00\x00",
-            ),
-            Came::Bytes(Side::Target, SIGNATURE),
-            Came::Bytes(Side::Target, FILE),
-            Came::Bytes(
-                Side::Target,
-                b"\x00\x00\x00\x5a\x00\x00\x00\x0e\x80\x00\x00\x00\x00\x00\x02\x00\x00\x00\x00\x00\x00\x00\x04\x00\x00\
-                \x00\x04main\x00\x00\x00\x16([Ljava/lang/String;)V\x00\x00\x00\x09\x00\x00\x00\x00\x00\x00\x00\x05\x00\
-                \x00\x00\x06<init>\x00\x00\x00\x03()V\x00\x00\x00\x01",
-            ),
-            Came::Bytes(Side::Target, TABLE),
-            Came::Bytes(
-                Side::Target,
-                b"\x00\x00\x00\x2b\x00\x00\x00\x10\x80\x00\x00\x00\x00\x00\x00\x00\x00\x00\x00\x00\x00\x00\x00\x00\x00\
-                \x00\x04\x00\x00\x00\x01\x00\x00\x00\x00\x00\x00\x00\x00\x00\x00\x00\x0c",
-            ),
-        ],
-        limits: USUAL,
-        failing: &[],
-        told: &[
-            b"Content-Length: 475\r\n\r\n{\"body\":{\"stackFrames\":[{\"column\":1,\"id\":1,\"line\":20,\
-            \"name\":\"org.x.Main.main\",\"source\":{\"name\":\"Main.java\",\"path\":\"/p/src/org/x/Main.java\"}},\
-            {\"column\":1,\"id\":2,\"line\":21,\"name\":\"org.x.Main.main\",\"source\":{\"name\":\"Main.java\",\
-            \"path\":\"/p/src/org/x/Main.java\"}},{\"column\":1,\"id\":3,\"line\":12,\"name\":\"org.x.Main.<init>\",\
-            \"source\":{\"name\":\"Main.java\",\"path\":\"/p/src/org/x/Main.java\"}}],\"totalFrames\":3},\
-            \"command\":\"stackTrace\",\"request_seq\":3,\"seq\":5,\"success\":true,\"type\":\"response\"}",
-        ],
-        sent: &[
-            ASK_COUNT,
-            b"\x00\x00\x00\x1b\x00\x00\x00\x0b\x00\x0b\x06\x00\x00\x00\x00\x00\x00\x00\x07\x00\x00\x00\x00\x00\x00\x00\
-            \x03",
-            ASK_SIGNATURE,
-            ASK_FILE,
-            ASK_NAMES,
-            ASK_TABLE,
-            b"\x00\x00\x00\x1b\x00\x00\x00\x10\x00\x06\x01\x00\x00\x00\x00\x00\x00\x00\x20\x00\x00\x00\x00\x00\x00\x00\
-            \x05",
-            b"\x00\x00\x00\x0b\x00\x00\x00\x11\x00\x01\x06",
-        ],
-        ending: Ending::Left,
-    },
-    // sixteen at most are pending
-    Course {
-        first: &[ATTACHES, BINDS, STOPS],
-        steps: &[
-            Came::Bytes(Side::Client, TRACE),
-            Came::Bytes(
-                Side::Target,
-                b"\x00\x00\x00\x0f\x00\x00\x00\x0a\x80\x00\x00\x00\x00\x00\x05",
-            ),
-            Came::Bytes(
-                Side::Target,
-                b"\x00\x00\x00\xb4\x00\x00\x00\x0b\x80\x00\x00\x00\x00\x00\x05\x00\x00\x00\x00\x00\x00\x00\x50\x01\x00\
-                \x00\x00\x00\x00\x00\x00\x21\x00\x00\x00\x00\x00\x00\x00\x04\x00\x00\x00\x00\x00\x00\x00\x03\x00\x00\
-                \x00\x00\x00\x00\x00\x51\x01\x00\x00\x00\x00\x00\x00\x00\x22\x00\x00\x00\x00\x00\x00\x00\x04\x00\x00\
-                \x00\x00\x00\x00\x00\x03\x00\x00\x00\x00\x00\x00\x00\x52\x01\x00\x00\x00\x00\x00\x00\x00\x23\x00\x00\
-                \x00\x00\x00\x00\x00\x04\x00\x00\x00\x00\x00\x00\x00\x03\x00\x00\x00\x00\x00\x00\x00\x53\x01\x00\x00\
-                \x00\x00\x00\x00\x00\x24\x00\x00\x00\x00\x00\x00\x00\x04\x00\x00\x00\x00\x00\x00\x00\x03\x00\x00\x00\
-                \x00\x00\x00\x00\x54\x01\x00\x00\x00\x00\x00\x00\x00\x25\x00\x00\x00\x00\x00\x00\x00\x04\x00\x00\x00\
-                \x00\x00\x00\x00\x03",
-            ),
-        ],
-        limits: USUAL,
-        failing: &[],
-        told: &[],
-        sent: &[
-            ASK_COUNT,
-            b"\x00\x00\x00\x1b\x00\x00\x00\x0b\x00\x0b\x06\x00\x00\x00\x00\x00\x00\x00\x07\x00\x00\x00\x00\x00\x00\x00\
-            \x05",
-            b"\x00\x00\x00\x13\x00\x00\x00\x0c\x00\x02\x01\x00\x00\x00\x00\x00\x00\x00\x21",
-            b"\x00\x00\x00\x13\x00\x00\x00\x0d\x00\x02\x07\x00\x00\x00\x00\x00\x00\x00\x21",
-            b"\x00\x00\x00\x13\x00\x00\x00\x0e\x00\x02\x05\x00\x00\x00\x00\x00\x00\x00\x21",
-            b"\x00\x00\x00\x1b\x00\x00\x00\x0f\x00\x06\x01\x00\x00\x00\x00\x00\x00\x00\x21\x00\x00\x00\x00\x00\x00\x00\
-            \x04",
-            b"\x00\x00\x00\x13\x00\x00\x00\x10\x00\x02\x01\x00\x00\x00\x00\x00\x00\x00\x22",
-            b"\x00\x00\x00\x13\x00\x00\x00\x11\x00\x02\x07\x00\x00\x00\x00\x00\x00\x00\x22",
-            b"\x00\x00\x00\x13\x00\x00\x00\x12\x00\x02\x05\x00\x00\x00\x00\x00\x00\x00\x22",
-            b"\x00\x00\x00\x1b\x00\x00\x00\x13\x00\x06\x01\x00\x00\x00\x00\x00\x00\x00\x22\x00\x00\x00\x00\x00\x00\x00\
-            \x04",
-            b"\x00\x00\x00\x13\x00\x00\x00\x14\x00\x02\x01\x00\x00\x00\x00\x00\x00\x00\x23",
-            b"\x00\x00\x00\x13\x00\x00\x00\x15\x00\x02\x07\x00\x00\x00\x00\x00\x00\x00\x23",
-            b"\x00\x00\x00\x13\x00\x00\x00\x16\x00\x02\x05\x00\x00\x00\x00\x00\x00\x00\x23",
-            b"\x00\x00\x00\x1b\x00\x00\x00\x17\x00\x06\x01\x00\x00\x00\x00\x00\x00\x00\x23\x00\x00\x00\x00\x00\x00\x00\
-            \x04",
-            b"\x00\x00\x00\x13\x00\x00\x00\x18\x00\x02\x01\x00\x00\x00\x00\x00\x00\x00\x24",
-            b"\x00\x00\x00\x13\x00\x00\x00\x19\x00\x02\x07\x00\x00\x00\x00\x00\x00\x00\x24",
-            b"\x00\x00\x00\x13\x00\x00\x00\x1a\x00\x02\x05\x00\x00\x00\x00\x00\x00\x00\x24",
-            b"\x00\x00\x00\x1b\x00\x00\x00\x1b\x00\x06\x01\x00\x00\x00\x00\x00\x00\x00\x24\x00\x00\x00\x00\x00\x00\x00\
-            \x04",
-            b"\x00\x00\x00\x0b\x00\x00\x00\x1c\x00\x01\x06",
-        ],
-        ending: Ending::Left,
-    },
-    // and the next goes once a reply has come
-    Course {
-        first: &[ATTACHES, BINDS, STOPS],
-        steps: &[
-            Came::Bytes(Side::Client, TRACE),
-            Came::Bytes(
-                Side::Target,
-                b"\x00\x00\x00\x0f\x00\x00\x00\x0a\x80\x00\x00\x00\x00\x00\x05",
-            ),
-            Came::Bytes(
-                Side::Target,
-                b"\x00\x00\x00\xb4\x00\x00\x00\x0b\x80\x00\x00\x00\x00\x00\x05\x00\x00\x00\x00\x00\x00\x00\x50\x01\x00\
-                \x00\x00\x00\x00\x00\x00\x21\x00\x00\x00\x00\x00\x00\x00\x04\x00\x00\x00\x00\x00\x00\x00\x03\x00\x00\
-                \x00\x00\x00\x00\x00\x51\x01\x00\x00\x00\x00\x00\x00\x00\x22\x00\x00\x00\x00\x00\x00\x00\x04\x00\x00\
-                \x00\x00\x00\x00\x00\x03\x00\x00\x00\x00\x00\x00\x00\x52\x01\x00\x00\x00\x00\x00\x00\x00\x23\x00\x00\
-                \x00\x00\x00\x00\x00\x04\x00\x00\x00\x00\x00\x00\x00\x03\x00\x00\x00\x00\x00\x00\x00\x53\x01\x00\x00\
-                \x00\x00\x00\x00\x00\x24\x00\x00\x00\x00\x00\x00\x00\x04\x00\x00\x00\x00\x00\x00\x00\x03\x00\x00\x00\
-                \x00\x00\x00\x00\x54\x01\x00\x00\x00\x00\x00\x00\x00\x25\x00\x00\x00\x00\x00\x00\x00\x04\x00\x00\x00\
-                \x00\x00\x00\x00\x03",
-            ),
-            Came::Bytes(
-                Side::Target,
-                b"\x00\x00\x00\x1c\x00\x00\x00\x14\x80\x00\x00\x00\x00\x00\x0dLorg/x/Third;",
-            ),
-        ],
-        limits: USUAL,
-        failing: &[],
-        told: &[],
-        sent: &[
-            ASK_COUNT,
-            b"\x00\x00\x00\x1b\x00\x00\x00\x0b\x00\x0b\x06\x00\x00\x00\x00\x00\x00\x00\x07\x00\x00\x00\x00\x00\x00\x00\
-            \x05",
-            b"\x00\x00\x00\x13\x00\x00\x00\x0c\x00\x02\x01\x00\x00\x00\x00\x00\x00\x00\x21",
-            b"\x00\x00\x00\x13\x00\x00\x00\x0d\x00\x02\x07\x00\x00\x00\x00\x00\x00\x00\x21",
-            b"\x00\x00\x00\x13\x00\x00\x00\x0e\x00\x02\x05\x00\x00\x00\x00\x00\x00\x00\x21",
-            b"\x00\x00\x00\x1b\x00\x00\x00\x0f\x00\x06\x01\x00\x00\x00\x00\x00\x00\x00\x21\x00\x00\x00\x00\x00\x00\x00\
-            \x04",
-            b"\x00\x00\x00\x13\x00\x00\x00\x10\x00\x02\x01\x00\x00\x00\x00\x00\x00\x00\x22",
-            b"\x00\x00\x00\x13\x00\x00\x00\x11\x00\x02\x07\x00\x00\x00\x00\x00\x00\x00\x22",
-            b"\x00\x00\x00\x13\x00\x00\x00\x12\x00\x02\x05\x00\x00\x00\x00\x00\x00\x00\x22",
-            b"\x00\x00\x00\x1b\x00\x00\x00\x13\x00\x06\x01\x00\x00\x00\x00\x00\x00\x00\x22\x00\x00\x00\x00\x00\x00\x00\
-            \x04",
-            b"\x00\x00\x00\x13\x00\x00\x00\x14\x00\x02\x01\x00\x00\x00\x00\x00\x00\x00\x23",
-            b"\x00\x00\x00\x13\x00\x00\x00\x15\x00\x02\x07\x00\x00\x00\x00\x00\x00\x00\x23",
-            b"\x00\x00\x00\x13\x00\x00\x00\x16\x00\x02\x05\x00\x00\x00\x00\x00\x00\x00\x23",
-            b"\x00\x00\x00\x1b\x00\x00\x00\x17\x00\x06\x01\x00\x00\x00\x00\x00\x00\x00\x23\x00\x00\x00\x00\x00\x00\x00\
-            \x04",
-            b"\x00\x00\x00\x13\x00\x00\x00\x18\x00\x02\x01\x00\x00\x00\x00\x00\x00\x00\x24",
-            b"\x00\x00\x00\x13\x00\x00\x00\x19\x00\x02\x07\x00\x00\x00\x00\x00\x00\x00\x24",
-            b"\x00\x00\x00\x13\x00\x00\x00\x1a\x00\x02\x05\x00\x00\x00\x00\x00\x00\x00\x24",
-            b"\x00\x00\x00\x1b\x00\x00\x00\x1b\x00\x06\x01\x00\x00\x00\x00\x00\x00\x00\x24\x00\x00\x00\x00\x00\x00\x00\
-            \x04",
-            b"\x00\x00\x00\x13\x00\x00\x00\x1c\x00\x02\x01\x00\x00\x00\x00\x00\x00\x00\x25",
-            b"\x00\x00\x00\x0b\x00\x00\x00\x1d\x00\x01\x06",
-        ],
-        ending: Ending::Left,
-    },
-];
+const QUESTIONS: &str = r#"
+# each once: two frames are in one method, and three in one class
+session attaches binds stops
+client {"seq":3,"type":"request","command":"stackTrace","arguments":{"threadId":1}}
+target reply 10 00000003
+target reply 11 00000003 0000000000000041 01 0000000000000020 0000000000000004 0000000000000003 0000000000000042 01 0000000000000020 0000000000000004 0000000000000008 0000000000000043 01 0000000000000020 0000000000000005 0000000000000000
+target reply 12 0000000c "Lorg/x/Main;"
+target reply 13 00000009 "Main.java"
+target reply 14 00000002 0000000000000004 00000004 "main" 00000016 "([Ljava/lang/String;)V" 00000009 0000000000000005 00000006 "<init>" 00000003 "()V" 00000001
+target reply 15 0000000000000000 000000000000000a 00000002 0000000000000000 00000014 0000000000000007 00000015
+target reply 16 0000000000000000 0000000000000004 00000001 0000000000000000 0000000c
+told {"body":{"stackFrames":[{"column":1,"id":1,"line":20,"name":"org.x.Main.main","source":{"name":"Main.java","path":"/p/src/org/x/Main.java"}},{"column":1,"id":2,"line":21,"name":"org.x.Main.main","source":{"name":"Main.java","path":"/p/src/org/x/Main.java"}},{"column":1,"id":3,"line":12,"name":"org.x.Main.<init>","source":{"name":"Main.java","path":"/p/src/org/x/Main.java"}}],"totalFrames":3},"command":"stackTrace","request_seq":3,"seq":5,"success":true,"type":"response"}
+sent command 10 11.7 0000000000000007
+sent command 11 11.6 0000000000000007 00000000 00000003
+sent command 12 2.1 0000000000000020
+sent command 13 2.7 0000000000000020
+sent command 14 2.5 0000000000000020
+sent command 15 6.1 0000000000000020 0000000000000004
+sent command 16 6.1 0000000000000020 0000000000000005
+sent command 17 1.6
+
+# sixteen at most are pending
+session attaches binds stops
+client {"seq":3,"type":"request","command":"stackTrace","arguments":{"threadId":1}}
+target reply 10 00000005
+target reply 11 00000005 0000000000000050 01 0000000000000021 0000000000000004 0000000000000003 0000000000000051 01 0000000000000022 0000000000000004 0000000000000003 0000000000000052 01 0000000000000023 0000000000000004 0000000000000003 0000000000000053 01 0000000000000024 0000000000000004 0000000000000003 0000000000000054 01 0000000000000025 0000000000000004 0000000000000003
+sent command 10 11.7 0000000000000007
+sent command 11 11.6 0000000000000007 00000000 00000005
+sent command 12 2.1 0000000000000021
+sent command 13 2.7 0000000000000021
+sent command 14 2.5 0000000000000021
+sent command 15 6.1 0000000000000021 0000000000000004
+sent command 16 2.1 0000000000000022
+sent command 17 2.7 0000000000000022
+sent command 18 2.5 0000000000000022
+sent command 19 6.1 0000000000000022 0000000000000004
+sent command 20 2.1 0000000000000023
+sent command 21 2.7 0000000000000023
+sent command 22 2.5 0000000000000023
+sent command 23 6.1 0000000000000023 0000000000000004
+sent command 24 2.1 0000000000000024
+sent command 25 2.7 0000000000000024
+sent command 26 2.5 0000000000000024
+sent command 27 6.1 0000000000000024 0000000000000004
+sent command 28 1.6
+
+# and the next goes once a reply has come
+session attaches binds stops
+client {"seq":3,"type":"request","command":"stackTrace","arguments":{"threadId":1}}
+target reply 10 00000005
+target reply 11 00000005 0000000000000050 01 0000000000000021 0000000000000004 0000000000000003 0000000000000051 01 0000000000000022 0000000000000004 0000000000000003 0000000000000052 01 0000000000000023 0000000000000004 0000000000000003 0000000000000053 01 0000000000000024 0000000000000004 0000000000000003 0000000000000054 01 0000000000000025 0000000000000004 0000000000000003
+target reply 20 0000000d "Lorg/x/Third;"
+sent command 10 11.7 0000000000000007
+sent command 11 11.6 0000000000000007 00000000 00000005
+sent command 12 2.1 0000000000000021
+sent command 13 2.7 0000000000000021
+sent command 14 2.5 0000000000000021
+sent command 15 6.1 0000000000000021 0000000000000004
+sent command 16 2.1 0000000000000022
+sent command 17 2.7 0000000000000022
+sent command 18 2.5 0000000000000022
+sent command 19 6.1 0000000000000022 0000000000000004
+sent command 20 2.1 0000000000000023
+sent command 21 2.7 0000000000000023
+sent command 22 2.5 0000000000000023
+sent command 23 6.1 0000000000000023 0000000000000004
+sent command 24 2.1 0000000000000024
+sent command 25 2.7 0000000000000024
+sent command 26 2.5 0000000000000024
+sent command 27 6.1 0000000000000024 0000000000000004
+sent command 28 2.1 0000000000000025
+sent command 29 1.6
+"#;
 
 #[test]
 fn questions_of_frames_go_together(rt: HostRuntime) -> Result<(), Fail> {
-    for course in QUESTIONS {
-        check(rt.alloc(), course)?;
-    }
-    Ok(())
+    check(rt.alloc(), QUESTIONS)
 }
 
-const WINDOWS: &[Course<'static>] = &[
-    // 0 levels are all
-    Course {
-        first: &[ATTACHES, BINDS, STOPS],
-        steps: &[
-            Came::Bytes(
-                Side::Client,
-                b"Content-Length: 102\r\n\r\n{\"seq\":3,\"type\":\"request\",\"command\":\"stackTrace\",\
-                \"arguments\":{\"threadId\":1,\"startFrame\":0,\"levels\":0}}",
-            ),
-            Came::Bytes(Side::Target, THREE),
-            Came::Bytes(
-                Side::Target,
-                b"\x00\x00\x00\x72\x00\x00\x00\x0b\x80\x00\x00\x00\x00\x00\x03\x00\x00\x00\x00\x00\x00\x00\x40\x01\x00\
-                \x00\x00\x00\x00\x00\x00\x10\x00\x00\x00\x00\x00\x00\x00\x03\x00\x00\x00\x00\x00\x00\x00\x09\x00\x00\
-                \x00\x00\x00\x00\x00\x41\x01\x00\x00\x00\x00\x00\x00\x00\x10\x00\x00\x00\x00\x00\x00\x00\x03\x00\x00\
-                \x00\x00\x00\x00\x00\x05\x00\x00\x00\x00\x00\x00\x00\x42\x01\x00\x00\x00\x00\x00\x00\x00\x10\x00\x00\
-                \x00\x00\x00\x00\x00\x03\x00\x00\x00\x00\x00\x00\x00\x00",
-            ),
-        ],
-        limits: USUAL,
-        failing: &[],
-        told: &[
-            b"Content-Length: 478\r\n\r\n{\"body\":{\"stackFrames\":[{\"column\":1,\"id\":1,\"line\":11,\
-            \"name\":\"com.acme.Foo.run\",\"source\":{\"name\":\"Foo.java\",\"path\":\"/p/src/com/acme/Foo.java\"}},\
-            {\"column\":1,\"id\":2,\"line\":10,\"name\":\"com.acme.Foo.run\",\"source\":{\"name\":\"Foo.java\",\
-            \"path\":\"/p/src/com/acme/Foo.java\"}},{\"column\":1,\"id\":3,\"line\":9,\"name\":\"com.acme.Foo.run\",\
-            \"source\":{\"name\":\"Foo.java\",\"path\":\"/p/src/com/acme/Foo.java\"}}],\"totalFrames\":3},\
-            \"command\":\"stackTrace\",\"request_seq\":3,\"seq\":5,\"success\":true,\"type\":\"response\"}",
-        ],
-        sent: &[
-            ASK_COUNT,
-            b"\x00\x00\x00\x1b\x00\x00\x00\x0b\x00\x0b\x06\x00\x00\x00\x00\x00\x00\x00\x07\x00\x00\x00\x00\x00\x00\x00\
-            \x03",
-            b"\x00\x00\x00\x0b\x00\x00\x00\x0c\x00\x01\x06",
-        ],
-        ending: Ending::Left,
-    },
-    // the first
-    Course {
-        first: &[ATTACHES, BINDS, STOPS],
-        steps: &[
-            Came::Bytes(
-                Side::Client,
-                b"Content-Length: 87\r\n\r\n{\"seq\":3,\"type\":\"request\",\"command\":\"stackTrace\",\
-                \"arguments\":{\"threadId\":1,\"levels\":1}}",
-            ),
-            Came::Bytes(Side::Target, THREE),
-            Came::Bytes(
-                Side::Target,
-                b"\x00\x00\x00\x30\x00\x00\x00\x0b\x80\x00\x00\x00\x00\x00\x01\x00\x00\x00\x00\x00\x00\x00\x40\x01\x00\
-                \x00\x00\x00\x00\x00\x00\x10\x00\x00\x00\x00\x00\x00\x00\x03\x00\x00\x00\x00\x00\x00\x00\x09",
-            ),
-        ],
-        limits: USUAL,
-        failing: &[],
-        told: &[
-            b"Content-Length: 241\r\n\r\n{\"body\":{\"stackFrames\":[{\"column\":1,\"id\":1,\"line\":11,\
-            \"name\":\"com.acme.Foo.run\",\"source\":{\"name\":\"Foo.java\",\"path\":\"/p/src/com/acme/Foo.java\"}}],\
-            \"totalFrames\":3},\"command\":\"stackTrace\",\"request_seq\":3,\"seq\":5,\"success\":true,\
-            \"type\":\"response\"}",
-        ],
-        sent: &[
-            ASK_COUNT,
-            ASK_TOP,
-            b"\x00\x00\x00\x0b\x00\x00\x00\x0c\x00\x01\x06",
-        ],
-        ending: Ending::Left,
-    },
-    // the others
-    Course {
-        first: &[ATTACHES, BINDS, STOPS],
-        steps: &[
-            Came::Bytes(
-                Side::Client,
-                b"Content-Length: 91\r\n\r\n{\"seq\":3,\"type\":\"request\",\"command\":\"stackTrace\",\
-                \"arguments\":{\"threadId\":1,\"startFrame\":1}}",
-            ),
-            Came::Bytes(Side::Target, THREE),
-            Came::Bytes(
-                Side::Target,
-                b"\x00\x00\x00\x51\x00\x00\x00\x0b\x80\x00\x00\x00\x00\x00\x02\x00\x00\x00\x00\x00\x00\x00\x41\x01\x00\
-                \x00\x00\x00\x00\x00\x00\x10\x00\x00\x00\x00\x00\x00\x00\x03\x00\x00\x00\x00\x00\x00\x00\x05\x00\x00\
-                \x00\x00\x00\x00\x00\x42\x01\x00\x00\x00\x00\x00\x00\x00\x10\x00\x00\x00\x00\x00\x00\x00\x03\x00\x00\
-                \x00\x00\x00\x00\x00\x00",
-            ),
-        ],
-        limits: USUAL,
-        failing: &[],
-        told: &[
-            b"Content-Length: 359\r\n\r\n{\"body\":{\"stackFrames\":[{\"column\":1,\"id\":1,\"line\":10,\
-            \"name\":\"com.acme.Foo.run\",\"source\":{\"name\":\"Foo.java\",\"path\":\"/p/src/com/acme/Foo.java\"}},\
-            {\"column\":1,\"id\":2,\"line\":9,\"name\":\"com.acme.Foo.run\",\"source\":{\"name\":\"Foo.java\",\
-            \"path\":\"/p/src/com/acme/Foo.java\"}}],\"totalFrames\":3},\"command\":\"stackTrace\",\"request_seq\":3,\
-            \"seq\":5,\"success\":true,\"type\":\"response\"}",
-        ],
-        sent: &[
-            ASK_COUNT,
-            b"\x00\x00\x00\x1b\x00\x00\x00\x0b\x00\x0b\x06\x00\x00\x00\x00\x00\x00\x00\x07\x00\x00\x00\x01\x00\x00\x00\
-            \x02",
-            b"\x00\x00\x00\x0b\x00\x00\x00\x0c\x00\x01\x06",
-        ],
-        ending: Ending::Left,
-    },
-    // one between
-    Course {
-        first: &[ATTACHES, BINDS, STOPS],
-        steps: &[
-            Came::Bytes(
-                Side::Client,
-                b"Content-Length: 102\r\n\r\n{\"seq\":3,\"type\":\"request\",\"command\":\"stackTrace\",\
-                \"arguments\":{\"threadId\":1,\"startFrame\":1,\"levels\":1}}",
-            ),
-            Came::Bytes(Side::Target, THREE),
-            Came::Bytes(
-                Side::Target,
-                b"\x00\x00\x00\x30\x00\x00\x00\x0b\x80\x00\x00\x00\x00\x00\x01\x00\x00\x00\x00\x00\x00\x00\x41\x01\x00\
-                \x00\x00\x00\x00\x00\x00\x10\x00\x00\x00\x00\x00\x00\x00\x03\x00\x00\x00\x00\x00\x00\x00\x05",
-            ),
-        ],
-        limits: USUAL,
-        failing: &[],
-        told: &[
-            b"Content-Length: 241\r\n\r\n{\"body\":{\"stackFrames\":[{\"column\":1,\"id\":1,\"line\":10,\
-            \"name\":\"com.acme.Foo.run\",\"source\":{\"name\":\"Foo.java\",\"path\":\"/p/src/com/acme/Foo.java\"}}],\
-            \"totalFrames\":3},\"command\":\"stackTrace\",\"request_seq\":3,\"seq\":5,\"success\":true,\
-            \"type\":\"response\"}",
-        ],
-        sent: &[
-            ASK_COUNT,
-            b"\x00\x00\x00\x1b\x00\x00\x00\x0b\x00\x0b\x06\x00\x00\x00\x00\x00\x00\x00\x07\x00\x00\x00\x01\x00\x00\x00\
-            \x01",
-            b"\x00\x00\x00\x0b\x00\x00\x00\x0c\x00\x01\x06",
-        ],
-        ending: Ending::Left,
-    },
-    // more than are left
-    Course {
-        first: &[ATTACHES, BINDS, STOPS],
-        steps: &[
-            Came::Bytes(
-                Side::Client,
-                b"Content-Length: 103\r\n\r\n{\"seq\":3,\"type\":\"request\",\"command\":\"stackTrace\",\
-                \"arguments\":{\"threadId\":1,\"startFrame\":2,\"levels\":20}}",
-            ),
-            Came::Bytes(Side::Target, THREE),
-            Came::Bytes(
-                Side::Target,
-                b"\x00\x00\x00\x30\x00\x00\x00\x0b\x80\x00\x00\x00\x00\x00\x01\x00\x00\x00\x00\x00\x00\x00\x42\x01\x00\
-                \x00\x00\x00\x00\x00\x00\x10\x00\x00\x00\x00\x00\x00\x00\x03\x00\x00\x00\x00\x00\x00\x00\x00",
-            ),
-        ],
-        limits: USUAL,
-        failing: &[],
-        told: &[
-            b"Content-Length: 240\r\n\r\n{\"body\":{\"stackFrames\":[{\"column\":1,\"id\":1,\"line\":9,\
-            \"name\":\"com.acme.Foo.run\",\"source\":{\"name\":\"Foo.java\",\"path\":\"/p/src/com/acme/Foo.java\"}}],\
-            \"totalFrames\":3},\"command\":\"stackTrace\",\"request_seq\":3,\"seq\":5,\"success\":true,\
-            \"type\":\"response\"}",
-        ],
-        sent: &[
-            ASK_COUNT,
-            b"\x00\x00\x00\x1b\x00\x00\x00\x0b\x00\x0b\x06\x00\x00\x00\x00\x00\x00\x00\x07\x00\x00\x00\x02\x00\x00\x00\
-            \x01",
-            b"\x00\x00\x00\x0b\x00\x00\x00\x0c\x00\x01\x06",
-        ],
-        ending: Ending::Left,
-    },
-];
+const WINDOWS: &str = r#"
+# 0 levels are all
+session attaches binds stops
+client {"seq":3,"type":"request","command":"stackTrace","arguments":{"threadId":1,"startFrame":0,"levels":0}}
+target reply 10 00000003
+target reply 11 00000003 0000000000000040 01 0000000000000010 0000000000000003 0000000000000009 0000000000000041 01 0000000000000010 0000000000000003 0000000000000005 0000000000000042 01 0000000000000010 0000000000000003 0000000000000000
+told {"body":{"stackFrames":[{"column":1,"id":1,"line":11,"name":"com.acme.Foo.run","source":{"name":"Foo.java","path":"/p/src/com/acme/Foo.java"}},{"column":1,"id":2,"line":10,"name":"com.acme.Foo.run","source":{"name":"Foo.java","path":"/p/src/com/acme/Foo.java"}},{"column":1,"id":3,"line":9,"name":"com.acme.Foo.run","source":{"name":"Foo.java","path":"/p/src/com/acme/Foo.java"}}],"totalFrames":3},"command":"stackTrace","request_seq":3,"seq":5,"success":true,"type":"response"}
+sent command 10 11.7 0000000000000007
+sent command 11 11.6 0000000000000007 00000000 00000003
+sent command 12 1.6
+
+# the first
+session attaches binds stops
+client {"seq":3,"type":"request","command":"stackTrace","arguments":{"threadId":1,"levels":1}}
+target reply 10 00000003
+target reply 11 00000001 0000000000000040 01 0000000000000010 0000000000000003 0000000000000009
+told {"body":{"stackFrames":[{"column":1,"id":1,"line":11,"name":"com.acme.Foo.run","source":{"name":"Foo.java","path":"/p/src/com/acme/Foo.java"}}],"totalFrames":3},"command":"stackTrace","request_seq":3,"seq":5,"success":true,"type":"response"}
+sent command 10 11.7 0000000000000007
+sent command 11 11.6 0000000000000007 00000000 00000001
+sent command 12 1.6
+
+# the others
+session attaches binds stops
+client {"seq":3,"type":"request","command":"stackTrace","arguments":{"threadId":1,"startFrame":1}}
+target reply 10 00000003
+target reply 11 00000002 0000000000000041 01 0000000000000010 0000000000000003 0000000000000005 0000000000000042 01 0000000000000010 0000000000000003 0000000000000000
+told {"body":{"stackFrames":[{"column":1,"id":1,"line":10,"name":"com.acme.Foo.run","source":{"name":"Foo.java","path":"/p/src/com/acme/Foo.java"}},{"column":1,"id":2,"line":9,"name":"com.acme.Foo.run","source":{"name":"Foo.java","path":"/p/src/com/acme/Foo.java"}}],"totalFrames":3},"command":"stackTrace","request_seq":3,"seq":5,"success":true,"type":"response"}
+sent command 10 11.7 0000000000000007
+sent command 11 11.6 0000000000000007 00000001 00000002
+sent command 12 1.6
+
+# one between
+session attaches binds stops
+client {"seq":3,"type":"request","command":"stackTrace","arguments":{"threadId":1,"startFrame":1,"levels":1}}
+target reply 10 00000003
+target reply 11 00000001 0000000000000041 01 0000000000000010 0000000000000003 0000000000000005
+told {"body":{"stackFrames":[{"column":1,"id":1,"line":10,"name":"com.acme.Foo.run","source":{"name":"Foo.java","path":"/p/src/com/acme/Foo.java"}}],"totalFrames":3},"command":"stackTrace","request_seq":3,"seq":5,"success":true,"type":"response"}
+sent command 10 11.7 0000000000000007
+sent command 11 11.6 0000000000000007 00000001 00000001
+sent command 12 1.6
+
+# more than are left
+session attaches binds stops
+client {"seq":3,"type":"request","command":"stackTrace","arguments":{"threadId":1,"startFrame":2,"levels":20}}
+target reply 10 00000003
+target reply 11 00000001 0000000000000042 01 0000000000000010 0000000000000003 0000000000000000
+told {"body":{"stackFrames":[{"column":1,"id":1,"line":9,"name":"com.acme.Foo.run","source":{"name":"Foo.java","path":"/p/src/com/acme/Foo.java"}}],"totalFrames":3},"command":"stackTrace","request_seq":3,"seq":5,"success":true,"type":"response"}
+sent command 10 11.7 0000000000000007
+sent command 11 11.6 0000000000000007 00000002 00000001
+sent command 12 1.6
+"#;
 
 #[test]
 fn some_frames_are_asked_for(rt: HostRuntime) -> Result<(), Fail> {
-    for course in WINDOWS {
-        check(rt.alloc(), course)?;
-    }
-    Ok(())
+    check(rt.alloc(), WINDOWS)
 }
 
-const NO_FRAMES: &[Course<'static>] = &[
-    // behind the last
-    Course {
-        first: &[ATTACHES, BINDS, STOPS],
-        steps: &[
-            Came::Bytes(
-                Side::Client,
-                b"Content-Length: 91\r\n\r\n{\"seq\":3,\"type\":\"request\",\"command\":\"stackTrace\",\
-                \"arguments\":{\"threadId\":1,\"startFrame\":3}}",
-            ),
-            Came::Bytes(Side::Target, THREE),
-        ],
-        limits: USUAL,
-        failing: &[],
-        told: &[
-            b"Content-Length: 123\r\n\r\n{\"body\":{\"stackFrames\":[],\"totalFrames\":3},\"command\":\"stackTrace\",\
-            \"request_seq\":3,\"seq\":5,\"success\":true,\"type\":\"response\"}",
-        ],
-        sent: &[ASK_COUNT, DISPOSE_NEXT],
-        ending: Ending::Left,
-    },
-    // far behind it
-    Course {
-        first: &[ATTACHES, BINDS, STOPS],
-        steps: &[
-            Came::Bytes(
-                Side::Client,
-                b"Content-Length: 111\r\n\r\n{\"seq\":3,\"type\":\"request\",\"command\":\"stackTrace\",\
-                \"arguments\":{\"threadId\":1,\"startFrame\":2147483647,\"levels\":5}}",
-            ),
-            Came::Bytes(Side::Target, THREE),
-        ],
-        limits: USUAL,
-        failing: &[],
-        told: &[
-            b"Content-Length: 123\r\n\r\n{\"body\":{\"stackFrames\":[],\"totalFrames\":3},\"command\":\"stackTrace\",\
-            \"request_seq\":3,\"seq\":5,\"success\":true,\"type\":\"response\"}",
-        ],
-        sent: &[ASK_COUNT, DISPOSE_NEXT],
-        ending: Ending::Left,
-    },
-    // the thread has none
-    Course {
-        first: &[ATTACHES, BINDS, STOPS],
-        steps: &[
-            Came::Bytes(Side::Client, TRACE),
-            Came::Bytes(
-                Side::Target,
-                b"\x00\x00\x00\x0f\x00\x00\x00\x0a\x80\x00\x00\x00\x00\x00\x00",
-            ),
-        ],
-        limits: USUAL,
-        failing: &[],
-        told: &[
-            b"Content-Length: 123\r\n\r\n{\"body\":{\"stackFrames\":[],\"totalFrames\":0},\"command\":\"stackTrace\",\
-            \"request_seq\":3,\"seq\":5,\"success\":true,\"type\":\"response\"}",
-        ],
-        sent: &[ASK_COUNT, DISPOSE_NEXT],
-        ending: Ending::Left,
-    },
-];
+const NO_FRAMES: &str = r#"
+# behind the last
+session attaches binds stops
+client {"seq":3,"type":"request","command":"stackTrace","arguments":{"threadId":1,"startFrame":3}}
+target reply 10 00000003
+told {"body":{"stackFrames":[],"totalFrames":3},"command":"stackTrace","request_seq":3,"seq":5,"success":true,"type":"response"}
+sent command 10 11.7 0000000000000007
+sent command 11 1.6
+
+# far behind it
+session attaches binds stops
+client {"seq":3,"type":"request","command":"stackTrace","arguments":{"threadId":1,"startFrame":2147483647,"levels":5}}
+target reply 10 00000003
+told {"body":{"stackFrames":[],"totalFrames":3},"command":"stackTrace","request_seq":3,"seq":5,"success":true,"type":"response"}
+sent command 10 11.7 0000000000000007
+sent command 11 1.6
+
+# the thread has none
+session attaches binds stops
+client {"seq":3,"type":"request","command":"stackTrace","arguments":{"threadId":1}}
+target reply 10 00000000
+told {"body":{"stackFrames":[],"totalFrames":0},"command":"stackTrace","request_seq":3,"seq":5,"success":true,"type":"response"}
+sent command 10 11.7 0000000000000007
+sent command 11 1.6
+"#;
 
 #[test]
 fn where_none_is_shown_none_is_asked_for(rt: HostRuntime) -> Result<(), Fail> {
-    for course in NO_FRAMES {
-        check(rt.alloc(), course)?;
-    }
-    Ok(())
+    check(rt.alloc(), NO_FRAMES)
 }
 
-const MANY: &[Course<'static>] = &[
-    // of all, and the target tells fewer
-    Course {
-        first: &[ATTACHES, BINDS, STOPS],
-        steps: &[
-            Came::Bytes(Side::Client, TRACE),
-            Came::Bytes(
-                Side::Target,
-                b"\x00\x00\x00\x0f\x00\x00\x00\x0a\x80\x00\x00\x00\x00\x4e\x20",
-            ),
-            Came::Bytes(Side::Target, TOP),
-        ],
-        limits: USUAL,
-        failing: &[],
-        told: &[
-            b"Content-Length: 245\r\n\r\n{\"body\":{\"stackFrames\":[{\"column\":1,\"id\":1,\"line\":10,\
-            \"name\":\"com.acme.Foo.run\",\"source\":{\"name\":\"Foo.java\",\"path\":\"/p/src/com/acme/Foo.java\"}}],\
-            \"totalFrames\":20000},\"command\":\"stackTrace\",\"request_seq\":3,\"seq\":5,\"success\":true,\
-            \"type\":\"response\"}",
-        ],
-        sent: &[
-            ASK_COUNT,
-            b"\x00\x00\x00\x1b\x00\x00\x00\x0b\x00\x0b\x06\x00\x00\x00\x00\x00\x00\x00\x07\x00\x00\x00\x00\x00\x00\x27\
-            \x10",
-            b"\x00\x00\x00\x0b\x00\x00\x00\x0c\x00\x01\x06",
-        ],
-        ending: Ending::Left,
-    },
-    // of those that are left
-    Course {
-        first: &[ATTACHES, BINDS, STOPS],
-        steps: &[
-            Came::Bytes(
-                Side::Client,
-                b"Content-Length: 109\r\n\r\n{\"seq\":3,\"type\":\"request\",\"command\":\"stackTrace\",\
-                \"arguments\":{\"threadId\":1,\"startFrame\":9000,\"levels\":15000}}",
-            ),
-            Came::Bytes(
-                Side::Target,
-                b"\x00\x00\x00\x0f\x00\x00\x00\x0a\x80\x00\x00\x00\x00\x4e\x20",
-            ),
-            Came::Bytes(Side::Target, TOP),
-        ],
-        limits: USUAL,
-        failing: &[],
-        told: &[
-            b"Content-Length: 245\r\n\r\n{\"body\":{\"stackFrames\":[{\"column\":1,\"id\":1,\"line\":10,\
-            \"name\":\"com.acme.Foo.run\",\"source\":{\"name\":\"Foo.java\",\"path\":\"/p/src/com/acme/Foo.java\"}}],\
-            \"totalFrames\":20000},\"command\":\"stackTrace\",\"request_seq\":3,\"seq\":5,\"success\":true,\
-            \"type\":\"response\"}",
-        ],
-        sent: &[
-            ASK_COUNT,
-            b"\x00\x00\x00\x1b\x00\x00\x00\x0b\x00\x0b\x06\x00\x00\x00\x00\x00\x00\x00\x07\x00\x00\x23\x28\x00\x00\x27\
-            \x10",
-            b"\x00\x00\x00\x0b\x00\x00\x00\x0c\x00\x01\x06",
-        ],
-        ending: Ending::Left,
-    },
-    // or as many as are left
-    Course {
-        first: &[ATTACHES, BINDS, STOPS],
-        steps: &[
-            Came::Bytes(
-                Side::Client,
-                b"Content-Length: 110\r\n\r\n{\"seq\":3,\"type\":\"request\",\"command\":\"stackTrace\",\
-                \"arguments\":{\"threadId\":1,\"startFrame\":12000,\"levels\":15000}}",
-            ),
-            Came::Bytes(
-                Side::Target,
-                b"\x00\x00\x00\x0f\x00\x00\x00\x0a\x80\x00\x00\x00\x00\x4e\x20",
-            ),
-            Came::Bytes(Side::Target, TOP),
-        ],
-        limits: USUAL,
-        failing: &[],
-        told: &[
-            b"Content-Length: 245\r\n\r\n{\"body\":{\"stackFrames\":[{\"column\":1,\"id\":1,\"line\":10,\
-            \"name\":\"com.acme.Foo.run\",\"source\":{\"name\":\"Foo.java\",\"path\":\"/p/src/com/acme/Foo.java\"}}],\
-            \"totalFrames\":20000},\"command\":\"stackTrace\",\"request_seq\":3,\"seq\":5,\"success\":true,\
-            \"type\":\"response\"}",
-        ],
-        sent: &[
-            ASK_COUNT,
-            b"\x00\x00\x00\x1b\x00\x00\x00\x0b\x00\x0b\x06\x00\x00\x00\x00\x00\x00\x00\x07\x00\x00\x2e\xe0\x00\x00\x1f\
-            \x40",
-            b"\x00\x00\x00\x0b\x00\x00\x00\x0c\x00\x01\x06",
-        ],
-        ending: Ending::Left,
-    },
-];
+const MANY: &str = r#"
+# of all, and the target tells fewer
+session attaches binds stops
+client {"seq":3,"type":"request","command":"stackTrace","arguments":{"threadId":1}}
+target reply 10 00004e20
+target reply 11 00000001 0000000000000040 01 0000000000000010 0000000000000003 0000000000000005
+told {"body":{"stackFrames":[{"column":1,"id":1,"line":10,"name":"com.acme.Foo.run","source":{"name":"Foo.java","path":"/p/src/com/acme/Foo.java"}}],"totalFrames":20000},"command":"stackTrace","request_seq":3,"seq":5,"success":true,"type":"response"}
+sent command 10 11.7 0000000000000007
+sent command 11 11.6 0000000000000007 00000000 00002710
+sent command 12 1.6
+
+# of those that are left
+session attaches binds stops
+client {"seq":3,"type":"request","command":"stackTrace","arguments":{"threadId":1,"startFrame":9000,"levels":15000}}
+target reply 10 00004e20
+target reply 11 00000001 0000000000000040 01 0000000000000010 0000000000000003 0000000000000005
+told {"body":{"stackFrames":[{"column":1,"id":1,"line":10,"name":"com.acme.Foo.run","source":{"name":"Foo.java","path":"/p/src/com/acme/Foo.java"}}],"totalFrames":20000},"command":"stackTrace","request_seq":3,"seq":5,"success":true,"type":"response"}
+sent command 10 11.7 0000000000000007
+sent command 11 11.6 0000000000000007 00002328 00002710
+sent command 12 1.6
+
+# or as many as are left
+session attaches binds stops
+client {"seq":3,"type":"request","command":"stackTrace","arguments":{"threadId":1,"startFrame":12000,"levels":15000}}
+target reply 10 00004e20
+target reply 11 00000001 0000000000000040 01 0000000000000010 0000000000000003 0000000000000005
+told {"body":{"stackFrames":[{"column":1,"id":1,"line":10,"name":"com.acme.Foo.run","source":{"name":"Foo.java","path":"/p/src/com/acme/Foo.java"}}],"totalFrames":20000},"command":"stackTrace","request_seq":3,"seq":5,"success":true,"type":"response"}
+sent command 10 11.7 0000000000000007
+sent command 11 11.6 0000000000000007 00002ee0 00001f40
+sent command 12 1.6
+"#;
 
 #[test]
 fn ten_thousand_frames_are_asked_for_at_most(rt: HostRuntime) -> Result<(), Fail> {
-    for course in MANY {
-        check(rt.alloc(), course)?;
-    }
-    Ok(())
+    check(rt.alloc(), MANY)
 }
 
-const NUMBERS: &[Course<'static>] = &[
-    // nothing is asked again but the signature of a class that wasn't listed
-    Course {
-        first: &[ATTACHES, BINDS, STOPS, SHOWS],
-        steps: &[
-            Came::Bytes(
-                Side::Client,
-                b"Content-Length: 76\r\n\r\n{\"seq\":4,\"type\":\"request\",\"command\":\"stackTrace\",\
-                \"arguments\":{\"threadId\":1}}",
-            ),
-            Came::Bytes(
-                Side::Target,
-                b"\x00\x00\x00\x0f\x00\x00\x00\x10\x80\x00\x00\x00\x00\x00\x02",
-            ),
-            Came::Bytes(
-                Side::Target,
-                b"\x00\x00\x00\x51\x00\x00\x00\x11\x80\x00\x00\x00\x00\x00\x02\x00\x00\x00\x00\x00\x00\x00\x40\x01\x00\
-                \x00\x00\x00\x00\x00\x00\x10\x00\x00\x00\x00\x00\x00\x00\x03\x00\x00\x00\x00\x00\x00\x00\x05\x00\x00\
-                \x00\x00\x00\x00\x00\x41\x01\x00\x00\x00\x00\x00\x00\x00\x20\x00\x00\x00\x00\x00\x00\x00\x04\x00\x00\
-                \x00\x00\x00\x00\x00\x03",
-            ),
-            Came::Bytes(
-                Side::Target,
-                b"\x00\x00\x00\x1b\x00\x00\x00\x12\x80\x00\x00\x00\x00\x00\x0cLorg/x/Main;",
-            ),
-        ],
-        limits: USUAL,
-        failing: &[],
-        told: &[
-            b"Content-Length: 358\r\n\r\n{\"body\":{\"stackFrames\":[{\"column\":1,\"id\":1,\"line\":10,\
-            \"name\":\"com.acme.Foo.run\",\"source\":{\"name\":\"Foo.java\",\"path\":\"/p/src/com/acme/Foo.java\"}},\
-            {\"column\":1,\"id\":2,\"line\":20,\"name\":\"org.x.Main.main\",\"source\":{\"name\":\"Main.java\",\
-            \"path\":\"/p/src/org/x/Main.java\"}}],\"totalFrames\":2},\"command\":\"stackTrace\",\"request_seq\":4,\
-            \"seq\":6,\"success\":true,\"type\":\"response\"}",
-        ],
-        sent: &[
-            b"\x00\x00\x00\x13\x00\x00\x00\x10\x00\x0b\x07\x00\x00\x00\x00\x00\x00\x00\x07",
-            b"\x00\x00\x00\x1b\x00\x00\x00\x11\x00\x0b\x06\x00\x00\x00\x00\x00\x00\x00\x07\x00\x00\x00\x00\x00\x00\x00\
-            \x02",
-            b"\x00\x00\x00\x13\x00\x00\x00\x12\x00\x02\x01\x00\x00\x00\x00\x00\x00\x00\x20",
-            b"\x00\x00\x00\x0b\x00\x00\x00\x13\x00\x01\x06",
-        ],
-        ending: Ending::Left,
-    },
-    // and nothing of one that was
-    Course {
-        first: &[ATTACHES, BINDS, STOPS],
-        steps: &[
-            Came::Bytes(Side::Client, TRACE),
-            Came::Bytes(Side::Target, ONE),
-            Came::Bytes(Side::Target, TOP),
-            Came::Bytes(
-                Side::Client,
-                b"Content-Length: 76\r\n\r\n{\"seq\":4,\"type\":\"request\",\"command\":\"stackTrace\",\
-                \"arguments\":{\"threadId\":1}}",
-            ),
-            Came::Bytes(
-                Side::Target,
-                b"\x00\x00\x00\x0f\x00\x00\x00\x0c\x80\x00\x00\x00\x00\x00\x01",
-            ),
-            Came::Bytes(
-                Side::Target,
-                b"\x00\x00\x00\x30\x00\x00\x00\x0d\x80\x00\x00\x00\x00\x00\x01\x00\x00\x00\x00\x00\x00\x00\x40\x01\x00\
-                \x00\x00\x00\x00\x00\x00\x10\x00\x00\x00\x00\x00\x00\x00\x03\x00\x00\x00\x00\x00\x00\x00\x05",
-            ),
-        ],
-        limits: USUAL,
-        failing: &[],
-        told: &[
-            TOP_SHOWN,
-            b"Content-Length: 241\r\n\r\n{\"body\":{\"stackFrames\":[{\"column\":1,\"id\":1,\"line\":10,\
-            \"name\":\"com.acme.Foo.run\",\"source\":{\"name\":\"Foo.java\",\"path\":\"/p/src/com/acme/Foo.java\"}}],\
-            \"totalFrames\":1},\"command\":\"stackTrace\",\"request_seq\":4,\"seq\":6,\"success\":true,\
-            \"type\":\"response\"}",
-        ],
-        sent: &[
-            ASK_COUNT,
-            ASK_TOP,
-            b"\x00\x00\x00\x13\x00\x00\x00\x0c\x00\x0b\x07\x00\x00\x00\x00\x00\x00\x00\x07",
-            b"\x00\x00\x00\x1b\x00\x00\x00\x0d\x00\x0b\x06\x00\x00\x00\x00\x00\x00\x00\x07\x00\x00\x00\x00\x00\x00\x00\
-            \x01",
-            b"\x00\x00\x00\x0b\x00\x00\x00\x0e\x00\x01\x06",
-        ],
-        ending: Ending::Left,
-    },
-    // they are numbered as they are first told
-    Course {
-        first: &[ATTACHES, BINDS, STOPS],
-        steps: &[
-            Came::Bytes(
-                Side::Client,
-                b"Content-Length: 102\r\n\r\n{\"seq\":3,\"type\":\"request\",\"command\":\"stackTrace\",\
-                \"arguments\":{\"threadId\":1,\"startFrame\":1,\"levels\":1}}",
-            ),
-            Came::Bytes(Side::Target, THREE),
-            Came::Bytes(
-                Side::Target,
-                b"\x00\x00\x00\x30\x00\x00\x00\x0b\x80\x00\x00\x00\x00\x00\x01\x00\x00\x00\x00\x00\x00\x00\x41\x01\x00\
-                \x00\x00\x00\x00\x00\x00\x10\x00\x00\x00\x00\x00\x00\x00\x03\x00\x00\x00\x00\x00\x00\x00\x05",
-            ),
-            Came::Bytes(
-                Side::Client,
-                b"Content-Length: 76\r\n\r\n{\"seq\":4,\"type\":\"request\",\"command\":\"stackTrace\",\
-                \"arguments\":{\"threadId\":1}}",
-            ),
-            Came::Bytes(
-                Side::Target,
-                b"\x00\x00\x00\x0f\x00\x00\x00\x0c\x80\x00\x00\x00\x00\x00\x03",
-            ),
-            Came::Bytes(
-                Side::Target,
-                b"\x00\x00\x00\x72\x00\x00\x00\x0d\x80\x00\x00\x00\x00\x00\x03\x00\x00\x00\x00\x00\x00\x00\x40\x01\x00\
-                \x00\x00\x00\x00\x00\x00\x10\x00\x00\x00\x00\x00\x00\x00\x03\x00\x00\x00\x00\x00\x00\x00\x09\x00\x00\
-                \x00\x00\x00\x00\x00\x41\x01\x00\x00\x00\x00\x00\x00\x00\x10\x00\x00\x00\x00\x00\x00\x00\x03\x00\x00\
-                \x00\x00\x00\x00\x00\x05\x00\x00\x00\x00\x00\x00\x00\x42\x01\x00\x00\x00\x00\x00\x00\x00\x10\x00\x00\
-                \x00\x00\x00\x00\x00\x03\x00\x00\x00\x00\x00\x00\x00\x00",
-            ),
-        ],
-        limits: USUAL,
-        failing: &[],
-        told: &[
-            b"Content-Length: 241\r\n\r\n{\"body\":{\"stackFrames\":[{\"column\":1,\"id\":1,\"line\":10,\
-            \"name\":\"com.acme.Foo.run\",\"source\":{\"name\":\"Foo.java\",\"path\":\"/p/src/com/acme/Foo.java\"}}],\
-            \"totalFrames\":3},\"command\":\"stackTrace\",\"request_seq\":3,\"seq\":5,\"success\":true,\
-            \"type\":\"response\"}",
-            b"Content-Length: 478\r\n\r\n{\"body\":{\"stackFrames\":[{\"column\":1,\"id\":2,\"line\":11,\
-            \"name\":\"com.acme.Foo.run\",\"source\":{\"name\":\"Foo.java\",\"path\":\"/p/src/com/acme/Foo.java\"}},\
-            {\"column\":1,\"id\":1,\"line\":10,\"name\":\"com.acme.Foo.run\",\"source\":{\"name\":\"Foo.java\",\
-            \"path\":\"/p/src/com/acme/Foo.java\"}},{\"column\":1,\"id\":3,\"line\":9,\"name\":\"com.acme.Foo.run\",\
-            \"source\":{\"name\":\"Foo.java\",\"path\":\"/p/src/com/acme/Foo.java\"}}],\"totalFrames\":3},\
-            \"command\":\"stackTrace\",\"request_seq\":4,\"seq\":6,\"success\":true,\"type\":\"response\"}",
-        ],
-        sent: &[
-            ASK_COUNT,
-            b"\x00\x00\x00\x1b\x00\x00\x00\x0b\x00\x0b\x06\x00\x00\x00\x00\x00\x00\x00\x07\x00\x00\x00\x01\x00\x00\x00\
-            \x01",
-            b"\x00\x00\x00\x13\x00\x00\x00\x0c\x00\x0b\x07\x00\x00\x00\x00\x00\x00\x00\x07",
-            b"\x00\x00\x00\x1b\x00\x00\x00\x0d\x00\x0b\x06\x00\x00\x00\x00\x00\x00\x00\x07\x00\x00\x00\x00\x00\x00\x00\
-            \x03",
-            b"\x00\x00\x00\x0b\x00\x00\x00\x0e\x00\x01\x06",
-        ],
-        ending: Ending::Left,
-    },
-    // a frame of another thread is another one, though its id is the same
-    Course {
-        first: &[ATTACHES, BINDS, STOPS],
-        steps: &[
-            Came::Bytes(Side::Target, OTHER_HIT),
-            Came::Bytes(Side::Target, RESUMED),
-            Came::Bytes(Side::Client, TRACE),
-            Came::Bytes(
-                Side::Target,
-                b"\x00\x00\x00\x0f\x00\x00\x00\x0b\x80\x00\x00\x00\x00\x00\x01",
-            ),
-            Came::Bytes(
-                Side::Target,
-                b"\x00\x00\x00\x30\x00\x00\x00\x0c\x80\x00\x00\x00\x00\x00\x01\x00\x00\x00\x00\x00\x00\x00\x40\x01\x00\
-                \x00\x00\x00\x00\x00\x00\x10\x00\x00\x00\x00\x00\x00\x00\x03\x00\x00\x00\x00\x00\x00\x00\x05",
-            ),
-            Came::Bytes(
-                Side::Client,
-                b"Content-Length: 76\r\n\r\n{\"seq\":4,\"type\":\"request\",\"command\":\"stackTrace\",\
-                \"arguments\":{\"threadId\":2}}",
-            ),
-            Came::Bytes(
-                Side::Target,
-                b"\x00\x00\x00\x0f\x00\x00\x00\x0d\x80\x00\x00\x00\x00\x00\x01",
-            ),
-            Came::Bytes(
-                Side::Target,
-                b"\x00\x00\x00\x30\x00\x00\x00\x0e\x80\x00\x00\x00\x00\x00\x01\x00\x00\x00\x00\x00\x00\x00\x40\x01\x00\
-                \x00\x00\x00\x00\x00\x00\x10\x00\x00\x00\x00\x00\x00\x00\x03\x00\x00\x00\x00\x00\x00\x00\x05",
-            ),
-        ],
-        limits: USUAL,
-        failing: &[],
-        told: &[
-            b"Content-Length: 134\r\n\r\n{\"body\":{\"allThreadsStopped\":true,\"hitBreakpointIds\":[1],\
-            \"reason\":\"breakpoint\",\"threadId\":2},\"event\":\"stopped\",\"seq\":5,\"type\":\"event\"}",
-            b"Content-Length: 241\r\n\r\n{\"body\":{\"stackFrames\":[{\"column\":1,\"id\":1,\"line\":10,\
-            \"name\":\"com.acme.Foo.run\",\"source\":{\"name\":\"Foo.java\",\"path\":\"/p/src/com/acme/Foo.java\"}}],\
-            \"totalFrames\":1},\"command\":\"stackTrace\",\"request_seq\":3,\"seq\":6,\"success\":true,\
-            \"type\":\"response\"}",
-            b"Content-Length: 241\r\n\r\n{\"body\":{\"stackFrames\":[{\"column\":1,\"id\":2,\"line\":10,\
-            \"name\":\"com.acme.Foo.run\",\"source\":{\"name\":\"Foo.java\",\"path\":\"/p/src/com/acme/Foo.java\"}}],\
-            \"totalFrames\":1},\"command\":\"stackTrace\",\"request_seq\":4,\"seq\":7,\"success\":true,\
-            \"type\":\"response\"}",
-        ],
-        sent: &[
-            RESUME,
-            b"\x00\x00\x00\x13\x00\x00\x00\x0b\x00\x0b\x07\x00\x00\x00\x00\x00\x00\x00\x07",
-            b"\x00\x00\x00\x1b\x00\x00\x00\x0c\x00\x0b\x06\x00\x00\x00\x00\x00\x00\x00\x07\x00\x00\x00\x00\x00\x00\x00\
-            \x01",
-            b"\x00\x00\x00\x13\x00\x00\x00\x0d\x00\x0b\x07\x00\x00\x00\x00\x00\x00\x00\x08",
-            b"\x00\x00\x00\x1b\x00\x00\x00\x0e\x00\x0b\x06\x00\x00\x00\x00\x00\x00\x00\x08\x00\x00\x00\x00\x00\x00\x00\
-            \x01",
-            b"\x00\x00\x00\x0b\x00\x00\x00\x0f\x00\x01\x06",
-        ],
-        ending: Ending::Left,
-    },
-];
+const NUMBERS: &str = r#"
+# nothing is asked again but the signature of a class that wasn't listed
+session attaches binds stops shows
+client {"seq":4,"type":"request","command":"stackTrace","arguments":{"threadId":1}}
+target reply 16 00000002
+target reply 17 00000002 0000000000000040 01 0000000000000010 0000000000000003 0000000000000005 0000000000000041 01 0000000000000020 0000000000000004 0000000000000003
+target reply 18 0000000c "Lorg/x/Main;"
+told {"body":{"stackFrames":[{"column":1,"id":1,"line":10,"name":"com.acme.Foo.run","source":{"name":"Foo.java","path":"/p/src/com/acme/Foo.java"}},{"column":1,"id":2,"line":20,"name":"org.x.Main.main","source":{"name":"Main.java","path":"/p/src/org/x/Main.java"}}],"totalFrames":2},"command":"stackTrace","request_seq":4,"seq":6,"success":true,"type":"response"}
+sent command 16 11.7 0000000000000007
+sent command 17 11.6 0000000000000007 00000000 00000002
+sent command 18 2.1 0000000000000020
+sent command 19 1.6
+
+# and nothing of one that was
+session attaches binds stops
+client {"seq":3,"type":"request","command":"stackTrace","arguments":{"threadId":1}}
+target reply 10 00000001
+target reply 11 00000001 0000000000000040 01 0000000000000010 0000000000000003 0000000000000005
+client {"seq":4,"type":"request","command":"stackTrace","arguments":{"threadId":1}}
+target reply 12 00000001
+target reply 13 00000001 0000000000000040 01 0000000000000010 0000000000000003 0000000000000005
+told {"body":{"stackFrames":[{"column":1,"id":1,"line":10,"name":"com.acme.Foo.run","source":{"name":"Foo.java","path":"/p/src/com/acme/Foo.java"}}],"totalFrames":1},"command":"stackTrace","request_seq":3,"seq":5,"success":true,"type":"response"}
+told {"body":{"stackFrames":[{"column":1,"id":1,"line":10,"name":"com.acme.Foo.run","source":{"name":"Foo.java","path":"/p/src/com/acme/Foo.java"}}],"totalFrames":1},"command":"stackTrace","request_seq":4,"seq":6,"success":true,"type":"response"}
+sent command 10 11.7 0000000000000007
+sent command 11 11.6 0000000000000007 00000000 00000001
+sent command 12 11.7 0000000000000007
+sent command 13 11.6 0000000000000007 00000000 00000001
+sent command 14 1.6
+
+# they are numbered as they are first told
+session attaches binds stops
+client {"seq":3,"type":"request","command":"stackTrace","arguments":{"threadId":1,"startFrame":1,"levels":1}}
+target reply 10 00000003
+target reply 11 00000001 0000000000000041 01 0000000000000010 0000000000000003 0000000000000005
+client {"seq":4,"type":"request","command":"stackTrace","arguments":{"threadId":1}}
+target reply 12 00000003
+target reply 13 00000003 0000000000000040 01 0000000000000010 0000000000000003 0000000000000009 0000000000000041 01 0000000000000010 0000000000000003 0000000000000005 0000000000000042 01 0000000000000010 0000000000000003 0000000000000000
+told {"body":{"stackFrames":[{"column":1,"id":1,"line":10,"name":"com.acme.Foo.run","source":{"name":"Foo.java","path":"/p/src/com/acme/Foo.java"}}],"totalFrames":3},"command":"stackTrace","request_seq":3,"seq":5,"success":true,"type":"response"}
+told {"body":{"stackFrames":[{"column":1,"id":2,"line":11,"name":"com.acme.Foo.run","source":{"name":"Foo.java","path":"/p/src/com/acme/Foo.java"}},{"column":1,"id":1,"line":10,"name":"com.acme.Foo.run","source":{"name":"Foo.java","path":"/p/src/com/acme/Foo.java"}},{"column":1,"id":3,"line":9,"name":"com.acme.Foo.run","source":{"name":"Foo.java","path":"/p/src/com/acme/Foo.java"}}],"totalFrames":3},"command":"stackTrace","request_seq":4,"seq":6,"success":true,"type":"response"}
+sent command 10 11.7 0000000000000007
+sent command 11 11.6 0000000000000007 00000001 00000001
+sent command 12 11.7 0000000000000007
+sent command 13 11.6 0000000000000007 00000000 00000003
+sent command 14 1.6
+
+# a frame of another thread is another one, though its id is the same
+session attaches binds stops
+target command 3 64.100 02 00000001 02 00000004 0000000000000008 01 0000000000000010 0000000000000003 0000000000000005
+target reply 10
+client {"seq":3,"type":"request","command":"stackTrace","arguments":{"threadId":1}}
+target reply 11 00000001
+target reply 12 00000001 0000000000000040 01 0000000000000010 0000000000000003 0000000000000005
+client {"seq":4,"type":"request","command":"stackTrace","arguments":{"threadId":2}}
+target reply 13 00000001
+target reply 14 00000001 0000000000000040 01 0000000000000010 0000000000000003 0000000000000005
+told {"body":{"allThreadsStopped":true,"hitBreakpointIds":[1],"reason":"breakpoint","threadId":2},"event":"stopped","seq":5,"type":"event"}
+told {"body":{"stackFrames":[{"column":1,"id":1,"line":10,"name":"com.acme.Foo.run","source":{"name":"Foo.java","path":"/p/src/com/acme/Foo.java"}}],"totalFrames":1},"command":"stackTrace","request_seq":3,"seq":6,"success":true,"type":"response"}
+told {"body":{"stackFrames":[{"column":1,"id":2,"line":10,"name":"com.acme.Foo.run","source":{"name":"Foo.java","path":"/p/src/com/acme/Foo.java"}}],"totalFrames":1},"command":"stackTrace","request_seq":4,"seq":7,"success":true,"type":"response"}
+sent command 10 1.9
+sent command 11 11.7 0000000000000007
+sent command 12 11.6 0000000000000007 00000000 00000001
+sent command 13 11.7 0000000000000008
+sent command 14 11.6 0000000000000008 00000000 00000001
+sent command 15 1.6
+"#;
 
 #[test]
 fn frames_keep_their_numbers_in_a_stop(rt: HostRuntime) -> Result<(), Fail> {
-    for course in NUMBERS {
-        check(rt.alloc(), course)?;
-    }
-    Ok(())
+    check(rt.alloc(), NUMBERS)
 }
 
-const NEW_NUMBERS: &[Course<'static>] = &[
-    // which go on behind those of the last
-    Course {
-        first: &[ATTACHES, BINDS, STOPS, SHOWS],
-        steps: &[
-            Came::Bytes(
-                Side::Client,
-                b"Content-Length: 74\r\n\r\n{\"seq\":4,\"type\":\"request\",\"command\":\"continue\",\
-                \"arguments\":{\"threadId\":1}}",
-            ),
-            Came::Bytes(
-                Side::Target,
-                b"\x00\x00\x00\x0b\x00\x00\x00\x10\x80\x00\x00",
-            ),
-            Came::Bytes(
-                Side::Target,
-                b"\x00\x00\x00\x36\x00\x00\x00\x03\x00\x40\x64\x02\x00\x00\x00\x01\x02\x00\x00\x00\x04\x00\x00\x00\x00\
-                \x00\x00\x00\x07\x01\x00\x00\x00\x00\x00\x00\x00\x10\x00\x00\x00\x00\x00\x00\x00\x03\x00\x00\x00\x00\
-                \x00\x00\x00\x05",
-            ),
-            Came::Bytes(
-                Side::Client,
-                b"Content-Length: 76\r\n\r\n{\"seq\":5,\"type\":\"request\",\"command\":\"stackTrace\",\
-                \"arguments\":{\"threadId\":1}}",
-            ),
-            Came::Bytes(
-                Side::Target,
-                b"\x00\x00\x00\x0f\x00\x00\x00\x11\x80\x00\x00\x00\x00\x00\x02",
-            ),
-            Came::Bytes(
-                Side::Target,
-                b"\x00\x00\x00\x51\x00\x00\x00\x12\x80\x00\x00\x00\x00\x00\x02\x00\x00\x00\x00\x00\x00\x00\x40\x01\x00\
-                \x00\x00\x00\x00\x00\x00\x10\x00\x00\x00\x00\x00\x00\x00\x03\x00\x00\x00\x00\x00\x00\x00\x05\x00\x00\
-                \x00\x00\x00\x00\x00\x41\x01\x00\x00\x00\x00\x00\x00\x00\x20\x00\x00\x00\x00\x00\x00\x00\x04\x00\x00\
-                \x00\x00\x00\x00\x00\x03",
-            ),
-            Came::Bytes(
-                Side::Target,
-                b"\x00\x00\x00\x1b\x00\x00\x00\x13\x80\x00\x00\x00\x00\x00\x0cLorg/x/Main;",
-            ),
-        ],
-        limits: USUAL,
-        failing: &[],
-        told: &[
-            b"Content-Length: 115\r\n\r\n{\"body\":{\"allThreadsContinued\":true},\"command\":\"continue\",\
-            \"request_seq\":4,\"seq\":6,\"success\":true,\"type\":\"response\"}",
-            b"Content-Length: 134\r\n\r\n{\"body\":{\"allThreadsStopped\":true,\"hitBreakpointIds\":[1],\
-            \"reason\":\"breakpoint\",\"threadId\":1},\"event\":\"stopped\",\"seq\":7,\"type\":\"event\"}",
-            b"Content-Length: 358\r\n\r\n{\"body\":{\"stackFrames\":[{\"column\":1,\"id\":3,\"line\":10,\
-            \"name\":\"com.acme.Foo.run\",\"source\":{\"name\":\"Foo.java\",\"path\":\"/p/src/com/acme/Foo.java\"}},\
-            {\"column\":1,\"id\":4,\"line\":20,\"name\":\"org.x.Main.main\",\"source\":{\"name\":\"Main.java\",\
-            \"path\":\"/p/src/org/x/Main.java\"}}],\"totalFrames\":2},\"command\":\"stackTrace\",\"request_seq\":5,\
-            \"seq\":8,\"success\":true,\"type\":\"response\"}",
-        ],
-        sent: &[
-            b"\x00\x00\x00\x0b\x00\x00\x00\x10\x00\x01\x09",
-            b"\x00\x00\x00\x13\x00\x00\x00\x11\x00\x0b\x07\x00\x00\x00\x00\x00\x00\x00\x07",
-            b"\x00\x00\x00\x1b\x00\x00\x00\x12\x00\x0b\x06\x00\x00\x00\x00\x00\x00\x00\x07\x00\x00\x00\x00\x00\x00\x00\
-            \x02",
-            b"\x00\x00\x00\x13\x00\x00\x00\x13\x00\x02\x01\x00\x00\x00\x00\x00\x00\x00\x20",
-            b"\x00\x00\x00\x0b\x00\x00\x00\x14\x00\x01\x06",
-        ],
-        ending: Ending::Left,
-    },
-    // also where the last told no frame
-    Course {
-        first: &[ATTACHES, BINDS, STOPS],
-        steps: &[
-            Came::Bytes(Side::Client, TRACE),
-            Came::Bytes(Side::Target, ONE),
-            Came::Bytes(Side::Target, TOP),
-            Came::Bytes(
-                Side::Client,
-                b"Content-Length: 74\r\n\r\n{\"seq\":4,\"type\":\"request\",\"command\":\"continue\",\
-                \"arguments\":{\"threadId\":1}}",
-            ),
-            Came::Bytes(
-                Side::Target,
-                b"\x00\x00\x00\x0b\x00\x00\x00\x0c\x80\x00\x00",
-            ),
-            Came::Bytes(
-                Side::Target,
-                b"\x00\x00\x00\x36\x00\x00\x00\x03\x00\x40\x64\x02\x00\x00\x00\x01\x02\x00\x00\x00\x04\x00\x00\x00\x00\
-                \x00\x00\x00\x07\x01\x00\x00\x00\x00\x00\x00\x00\x10\x00\x00\x00\x00\x00\x00\x00\x03\x00\x00\x00\x00\
-                \x00\x00\x00\x05",
-            ),
-            Came::Bytes(
-                Side::Client,
-                b"Content-Length: 74\r\n\r\n{\"seq\":5,\"type\":\"request\",\"command\":\"continue\",\
-                \"arguments\":{\"threadId\":1}}",
-            ),
-            Came::Bytes(
-                Side::Target,
-                b"\x00\x00\x00\x0b\x00\x00\x00\x0d\x80\x00\x00",
-            ),
-            Came::Bytes(
-                Side::Target,
-                b"\x00\x00\x00\x36\x00\x00\x00\x04\x00\x40\x64\x02\x00\x00\x00\x01\x02\x00\x00\x00\x04\x00\x00\x00\x00\
-                \x00\x00\x00\x07\x01\x00\x00\x00\x00\x00\x00\x00\x10\x00\x00\x00\x00\x00\x00\x00\x03\x00\x00\x00\x00\
-                \x00\x00\x00\x05",
-            ),
-            Came::Bytes(
-                Side::Client,
-                b"Content-Length: 76\r\n\r\n{\"seq\":6,\"type\":\"request\",\"command\":\"stackTrace\",\
-                \"arguments\":{\"threadId\":1}}",
-            ),
-            Came::Bytes(
-                Side::Target,
-                b"\x00\x00\x00\x0f\x00\x00\x00\x0e\x80\x00\x00\x00\x00\x00\x01",
-            ),
-            Came::Bytes(
-                Side::Target,
-                b"\x00\x00\x00\x30\x00\x00\x00\x0f\x80\x00\x00\x00\x00\x00\x01\x00\x00\x00\x00\x00\x00\x00\x40\x01\x00\
-                \x00\x00\x00\x00\x00\x00\x10\x00\x00\x00\x00\x00\x00\x00\x03\x00\x00\x00\x00\x00\x00\x00\x05",
-            ),
-        ],
-        limits: USUAL,
-        failing: &[],
-        told: &[
-            TOP_SHOWN,
-            b"Content-Length: 115\r\n\r\n{\"body\":{\"allThreadsContinued\":true},\"command\":\"continue\",\
-            \"request_seq\":4,\"seq\":6,\"success\":true,\"type\":\"response\"}",
-            b"Content-Length: 134\r\n\r\n{\"body\":{\"allThreadsStopped\":true,\"hitBreakpointIds\":[1],\
-            \"reason\":\"breakpoint\",\"threadId\":1},\"event\":\"stopped\",\"seq\":7,\"type\":\"event\"}",
-            b"Content-Length: 115\r\n\r\n{\"body\":{\"allThreadsContinued\":true},\"command\":\"continue\",\
-            \"request_seq\":5,\"seq\":8,\"success\":true,\"type\":\"response\"}",
-            b"Content-Length: 134\r\n\r\n{\"body\":{\"allThreadsStopped\":true,\"hitBreakpointIds\":[1],\
-            \"reason\":\"breakpoint\",\"threadId\":1},\"event\":\"stopped\",\"seq\":9,\"type\":\"event\"}",
-            b"Content-Length: 242\r\n\r\n{\"body\":{\"stackFrames\":[{\"column\":1,\"id\":2,\"line\":10,\
-            \"name\":\"com.acme.Foo.run\",\"source\":{\"name\":\"Foo.java\",\"path\":\"/p/src/com/acme/Foo.java\"}}],\
-            \"totalFrames\":1},\"command\":\"stackTrace\",\"request_seq\":6,\"seq\":10,\"success\":true,\
-            \"type\":\"response\"}",
-        ],
-        sent: &[
-            ASK_COUNT,
-            ASK_TOP,
-            b"\x00\x00\x00\x0b\x00\x00\x00\x0c\x00\x01\x09",
-            b"\x00\x00\x00\x0b\x00\x00\x00\x0d\x00\x01\x09",
-            b"\x00\x00\x00\x13\x00\x00\x00\x0e\x00\x0b\x07\x00\x00\x00\x00\x00\x00\x00\x07",
-            b"\x00\x00\x00\x1b\x00\x00\x00\x0f\x00\x0b\x06\x00\x00\x00\x00\x00\x00\x00\x07\x00\x00\x00\x00\x00\x00\x00\
-            \x01",
-            b"\x00\x00\x00\x0b\x00\x00\x00\x10\x00\x01\x06",
-        ],
-        ending: Ending::Left,
-    },
-];
+const NEW_NUMBERS: &str = r#"
+# which go on behind those of the last
+session attaches binds stops shows
+client {"seq":4,"type":"request","command":"continue","arguments":{"threadId":1}}
+target reply 16
+target command 3 64.100 02 00000001 02 00000004 0000000000000007 01 0000000000000010 0000000000000003 0000000000000005
+client {"seq":5,"type":"request","command":"stackTrace","arguments":{"threadId":1}}
+target reply 17 00000002
+target reply 18 00000002 0000000000000040 01 0000000000000010 0000000000000003 0000000000000005 0000000000000041 01 0000000000000020 0000000000000004 0000000000000003
+target reply 19 0000000c "Lorg/x/Main;"
+told {"body":{"allThreadsContinued":true},"command":"continue","request_seq":4,"seq":6,"success":true,"type":"response"}
+told {"body":{"allThreadsStopped":true,"hitBreakpointIds":[1],"reason":"breakpoint","threadId":1},"event":"stopped","seq":7,"type":"event"}
+told {"body":{"stackFrames":[{"column":1,"id":3,"line":10,"name":"com.acme.Foo.run","source":{"name":"Foo.java","path":"/p/src/com/acme/Foo.java"}},{"column":1,"id":4,"line":20,"name":"org.x.Main.main","source":{"name":"Main.java","path":"/p/src/org/x/Main.java"}}],"totalFrames":2},"command":"stackTrace","request_seq":5,"seq":8,"success":true,"type":"response"}
+sent command 16 1.9
+sent command 17 11.7 0000000000000007
+sent command 18 11.6 0000000000000007 00000000 00000002
+sent command 19 2.1 0000000000000020
+sent command 20 1.6
+
+# also where the last told no frame
+session attaches binds stops
+client {"seq":3,"type":"request","command":"stackTrace","arguments":{"threadId":1}}
+target reply 10 00000001
+target reply 11 00000001 0000000000000040 01 0000000000000010 0000000000000003 0000000000000005
+client {"seq":4,"type":"request","command":"continue","arguments":{"threadId":1}}
+target reply 12
+target command 3 64.100 02 00000001 02 00000004 0000000000000007 01 0000000000000010 0000000000000003 0000000000000005
+client {"seq":5,"type":"request","command":"continue","arguments":{"threadId":1}}
+target reply 13
+target command 4 64.100 02 00000001 02 00000004 0000000000000007 01 0000000000000010 0000000000000003 0000000000000005
+client {"seq":6,"type":"request","command":"stackTrace","arguments":{"threadId":1}}
+target reply 14 00000001
+target reply 15 00000001 0000000000000040 01 0000000000000010 0000000000000003 0000000000000005
+told {"body":{"stackFrames":[{"column":1,"id":1,"line":10,"name":"com.acme.Foo.run","source":{"name":"Foo.java","path":"/p/src/com/acme/Foo.java"}}],"totalFrames":1},"command":"stackTrace","request_seq":3,"seq":5,"success":true,"type":"response"}
+told {"body":{"allThreadsContinued":true},"command":"continue","request_seq":4,"seq":6,"success":true,"type":"response"}
+told {"body":{"allThreadsStopped":true,"hitBreakpointIds":[1],"reason":"breakpoint","threadId":1},"event":"stopped","seq":7,"type":"event"}
+told {"body":{"allThreadsContinued":true},"command":"continue","request_seq":5,"seq":8,"success":true,"type":"response"}
+told {"body":{"allThreadsStopped":true,"hitBreakpointIds":[1],"reason":"breakpoint","threadId":1},"event":"stopped","seq":9,"type":"event"}
+told {"body":{"stackFrames":[{"column":1,"id":2,"line":10,"name":"com.acme.Foo.run","source":{"name":"Foo.java","path":"/p/src/com/acme/Foo.java"}}],"totalFrames":1},"command":"stackTrace","request_seq":6,"seq":10,"success":true,"type":"response"}
+sent command 10 11.7 0000000000000007
+sent command 11 11.6 0000000000000007 00000000 00000001
+sent command 12 1.9
+sent command 13 1.9
+sent command 14 11.7 0000000000000007
+sent command 15 11.6 0000000000000007 00000000 00000001
+sent command 16 1.6
+"#;
 
 #[test]
 fn a_new_stop_has_new_numbers(rt: HostRuntime) -> Result<(), Fail> {
-    for course in NEW_NUMBERS {
-        check(rt.alloc(), course)?;
-    }
-    Ok(())
+    check(rt.alloc(), NEW_NUMBERS)
 }
 
-const FAILS: &[Course<'static>] = &[
-    // the session isn't attached, or an argument is bad
-    Course {
-        first: &[],
-        steps: &[
-            Came::Bytes(
-                Side::Client,
-                b"Content-Length: 76\r\n\r\n{\"seq\":1,\"type\":\"request\",\"command\":\"stackTrace\",\
-                \"arguments\":{\"threadId\":1}}",
-            ),
-            Came::Bytes(
-                Side::Client,
-                b"Content-Length: 49\r\n\r\n{\"seq\":2,\"type\":\"request\",\"command\":\"stackTrace\"}",
-            ),
-            Came::Bytes(
-                Side::Client,
-                b"Content-Length: 93\r\n\r\n{\"seq\":3,\"type\":\"request\",\"command\":\"stackTrace\",\
-                \"arguments\":{\"threadId\":1,\"startFrame\":\"x\"}}",
-            ),
-            Came::Bytes(
-                Side::Client,
-                b"Content-Length: 88\r\n\r\n{\"seq\":4,\"type\":\"request\",\"command\":\"stackTrace\",\
-                \"arguments\":{\"threadId\":1,\"levels\":-1}}",
-            ),
-        ],
-        limits: USUAL,
-        failing: &[],
-        told: &[
-            b"Content-Length: 155\r\n\r\n{\"body\":{\"error\":{\"format\":\"notAttached\",\"id\":3}},\
-            \"command\":\"stackTrace\",\"message\":\"notAttached\",\"request_seq\":1,\"seq\":1,\"success\":false,\
-            \"type\":\"response\"}",
-            b"Content-Length: 166\r\n\r\n{\"body\":{\"error\":{\"format\":\"badArguments threadId\",\"id\":2}},\
-            \"command\":\"stackTrace\",\"message\":\"badArguments\",\"request_seq\":2,\"seq\":2,\"success\":false,\
-            \"type\":\"response\"}",
-            b"Content-Length: 168\r\n\r\n{\"body\":{\"error\":{\"format\":\"badArguments startFrame\",\"id\":2}},\
-            \"command\":\"stackTrace\",\"message\":\"badArguments\",\"request_seq\":3,\"seq\":3,\"success\":false,\
-            \"type\":\"response\"}",
-            b"Content-Length: 164\r\n\r\n{\"body\":{\"error\":{\"format\":\"badArguments levels\",\"id\":2}},\
-            \"command\":\"stackTrace\",\"message\":\"badArguments\",\"request_seq\":4,\"seq\":4,\"success\":false,\
-            \"type\":\"response\"}",
-        ],
-        sent: &[],
-        ending: Ending::Left,
-    },
-    // the target runs
-    Course {
-        first: &[ATTACHES],
-        steps: &[Came::Bytes(
-            Side::Client,
-            b"Content-Length: 76\r\n\r\n{\"seq\":2,\"type\":\"request\",\"command\":\"stackTrace\",\
-                \"arguments\":{\"threadId\":1}}",
-        )],
-        limits: USUAL,
-        failing: &[],
-        told: &[
-            b"Content-Length: 153\r\n\r\n{\"body\":{\"error\":{\"format\":\"notStopped\",\"id\":4}},\
-            \"command\":\"stackTrace\",\"message\":\"notStopped\",\"request_seq\":2,\"seq\":3,\"success\":false,\
-            \"type\":\"response\"}",
-        ],
-        sent: &[DISPOSE_FIRST],
-        ending: Ending::Left,
-    },
-    // one thread was told
-    Course {
-        first: &[ATTACHES, BINDS, STOPS],
-        steps: &[
-            Came::Bytes(
-                Side::Client,
-                b"Content-Length: 76\r\n\r\n{\"seq\":3,\"type\":\"request\",\"command\":\"stackTrace\",\
-                \"arguments\":{\"threadId\":2}}",
-            ),
-            Came::Bytes(
-                Side::Client,
-                b"Content-Length: 76\r\n\r\n{\"seq\":4,\"type\":\"request\",\"command\":\"stackTrace\",\
-                \"arguments\":{\"threadId\":0}}",
-            ),
-        ],
-        limits: USUAL,
-        failing: &[],
-        told: &[
-            b"Content-Length: 159\r\n\r\n{\"body\":{\"error\":{\"format\":\"unknownThread\",\"id\":8}},\
-            \"command\":\"stackTrace\",\"message\":\"unknownThread\",\"request_seq\":3,\"seq\":5,\"success\":false,\
-            \"type\":\"response\"}",
-            b"Content-Length: 159\r\n\r\n{\"body\":{\"error\":{\"format\":\"unknownThread\",\"id\":8}},\
-            \"command\":\"stackTrace\",\"message\":\"unknownThread\",\"request_seq\":4,\"seq\":6,\"success\":false,\
-            \"type\":\"response\"}",
-        ],
-        sent: &[DISPOSE],
-        ending: Ending::Left,
-    },
-    // the stop is over
-    Course {
-        first: &[ATTACHES, BINDS, STOPS],
-        steps: &[
-            Came::Bytes(Side::Client, CONTINUE),
-            Came::Bytes(
-                Side::Client,
-                b"Content-Length: 76\r\n\r\n{\"seq\":4,\"type\":\"request\",\"command\":\"stackTrace\",\
-                \"arguments\":{\"threadId\":1}}",
-            ),
-            Came::Bytes(Side::Target, RESUMED),
-        ],
-        limits: USUAL,
-        failing: &[],
-        told: &[
-            CONTINUED,
-            b"Content-Length: 153\r\n\r\n{\"body\":{\"error\":{\"format\":\"notStopped\",\"id\":4}},\
-            \"command\":\"stackTrace\",\"message\":\"notStopped\",\"request_seq\":4,\"seq\":6,\"success\":false,\
-            \"type\":\"response\"}",
-        ],
-        sent: &[RESUME, DISPOSE_NEXT],
-        ending: Ending::Left,
-    },
-];
+const FAILS: &str = r#"
+# the session isn't attached, or an argument is bad
+session
+client {"seq":1,"type":"request","command":"stackTrace","arguments":{"threadId":1}}
+client {"seq":2,"type":"request","command":"stackTrace"}
+client {"seq":3,"type":"request","command":"stackTrace","arguments":{"threadId":1,"startFrame":"x"}}
+client {"seq":4,"type":"request","command":"stackTrace","arguments":{"threadId":1,"levels":-1}}
+told {"body":{"error":{"format":"notAttached","id":3}},"command":"stackTrace","message":"notAttached","request_seq":1,"seq":1,"success":false,"type":"response"}
+told {"body":{"error":{"format":"badArguments threadId","id":2}},"command":"stackTrace","message":"badArguments","request_seq":2,"seq":2,"success":false,"type":"response"}
+told {"body":{"error":{"format":"badArguments startFrame","id":2}},"command":"stackTrace","message":"badArguments","request_seq":3,"seq":3,"success":false,"type":"response"}
+told {"body":{"error":{"format":"badArguments levels","id":2}},"command":"stackTrace","message":"badArguments","request_seq":4,"seq":4,"success":false,"type":"response"}
+
+# the target runs
+session attaches
+client {"seq":2,"type":"request","command":"stackTrace","arguments":{"threadId":1}}
+told {"body":{"error":{"format":"notStopped","id":4}},"command":"stackTrace","message":"notStopped","request_seq":2,"seq":3,"success":false,"type":"response"}
+sent command 4 1.6
+
+# one thread was told
+session attaches binds stops
+client {"seq":3,"type":"request","command":"stackTrace","arguments":{"threadId":2}}
+client {"seq":4,"type":"request","command":"stackTrace","arguments":{"threadId":0}}
+told {"body":{"error":{"format":"unknownThread","id":8}},"command":"stackTrace","message":"unknownThread","request_seq":3,"seq":5,"success":false,"type":"response"}
+told {"body":{"error":{"format":"unknownThread","id":8}},"command":"stackTrace","message":"unknownThread","request_seq":4,"seq":6,"success":false,"type":"response"}
+sent command 10 1.6
+
+# the stop is over
+session attaches binds stops
+client {"seq":3,"type":"request","command":"continue","arguments":{"threadId":1}}
+client {"seq":4,"type":"request","command":"stackTrace","arguments":{"threadId":1}}
+target reply 10
+told {"body":{"allThreadsContinued":true},"command":"continue","request_seq":3,"seq":5,"success":true,"type":"response"}
+told {"body":{"error":{"format":"notStopped","id":4}},"command":"stackTrace","message":"notStopped","request_seq":4,"seq":6,"success":false,"type":"response"}
+sent command 10 1.9
+sent command 11 1.6
+"#;
 
 #[test]
 fn some_stack_traces_fail(rt: HostRuntime) -> Result<(), Fail> {
-    for course in FAILS {
-        check(rt.alloc(), course)?;
-    }
-    Ok(())
+    check(rt.alloc(), FAILS)
 }
 
-const REFUSED: &[Course<'static>] = &[
-    // the thread has ended
-    Course {
-        first: &[ATTACHES, BINDS, STOPS],
-        steps: &[
-            Came::Bytes(Side::Client, TRACE),
-            Came::Bytes(
-                Side::Target,
-                b"\x00\x00\x00\x0b\x00\x00\x00\x0a\x80\x00\x0a",
-            ),
-        ],
-        limits: USUAL,
-        failing: &[],
-        told: &[
-            b"Content-Length: 159\r\n\r\n{\"body\":{\"error\":{\"format\":\"unknownThread\",\"id\":8}},\
-            \"command\":\"stackTrace\",\"message\":\"unknownThread\",\"request_seq\":3,\"seq\":5,\"success\":false,\
-            \"type\":\"response\"}",
-        ],
-        sent: &[ASK_COUNT, DISPOSE_NEXT],
-        ending: Ending::Left,
-    },
-    // the thread isn't suspended
-    Course {
-        first: &[ATTACHES, BINDS, STOPS],
-        steps: &[
-            Came::Bytes(Side::Client, TRACE),
-            Came::Bytes(
-                Side::Target,
-                b"\x00\x00\x00\x0b\x00\x00\x00\x0a\x80\x00\x0d",
-            ),
-        ],
-        limits: USUAL,
-        failing: &[],
-        told: &[
-            b"Content-Length: 158\r\n\r\n{\"body\":{\"error\":{\"format\":\"targetError 13\",\"id\":9}},\
-            \"command\":\"stackTrace\",\"message\":\"targetError\",\"request_seq\":3,\"seq\":5,\"success\":false,\
-            \"type\":\"response\"}",
-        ],
-        sent: &[ASK_COUNT, DISPOSE_NEXT],
-        ending: Ending::Left,
-    },
-    // the same behind their count
-    Course {
-        first: &[ATTACHES, BINDS, STOPS],
-        steps: &[
-            Came::Bytes(Side::Client, TRACE),
-            Came::Bytes(Side::Target, ONE),
-            Came::Bytes(
-                Side::Target,
-                b"\x00\x00\x00\x0b\x00\x00\x00\x0b\x80\x00\x0a",
-            ),
-            Came::Bytes(
-                Side::Client,
-                b"Content-Length: 76\r\n\r\n{\"seq\":4,\"type\":\"request\",\"command\":\"stackTrace\",\
-                \"arguments\":{\"threadId\":1}}",
-            ),
-            Came::Bytes(
-                Side::Target,
-                b"\x00\x00\x00\x0f\x00\x00\x00\x0c\x80\x00\x00\x00\x00\x00\x02",
-            ),
-            Came::Bytes(
-                Side::Target,
-                b"\x00\x00\x00\x0b\x00\x00\x00\x0d\x80\x00\x0d",
-            ),
-        ],
-        limits: USUAL,
-        failing: &[],
-        told: &[
-            b"Content-Length: 159\r\n\r\n{\"body\":{\"error\":{\"format\":\"unknownThread\",\"id\":8}},\
-            \"command\":\"stackTrace\",\"message\":\"unknownThread\",\"request_seq\":3,\"seq\":5,\"success\":false,\
-            \"type\":\"response\"}",
-            b"Content-Length: 158\r\n\r\n{\"body\":{\"error\":{\"format\":\"targetError 13\",\"id\":9}},\
-            \"command\":\"stackTrace\",\"message\":\"targetError\",\"request_seq\":4,\"seq\":6,\"success\":false,\
-            \"type\":\"response\"}",
-        ],
-        sent: &[
-            ASK_COUNT,
-            ASK_TOP,
-            b"\x00\x00\x00\x13\x00\x00\x00\x0c\x00\x0b\x07\x00\x00\x00\x00\x00\x00\x00\x07",
-            b"\x00\x00\x00\x1b\x00\x00\x00\x0d\x00\x0b\x06\x00\x00\x00\x00\x00\x00\x00\x07\x00\x00\x00\x00\x00\x00\x00\
-            \x02",
-            b"\x00\x00\x00\x0b\x00\x00\x00\x0e\x00\x01\x06",
-        ],
-        ending: Ending::Left,
-    },
-];
+const REFUSED: &str = r#"
+# the thread has ended
+session attaches binds stops
+client {"seq":3,"type":"request","command":"stackTrace","arguments":{"threadId":1}}
+target error 10 10
+told {"body":{"error":{"format":"unknownThread","id":8}},"command":"stackTrace","message":"unknownThread","request_seq":3,"seq":5,"success":false,"type":"response"}
+sent command 10 11.7 0000000000000007
+sent command 11 1.6
+
+# the thread isn't suspended
+session attaches binds stops
+client {"seq":3,"type":"request","command":"stackTrace","arguments":{"threadId":1}}
+target error 10 13
+told {"body":{"error":{"format":"targetError 13","id":9}},"command":"stackTrace","message":"targetError","request_seq":3,"seq":5,"success":false,"type":"response"}
+sent command 10 11.7 0000000000000007
+sent command 11 1.6
+
+# the same behind their count
+session attaches binds stops
+client {"seq":3,"type":"request","command":"stackTrace","arguments":{"threadId":1}}
+target reply 10 00000001
+target error 11 10
+client {"seq":4,"type":"request","command":"stackTrace","arguments":{"threadId":1}}
+target reply 12 00000002
+target error 13 13
+told {"body":{"error":{"format":"unknownThread","id":8}},"command":"stackTrace","message":"unknownThread","request_seq":3,"seq":5,"success":false,"type":"response"}
+told {"body":{"error":{"format":"targetError 13","id":9}},"command":"stackTrace","message":"targetError","request_seq":4,"seq":6,"success":false,"type":"response"}
+sent command 10 11.7 0000000000000007
+sent command 11 11.6 0000000000000007 00000000 00000001
+sent command 12 11.7 0000000000000007
+sent command 13 11.6 0000000000000007 00000000 00000002
+sent command 14 1.6
+"#;
 
 #[test]
 fn a_target_refuses_to_tell_frames(rt: HostRuntime) -> Result<(), Fail> {
-    for course in REFUSED {
-        check(rt.alloc(), course)?;
-    }
-    Ok(())
+    check(rt.alloc(), REFUSED)
 }
 
-const ENDS: &[Course<'static>] = &[
-    // the error of a dead target, and another request behind it
-    Course {
-        first: &[ATTACHES, BINDS, STOPS],
-        steps: &[
-            Came::Bytes(Side::Client, TRACE),
-            Came::Bytes(
-                Side::Target,
-                b"\x00\x00\x00\x0b\x00\x00\x00\x0a\x80\x00\x70",
-            ),
-            Came::Bytes(
-                Side::Client,
-                b"Content-Length: 76\r\n\r\n{\"seq\":4,\"type\":\"request\",\"command\":\"stackTrace\",\
-                \"arguments\":{\"threadId\":1}}",
-            ),
-        ],
-        limits: USUAL,
-        failing: &[],
-        told: &[
-            b"Content-Length: 154\r\n\r\n{\"body\":{\"error\":{\"format\":\"targetGone\",\"id\":10}},\
-            \"command\":\"stackTrace\",\"message\":\"targetGone\",\"request_seq\":3,\"seq\":5,\"success\":false,\
-            \"type\":\"response\"}",
-            b"Content-Length: 45\r\n\r\n{\"event\":\"terminated\",\"seq\":6,\"type\":\"event\"}",
-            b"Content-Length: 154\r\n\r\n{\"body\":{\"error\":{\"format\":\"targetGone\",\"id\":10}},\
-            \"command\":\"stackTrace\",\"message\":\"targetGone\",\"request_seq\":4,\"seq\":7,\"success\":false,\
-            \"type\":\"response\"}",
-        ],
-        sent: &[ASK_COUNT],
-        ending: Ending::Left,
-    },
-    // its stream ends while facts are awaited
-    Course {
-        first: &[ATTACHES, BINDS, STOPS],
-        steps: &[
-            Came::Bytes(Side::Client, TRACE),
-            Came::Bytes(Side::Target, TWO),
-            Came::Bytes(Side::Target, BOTH),
-            Came::Bytes(Side::Target, FILE),
-            Came::Shut(Side::Target),
-        ],
-        limits: USUAL,
-        failing: &[],
-        told: &[
-            b"Content-Length: 154\r\n\r\n{\"body\":{\"error\":{\"format\":\"targetGone\",\"id\":10}},\
-            \"command\":\"stackTrace\",\"message\":\"targetGone\",\"request_seq\":3,\"seq\":5,\"success\":false,\
-            \"type\":\"response\"}",
-            b"Content-Length: 45\r\n\r\n{\"event\":\"terminated\",\"seq\":6,\"type\":\"event\"}",
-        ],
-        sent: &[
-            ASK_COUNT,
-            ASK_BOTH,
-            ASK_SIGNATURE,
-            ASK_FILE,
-            ASK_NAMES,
-            ASK_TABLE,
-        ],
-        ending: Ending::Left,
-    },
-    // it tells its end, and still answers
-    Course {
-        first: &[ATTACHES, BINDS, STOPS],
-        steps: &[
-            Came::Bytes(Side::Client, TRACE),
-            Came::Bytes(
-                Side::Target,
-                b"\x00\x00\x00\x15\x00\x00\x00\x03\x00\x40\x64\x00\x00\x00\x00\x01\x63\x00\x00\x00\x00",
-            ),
-            Came::Bytes(Side::Target, ONE),
-            Came::Bytes(Side::Target, TOP),
-            Came::Bytes(
-                Side::Client,
-                b"Content-Length: 76\r\n\r\n{\"seq\":4,\"type\":\"request\",\"command\":\"stackTrace\",\
-                \"arguments\":{\"threadId\":1}}",
-            ),
-        ],
-        limits: USUAL,
-        failing: &[],
-        told: &[
-            TOP_SHOWN,
-            b"Content-Length: 45\r\n\r\n{\"event\":\"terminated\",\"seq\":6,\"type\":\"event\"}",
-            b"Content-Length: 154\r\n\r\n{\"body\":{\"error\":{\"format\":\"targetGone\",\"id\":10}},\
-            \"command\":\"stackTrace\",\"message\":\"targetGone\",\"request_seq\":4,\"seq\":7,\"success\":false,\
-            \"type\":\"response\"}",
-        ],
-        sent: &[ASK_COUNT, ASK_TOP],
-        ending: Ending::Left,
-    },
-];
+const ENDS: &str = r#"
+# the error of a dead target, and another request behind it
+session attaches binds stops
+client {"seq":3,"type":"request","command":"stackTrace","arguments":{"threadId":1}}
+target error 10 112
+client {"seq":4,"type":"request","command":"stackTrace","arguments":{"threadId":1}}
+told {"body":{"error":{"format":"targetGone","id":10}},"command":"stackTrace","message":"targetGone","request_seq":3,"seq":5,"success":false,"type":"response"}
+told {"event":"terminated","seq":6,"type":"event"}
+told {"body":{"error":{"format":"targetGone","id":10}},"command":"stackTrace","message":"targetGone","request_seq":4,"seq":7,"success":false,"type":"response"}
+sent command 10 11.7 0000000000000007
+
+# its stream ends while facts are awaited
+session attaches binds stops
+client {"seq":3,"type":"request","command":"stackTrace","arguments":{"threadId":1}}
+target reply 10 00000002
+target reply 11 00000002 0000000000000040 01 0000000000000010 0000000000000003 0000000000000005 0000000000000041 01 0000000000000020 0000000000000004 0000000000000003
+target reply 13 00000009 "Main.java"
+shut target
+told {"body":{"error":{"format":"targetGone","id":10}},"command":"stackTrace","message":"targetGone","request_seq":3,"seq":5,"success":false,"type":"response"}
+told {"event":"terminated","seq":6,"type":"event"}
+sent command 10 11.7 0000000000000007
+sent command 11 11.6 0000000000000007 00000000 00000002
+sent command 12 2.1 0000000000000020
+sent command 13 2.7 0000000000000020
+sent command 14 2.5 0000000000000020
+sent command 15 6.1 0000000000000020 0000000000000004
+
+# it tells its end, and still answers
+session attaches binds stops
+client {"seq":3,"type":"request","command":"stackTrace","arguments":{"threadId":1}}
+target command 3 64.100 00 00000001 63 00000000
+target reply 10 00000001
+target reply 11 00000001 0000000000000040 01 0000000000000010 0000000000000003 0000000000000005
+client {"seq":4,"type":"request","command":"stackTrace","arguments":{"threadId":1}}
+told {"body":{"stackFrames":[{"column":1,"id":1,"line":10,"name":"com.acme.Foo.run","source":{"name":"Foo.java","path":"/p/src/com/acme/Foo.java"}}],"totalFrames":1},"command":"stackTrace","request_seq":3,"seq":5,"success":true,"type":"response"}
+told {"event":"terminated","seq":6,"type":"event"}
+told {"body":{"error":{"format":"targetGone","id":10}},"command":"stackTrace","message":"targetGone","request_seq":4,"seq":7,"success":false,"type":"response"}
+sent command 10 11.7 0000000000000007
+sent command 11 11.6 0000000000000007 00000000 00000001
+"#;
 
 #[test]
 fn a_target_ends_under_a_stack_trace(rt: HostRuntime) -> Result<(), Fail> {
-    for course in ENDS {
-        check(rt.alloc(), course)?;
-    }
-    Ok(())
+    check(rt.alloc(), ENDS)
 }

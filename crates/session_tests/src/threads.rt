@@ -1,138 +1,66 @@
-use crate::composites::{
-    ASK_LINES, ASK_METHODS, ASK_SOURCE, BOUND, LINES, LISTED, METHODS, RESUME, RESUMED, SOURCE,
-    STOP, STOPPED,
-};
-use crate::courses::{
-    ASK_SIZES, ATTACH, ATTACHES, Came, Course, DEATHS_SET, SET_DEATHS, SET_STARTS, SIZES,
-    STARTS_SET, TOLD_ATTACH, TOLD_INITIALIZED, USUAL, check,
-};
-use session_model::Ending;
+use crate::courses::check;
 use std::test::Fail;
-use wire_core::Side;
 
-// A thread starts (JDWP, Event command set, Composite, ThreadStart).
-pub(crate) const STARTED: &[u8] =
-    b"\x00\x00\x00\x1d\x00\x00\x00\x01\x00\x40\x64\x00\x00\x00\x00\x01\x06\x00\x00\x00\x01\x00\x00\x00\x00\x00\x00\x00\x07";
+const CHANGES: &str = r#"
+# one ends as another starts; they are numbered as they are told
+session attaches
+target command 1 64.100 00 00000001 06 00000001 0000000000000007
+target command 2 64.100 00 00000002 06 00000001 0000000000000008 07 00000002 0000000000000007
+told {"body":{"reason":"started","threadId":1},"event":"thread","seq":3,"type":"event"}
+told {"body":{"reason":"started","threadId":2},"event":"thread","seq":4,"type":"event"}
+told {"body":{"reason":"exited","threadId":1},"event":"thread","seq":5,"type":"event"}
+sent command 4 1.6
 
-pub(crate) const TOLD_STARTED: &[u8] =
-    b"Content-Length: 82\r\n\r\n{\"body\":{\"reason\":\"started\",\"threadId\":1},\"event\":\"thread\",\"seq\":3,\"type\":\"event\"}";
+# one that was told keeps its number in the list of threads
+session attaches
+target command 1 64.100 00 00000001 06 00000001 0000000000000007
+client {"seq":2,"type":"request","command":"threads"}
+target reply 4 00000002 0000000000000005 0000000000000007
+target reply 5 00000004 "main"
+target reply 6 00000006 "worker"
+told {"body":{"reason":"started","threadId":1},"event":"thread","seq":3,"type":"event"}
+told {"body":{"threads":[{"id":2,"name":"main"},{"id":1,"name":"worker"}]},"command":"threads","request_seq":2,"seq":4,"success":true,"type":"response"}
+sent command 4 1.4
+sent command 5 11.1 0000000000000005
+sent command 6 11.1 0000000000000007
+sent command 7 1.6
 
-const CHANGES: &[Course<'static>] = &[
-    // one ends as another starts; they are numbered as they are told
-    Course {
-        first: &[ATTACHES],
-        steps: &[
-            Came::Bytes(Side::Target, STARTED),
-            Came::Bytes(
-                Side::Target,
-                b"\x00\x00\x00\x2a\x00\x00\x00\x02\x00\x40\x64\x00\x00\x00\x00\x02\x06\x00\x00\x00\x01\x00\x00\x00\x00\x00\x00\x00\x08\x07\x00\x00\x00\x02\x00\x00\x00\x00\x00\x00\x00\x07",
-            ),
-        ],
-        limits: USUAL,
-        failing: &[],
-        told: &[
-            TOLD_STARTED,
-            b"Content-Length: 82\r\n\r\n{\"body\":{\"reason\":\"started\",\"threadId\":2},\"event\":\"thread\",\"seq\":4,\"type\":\"event\"}",
-            b"Content-Length: 81\r\n\r\n{\"body\":{\"reason\":\"exited\",\"threadId\":1},\"event\":\"thread\",\"seq\":5,\"type\":\"event\"}",
-        ],
-        sent: &[b"\x00\x00\x00\x0b\x00\x00\x00\x04\x00\x01\x06"],
-        ending: Ending::Left,
-    },
-    // one that was told keeps its number in the list of threads
-    Course {
-        first: &[ATTACHES],
-        steps: &[
-            Came::Bytes(Side::Target, STARTED),
-            Came::Bytes(
-                Side::Client,
-                b"Content-Length: 46\r\n\r\n{\"seq\":2,\"type\":\"request\",\"command\":\"threads\"}",
-            ),
-            Came::Bytes(
-                Side::Target,
-                b"\x00\x00\x00\x1f\x00\x00\x00\x04\x80\x00\x00\x00\x00\x00\x02\x00\x00\x00\x00\x00\x00\x00\x05\x00\x00\x00\x00\x00\x00\x00\x07",
-            ),
-            Came::Bytes(
-                Side::Target,
-                b"\x00\x00\x00\x13\x00\x00\x00\x05\x80\x00\x00\x00\x00\x00\x04\x6d\x61\x69\x6e",
-            ),
-            Came::Bytes(
-                Side::Target,
-                b"\x00\x00\x00\x15\x00\x00\x00\x06\x80\x00\x00\x00\x00\x00\x06\x77\x6f\x72\x6b\x65\x72",
-            ),
-        ],
-        limits: USUAL,
-        failing: &[],
-        told: &[
-            TOLD_STARTED,
-            b"Content-Length: 147\r\n\r\n{\"body\":{\"threads\":[{\"id\":2,\"name\":\"main\"},{\"id\":1,\"name\":\"worker\"}]},\"command\":\"threads\",\"request_seq\":2,\"seq\":4,\"success\":true,\"type\":\"response\"}",
-        ],
-        sent: &[
-            b"\x00\x00\x00\x0b\x00\x00\x00\x04\x00\x01\x04",
-            b"\x00\x00\x00\x13\x00\x00\x00\x05\x00\x0b\x01\x00\x00\x00\x00\x00\x00\x00\x05",
-            b"\x00\x00\x00\x13\x00\x00\x00\x06\x00\x0b\x01\x00\x00\x00\x00\x00\x00\x00\x07",
-            b"\x00\x00\x00\x0b\x00\x00\x00\x07\x00\x01\x06",
-        ],
-        ending: Ending::Left,
-    },
-    // it starts as a class is prepared: breakpoints are told first, and the target runs on last
-    Course {
-        first: &[ATTACHES, LISTED],
-        steps: &[
-            Came::Bytes(
-                Side::Target,
-                b"\x00\x00\x00\x49\x00\x00\x00\x01\x00\x40\x64\x02\x00\x00\x00\x02\x08\x00\x00\x00\x03\x00\x00\x00\x00\x00\x00\x00\x01\x01\x00\x00\x00\x00\x00\x00\x00\x10\x00\x00\x00\x0e\x4c\x63\x6f\x6d\x2f\x61\x63\x6d\x65\x2f\x46\x6f\x6f\x3b\x00\x00\x00\x07\x06\x00\x00\x00\x01\x00\x00\x00\x00\x00\x00\x00\x07",
-            ),
-            Came::Bytes(Side::Target, SOURCE),
-            Came::Bytes(Side::Target, METHODS),
-            Came::Bytes(Side::Target, LINES),
-            Came::Bytes(Side::Target, STOPPED),
-            Came::Bytes(Side::Target, RESUMED),
-        ],
-        limits: USUAL,
-        failing: &[],
-        told: &[
-            BOUND,
-            b"Content-Length: 82\r\n\r\n{\"body\":{\"reason\":\"started\",\"threadId\":1},\"event\":\"thread\",\"seq\":5,\"type\":\"event\"}",
-        ],
-        sent: &[
-            ASK_SOURCE,
-            ASK_METHODS,
-            ASK_LINES,
-            STOP,
-            RESUME,
-            b"\x00\x00\x00\x0b\x00\x00\x00\x0b\x00\x01\x06",
-        ],
-        ending: Ending::Left,
-    },
-    // it starts before the client attaches
-    Course {
-        first: &[],
-        steps: &[
-            Came::Bytes(Side::Target, b"JDWP-Handshake"),
-            Came::Bytes(Side::Target, STARTED),
-            Came::Bytes(Side::Client, ATTACH),
-            SIZES,
-            STARTS_SET,
-            DEATHS_SET,
-        ],
-        limits: USUAL,
-        failing: &[],
-        told: &[TOLD_ATTACH, TOLD_INITIALIZED, TOLD_STARTED],
-        sent: &[
-            b"JDWP-Handshake",
-            ASK_SIZES,
-            SET_STARTS,
-            SET_DEATHS,
-            b"\x00\x00\x00\x0b\x00\x00\x00\x04\x00\x01\x06",
-        ],
-        ending: Ending::Left,
-    },
-];
+# it starts as a class is prepared: breakpoints are told first, and the target runs on last
+session attaches listed
+target command 1 64.100 02 00000002 08 00000003 0000000000000001 01 0000000000000010 0000000e "Lcom/acme/Foo;" 00000007 06 00000001 0000000000000007
+target reply 6 00000008 "Foo.java"
+target reply 7 00000001 0000000000000003 00000003 "run" 00000003 "()V" 00000001
+target reply 8 0000000000000000 000000000000000c 00000003 0000000000000000 00000009 0000000000000005 0000000a 0000000000000009 0000000b
+target reply 9 00000004
+target reply 10
+told {"body":{"breakpoint":{"id":1,"line":10,"verified":true},"reason":"changed"},"event":"breakpoint","seq":4,"type":"event"}
+told {"body":{"reason":"started","threadId":1},"event":"thread","seq":5,"type":"event"}
+sent command 6 2.7 0000000000000010
+sent command 7 2.5 0000000000000010
+sent command 8 6.1 0000000000000010 0000000000000003
+sent command 9 15.1 02 02 00000001 07 01 0000000000000010 0000000000000003 0000000000000005
+sent command 10 1.9
+sent command 11 1.6
+
+# it starts before the client attaches
+session
+target "JDWP-Handshake"
+target command 1 64.100 00 00000001 06 00000001 0000000000000007
+client {"seq":1,"type":"request","command":"attach","arguments":{"sourceRoots":["/p/src"]}}
+target reply 1 00000008 00000008 00000008 00000008 00000008
+target reply 2 00000001
+target reply 3 00000002
+told {"command":"attach","request_seq":1,"seq":1,"success":true,"type":"response"}
+told {"event":"initialized","seq":2,"type":"event"}
+told {"body":{"reason":"started","threadId":1},"event":"thread","seq":3,"type":"event"}
+sent "JDWP-Handshake"
+sent command 1 1.7
+sent command 2 15.1 06 00 00000000
+sent command 3 15.1 07 00 00000000
+sent command 4 1.6
+"#;
 
 #[test]
 fn threads_that_start_and_end_are_told(rt: HostRuntime) -> Result<(), Fail> {
-    for course in CHANGES {
-        check(rt.alloc(), course)?;
-    }
-    Ok(())
+    check(rt.alloc(), CHANGES)
 }

@@ -1,191 +1,89 @@
-use crate::composites::{
-    ASK_CLASSES, ASK_LINES, ASK_METHODS, ASK_SOURCE, LINES, METHODS, SOURCE, WATCH, WATCHED,
-};
-use crate::courses::{ATTACHED, Came, FRESH, Stage, check_stages};
-use crate::functions::{FOUR, LIST, NO_CLASSES, STOP_AT_0};
-use crate::stops::ONE_CLASS;
+use crate::courses::check;
 use std::test::Fail;
-use wire_core::Side;
 
-const NOT_BOUND: &[Stage<'static>] = &[
-    // a native one, and one without lines (JDWP, Constants, Error, ABSENT_INFORMATION)
-    Stage {
-        steps: &[
-            Came::Bytes(
-                Side::Client,
-                b"Content-Length: 177\r\n\r\n{\"seq\":2,\"type\":\"request\",\
-                \"command\":\"setFunctionBreakpoints\",\"arguments\":{\"breakpoints\":[{\
-                \"name\":\"com.acme.Foo.now\"},{\"name\":\"com.acme.Foo.gone\"},{\"name\":\"com.acme.Foo.none\"}]}}",
-            ),
-            Came::Bytes(Side::Target, WATCHED),
-            Came::Bytes(Side::Target, ONE_CLASS),
-            Came::Bytes(Side::Target, SOURCE),
-            Came::Bytes(Side::Target, FOUR),
-            Came::Bytes(
-                Side::Target,
-                b"\x00\x00\x00\x1f\x00\x00\x00\x08\x80\x00\x00\xff\xff\xff\xff\xff\xff\xff\xff\xff\xff\xff\xff\xff\
-                \xff\xff\xff\x00\x00\x00\x00",
-            ),
-            Came::Bytes(
-                Side::Target,
-                b"\x00\x00\x00\x0b\x00\x00\x00\x09\x80\x00\x65",
-            ),
-        ],
-        told: &[
-            b"Content-Length: 274\r\n\r\n{\"body\":{\"breakpoints\":[{\"id\":1,\"message\":\"not bound yet\",\
-            \"verified\":false},{\"id\":2,\"message\":\"not bound yet\",\"verified\":false},{\"id\":3,\
-            \"message\":\"not bound yet\",\"verified\":false}]},\"command\":\"setFunctionBreakpoints\",\
-            \"request_seq\":2,\"seq\":3,\"success\":true,\"type\":\"response\"}",
-        ],
-        sent: &[
-            WATCH,
-            ASK_CLASSES,
-            ASK_SOURCE,
-            ASK_METHODS,
-            b"\x00\x00\x00\x1b\x00\x00\x00\x08\x00\x06\x01\x00\x00\x00\x00\x00\x00\x00\x10\x00\x00\x00\x00\x00\x00\
-            \x00\x04",
-            b"\x00\x00\x00\x1b\x00\x00\x00\x09\x00\x06\x01\x00\x00\x00\x00\x00\x00\x00\x10\x00\x00\x00\x00\x00\x00\
-            \x00\x05",
-            b"\x00\x00\x00\x0b\x00\x00\x00\x0a\x00\x01\x06",
-        ],
-    },
-    // names without a class
-    Stage {
-        steps: &[Came::Bytes(
-            Side::Client,
-            b"Content-Length: 118\r\n\r\n{\"seq\":2,\"type\":\"request\",\
-                \"command\":\"setFunctionBreakpoints\",\"arguments\":{\"breakpoints\":[{\"name\":\"run\"},{\
-                \"name\":\"\"}]}}",
-        )],
-        told: &[
-            b"Content-Length: 222\r\n\r\n{\"body\":{\"breakpoints\":[{\"id\":1,\"message\":\"not bound yet\",\
-            \"verified\":false},{\"id\":2,\"message\":\"not bound yet\",\"verified\":false}]},\
-            \"command\":\"setFunctionBreakpoints\",\"request_seq\":2,\"seq\":3,\"success\":true,\
-            \"type\":\"response\"}",
-        ],
-        sent: &[b"\x00\x00\x00\x0b\x00\x00\x00\x04\x00\x01\x06"],
-    },
-    // a class without a package, which isn't loaded
-    Stage {
-        steps: &[
-            Came::Bytes(
-                Side::Client,
-                b"Content-Length: 110\r\n\r\n{\"seq\":2,\"type\":\"request\",\
-                \"command\":\"setFunctionBreakpoints\",\"arguments\":{\"breakpoints\":[{\"name\":\"Foo.run\"}]}}",
-            ),
-            Came::Bytes(Side::Target, WATCHED),
-            Came::Bytes(Side::Target, NO_CLASSES),
-        ],
-        told: &[
-            b"Content-Length: 170\r\n\r\n{\"body\":{\"breakpoints\":[{\"id\":1,\"message\":\"not bound yet\",\
-            \"verified\":false}]},\"command\":\"setFunctionBreakpoints\",\"request_seq\":2,\"seq\":3,\
-            \"success\":true,\"type\":\"response\"}",
-        ],
-        sent: &[
-            b"\x00\x00\x00\x17\x00\x00\x00\x04\x00\x0f\x01\x08\x02\x00\x00\x00\x01\x05\x00\x00\x00\x01*",
-            ASK_CLASSES,
-            b"\x00\x00\x00\x0b\x00\x00\x00\x06\x00\x01\x06",
-        ],
-    },
-    // with conditions
-    Stage {
-        steps: &[
-            Came::Bytes(
-                Side::Client,
-                b"Content-Length: 186\r\n\r\n{\"seq\":2,\"type\":\"request\",\
-                \"command\":\"setFunctionBreakpoints\",\"arguments\":{\"breakpoints\":[{\
-                \"name\":\"com.acme.Foo.run\",\"condition\":\"x > 1\"},{\"name\":\"com.acme.Foo.run\",\
-                \"hitCondition\":\"2\"}]}}",
-            ),
-            Came::Bytes(Side::Target, WATCHED),
-            Came::Bytes(Side::Target, ONE_CLASS),
-            Came::Bytes(Side::Target, SOURCE),
-            Came::Bytes(Side::Target, FOUR),
-            Came::Bytes(Side::Target, LINES),
-        ],
-        told: &[
-            b"Content-Length: 252\r\n\r\n{\"body\":{\"breakpoints\":[{\"id\":1,\
-            \"message\":\"conditions are not supported\",\"verified\":false},{\"id\":2,\
-            \"message\":\"conditions are not supported\",\"verified\":false}]},\
-            \"command\":\"setFunctionBreakpoints\",\"request_seq\":2,\"seq\":3,\"success\":true,\
-            \"type\":\"response\"}",
-        ],
-        sent: &[
-            WATCH,
-            ASK_CLASSES,
-            ASK_SOURCE,
-            ASK_METHODS,
-            ASK_LINES,
-            b"\x00\x00\x00\x0b\x00\x00\x00\x09\x00\x01\x06",
-        ],
-    },
-    // refused by the target (JDWP, Constants, Error, INVALID_CLASS)
-    Stage {
-        steps: &[
-            Came::Bytes(Side::Client, LIST),
-            Came::Bytes(Side::Target, WATCHED),
-            Came::Bytes(Side::Target, ONE_CLASS),
-            Came::Bytes(Side::Target, SOURCE),
-            Came::Bytes(Side::Target, METHODS),
-            Came::Bytes(Side::Target, LINES),
-            Came::Bytes(
-                Side::Target,
-                b"\x00\x00\x00\x0b\x00\x00\x00\x09\x80\x00\x15",
-            ),
-        ],
-        told: &[
-            b"Content-Length: 178\r\n\r\n{\"body\":{\"breakpoints\":[{\"id\":1,\
-            \"message\":\"refused by the target\",\"verified\":false}]},\"command\":\"setFunctionBreakpoints\",\
-            \"request_seq\":2,\"seq\":3,\"success\":true,\"type\":\"response\"}",
-        ],
-        sent: &[
-            WATCH,
-            ASK_CLASSES,
-            ASK_SOURCE,
-            ASK_METHODS,
-            ASK_LINES,
-            STOP_AT_0,
-            b"\x00\x00\x00\x0b\x00\x00\x00\x0a\x00\x01\x06",
-        ],
-    },
-];
+const NOT_BOUND: &str = r#"
+# a native one, and one without lines (JDWP, Constants, Error, ABSENT_INFORMATION)
+session attaches
+client {"seq":2,"type":"request","command":"setFunctionBreakpoints","arguments":{"breakpoints":[{"name":"com.acme.Foo.now"},{"name":"com.acme.Foo.gone"},{"name":"com.acme.Foo.none"}]}}
+target reply 4 00000003
+target reply 5 00000001 01 0000000000000010 0000000e "Lcom/acme/Foo;" 00000007
+target reply 6 00000008 "Foo.java"
+target reply 7 00000004 0000000000000003 00000003 "run" 00000003 "()V" 00000001 0000000000000004 00000003 "now" 00000003 "()J" 00000101 0000000000000005 00000004 "gone" 00000003 "()V" 00000001 0000000000000006 00000004 "stop" 00000003 "()V" 00000001
+target reply 8 ffffffffffffffff ffffffffffffffff 00000000
+target error 9 101
+told {"body":{"breakpoints":[{"id":1,"message":"not bound yet","verified":false},{"id":2,"message":"not bound yet","verified":false},{"id":3,"message":"not bound yet","verified":false}]},"command":"setFunctionBreakpoints","request_seq":2,"seq":3,"success":true,"type":"response"}
+sent command 4 15.1 08 02 00000001 05 0000000a "com.acme.*"
+sent command 5 1.3
+sent command 6 2.7 0000000000000010
+sent command 7 2.5 0000000000000010
+sent command 8 6.1 0000000000000010 0000000000000004
+sent command 9 6.1 0000000000000010 0000000000000005
+sent command 10 1.6
 
-const NOT_BOUND_FRESH: &[Stage<'static>] = &[
-    // lists that are none, and no session that is attached
-    Stage {
-        steps: &[
-            Came::Bytes(
-                Side::Client,
-                b"Content-Length: 61\r\n\r\n{\"seq\":1,\"type\":\"request\",\"command\":\"setFunctionBreakpoints\"}",
-            ),
-            Came::Bytes(
-                Side::Client,
-                b"Content-Length: 94\r\n\r\n{\"seq\":2,\"type\":\"request\",\"command\":\"setFunctionBreakpoints\",\
-                \"arguments\":{\"breakpoints\":[{}]}}",
-            ),
-            Came::Bytes(
-                Side::Client,
-                b"Content-Length: 92\r\n\r\n{\"seq\":3,\"type\":\"request\",\"command\":\"setFunctionBreakpoints\",\
-                \"arguments\":{\"breakpoints\":[]}}",
-            ),
-        ],
-        told: &[
-            b"Content-Length: 181\r\n\r\n{\"body\":{\"error\":{\"format\":\"badArguments breakpoints\",\"id\":2}},\
-            \"command\":\"setFunctionBreakpoints\",\"message\":\"badArguments\",\"request_seq\":1,\"seq\":1,\
-            \"success\":false,\"type\":\"response\"}",
-            b"Content-Length: 181\r\n\r\n{\"body\":{\"error\":{\"format\":\"badArguments breakpoints\",\"id\":2}},\
-            \"command\":\"setFunctionBreakpoints\",\"message\":\"badArguments\",\"request_seq\":2,\"seq\":2,\
-            \"success\":false,\"type\":\"response\"}",
-            b"Content-Length: 167\r\n\r\n{\"body\":{\"error\":{\"format\":\"notAttached\",\"id\":3}},\
-            \"command\":\"setFunctionBreakpoints\",\"message\":\"notAttached\",\"request_seq\":3,\"seq\":3,\
-            \"success\":false,\"type\":\"response\"}",
-        ],
-        sent: &[],
-    },
-];
+# names without a class
+session attaches
+client {"seq":2,"type":"request","command":"setFunctionBreakpoints","arguments":{"breakpoints":[{"name":"run"},{"name":""}]}}
+told {"body":{"breakpoints":[{"id":1,"message":"not bound yet","verified":false},{"id":2,"message":"not bound yet","verified":false}]},"command":"setFunctionBreakpoints","request_seq":2,"seq":3,"success":true,"type":"response"}
+sent command 4 1.6
+
+# a class without a package, which isn't loaded
+session attaches
+client {"seq":2,"type":"request","command":"setFunctionBreakpoints","arguments":{"breakpoints":[{"name":"Foo.run"}]}}
+target reply 4 00000003
+target reply 5 00000000
+told {"body":{"breakpoints":[{"id":1,"message":"not bound yet","verified":false}]},"command":"setFunctionBreakpoints","request_seq":2,"seq":3,"success":true,"type":"response"}
+sent command 4 15.1 08 02 00000001 05 00000001 "*"
+sent command 5 1.3
+sent command 6 1.6
+
+# with conditions
+session attaches
+client {"seq":2,"type":"request","command":"setFunctionBreakpoints","arguments":{"breakpoints":[{"name":"com.acme.Foo.run","condition":"x > 1"},{"name":"com.acme.Foo.run","hitCondition":"2"}]}}
+target reply 4 00000003
+target reply 5 00000001 01 0000000000000010 0000000e "Lcom/acme/Foo;" 00000007
+target reply 6 00000008 "Foo.java"
+target reply 7 00000004 0000000000000003 00000003 "run" 00000003 "()V" 00000001 0000000000000004 00000003 "now" 00000003 "()J" 00000101 0000000000000005 00000004 "gone" 00000003 "()V" 00000001 0000000000000006 00000004 "stop" 00000003 "()V" 00000001
+target reply 8 0000000000000000 000000000000000c 00000003 0000000000000000 00000009 0000000000000005 0000000a 0000000000000009 0000000b
+told {"body":{"breakpoints":[{"id":1,"message":"conditions are not supported","verified":false},{"id":2,"message":"conditions are not supported","verified":false}]},"command":"setFunctionBreakpoints","request_seq":2,"seq":3,"success":true,"type":"response"}
+sent command 4 15.1 08 02 00000001 05 0000000a "com.acme.*"
+sent command 5 1.3
+sent command 6 2.7 0000000000000010
+sent command 7 2.5 0000000000000010
+sent command 8 6.1 0000000000000010 0000000000000003
+sent command 9 1.6
+
+# refused by the target (JDWP, Constants, Error, INVALID_CLASS)
+session attaches
+client {"seq":2,"type":"request","command":"setFunctionBreakpoints","arguments":{"breakpoints":[{"name":"com.acme.Foo.run"}]}}
+target reply 4 00000003
+target reply 5 00000001 01 0000000000000010 0000000e "Lcom/acme/Foo;" 00000007
+target reply 6 00000008 "Foo.java"
+target reply 7 00000001 0000000000000003 00000003 "run" 00000003 "()V" 00000001
+target reply 8 0000000000000000 000000000000000c 00000003 0000000000000000 00000009 0000000000000005 0000000a 0000000000000009 0000000b
+target error 9 21
+told {"body":{"breakpoints":[{"id":1,"message":"refused by the target","verified":false}]},"command":"setFunctionBreakpoints","request_seq":2,"seq":3,"success":true,"type":"response"}
+sent command 4 15.1 08 02 00000001 05 0000000a "com.acme.*"
+sent command 5 1.3
+sent command 6 2.7 0000000000000010
+sent command 7 2.5 0000000000000010
+sent command 8 6.1 0000000000000010 0000000000000003
+sent command 9 15.1 02 02 00000001 07 01 0000000000000010 0000000000000003 0000000000000000
+sent command 10 1.6
+"#;
+
+const NOT_BOUND_FRESH: &str = r#"
+# lists that are none, and no session that is attached
+session
+client {"seq":1,"type":"request","command":"setFunctionBreakpoints"}
+client {"seq":2,"type":"request","command":"setFunctionBreakpoints","arguments":{"breakpoints":[{}]}}
+client {"seq":3,"type":"request","command":"setFunctionBreakpoints","arguments":{"breakpoints":[]}}
+told {"body":{"error":{"format":"badArguments breakpoints","id":2}},"command":"setFunctionBreakpoints","message":"badArguments","request_seq":1,"seq":1,"success":false,"type":"response"}
+told {"body":{"error":{"format":"badArguments breakpoints","id":2}},"command":"setFunctionBreakpoints","message":"badArguments","request_seq":2,"seq":2,"success":false,"type":"response"}
+told {"body":{"error":{"format":"notAttached","id":3}},"command":"setFunctionBreakpoints","message":"notAttached","request_seq":3,"seq":3,"success":false,"type":"response"}
+"#;
 
 #[test]
 fn some_functions_are_not_bound(rt: HostRuntime) -> Result<(), Fail> {
-    check_stages(rt.alloc(), ATTACHED, NOT_BOUND)?;
-    check_stages(rt.alloc(), FRESH, NOT_BOUND_FRESH)
+    check(rt.alloc(), NOT_BOUND)?;
+    check(rt.alloc(), NOT_BOUND_FRESH)
 }
