@@ -11,8 +11,6 @@ mod frame_bodies;
 mod read;
 mod requests;
 mod rows;
-#[cfg(test)]
-mod tests;
 mod told;
 mod value_bodies;
 mod variable_bodies;

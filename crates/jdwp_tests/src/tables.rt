@@ -1,4 +1,4 @@
-use super::*;
+use class_tables::{ClassView, Classes};
 use jdwp_values::{
     ClassId, Field, FieldId, Line, LineTable, Location, Method, MethodId, TypeTag, Variable,
 };

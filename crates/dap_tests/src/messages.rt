@@ -1,4 +1,4 @@
-use crate::{
+use dap_messages::{
     BreakMode, Breakpoint, BreakpointStatus, Command, EvaluateArguments, Evaluated, Event, Failure,
     Filter, FunctionBreakpoint, Incoming, InitializeArguments, Outcome, ReadFault, Request,
     Response, SetExceptionBreakpointsArguments, SetVariableArguments, Shape, Source,
