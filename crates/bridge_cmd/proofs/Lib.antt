@@ -1,2 +1,4 @@
 pub mod WordLaws
 pub mod OptionLaws
+pub mod CourseLaws
+pub mod FollowLaws

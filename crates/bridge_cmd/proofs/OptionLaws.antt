@@ -15,7 +15,7 @@ use Rattle.clap.specs.declared.parser.matches.ArgMatches.{ArgMatches}
 use Rattle.clap.proofs.CallerLemmas.{required_in_chain}
 
 -- two texts that differ as bytes are two texts
-unlike : (a b : List ℕ) → bytes_eq a b ≡ false → a ≡ b → ⊥
+pub unlike : (a b : List ℕ) → bytes_eq a b ≡ false → a ≡ b → ⊥
 unlike a b differ same = true≢false (sym ((bytes_eq-Decides a b).1 same) ∙ differ)
 
 -- an option of this name isn't one that `clap` adds

@@ -1,3 +1,5 @@
 pub mod Words
 pub mod Lines
+pub mod Course
+pub mod LogWires
 pub mod Command

@@ -1,13 +1,17 @@
 -- What the program prints and the status that it ends with, for each outcome of a run.
 use Rattle.std.specs.Prelude.{ℕ, ◌≡◌, Bool, true, false, if◌then◌else◌, nat_eq, List, ◌++◌, codes, decimal}
 use Rattle.bridge_cmd.specs.declared.printing.Outcome.{Outcome}
-use Rattle.bridge_cmd.specs.declared.printing.Outcome.TheVariants.{Misused, NotOpened, Ended}
+use Rattle.bridge_cmd.specs.declared.printing.Outcome.TheVariants.{Misused, NotOpened, NotRead, BadLog, Replayed, Ended}
+use Rattle.bridge_cmd.specs.declared.printing.Outcome.TheVariants.{TooLong as too_long}
 use Rattle.dap_frames.specs.declared.fault.FrameFault.{FrameFault}
 use Rattle.dap_frames.specs.declared.fault.FrameFault.TheVariants.{NoLength, TwoLengths, BadLength, TooLong}
 use Rattle.dap_frames.specs.declared.fault.FrameFault.TheVariants.{HeaderTooLong, BadHeader}
 use Rattle.jdwp_packets.specs.declared.fault.PacketFault.{PacketFault}
 use Rattle.jdwp_packets.specs.declared.fault.PacketFault.TheVariants.{BadHandshake, ShortLength, BadFlags}
 use Rattle.jdwp_packets.specs.declared.fault.PacketFault.TheVariants.{TooLong as packet_too_long}
+use Rattle.script_text.specs.declared.log.ScriptFault.{ScriptFault}
+use Rattle.script_text.specs.declared.log.ScriptFault.TheVariants.{NotUtf8, BadShape, BadVersion, BadOrder, NoEnd}
+use Rattle.script_text.specs.declared.log.ScriptFault.TheVariants.{AfterEnd, NotJson as no_json}
 use Rattle.wire_core.specs.Output.{Printed, Appends, FailsToWrite}
 use Rattle.session_model.specs.declared.ending.ClientFault.{ClientFault}
 use Rattle.session_model.specs.declared.ending.ClientFault.TheVariants.{Frame, NotJson, NotAMessage}
@@ -113,25 +117,48 @@ status_of_ending Spent = 13
 status_of_ending Flood = 14
 status_of_ending NoMemory = 70
 
--- the line of an outcome
-unfoldable pub line_of : Outcome → List ℕ
-line_of Misused = codes "usage: bridge serve --listen A --target B\n"
-line_of NotOpened = codes "ended 7 not opened\n"
-line_of (Ended ending) = line_of_ending ending
+-- the name of a fault of a session log
+abbrev pub log_fault_name : ScriptFault → List ℕ
+log_fault_name NotUtf8 = codes "NotUtf8"
+log_fault_name no_json = codes "NotJson"
+log_fault_name BadShape = codes "BadShape"
+log_fault_name BadVersion = codes "BadVersion"
+log_fault_name BadOrder = codes "BadOrder"
+log_fault_name NoEnd = codes "NoEnd"
+log_fault_name AfterEnd = codes "AfterEnd"
+
+-- the line of a session log's first faulty line, with its number
+abbrev pub log_fault_line : ℕ → ScriptFault → List ℕ
+log_fault_line line kind =
+    codes "ended 10 script line " ++ (decimal line ++ (codes " " ++ (log_fault_name kind ++ codes "\n")))
+
+-- what is printed of an outcome
+unfoldable pub text_of : Outcome → List ℕ
+text_of Misused = codes "usage: bridge serve --listen A --target B, replay LOG\n"
+text_of NotOpened = codes "ended 7 not opened\n"
+text_of NotRead = codes "ended 8 file\n"
+text_of too_long = codes "ended 10 script line 0 TooLong\n"
+text_of (BadLog line kind) = log_fault_line line kind
+text_of (Replayed log) = log
+text_of (Ended ending) = line_of_ending ending
 
 -- the status of an outcome
 abbrev pub status_of : Outcome → ℕ
 status_of Misused = 2
 status_of NotOpened = 7
+status_of NotRead = 8
+status_of too_long = 10
+status_of (BadLog line kind) = 10
+status_of (Replayed log) = 0
 status_of (Ended ending) = status_of_ending ending
 
--- the status in place of another where the line could not be written: that of want of memory stays
+-- the status in place of another where the text could not be written: that of want of memory stays
 abbrev pub unprinted_status : ℕ → ℕ
 unprinted_status status = if nat_eq status 70 then 70 else 9
 
--- What printing a line does, and the status that comes of the one that goes with it: the line is printed whole; the
+-- What printing a text does, and the status that comes of the one that goes with it: the text is printed whole; the
 -- output failed, maybe within it; or memory ran out, and nothing was printed.
-pub data Prints (old new : Printed) (line : List ℕ) (wanted : ℕ) : ℕ → Type 0 where
-  prints : Appends old new line → Prints old new line wanted wanted
-  fails : FailsToWrite old new line → Prints old new line wanted (unprinted_status wanted)
-  forgets : new.bytes ≡ old.bytes → Prints old new line wanted 70
+pub data Prints (old new : Printed) (text : List ℕ) (wanted : ℕ) : ℕ → Type 0 where
+  prints : Appends old new text → Prints old new text wanted wanted
+  fails : FailsToWrite old new text → Prints old new text wanted (unprinted_status wanted)
+  forgets : new.bytes ≡ old.bytes → Prints old new text wanted 70

@@ -1,16 +1,24 @@
--- The words of the program: a command's name, and behind it the options of that command, as the crate `clap` reads
--- them.
-use Rattle.std.specs.Prelude.{ℕ, ◌≡◌, ◌⊎◌, true, List, [], ◌∷◌, codes, Option, Some, Result, Ok, Err}
-use Rattle.clap.specs.Words.{App, Kinds, Rule, fault_of, first_of, matches_of, new_app, new_rule, with_rule}
+-- The words of the program: a command's name, and behind it what that command is given, as the crate `clap` reads them.
+use Rattle.std.specs.Prelude.{ℕ, ◌≡◌, true, false, List, [], ◌∷◌, codes, Option, Some, Result, Ok, Err}
+use Rattle.clap.specs.Words.{App, Kinds, Rule, app_of, args_of, fault_of, first_of, groups_of, matches_of, new_app}
+use Rattle.clap.specs.Words.{new_rule, with_rule}
 use Rattle.clap.specs.Simple.{on_top}
 use Rattle.clap.specs.declared.builder.action.ArgAction.TheVariants.{Set}
+use Rattle.clap.specs.declared.builder.command.Command.{Command}
+use Rattle.clap.specs.declared.builder.command.Command.TheViews.{out-Command}
 use Rattle.bridge_cmd.specs.declared.words.Addresses.{Addresses}
+use Rattle.bridge_cmd.specs.declared.words.Task.{Task}
+use Rattle.bridge_cmd.specs.declared.words.Task.TheVariants.{Serve, Replay}
 use Rattle.bridge_cmd.specs.declared.words.WordsFault.{WordsFault}
 use Rattle.bridge_cmd.specs.declared.words.WordsFault.TheVariants.{Refused, NoMemory}
 
 -- an option with one value, which has to be there
 abbrev pub required_option : List ℕ → Rule
 required_option name = record (new_rule name) { long = Some name; action = Some Set; required = true }
+
+-- a value that no option's name stands before, which has to be there
+abbrev pub required_value : List ℕ → Rule
+required_value name = record (new_rule name) { action = Some Set; required = true }
 
 -- a command without the flags for help and version, which is given just the words behind its name
 abbrev pub bare_command : List ℕ → App
@@ -19,6 +27,14 @@ bare_command name = on_top (λ s. record s {
   disable_help_flag = true;
   disable_version_flag = true;
 }) (new_app name)
+
+-- it is that command, and has no argument yet
+pub record IsBare (command : Command) (name : List ℕ) : Type 0 where
+  pub app : app_of command ≡ bare_command name
+  pub args : args_of command ≡ []
+  pub groups : groups_of command ≡ []
+  pub globals : (out-Command command).has_globals ≡ false
+  pub negates : (out-Command command).subcommand_negates_reqs ≡ false
 
 -- the command `serve`
 abbrev pub serve_app : App
@@ -39,25 +55,50 @@ pub record IsServe (words : List (List ℕ)) (addresses : Addresses) : Type 0 wh
   pub listen : serve_value (codes "listen") words ≡ Some addresses.listen
   pub target : serve_value (codes "target") words ≡ Some addresses.target
 
--- what reading the words behind `serve` gives
+-- the command `replay`
+abbrev pub replay_app : App
+replay_app = with_rule (bare_command (codes "replay")) (required_value (codes "log"))
+
+-- the causes for which the words behind `replay` are refused, none where they are taken
+unfoldable pub replay_fault : List (List ℕ) → Kinds
+replay_fault words = fault_of replay_app words
+
+-- the value that the words behind `replay` give a name
+unfoldable pub replay_value : List ℕ → List (List ℕ) → Option (List ℕ)
+replay_value name words = first_of name (matches_of replay_app words)
+
+-- the words behind `replay` are taken, and name this file
+pub record IsReplay (words : List (List ℕ)) (file : List ℕ) : Type 0 where
+  pub taken : replay_fault words ≡ []
+  pub file_is : replay_value (codes "log") words ≡ Some file
+
+-- what reading the words behind a command's name gives, by the causes for which they are refused
+abbrev pub ReadsBy : {A : Type 0} → Kinds → (A → Type 0) → Result A WordsFault → Type 0
+ReadsBy fault Is (Ok a) = Is a
+ReadsBy fault Is (Err Refused) = ¬ (fault ≡ [])
+ReadsBy fault Is (Err NoMemory) = Unit {0}
+
 abbrev pub ReadsServe : List (List ℕ) → Result Addresses WordsFault → Type 0
-ReadsServe words (Ok addresses) = IsServe words addresses
-ReadsServe words (Err Refused) = ¬ (serve_fault words ≡ [])
-ReadsServe words (Err NoMemory) = Unit {0}
+ReadsServe words result = ReadsBy (serve_fault words) (IsServe words) result
 
--- the words are the command `serve` under these addresses
-abbrev pub Names : List (List ℕ) → Addresses → Type 0
-Names [] addresses = ⊥
-Names (name ∷ words) addresses = (name ≡ codes "serve") × IsServe words addresses
+abbrev pub ReadsReplay : List (List ℕ) → Result (List ℕ) WordsFault → Type 0
+ReadsReplay words result = ReadsBy (replay_fault words) (IsReplay words) result
 
--- the words are refused: there is no name, the name is unknown, or its options are refused
+-- the words are this task: the name of its command, and what that is given
+abbrev pub Names : List (List ℕ) → Task → Type 0
+Names [] task = ⊥
+Names (name ∷ words) (Serve addresses) = (name ≡ codes "serve") × IsServe words addresses
+Names (name ∷ words) (Replay file) = (name ≡ codes "replay") × IsReplay words file
+
+-- the words are refused: there is no name, or where it is that of a command, the words behind it are refused
 abbrev pub AreRefused : List (List ℕ) → Type 0
 AreRefused [] = Unit {0}
-AreRefused (name ∷ words) = (¬ (name ≡ codes "serve")) ⊎ (¬ (serve_fault words ≡ []))
+AreRefused (name ∷ words) =
+    (name ≡ codes "serve" → ¬ (serve_fault words ≡ [])) × (name ≡ codes "replay" → ¬ (replay_fault words ≡ []))
 
 -- what reading the words of the program gives
-abbrev pub Reads : List (List ℕ) → Result Addresses WordsFault → Type 0
-Reads words (Ok addresses) = Names words addresses
+abbrev pub Reads : List (List ℕ) → Result Task WordsFault → Type 0
+Reads words (Ok task) = Names words task
 Reads words (Err Refused) = AreRefused words
 Reads words (Err NoMemory) = Unit {0}
 
@@ -66,6 +107,9 @@ abbrev pub IsValue : List ℕ → Type 0
 IsValue [] = ⊥
 IsValue (b ∷ bs) = ¬ (b ≡ 45)
 
--- the words in the form of the usage
+-- the words in the two forms of the usage
 abbrev pub serve_words : List ℕ → List ℕ → List (List ℕ)
 serve_words listen target = codes "serve" ∷ codes "--listen" ∷ listen ∷ codes "--target" ∷ target ∷ []
+
+abbrev pub replay_words : List ℕ → List (List ℕ)
+replay_words file = codes "replay" ∷ file ∷ []

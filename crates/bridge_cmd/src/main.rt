@@ -6,7 +6,9 @@ ghost use Rattle.std.specs.Prelude.{IfOk};
 ghost use Rattle.bridge_cmd.specs.Command.{IsRun};
 
 mod command;
+mod log_wires;
 mod printing;
+mod replay;
 #[cfg(test)]
 mod tests;
 mod words;

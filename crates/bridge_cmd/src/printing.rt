@@ -1,35 +1,50 @@
 ghost use Rattle.std.specs.Prelude.{◌≡◌, ℕ, List, IfOk, string_bytes};
-ghost use Rattle.bridge_cmd.specs.Lines.{Prints, line_of, line_of_ending, status_of, status_of_ending};
+ghost use Rattle.bridge_cmd.specs.Lines.{Prints, line_of_ending, status_of, status_of_ending, text_of};
 ghost use Rattle.bridge_cmd.specs.Lines.{client_fault_line, client_fault_name, frame_fault_name, target_fault_line};
 ghost use Rattle.bridge_cmd.specs.Lines.{target_fault_name, packet_fault_name, is_unknown_reply, refused_line};
+ghost use Rattle.bridge_cmd.specs.Lines.{log_fault_line, log_fault_name};
 
 use dap_frames::FrameFault;
 use jdwp_packets::PacketFault;
+use script_text::ScriptFault;
 use session_model::{ClientFault, Ending, TargetFault};
 use std::alloc::{AllocError, Global};
-use wire_core::{OutRefusal, Output};
+use wire_core::{Blob, OutRefusal, Output};
 
 // The status where a line was not printed, and the one where memory ran out, which stays whatever happens to its line.
 const NOT_PRINTED: u8 = 9;
 
-const OUT_OF_MEMORY: u8 = 70;
+pub(crate) const OUT_OF_MEMORY: u8 = 70;
 
-/// What a run comes to: its words are refused; a link was not opened; or a session ended so, for want of memory maybe
-/// before it began.
-#[derive(Clone, Copy, Debug, PartialEq, Eq)]
+/// What a run comes to: its words are refused; a link was not opened; the file of a session log was not read, is too
+/// long, or has this fault in this line, counted from 1; a session log was replayed, and this is the text of what came of
+/// it; or a session ended so, for want of memory maybe before it began.
+#[derive(Debug, Drop)]
 pub enum Outcome {
     Misused,
     NotOpened,
+    NotRead,
+    TooLong,
+    BadLog { line: u32, kind: ScriptFault },
+    Replayed(Blob),
     Ended(Ending),
 }
 
-/// Prints the line of an outcome, in one write, and gives the status that the program ends with.
+/// Prints the text of an outcome, in one write, and gives the status that the program ends with.
 pub fn tell<O: Output>(alloc: Global, outcome: Outcome, out: &mut O) -> u8
-    ensures { Prints (O.printed out.old) (O.printed out.new) (line_of outcome) (status_of outcome) result }
+    ensures { Prints (O.printed out.old) (O.printed out.new) (text_of outcome) (status_of outcome) result }
 {
     match outcome {
-        Outcome::Misused => print_line(out, "usage: bridge serve --listen A --target B\n", 2),
+        Outcome::Misused => print_line(
+            out,
+            "usage: bridge serve --listen A --target B, replay LOG\n",
+            2,
+        ),
         Outcome::NotOpened => print_line(out, "ended 7 not opened\n", 7),
+        Outcome::NotRead => print_line(out, "ended 8 file\n", 8),
+        Outcome::TooLong => print_line(out, "ended 10 script line 0 TooLong\n", 10),
+        Outcome::BadLog { line, kind } => print_made(out, log_fault_line(alloc, line, kind), 10),
+        Outcome::Replayed(text) => print(out, text.as_slice(), 0),
         Outcome::Ended(ending) => tell_ending(alloc, ending, out),
     }
 }
@@ -53,6 +68,33 @@ fn tell_ending<O: Output>(alloc: Global, ending: Ending, out: &mut O) -> u8
         Ending::Spent => print_line(out, "ended 13 turns\n", 13),
         Ending::Flood => print_line(out, "ended 14 flood\n", 14),
         Ending::NoMemory => print_line(out, "ended 70 memory\n", OUT_OF_MEMORY),
+    }
+}
+
+/// The status of a session's ending.
+pub fn status_of_ending(ending: Ending) -> u8
+    ensures { result ≡ status_of_ending ending }
+{
+    match ending {
+        Ending::Done => 0,
+        Ending::Left => 1,
+        Ending::BadClient { fault: _, at: _ } => 3,
+        Ending::BadTarget {
+            fault: _,
+            at: _,
+            id: _,
+        } => 4,
+        Ending::ClientLink => 5,
+        Ending::TargetLink => 6,
+        Ending::TargetRefused {
+            set: _,
+            command: _,
+            code: _,
+        } => 11,
+        Ending::Idle => 12,
+        Ending::Spent => 13,
+        Ending::Flood => 14,
+        Ending::NoMemory => OUT_OF_MEMORY,
     }
 }
 
@@ -144,6 +186,27 @@ fn packet_fault_name(fault: PacketFault) -> &'static str
     }
 }
 
+fn log_fault_line(alloc: Global, line: u32, kind: ScriptFault) -> Result<String, AllocError>
+    ensures { IfOk result (λ text. string_bytes text ≡ log_fault_line line kind) }
+{
+    let name = log_fault_name(kind);
+    format!(in alloc; "ended 10 script line {line} {name}\n")
+}
+
+fn log_fault_name(kind: ScriptFault) -> &'static str
+    ensures { result.now ≡ log_fault_name kind }
+{
+    match kind {
+        ScriptFault::NotUtf8 => "NotUtf8",
+        ScriptFault::NotJson => "NotJson",
+        ScriptFault::BadShape => "BadShape",
+        ScriptFault::BadVersion => "BadVersion",
+        ScriptFault::BadOrder => "BadOrder",
+        ScriptFault::NoEnd => "NoEnd",
+        ScriptFault::AfterEnd => "AfterEnd",
+    }
+}
+
 // Prints a line that was made, or nothing where memory ran out while it was.
 fn print_made<O: Output>(out: &mut O, line: Result<String, AllocError>, status: u8) -> u8
     ensures { (wanted : List ℕ) → IfOk line (λ made. string_bytes made ≡ wanted)
@@ -158,7 +221,13 @@ fn print_made<O: Output>(out: &mut O, line: Result<String, AllocError>, status: 
 fn print_line<O: Output>(out: &mut O, line: &str, status: u8) -> u8
     ensures { Prints (O.printed out.old) (O.printed out.new) line.now status result }
 {
-    match out.write(line.as_bytes()) {
+    print(out, line.as_bytes(), status)
+}
+
+fn print<O: Output>(out: &mut O, text: &[u8], status: u8) -> u8
+    ensures { Prints (O.printed out.old) (O.printed out.new) text.now status result }
+{
+    match out.write(text) {
         Ok(()) => status,
         Err(OutRefusal::NoMemory) => OUT_OF_MEMORY,
         Err(OutRefusal::Failed) => {

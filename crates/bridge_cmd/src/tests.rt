@@ -1,4 +1,5 @@
 ghost use Rattle.std.specs.Prelude.{◌≡◌, [], IfOk};
+ghost use Rattle.wire_core.specs.MemoryFiles.{store_of};
 ghost use Rattle.wire_core.specs.MemoryWires.{outside_of};
 
 use crate::command::bridge_main;
@@ -8,7 +9,7 @@ use session_model::{ClientFault, Ending, TargetFault};
 use std::alloc::Global;
 use std::test::Fail;
 use wire_core::{
-    Entry, List, MemoryFiles, MemoryOutput, MemoryWires, NoMemory, Side, Step, Text, Word,
+    Blob, Entry, List, MemoryFiles, MemoryOutput, MemoryWires, NoMemory, Side, Step, Text, Word,
 };
 
 const INITIALIZE: &[u8] =
@@ -57,7 +58,7 @@ const SERVE: &[&str] = &[
     "127.0.0.1:5005",
 ];
 
-const USAGE: &str = "usage: bridge serve --listen A --target B\n";
+const USAGE: &str = "usage: bridge serve --listen A --target B, replay LOG\n";
 
 const NOT_OPENED: &str = "ended 7 not opened\n";
 
@@ -181,7 +182,7 @@ fn ran_on(
 }
 
 // Words that are none of the program's.
-const REFUSED_WORDS: [&[&str]; 9] = [
+const REFUSED_WORDS: [&[&str]; 13] = [
     &[],
     &["attach", "--listen", "A", "--target", "B"],
     &["serve", "--listen", "A"],
@@ -191,6 +192,10 @@ const REFUSED_WORDS: [&[&str]; 9] = [
     &["serve", "--listen", "A", "--target", "B", "--listen", "C"],
     &["serve", "--help"],
     &["serve", "--version"],
+    &["replay"],
+    &["replay", "--log"],
+    &["replay", "log", "log"],
+    &["replay", "--help"],
 ];
 
 #[test]
@@ -406,33 +411,28 @@ fn sessions_with_a_target_end_with_their_line(rt: HostRuntime) -> Result<(), Fai
     Ok(())
 }
 
-// Outcomes, each with its status and its line.
-const OUTCOMES: [(Outcome, u8, &str); 8] = [
-    (Outcome::NotOpened, 7, NOT_OPENED),
+// Endings, each with its status and its line.
+const ENDINGS: [(Ending, u8, &str); 7] = [
+    (Ending::ClientLink, 5, "ended 5 client link\n"),
+    (Ending::Idle, 12, "ended 12 idle\n"),
+    (Ending::Spent, 13, "ended 13 turns\n"),
+    (Ending::Flood, 14, "ended 14 flood\n"),
+    (Ending::NoMemory, 70, "ended 70 memory\n"),
     (
-        Outcome::Ended(Ending::ClientLink),
-        5,
-        "ended 5 client link\n",
-    ),
-    (Outcome::Ended(Ending::Idle), 12, "ended 12 idle\n"),
-    (Outcome::Ended(Ending::Spent), 13, "ended 13 turns\n"),
-    (Outcome::Ended(Ending::Flood), 14, "ended 14 flood\n"),
-    (Outcome::Ended(Ending::NoMemory), 70, "ended 70 memory\n"),
-    (
-        Outcome::Ended(Ending::BadTarget {
+        Ending::BadTarget {
             fault: TargetFault::UnknownReply,
             at: 75,
             id: 4_294_967_295,
-        }),
+        },
         4,
         "ended 4 target UnknownReply at 75 id 4294967295\n",
     ),
     (
-        Outcome::Ended(Ending::BadTarget {
+        Ending::BadTarget {
             fault: TargetFault::PolicyThread,
             at: 86,
             id: 0,
-        }),
+        },
         4,
         "ended 4 target PolicyThread at 86\n",
     ),
@@ -446,8 +446,9 @@ fn told(alloc: Global, outcome: Outcome, fails: bool, line: &str) -> Result<(u8,
 }
 
 #[test]
-fn outcomes_have_their_line(rt: HostRuntime) -> Result<(), Fail> {
-    for (outcome, wanted, line) in OUTCOMES {
+fn endings_have_their_line(rt: HostRuntime) -> Result<(), Fail> {
+    for (ending, wanted, line) in ENDINGS {
+        let outcome = Outcome::Ended(ending);
         assert_eq!(rt; told(rt.alloc(), outcome, false, line)?, (wanted, true));
     }
     Ok(())
@@ -497,5 +498,155 @@ fn a_line_that_fails_has_a_status(rt: HostRuntime) -> Result<(), Fail> {
     assert_eq!(rt; told(rt.alloc(), Outcome::Misused, true, "")?, (9, true));
     let ended = Outcome::Ended(Ending::NoMemory);
     assert_eq!(rt; told(rt.alloc(), ended, true, "")?, (70, true));
+    Ok(())
+}
+
+// The words that replay the file `log`.
+const REPLAY: &[&str] = &["replay", "log"];
+
+// A log of one request, with the response that it brings.
+const ONE_REQUEST: &str = concat!(
+    "[\"log\",1]\n",
+    "[\"in\",\"client\",\"436f6e74656e742d4c656e6774683a2036340d0a0d0a7b22617267756d656e7473223a7b7d2c2263",
+    "6f6d6d616e64223a22646973636f6e6e656374222c22736571223a312c2274797065223a2272657175657374227d\"]\n",
+    "[\"out\",\"client\",\"436f6e74656e742d4c656e6774683a2038310d0a0d0a7b22636f6d6d616e64223a22646973636f6e",
+    "6e656374222c22726571756573745f736571223a312c22736571223a312c2273756363657373223a747275652c22",
+    "74797065223a22726573706f6e7365227d\"]\n",
+    "[\"ending\",0]\n",
+    "[\"end\"]\n",
+);
+
+// A log of the same request in two pieces, with a wait between them, with what can't have gone out, and with bytes that
+// came later.
+const BADLY_KEPT: &str = concat!(
+    "[\"log\",1]\n",
+    "[\"in\",\"client\",\"436f6e74656e742d4c656e6774683a2036340d0a0d0a7b22617267756d656e7473223a7b7d2c2263\"]\n",
+    "[\"out\",\"target\",\"00\"]\n",
+    "[\"quiet\"]\n",
+    "[\"in\",\"client\",\"6f6d6d616e64223a22646973636f6e6e656374222c22736571223a312c2274797065223a227265717565",
+    "7374227d\"]\n",
+    "[\"in\",\"client\",\"ff\"]\n",
+    "[\"failed\",\"target\"]\n",
+    "[\"ending\",6]\n",
+    "[\"end\"]\n",
+);
+
+// What is printed of it.
+const WELL_KEPT: &str = concat!(
+    "[\"log\",1]\n",
+    "[\"in\",\"client\",\"436f6e74656e742d4c656e6774683a2036340d0a0d0a7b22617267756d656e7473223a7b7d2c2263\"]\n",
+    "[\"quiet\"]\n",
+    "[\"in\",\"client\",\"6f6d6d616e64223a22646973636f6e6e656374222c22736571223a312c2274797065223a227265717565",
+    "7374227d\"]\n",
+    "[\"out\",\"client\",\"436f6e74656e742d4c656e6774683a2038310d0a0d0a7b22636f6d6d616e64223a22646973636f6e",
+    "6e656374222c22726571756573745f736571223a312c22736571223a312c2273756363657373223a747275652c22",
+    "74797065223a22726573706f6e7365227d\"]\n",
+    "[\"ending\",0]\n",
+    "[\"end\"]\n",
+);
+
+// Files, each with what is printed where it is replayed.
+const REPLAYED: [(&str, &str); 6] = [
+    (ONE_REQUEST, ONE_REQUEST),
+    (BADLY_KEPT, WELL_KEPT),
+    (WELL_KEPT, WELL_KEPT),
+    // a log that is used up: the sides end, the client first
+    (
+        "[\"log\",1]\n[\"quiet\"]\n[\"quiet\"]\n[\"end\"]\n",
+        "[\"log\",1]\n[\"quiet\"]\n[\"quiet\"]\n[\"shut\",\"client\"]\n[\"ending\",1]\n[\"end\"]\n",
+    ),
+    (
+        "[\"log\",1]\n[\"failed\",\"client\"]\n[\"ending\",5]\n[\"end\"]\n",
+        "[\"log\",1]\n[\"failed\",\"client\"]\n[\"ending\",5]\n[\"end\"]\n",
+    ),
+    (
+        "[\"log\",1]\n[\"in\",\"client\",\"583a20790d0a0d0a\"]\n[\"quiet\"]\n[\"end\"]\n",
+        "[\"log\",1]\n[\"in\",\"client\",\"583a20790d0a0d0a\"]\n[\"ending\",3]\n[\"end\"]\n",
+    ),
+];
+
+// Files that are no logs, each with the line of its first fault.
+const FAULTY: [(&[u8], &str); 9] = [
+    (b"", "ended 10 script line 1 NoEnd\n"),
+    (b"[\"log\",1]\n[\"end\"]", "ended 10 script line 3 NoEnd\n"),
+    (
+        b"[\"log\",2]\n[\"end\"]\n",
+        "ended 10 script line 1 BadVersion\n",
+    ),
+    (b"[\"script\",1]\n", "ended 10 script line 1 BadShape\n"),
+    (b"[\"quiet\"]\n", "ended 10 script line 1 BadOrder\n"),
+    (b"[\"log\",1]\n\xff\n", "ended 10 script line 2 NotUtf8\n"),
+    (
+        b"[\"log\",1]\n[\"quiet\"\n",
+        "ended 10 script line 2 NotJson\n",
+    ),
+    (
+        b"[\"log\",1]\n[\"shut\",\"client\"]\n[\"in\",\"client\",\"00\"]\n",
+        "ended 10 script line 3 BadOrder\n",
+    ),
+    (
+        b"[\"log\",1]\n[\"end\"]\n[\"quiet\"]\n",
+        "ended 10 script line 3 AfterEnd\n",
+    ),
+];
+
+// A run that replays the file `log`, which has these bytes: its status, and whether it printed this and no more, over
+// wires that stay as they were.
+fn replayed(alloc: Global, bytes: Blob, fails: bool, text: &str) -> Result<(u8, bool), NoMemory> {
+    let mut files = List::new(alloc);
+    files.push((Text::from_str(alloc, "log")?, bytes))?;
+    let mut files = MemoryFiles::new(alloc, files, false);
+    ran_over(alloc, &mut files, fails, text)
+}
+
+fn ran_over(
+    alloc: Global,
+    files: &mut MemoryFiles,
+    fails: bool,
+    text: &str,
+) -> Result<(u8, bool), NoMemory>
+    requires { (store_of files.old).asked ≡ [] }
+{
+    let words = words_of(alloc, REPLAY)?;
+    let mut wires = wires_of(alloc, &[INITIALIZE])?;
+    let mut out = output_of(alloc, fails)?;
+    let status = bridge_main(alloc, words.as_slice(), &mut wires, files, &mut out);
+    let printed = out.bytes().as_slice() == text.as_bytes();
+    Ok((status, printed && wires.log().as_slice().is_empty()))
+}
+
+#[test]
+fn logs_are_replayed(rt: HostRuntime) -> Result<(), Fail> {
+    let alloc = rt.alloc();
+    for (bytes, text) in REPLAYED {
+        let bytes = Blob::from_slice(alloc, bytes.as_bytes())?;
+        assert_eq!(rt; replayed(alloc, bytes, false, text)?, (0, true));
+    }
+    Ok(())
+}
+
+#[test]
+fn logs_with_a_fault_have_their_line(rt: HostRuntime) -> Result<(), Fail> {
+    let alloc = rt.alloc();
+    for (bytes, line) in FAULTY {
+        let bytes = Blob::from_slice(alloc, bytes)?;
+        assert_eq!(rt; replayed(alloc, bytes, false, line)?, (10, true));
+    }
+    Ok(())
+}
+
+#[test]
+fn files_that_are_not_replayed_have_a_status(rt: HostRuntime) -> Result<(), Fail> {
+    let alloc = rt.alloc();
+    let mut none = MemoryFiles::new(alloc, List::new(alloc), false);
+    assert_eq!(rt;
+        ran_over(alloc, &mut none, false, "ended 8 file\n")?,
+        (8, true)
+    );
+    let long = List::from_vec(vec![in alloc; b'\n'; 67_108_865]?);
+    let too_long = "ended 10 script line 0 TooLong\n";
+    assert_eq!(rt; replayed(alloc, long, false, too_long)?, (10, true));
+    let bytes = Blob::from_slice(alloc, ONE_REQUEST.as_bytes())?;
+    assert_eq!(rt; replayed(alloc, bytes, true, "")?, (9, true));
     Ok(())
 }

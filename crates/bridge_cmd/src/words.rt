@@ -1,7 +1,8 @@
 ghost use Rattle.std.specs.Prelude.{◌≡◌, ℕ, List, true, is_some, map, codes, IfOk, Some};
 ghost use Rattle.clap.specs.Words.{FailsBy, first_value, found_of, kind_of};
 ghost use Rattle.clap.specs.declared.error.kind.ErrorKind.TheVariants.{OutOfMemory};
-ghost use Rattle.bridge_cmd.specs.Words.{Reads, ReadsServe, serve_fault, serve_value};
+ghost use Rattle.bridge_cmd.specs.Words.{IsBare, Reads, ReadsReplay, ReadsServe, replay_fault, replay_value};
+ghost use Rattle.bridge_cmd.specs.Words.{serve_fault, serve_value};
 ghost use Rattle.bridge_cmd.specs.declared.words.WordsFault.TheVariants.{NoMemory as out_of_memory, Refused};
 
 use clap::error::ErrorKind;
@@ -16,7 +17,14 @@ pub struct Addresses {
     pub target: Text,
 }
 
-/// Why words give no addresses: they are refused, or memory ran out.
+/// What the words ask for: a session between these addresses, or the session log of this file once more.
+#[derive(Debug, Drop)]
+pub enum Task {
+    Serve(Addresses),
+    Replay(Word),
+}
+
+/// Why words ask for nothing: they are refused, or memory ran out.
 #[derive(Clone, Copy, Debug, PartialEq, Eq)]
 pub enum WordsFault {
     Refused,
@@ -45,15 +53,23 @@ impl From<AllocError> for WordsFault {
     }
 }
 
-/// Reads the words of the program: the command's name, and the options of that command. `Refused` comes exactly where
+/// Reads the words of the program: the command's name, and what that command is given. `Refused` comes exactly where
 /// there is no name, the name is unknown, or `clap` refuses the rest for another cause than memory.
-pub fn read_words(alloc: Global, words: &[Word]) -> Result<Addresses, WordsFault>
+pub fn read_words(alloc: Global, words: &[Word]) -> Result<Task, WordsFault>
     ensures { Reads words.now result }
 {
     match words {
         [name, rest @ ..] => {
             if name.as_str() == "serve" {
-                read_serve(alloc, rest)
+                match read_serve(alloc, rest) {
+                    Ok(addresses) => Ok(Task::Serve(addresses)),
+                    Err(fault) => Err(fault),
+                }
+            } else if name.as_str() == "replay" {
+                match read_replay(alloc, rest) {
+                    Ok(log) => Ok(Task::Replay(log)),
+                    Err(fault) => Err(fault),
+                }
             } else {
                 Err(WordsFault::Refused)
             }
@@ -71,6 +87,16 @@ fn read_serve(alloc: Global, words: &[Word]) -> Result<Addresses, WordsFault>
             listen: value_of(alloc, &matches, "listen")?,
             target: value_of(alloc, &matches, "target")?,
         }),
+        Err(error) => Err(fault_of(&error)),
+    }
+}
+
+fn read_replay(alloc: Global, words: &[Word]) -> Result<Word, WordsFault>
+    ensures { ReadsReplay words.now result }
+{
+    let texts = texts_of(alloc, words)?;
+    match replay_matches(alloc, texts.as_slice()) {
+        Ok(matches) => Ok(value_of(alloc, &matches, "log")?),
         Err(error) => Err(fault_of(&error)),
     }
 }
@@ -101,13 +127,33 @@ fn serve_matches<'a>(alloc: Global, words: &'a [&'a str]) -> Result<ArgMatches<'
         .long("target")
         .action(ArgAction::Set)
         .required(true);
-    let serve = Command::new(alloc, "serve")
-        .no_binary_name(true)
-        .disable_help_flag(true)
-        .disable_version_flag(true);
+    let serve = bare_command(alloc, "serve");
     let listening = serve.arg(listen)?;
     let command = listening.arg(target)?;
     command.try_get_matches_from(words)
+}
+
+// `replay` as `clap` reads it: one simple command, with one value that has to be there.
+fn replay_matches<'a>(alloc: Global, words: &'a [&'a str]) -> Result<ArgMatches<'a>, Error>
+    ensures kinds { FailsBy (replay_fault (map (λ word. word.now) words.entry.now)) result }
+    ensures values { IfOk result (λ matches. (value : List ℕ)
+        → first_value (found_of matches) value ≡ replay_value value (map (λ word. word.now) words.entry.now)) }
+    ensures log { IfOk result (λ matches. is_some (first_value (found_of matches) (codes "log")) ≡ true) }
+{
+    let log = Arg::new(alloc, "log").action(ArgAction::Set).required(true);
+    let replay = bare_command(alloc, "replay");
+    let command = replay.arg(log)?;
+    command.try_get_matches_from(words)
+}
+
+// A command without the flags for help and version, which is given just the words behind its name.
+fn bare_command<'a>(alloc: Global, name: &'a str) -> Command<'a>
+    ensures { IsBare result name.entry.now }
+{
+    Command::new(alloc, name)
+        .no_binary_name(true)
+        .disable_help_flag(true)
+        .disable_version_flag(true)
 }
 
 fn value_of(alloc: Global, matches: &ArgMatches, option: &str) -> Result<Text, NoMemory>

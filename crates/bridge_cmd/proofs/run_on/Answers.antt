@@ -15,4 +15,4 @@ returns-then-is_err c =
     not_begun (of_error c.try_all.result _ c.try_all.ensures (search (c.is_err.ensures.value, c.if-is_err.true)))
 
 pub returns : goal.returns
-returns c = begun c.new-wires.ensures.asked c.bridge_main-status.ensures.runs
+returns c = begun c.new-wires.ensures.asked c.new-files.ensures.asked c.bridge_main-status.ensures.runs

@@ -1,5 +1,8 @@
-use Rattle.bridge_cmd.proofs.WordLaws.{usage_taken}
+use Rattle.bridge_cmd.proofs.WordLaws.{replay_taken, serve_taken}
 use Rattle.bridge_cmd.proofs.command.bridge_main.Goals as goal
 
-pub returns-clause-usage : goal.returns-clause-usage
-returns-clause-usage g c = usage_taken
+pub returns-clause-serve_usage : goal.returns-clause-serve_usage
+returns-clause-serve_usage g c = serve_taken
+
+pub returns-clause-replay_usage : goal.returns-clause-replay_usage
+returns-clause-replay_usage g c = replay_taken

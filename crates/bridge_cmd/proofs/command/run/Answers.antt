@@ -1,10 +1,10 @@
 use Rattle.bridge_cmd.specs.Command.{Does}
 use Rattle.bridge_cmd.proofs.command.run.Goals as goal
 
-pub returns-in-Ok-connect : goal.returns-in-Ok-connect
-returns-in-Ok-connect g c = Does.serves c.in-Ok.ensures (record {
+pub returns-in-Ok : goal.returns-in-Ok
+returns-in-Ok g c = Does.serves (rw c.in-Ok-Serve.field-0-is at c.in-Ok-Serve.ensures) (record {
   opened = _;
-  connects = c.in-Ok-connect.ensures.ok;
+  connects = c.in-Ok.ensures.ok;
   session = rw c.standard.ensures.values at c.serve.ensures.session;
   keeps = c.serve.ensures.keeps;
   blames = c.serve.ensures.blames;
@@ -12,7 +12,10 @@ returns-in-Ok-connect g c = Does.serves c.in-Ok.ensures (record {
 })
 
 pub returns-in-Err : goal.returns-in-Err
-returns-in-Err g c = Does.fails_to_open c.in-Ok.ensures c.in-Err.ensures.err
+returns-in-Err g c = Does.fails_to_open (rw c.in-Ok-Serve.field-0-is at c.in-Ok-Serve.ensures) c.in-Err.ensures.err
+
+pub returns-in-Ok-Replay : goal.returns-in-Ok-Replay
+returns-in-Ok-Replay g c = Does.replays (rw c.in-Ok-Replay.field-0-is at c.in-Ok-Replay.ensures) c.replay.ensures
 
 pub returns-in-Err-Refused : goal.returns-in-Err-Refused
 returns-in-Err-Refused g c = Does.misused (rw c.in-Err-Refused.field-0-is at c.in-Err-Refused.ensures)

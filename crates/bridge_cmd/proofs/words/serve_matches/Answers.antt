@@ -24,7 +24,7 @@ pub returns : goal.returns
 unfolding serve_fault serve_value
 returns c =
     let parse = c.try_get_matches_from in
-    let start = c.disable_version_flag-serve.result in
+    let start = c.bare_command-serve.result in
     let x = c.required-listen.result in
     let y = c.required-target.result in
     let words : List (List ℕ) = map (λ word. word.now) c.args.words.now in
@@ -32,11 +32,7 @@ returns c =
     let y_rule : rule_of y ≡ required_option (codes "target") = search rules in
     let x_id : x.id.now ≡ codes "listen" = search rules in
     let y_id : y.id.now ≡ codes "target" = search rules in
-    let start_is : app_of start ≡ bare_command (codes "serve") =
-    ap app_of_fields c.disable_version_flag-serve.ensures ∙ ap (on_top (λ s. record s { disable_version_flag = true }))
-    (ap app_of_fields c.disable_help_flag.ensures ∙ ap (on_top (λ s. record s { disable_help_flag = true }))
-    (ap app_of_fields c.no_binary_name.ensures ∙ ap (on_top (λ s. record s { no_binary_name = true }))
-    c.new-3.ensures.app)) in
+    let start_is : app_of start ≡ bare_command (codes "serve") = c.bare_command-serve.ensures.app in
     let app_is : app_of c.in_ok-command.command ≡ serve_app = c.in_ok-command.ensures.shape (search rules)
     ∙ ap₂ with_rule (c.in_ok-listening.ensures.shape (search rules) ∙ ap₂ with_rule start_is x_rule) y_rule in
     let both : (m : ArgMatches) → IsParsedFrom c.in_ok-command.command m
@@ -44,10 +40,10 @@ returns c =
     λ m p. two_values start c.in_ok-listening.listening c.in_ok-command.command x y m (record {
       first = c.in_ok-listening.ensures;
       second = c.in_ok-command.ensures;
-      args = search rules;
-      groups = search rules;
-      globals = search rules;
-      negates = search rules;
+      args = c.bare_command-serve.ensures.args;
+      groups = c.bare_command-serve.ensures.groups;
+      globals = c.bare_command-serve.ensures.globals;
+      negates = c.bare_command-serve.ensures.negates;
       fits = (
         fits_beside x (codes "listen") x_id refl refl refl (search rules) (search rules),
         fits_beside y (codes "target") y_id refl refl refl (search rules) (search rules),
