@@ -18,7 +18,7 @@ ROWS = [
     [(0.7, PROVED, "talk_plans", "what is done for one request"), (0.6, PROVED, "look_ups", "what a look-up finds"),
      (1, MODEL, "session_model", "which bytes are a session, and its laws")],
     [(1, MODEL, "machine_model", "what a session does, and its laws"),
-     (1, LATER, "for later", "script_text, suspend_ledger, world_model")],
+     (0.6, PROVED, "script_text", "texts of logs"), (0.6, LATER, "for later", "suspend_ledger, world_model")],
     [(0.37, PROVED, "dap_messages", "requests, responses"), (0.36, PROVED, "pending_table", "pending commands"),
      (0.37, PROVED, "jdwp_commands", "commands, answers"), (0.32, PROVED, "wish_sets", "event requests"),
      (0.28, PROVED, "stop_refs", "numbers told"), (0.3, PROVED, "value_views", "texts of values")],
