@@ -1,0 +1,4 @@
+pub mod BalanceLaws
+pub mod HeldLaws
+pub mod LookUpLaws
+pub mod ServedLaws

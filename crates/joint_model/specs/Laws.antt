@@ -1,0 +1,111 @@
+-- What holds of every look-up over a target's world, and of every joint. The laws stand behind what they speak of.
+use Rattle.std.specs.Prelude.{ℕ, ◌≡◌, ◌<◌, ◌+◌, false, List, [], ◌∷◌, Option, Some}
+use Rattle.jdwp_commands.specs.declared.answer.Answer.TheVariants as answers
+use Rattle.jdwp_commands.specs.declared.question.Question.TheVariants as questions
+use Rattle.joint_model.specs.Joints.{Joint, Packet, a_reply, some_events}
+use Rattle.joint_model.specs.Names.{Does, Lookup, Resume, Suspend, Suspension, TargetCommand, all_threads}
+use Rattle.joint_model.specs.Names.{an_effect}
+use Rattle.joint_model.specs.Obeying.{MayRefuse, Replies, is_of_class}
+use Rattle.machine_model.specs.Facts.{fact_known, fact_of}
+use Rattle.machine_model.specs.Leaving.{sends_farewell}
+use Rattle.machine_model.specs.Lookups.{found_for, plan, sight_of}
+use Rattle.machine_model.specs.Names.{Answer, Composite, Question, Replied, ThreadId, an_answer, an_error}
+use Rattle.machine_model.specs.Pending.{has_such}
+use Rattle.machine_model.specs.PlanLaws.{Agrees, IsReply, threads_in_world}
+use Rattle.machine_model.specs.Plans.{Need, Sight, answer_in, fails, has, lacks, of_world}
+use Rattle.machine_model.specs.Runs.{Allows, Message, Run}
+use Rattle.machine_model.specs.State.{Hand, Machine, State}
+use Rattle.suspend_ledger.specs.Suspensions.{composite as composite_came, resumed, suspended, suspensions_by}
+use Rattle.suspend_ledger.specs.Suspensions.{with_happening}
+use Rattle.world_model.specs.declared.world.World.{World}
+use Rattle.world_model.specs.Replies.{reply_of}
+
+-- Look-ups ------------------------------------------------------------------------------------------------------------
+
+-- what was replied is what a target may reply that has this world; and what is known of classes is so in it
+pub record IsOfTarget (w : World) (sight : Sight) : Type 0 where
+  pub replies : (question : Question) (replied : Replied) → IsReply sight.asked question replied
+      → Replies w question replied
+  pub facts : (question : Question) (fact : Option Answer) → fact_known sight.classes question ≡ Some fact
+      → fact ≡ fact_of question (answer_in (reply_of w question))
+
+-- a question that the world refuses so, unless its target chose another number
+pub record IsRefusedAs (w : World) (code : ℕ) : Type 0 where
+  pub question : Question
+  pub usual : ℕ
+  pub is_refused : reply_of w question ≡ an_error usual
+  pub may_refuse : MayRefuse (is_of_class question) usual code
+
+-- what fails does so by an error that the target may reply
+abbrev pub FailsAsThere : {A : Type 0} → World → Need A → Type 0
+FailsAsThere w (has value) = Unit {0}
+FailsAsThere w (fails fault) = IsRefusedAs w fault.code
+FailsAsThere w (lacks want others) = Unit {0}
+
+-- look-ups in a target's world, and the threads there
+pub record AreOfTarget (w : World) (state : State) : Type 0 where
+  pub agree : (hand : Hand) (lookup : Lookup) → IsOfTarget w (sight_of state hand)
+      → Agrees (found_for lookup state hand) (of_world (reply_of w) (plan lookup state))
+  pub fail : (hand : Hand) (lookup : Lookup) → IsOfTarget w (sight_of state hand)
+      → FailsAsThere w (found_for lookup state hand)
+  pub threads : (listed : List ThreadId) → reply_of w questions.AllThreads ≡ an_answer (answers.AllThreads listed)
+      → of_world (reply_of w) (plan all_threads state) ≡ Some (threads_in_world (reply_of w) listed)
+
+-- A look-up that is done by a target's replies has what it has in the target's world, in whatever order they came, and
+-- whatever numbers the target chose for its errors. One that has failed has nothing there, and fails with a number that
+-- the target may choose for a question that it refuses.
+abbrev pub LookUps : Type 0
+LookUps = (w : World) (state : State) → AreOfTarget w state
+
+-- Suspensions ---------------------------------------------------------------------------------------------------------
+
+-- what a message makes of the suspensions of the whole target that are held (JDWP, Event command set, Composite; JDWP,
+-- VirtualMachine command set, Suspend and Resume)
+abbrev pub held_by : ℕ → Message → ℕ
+held_by held (Message.comes at composite) = with_happening (composite_came composite.policy) held
+held_by held (Message.reads at body composite) = with_happening (composite_came composite.policy) held
+held_by held (Message.answers (an_effect (Does Suspend)) replied) = with_happening suspended held
+held_by held (Message.sends (an_effect (Does (Resume suspension)))) = with_happening resumed held
+held_by held _ = held
+
+abbrev pub held_from : ℕ → List Message → ℕ
+held_from held [] = held
+held_from held (message ∷ messages) = held_from (held_by held message) messages
+
+-- the suspensions that are held by the messages: the composites that suspended all threads and the Suspends that were
+-- replied to, less the Resumes that were sent
+abbrev pub held : List Message → ℕ
+held messages = held_from 0 messages
+
+-- No Resume is sent but for a suspension that is held.
+abbrev pub ResumesHeld : Type 0
+ResumesHeld = (messages : List Message) (m next : Machine) (suspension : Suspension) → Run messages m
+    → Allows m (Message.sends (an_effect (Does (Resume suspension)))) next → 0 < held messages
+
+-- a sum over a list
+abbrev pub total : {A : Type 0} → (A → ℕ) → List A → ℕ
+total of [] = 0
+total of (one ∷ others) = of one + total of others
+
+abbrev pub resumes_in : TargetCommand → ℕ
+resumes_in (an_effect (Does (Resume suspension))) = 1
+resumes_in _ = 0
+
+abbrev pub suspends_by : Composite → ℕ
+suspends_by composite = suspensions_by composite.policy
+
+abbrev pub suspends_in : Packet → ℕ
+suspends_in (a_reply (an_effect (Does Suspend)) replied) = 1
+suspends_in (a_reply command replied) = 0
+suspends_in (some_events composite) = suspends_by composite
+
+-- the suspensions that the messages don't tell yet: of Resumes that the target hasn't served, of packets in flight, and of
+-- composites that are kept unread
+abbrev pub untold : List TargetCommand → List Packet → List Composite → ℕ
+untold commands packets kept = total resumes_in commands + (total suspends_in packets + total suspends_by kept)
+
+-- While the target lives and wasn't left, it is suspended as often as the messages say, and as is still untold.
+abbrev pub Balances : Type 0
+Balances = (messages : List Message) (m : Machine) (w : World) (commands : List TargetCommand) (packets : List Packet)
+    (kept : List Composite) → Joint messages m w commands packets kept → w.dead ≡ false
+    → has_such sends_farewell messages ≡ false → w.count ≡ held messages + untold commands packets kept

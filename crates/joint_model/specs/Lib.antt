@@ -1,0 +1,4 @@
+pub mod Joints
+pub mod Laws
+pub mod Names
+pub mod Obeying

@@ -1,0 +1,12 @@
+-- The machine's types, by the names that the definitions here use.
+pub use Rattle.machine_model.specs.declared.acts.Act.{Act}
+pub use Rattle.machine_model.specs.declared.acts.Effect.{Effect}
+pub use Rattle.machine_model.specs.declared.acts.Effect.TheVariants.{Clear, Does, Set}
+pub use Rattle.machine_model.specs.declared.acts.TargetCommand.{TargetCommand}
+pub use Rattle.machine_model.specs.declared.acts.TargetCommand.TheVariants.{Effect as an_effect, Question as a_question}
+pub use Rattle.machine_model.specs.declared.parts.Deed.{Deed}
+pub use Rattle.machine_model.specs.declared.parts.Deed.TheVariants.{Dispose, Exit, Resume, Suspend, Writes}
+pub use Rattle.machine_model.specs.declared.parts.Finding.{Finding}
+pub use Rattle.machine_model.specs.declared.parts.Lookup.{Lookup}
+pub use Rattle.machine_model.specs.declared.parts.Lookup.TheVariants.{Threads as all_threads}
+pub use Rattle.machine_model.specs.declared.parts.Suspension.{Suspension}

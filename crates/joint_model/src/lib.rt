@@ -1,0 +1,9 @@
+//! The joint of the translation machine and the world of a target that obeys JDWP: what such a target may do, how the
+//! two run beside each other, and what holds of every such run. It is definitions and laws, and no code.
+#![tactic(auto)]
+
+mod laws;
+
+pub use laws::{
+    look_ups_show_the_targets_world, no_resume_is_sent_that_is_not_held, suspensions_balance,
+};
