@@ -115,7 +115,7 @@ behind_count w composite =
     counted_by (fold prepared_by w composite.events).count composite
     ∙ ap (λ (n : ℕ). suspends_by composite + n) (prepared_count composite.events w).0
 
-emitted_count : {w now : World} {composite : Composite} → Emits w composite now → now.dead ≡ false
+pub emitted_count : {w now : World} {composite : Composite} → Emits w composite now → now.dead ≡ false
     → (w.dead ≡ false) × (now.count ≡ suspends_by composite + w.count)
 emitted_count {w} (Emits.tells first others lives told sound) alive =
     (lives, behind_count w (composite_of (first ∷ others)))

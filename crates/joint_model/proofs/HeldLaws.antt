@@ -5,7 +5,7 @@ use Rattle.std.proofs.Common.{refl, sym, ap, subst, ◌∙◌, arith, nat_lt}
 use Rattle.jdwp_commands.specs.declared.question.Question.TheVariants as questions
 use Rattle.dap_messages.specs.declared.told.Event.{Event as EventTold}
 use Rattle.dap_messages.specs.declared.told.Event.TheVariants as events
-use Rattle.joint_model.specs.Laws.{held, held_by, held_from, suspends_by, total}
+use Rattle.joint_model.specs.Laws.{held, held_by, held_from, is_suspend, suspends_by, total}
 use Rattle.joint_model.specs.Names.{Clear, Dispose, Does, Effect, Exit, Resume, Set, Suspend, Suspension, TargetCommand}
 use Rattle.joint_model.specs.Names.{Writes, a_question, an_effect}
 use Rattle.machine_model.specs.Composites.{has_death}
@@ -41,37 +41,33 @@ held_last n (first ∷ messages) message = held_last (held_by n first) messages 
 -- What messages count -------------------------------------------------------------------------------------------------
 
 -- suspensions by composites that came
-abbrev came_by : Message → ℕ
+abbrev pub came_by : Message → ℕ
 came_by (Message.comes at composite) = suspensions_by composite.policy
 came_by (Message.reads at body composite) = suspensions_by composite.policy
 came_by _ = 0
-
-abbrev is_suspend : TargetCommand → Bool
-is_suspend (an_effect (Does Suspend)) = true
-is_suspend _ = false
 
 abbrev is_resume : TargetCommand → Bool
 is_resume (an_effect (Does (Resume suspension))) = true
 is_resume _ = false
 
-abbrev asked_by : Message → ℕ
+abbrev pub asked_by : Message → ℕ
 asked_by (Message.sends command) = bit (is_suspend command)
 asked_by _ = 0
 
-abbrev done_by : Message → ℕ
+abbrev pub done_by : Message → ℕ
 done_by (Message.answers command replied) = bit (is_suspend command)
 done_by _ = 0
 
-abbrev undone_by : Message → ℕ
+abbrev pub undone_by : Message → ℕ
 undone_by (Message.sends command) = bit (is_resume command)
 undone_by _ = 0
 
-sent_is : (messages : List Message) → count is_suspend (commands_sent messages) ≡ total asked_by messages
+pub sent_is : (messages : List Message) → count is_suspend (commands_sent messages) ≡ total asked_by messages
 sent_is [] = refl
 sent_is (Message.sends command ∷ messages) = let more = sent_is messages in omega arith
 sent_is (message ∷ messages) = let more = sent_is messages in omega arith
 
-done_is : (messages : List Message) → count is_suspend (commands_replied messages) ≡ total done_by messages
+pub done_is : (messages : List Message) → count is_suspend (commands_replied messages) ≡ total done_by messages
 done_is [] = refl
 done_is (Message.answers command replied ∷ messages) = let more = done_is messages in omega arith
 done_is (message ∷ messages) = let more = done_is messages in omega arith
@@ -98,7 +94,7 @@ event_covers : (some undone : ℕ) (view : View) (event : EventTold) → Covers 
 event_covers some undone view events.Terminated h = omega arith
 event_covers some undone view _ h = h
 
-learnt_held : (command : TargetCommand) (replied : Replied) (view : View)
+pub learnt_held : (command : TargetCommand) (replied : Replied) (view : View)
     → ((learnt_view command replied view).held ≡ view.held)
     × ((learnt_view command replied view).composites ≡ view.composites)
 learnt_held (a_question questions.IdSizes) replied view = (refl, refl)
@@ -120,7 +116,7 @@ come_covers true some undone view composite h = omega arith
 come_covers false some undone view composite h =
     let waiting = total_last suspends_by view.composites composite in omega arith
 
-may_undo : (gone may some : Bool) → cond gone false (cond may some false) ≡ true → some ≡ true
+pub may_undo : (gone may some : Bool) → cond gone false (cond may some false) ≡ true → some ≡ true
 may_undo gone may some is = grind (arith, is)
 
 says_covers : (came asked undone : ℕ) (view : View) (message : Message) → may_be view message ≡ true
@@ -177,7 +173,7 @@ none_before effect is (Turns.asks question shakes room only same) = cc
 none_before effect is (Turns.changes other shakes none same) = none
 none_before effect is (Turns.answers command replied before after was same) = cc
 
-abbrev IsExact : List Message → Type 0
+abbrev pub IsExact : List Message → Type 0
 IsExact messages = held messages + total undone_by messages ≡ total came_by messages + total done_by messages
 
 resume_held : {messages : List Message} {m next : Machine} {suspension : Suspension} → Run messages m
@@ -213,7 +209,7 @@ message_exact n came done undone (Message.comes at composite) some is = omega ar
 message_exact n came done undone (Message.reads at body composite) some is = omega arith
 message_exact n came done undone _ some is = omega arith
 
-exact : {messages : List Message} {m : Machine} → Run messages m → IsExact messages
+pub exact : {messages : List Message} {m : Machine} → Run messages m → IsExact messages
 exact Run.starts = refl
 exact (Run.goes r is) = exact r
 exact (Run.moves {messages} {m} {next} {message} r allows) =
@@ -230,3 +226,14 @@ exact (Run.moves {messages} {m} {next} {message} r allows) =
 pub resumes_held : (messages : List Message) (m next : Machine) (suspension : Suspension) → Run messages m
     → Allows m (Message.sends (an_effect (Does (Resume suspension)))) next → 0 < held messages
 resumes_held messages m next suspension r allows = resume_held r allows (exact r)
+
+-- In a stop a suspension is held, once the Suspend of a pause is replied to.
+pub stop_held : {messages : List Message} {m : Machine} → Run messages m → m.state.stopped ≡ true
+    → count is_suspend (pending_of m) ≡ 0 → 0 < held messages
+stop_held {messages} {m} r stopped none =
+    let before = exact r in
+    let counted = (pending_is messages m r).counted is_suspend in
+    let some = covers (is_known messages m r).said in
+    let one : bit m.state.stopped ≡ 1 = ap bit stopped in
+    let sent = sent_is messages in
+    let done = done_is messages in omega arith

@@ -1,4 +1,7 @@
 pub mod BalanceLaws
 pub mod HeldLaws
+mod JointExample
 pub mod LookUpLaws
+pub mod RestLaws
 pub mod ServedLaws
+pub mod StillLaws

@@ -1,23 +1,28 @@
 -- What holds of every look-up over a target's world, and of every joint. The laws stand behind what they speak of.
-use Rattle.std.specs.Prelude.{ℕ, ◌≡◌, ◌<◌, ◌+◌, false, List, [], ◌∷◌, Option, Some}
+use Rattle.std.specs.Prelude.{ℕ, ◌≡◌, ◌<◌, ◌+◌, Bool, true, false, List, [], ◌∷◌, Option, Some}
 use Rattle.jdwp_commands.specs.declared.answer.Answer.TheVariants as answers
+use Rattle.jdwp_commands.specs.declared.asked.Asked.{Asked}
+use Rattle.jdwp_commands.specs.declared.asked.Asked.TheVariants as commands
 use Rattle.jdwp_commands.specs.declared.question.Question.TheVariants as questions
 use Rattle.joint_model.specs.Joints.{Joint, Packet, a_reply, some_events}
-use Rattle.joint_model.specs.Names.{Does, Lookup, Resume, Suspend, Suspension, TargetCommand, all_threads}
+use Rattle.joint_model.specs.Names.{Attached, Does, Lookup, Resume, Suspend, Suspension, TargetCommand, all_threads}
 use Rattle.joint_model.specs.Names.{an_effect}
-use Rattle.joint_model.specs.Obeying.{MayRefuse, Replies, is_of_class}
+use Rattle.joint_model.specs.Obeying.{Emits, MayRefuse, Replies, Runs, Serves, is_of_class}
 use Rattle.machine_model.specs.Facts.{fact_known, fact_of}
 use Rattle.machine_model.specs.Leaving.{sends_farewell}
 use Rattle.machine_model.specs.Lookups.{found_for, plan, sight_of}
 use Rattle.machine_model.specs.Names.{Answer, Composite, Question, Replied, ThreadId, an_answer, an_error}
-use Rattle.machine_model.specs.Pending.{has_such}
+use Rattle.machine_model.specs.Pending.{bit, count, has_such}
 use Rattle.machine_model.specs.PlanLaws.{Agrees, IsReply, threads_in_world}
 use Rattle.machine_model.specs.Plans.{Need, Sight, answer_in, fails, has, lacks, of_world}
+use Rattle.machine_model.specs.Replying.{pending_of}
+use Rattle.machine_model.specs.Rest.{IsAtRest}
 use Rattle.machine_model.specs.Runs.{Allows, Message, Run}
 use Rattle.machine_model.specs.State.{Hand, Machine, State}
 use Rattle.suspend_ledger.specs.Suspensions.{composite as composite_came, resumed, suspended, suspensions_by}
 use Rattle.suspend_ledger.specs.Suspensions.{with_happening}
 use Rattle.world_model.specs.declared.world.World.{World}
+use Rattle.world_model.specs.Kept.{program_of, puts_values, values_of}
 use Rattle.world_model.specs.Replies.{reply_of}
 
 -- Look-ups ------------------------------------------------------------------------------------------------------------
@@ -109,3 +114,42 @@ abbrev pub Balances : Type 0
 Balances = (messages : List Message) (m : Machine) (w : World) (commands : List TargetCommand) (packets : List Packet)
     (kept : List Composite) → Joint messages m w commands packets kept → w.dead ≡ false
     → has_such sends_farewell messages ≡ false → w.count ≡ held messages + untold commands packets kept
+
+-- A stop --------------------------------------------------------------------------------------------------------------
+
+-- classes, objects, threads and values are as they were
+pub record StaysSo (w now : World) : Type 0 where
+  pub program : program_of now ≡ program_of w
+  pub values : values_of now ≡ values_of w
+
+-- a command that puts a value somewhere (JDWP, Detailed Command Information, commands SetValues)
+abbrev pub puts : Asked → Bool
+puts (commands.Question question) = false
+puts (commands.Effect effect) = puts_values effect
+
+-- All threads are suspended. The program doesn't run; and whatever is told or served changes nothing, but for a value that
+-- the debugger puts.
+pub record IsStill (w : World) : Type 0 where
+  pub suspended : 0 < w.count
+  pub no_run : (now : World) → Runs w now → ⊥
+  pub told : (composite : Composite) (now : World) → Emits w composite now → StaysSo w now
+  pub served : (asked : Asked) (replied : Replied) (now : World) → Serves w asked replied now → puts asked ≡ false
+      → StaysSo w now
+
+abbrev pub is_suspend : TargetCommand → Bool
+is_suspend (an_effect (Does Suspend)) = true
+is_suspend _ = false
+
+-- While a stop is in hand, and no Suspend is without a reply, a target that lives and wasn't left stands still.
+abbrev pub StandsStill : Type 0
+StandsStill = (messages : List Message) (m : Machine) (w : World) (commands : List TargetCommand)
+    (packets : List Packet) (kept : List Composite) → Joint messages m w commands packets kept → w.dead ≡ false
+    → has_such sends_farewell messages ≡ false → m.state.stopped ≡ true → count is_suspend (pending_of m) ≡ 0
+    → IsStill w
+
+-- At rest, once the session is attached, and with nothing unserved, in flight or unread, a target that lives and wasn't
+-- left is suspended once for a stop in hand and once as the entry that is held, and no more.
+abbrev pub CountsAtRest : Type 0
+CountsAtRest = (messages : List Message) (m : Machine) (w : World) → Joint messages m w [] [] [] → w.dead ≡ false
+    → has_such sends_farewell messages ≡ false → IsAtRest m → m.state.phase ≡ Attached
+    → w.count ≡ bit m.state.stopped + bit m.state.entry

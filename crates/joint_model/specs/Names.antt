@@ -4,6 +4,7 @@ pub use Rattle.machine_model.specs.declared.acts.Effect.{Effect}
 pub use Rattle.machine_model.specs.declared.acts.Effect.TheVariants.{Clear, Does, Set}
 pub use Rattle.machine_model.specs.declared.acts.TargetCommand.{TargetCommand}
 pub use Rattle.machine_model.specs.declared.acts.TargetCommand.TheVariants.{Effect as an_effect, Question as a_question}
+pub use Rattle.machine_model.specs.declared.items.Phase.TheVariants.{Attached, Fresh}
 pub use Rattle.machine_model.specs.declared.parts.Deed.{Deed}
 pub use Rattle.machine_model.specs.declared.parts.Deed.TheVariants.{Dispose, Exit, Resume, Suspend, Writes}
 pub use Rattle.machine_model.specs.declared.parts.Finding.{Finding}

@@ -1,7 +1,7 @@
 //! What holds of look-ups over a target's world, and of every joint of the machine and a target. Each law is the contract
 //! of a function that does nothing.
 
-ghost use Rattle.joint_model.specs.Laws.{Balances, LookUps, ResumesHeld};
+ghost use Rattle.joint_model.specs.Laws.{Balances, CountsAtRest, LookUps, ResumesHeld, StandsStill};
 
 /// A look-up that is done by the replies of a target that obeys JDWP has the value that it has in the target's world, in
 /// whatever order they were asked for and came, and whatever numbers the target chose for its errors. One that has failed
@@ -24,4 +24,19 @@ pub fn no_resume_is_sent_that_is_not_held()
 /// Composite; JDWP, VirtualMachine command set, Suspend and Resume).
 pub fn suspensions_balance()
     ensures { Balances }
+{}
+
+/// As long as a stop is in hand and no Suspend waits for its reply, a target that obeys JDWP, lives and wasn't left stands
+/// still: all its threads are suspended, its program doesn't run, and no event and no command changes a class, an object,
+/// a thread, a frame or a value, but for the value that a SetValues puts (DAP specification, Events, Stopped; JDWP,
+/// VirtualMachine command set, Suspend).
+pub fn a_target_stands_still_in_a_stop()
+    ensures { StandsStill }
+{}
+
+/// At rest, once the session is attached, with no command unserved, nothing in flight and nothing unread, a target that
+/// obeys JDWP, lives and wasn't left is suspended once for a stop in hand, once as its entry, and no more (JDWP,
+/// VirtualMachine command set, Suspend and Resume).
+pub fn a_target_runs_on_at_rest()
+    ensures { CountsAtRest }
 {}
