@@ -1,5 +1,6 @@
--- No Resume is sent but for a suspension that is held. The machine's laws say what is held by its view of the messages, in
--- which a composite counts from its turn on, and a Suspend from its sending; here both count once they came.
+-- No Resume is sent but for a suspension that is held. The machine's laws say what is held by its view of the
+-- messages, in which a composite counts from its turn on, and a Suspend from its sending; here both count once they
+-- came.
 use Rattle.std.proofs.Common.{◌≡◌, ◌≤◌, ◌<◌, ℕ, ◌+◌, Bool, true, false, cond, List, [], ◌∷◌, ◌++◌, Option, Some}
 use Rattle.std.proofs.Common.{refl, sym, ap, subst, ◌∙◌, arith, nat_lt}
 use Rattle.jdwp_commands.specs.declared.question.Question.TheVariants as questions
@@ -22,9 +23,8 @@ use Rattle.machine_model.proofs.Stepping.{moved}
 use Rattle.machine_model.proofs.TurnLaws.{Turns, is_beside, turned}
 use Rattle.suspend_ledger.specs.Suspensions.{suspensions_by}
 
--- Sums ----------------------------------------------------------------------------------------------------------------
-
-pub total_last : {A : Type 0} (of : A → ℕ) (some : List A) (one : A) → total of (some ++ one ∷ []) ≡ of one + total of some
+pub total_last : {A : Type 0} (of : A → ℕ) (some : List A) (one : A)
+    → total of (some ++ one ∷ []) ≡ of one + total of some
 total_last of [] one = refl
 total_last of (first ∷ some) one = grind (arith, total_last of some one)
 
@@ -37,8 +37,6 @@ pub held_last : (n : ℕ) (messages : List Message) (message : Message)
     → held_from n (messages ++ message ∷ []) ≡ held_by (held_from n messages) message
 held_last n [] message = refl
 held_last n (first ∷ messages) message = held_last (held_by n first) messages message
-
--- What messages count -------------------------------------------------------------------------------------------------
 
 -- suspensions by composites that came
 abbrev pub came_by : Message → ℕ
@@ -71,8 +69,6 @@ pub done_is : (messages : List Message) → count is_suspend (commands_replied m
 done_is [] = refl
 done_is (Message.answers command replied ∷ messages) = let more = done_is messages in omega arith
 done_is (message ∷ messages) = let more = done_is messages in omega arith
-
--- The view of the messages --------------------------------------------------------------------------------------------
 
 -- what is held in a view, and what waits in it, came or was asked for, and wasn't undone
 abbrev Covers : ℕ → ℕ → View → Type 0
@@ -154,14 +150,17 @@ CoversAll messages view = Covers (total came_by messages + total asked_by messag
 covers : {messages : List Message} {view : View} → AreSaid messages view → CoversAll messages view
 covers AreSaid.none = omega arith
 covers (AreSaid.turns {messages} {view} composite others said attached are) =
-    turned_covers (total came_by messages + total asked_by messages) (total undone_by messages) view composite others are
+    turned_covers (total came_by messages + total asked_by messages) (total undone_by messages) view composite others
+    are
     (covers said)
 covers (AreSaid.one_more {messages} {view} message may said) =
-    rw (total_last came_by messages message, total_last asked_by messages message, total_last undone_by messages message)
+    rw (
+      total_last came_by messages message,
+      total_last asked_by messages message,
+      total_last undone_by messages message,
+    )
     (says_covers (total came_by messages) (total asked_by messages) (total undone_by messages) view message may
     (covers said))
-
--- Resumes -------------------------------------------------------------------------------------------------------------
 
 -- a command that changes the target goes alone
 none_before : {pending now : List TargetCommand} {both sent : Bool} {said : Option Message} (effect : Effect)

@@ -1,11 +1,13 @@
--- A joint that is worked out by computation: the client attaches to a target with ids of eight bytes, two event requests
--- are set, the target's start is held until all is configured, and the threads are listed.
+-- A joint that is worked out by computation: the client attaches to a target with ids of eight bytes, two event
+-- requests are set, the target's start is held until all is configured, the threads are listed, and a pause stops the
+-- target.
 use Rattle.std.proofs.Common.{◌≡◌, ℕ, zero, suc, ◌<◌, ◌^◌, true, false, List, [], ◌∷◌, ◌++◌, Option, Some, None}
 use Rattle.std.proofs.Common.{refl, arith}
 use Rattle.std.specs.List.{IsDistinct}
 use Rattle.dap_messages.specs.declared.told.Event.TheVariants as told_events
 use Rattle.dap_messages.specs.declared.told.Outcome.TheVariants as outcomes
 use Rattle.dap_messages.specs.declared.told.Shape.TheVariants as shapes
+use Rattle.dap_messages.specs.declared.told.StopReason.TheVariants as reasons
 use Rattle.jdwp_commands.specs.declared.answer.Answer.TheVariants as answers
 use Rattle.jdwp_commands.specs.declared.question.Question.TheVariants as questions
 use Rattle.jdwp_events.specs.declared.kind.EventKind.TheVariants as kinds
@@ -14,12 +16,12 @@ use Rattle.jdwp_values.specs.declared.id.ThreadId.{ThreadId}
 use Rattle.jdwp_values.specs.declared.sizes.IdSizes.{IdSizes}
 use Rattle.jdwp_values.specs.Lossy.{lossy}
 use Rattle.joint_model.specs.Joints.{Joint, Packet, is_aside, some_events}
-use Rattle.joint_model.specs.Laws.{held}
-use Rattle.joint_model.specs.Names.{Act, Does, Effect, Resume, Set, TargetCommand, a_question, an_effect}
+use Rattle.joint_model.specs.Laws.{IsStill, held}
+use Rattle.joint_model.specs.Names.{Act, Does, Effect, Resume, Set, Suspend, TargetCommand, a_question, an_effect}
 use Rattle.joint_model.specs.Obeying.{Emits, Replies, Serves, start_of}
 use Rattle.machine_model.specs.Due.{can_read, due, load_of, newly_lacked, wanted}
-use Rattle.machine_model.specs.Names.{Attach, Command, Composite, ConfigurationDone, Question, Replied, Request, Threads}
-use Rattle.machine_model.specs.Names.{an_answer, an_event}
+use Rattle.machine_model.specs.Names.{Attach, Command, Composite, ConfigurationDone, Pause, Question, Replied}
+use Rattle.machine_model.specs.Names.{Request, Threads, an_answer, an_event}
 use Rattle.machine_model.specs.Plans.{chained, each, made_with, need}
 use Rattle.machine_model.specs.Replying.{IsReply, SizesFor, answered, is_waiting, sizes_of, wire}
 use Rattle.machine_model.specs.Runs.{Allows, Message, greeting_heard, heard, said, with_item}
@@ -33,8 +35,7 @@ use Rattle.wish_sets.specs.declared.wish.Wish.TheVariants as wishes
 use Rattle.world_model.specs.declared.rows.Installed.{Installed}
 use Rattle.world_model.specs.declared.world.World.{World}
 use Rattle.world_model.specs.Sound.{IsHold, IsSound}
-
--- The machine ---------------------------------------------------------------------------------------------------------
+use Rattle.joint_model.proofs.StillLaws.{stands_still}
 
 -- the machine goes on by itself as far as it can, so many steps at most
 abbrev until : ℕ → Machine → Machine
@@ -83,8 +84,6 @@ in_hand_now : (hand : Option Hand) → is_some hand ≡ true → hand ≡ Some (
 in_hand_now (Some hand) is = refl
 in_hand_now None is = cc
 
--- Rounds --------------------------------------------------------------------------------------------------------------
-
 -- the client says something
 hears : {messages : List Message} {m : Machine} {w : World} (request : Request) → Joint messages m w [] [] []
     → can_read m ≡ false → m.closing ≡ false
@@ -102,11 +101,13 @@ asked_then question replied m = until 9 (answered (due false m).next (a_question
 
 -- a question is sent, served and replied to
 asks : {messages : List Message} {m : Machine} {w : World} (known : Option SizesRead) (question : Question)
-    (replied : Replied) → Joint messages m w [] [] [] → said (due false m).act ≡ Some (Message.sends (a_question question))
+    (replied : Replied) → Joint messages m w [] [] []
+    → said (due false m).act ≡ Some (Message.sends (a_question question))
     → Replies w question replied → can_read (due false m).next ≡ false → is_some (due false m).next.hand ≡ true
     → is_waiting question (hand_of (due false m).next.hand).asked ≡ true → (due false m).next.state.sizes ≡ known
     → IsReply known (a_question question) replied
-    → Joint ((messages ++ Message.sends (a_question question) ∷ []) ++ Message.answers (a_question question) replied ∷ [])
+    → Joint ((messages ++ Message.sends (a_question question) ∷ [])
+    ++ Message.answers (a_question question) replied ∷ [])
     (asked_then question replied m) w [] [] []
 asks {m = m} known question replied j is reply read some waits sized fits =
     on 9 (Joint.gets (Joint.serves (a_question question) [] [] (Joint.sends j (Allows.acts is)) (Serves.replies reply))
@@ -129,8 +130,6 @@ does {m = m} known effect replied j is serves read some flies sized fits =
     on 9 (Joint.gets (Joint.serves (an_effect effect) [] [] (Joint.sends j (Allows.acts is)) serves)
     (Allows.replies (hand_of (due false m).next.hand) read (in_hand_now (due false m).next.hand some) flies
     (rw sized fits)))
-
--- The world -----------------------------------------------------------------------------------------------------------
 
 abbrev sizes : IdSizes
 sizes = record {
@@ -217,8 +216,6 @@ watched_sound count few = sound (watched count).requests 3 count (record {
   few = few;
 })
 
--- Attach --------------------------------------------------------------------------------------------------------------
-
 abbrev request : ℕ → Command → Request
 request seq command = record { seq = seq; name = seq ∷ []; command = command }
 
@@ -254,7 +251,8 @@ abbrev greeting_said : List Message
 greeting_said = Message.hears attach ∷ Message.greets ∷ Message.greeted ∷ []
 
 abbrev sizes_said : List Message
-sizes_said = Message.sends (a_question questions.IdSizes) ∷ Message.answers (a_question questions.IdSizes) sizes_told ∷ []
+sizes_said = Message.sends (a_question questions.IdSizes)
+    ∷ Message.answers (a_question questions.IdSizes) sizes_told ∷ []
 
 reads_sizes : Joint (greeting_said ++ sizes_said) sized (world [] 1 0) [] [] []
 unfolding due wanted load_of newly_lacked
@@ -310,8 +308,6 @@ unfolding due wanted load_of newly_lacked next_change wished
 attaches = tells (Message.tells (an_event told_events.Initialized)) (tells (succeeds attach) sets_both refl refl) refl
     refl
 
--- The target's start --------------------------------------------------------------------------------------------------
-
 abbrev start : Composite
 start = start_of All main
 
@@ -335,8 +331,6 @@ is_held : (started.state.entry ≡ true) × (held (attach_said ++ Message.comes 
 unfolding due wanted load_of newly_lacked next_change wished need made_with each
 is_held = (refl, refl)
 
--- Configured ----------------------------------------------------------------------------------------------------------
-
 abbrev configures : Request
 configures = request 2 ConfigurationDone
 
@@ -359,8 +353,6 @@ unfolding due wanted load_of newly_lacked next_change wished need made_with each
 runs_on = tells (succeeds configures) (does known resumes (an_answer answers.Resume)
     (hears configures holds_start refl refl) refl (Serves.does refl) refl refl refl refl
     (IsReply.with_answer sizes SizesFor.sizes_read (record { row = refl; fits = tt }) refl)) refl refl
-
--- Threads -------------------------------------------------------------------------------------------------------------
 
 abbrev lists : Request
 lists = request 3 Threads
@@ -402,3 +394,34 @@ lists_threads = tells (Message.tells (response_to lists (outcomes.Success (shape
     (record { id = 1; name = lossy (109 ∷ []) } ∷ [])))))
     (asks known (questions.ThreadName main) name_told lists_one refl (Replies.says refl) refl refl refl refl
     (IsReply.with_answer sizes SizesFor.sizes_read (record { row = refl; fits = (omega arith, tt) }) refl)) refl refl
+
+abbrev pauses : Request
+pauses = request 4 (Pause (record { thread_id = 1 }))
+
+abbrev suspends : Effect
+suspends = Does Suspend
+
+abbrev pausing : Machine
+pausing = until 9 (heard (then named) pauses)
+
+abbrev stops : Message
+stops = Message.tells (an_event (told_events.Stopped (record { reason = reasons.Pause; thread = 1 })))
+
+abbrev stopped : Machine
+stopped = then (then (done_then suspends (an_answer answers.Suspend) pausing))
+
+abbrev pause_said : List Message
+pause_said = threads_said ++ Message.hears pauses ∷ Message.sends (an_effect suspends)
+    ∷ Message.answers (an_effect suspends) (an_answer answers.Suspend) ∷ succeeds pauses ∷ stops ∷ []
+
+-- the client asks for a pause, and the target is suspended for it
+stops_for_pause : Joint pause_said stopped (watched 1) [] [] []
+unfolding due wanted load_of newly_lacked next_change wished need made_with each chained
+stops_for_pause = tells stops (tells (succeeds pauses) (does {now = watched 1} known suspends
+    (an_answer answers.Suspend) (hears pauses lists_threads refl refl) refl (Serves.does refl) refl refl refl refl
+    (IsReply.with_answer sizes SizesFor.sizes_read (record { row = refl; fits = tt }) refl)) refl refl) refl refl
+
+-- it stands still then
+still_there : IsStill (watched 1)
+unfolding due wanted load_of newly_lacked next_change wished need made_with each chained
+still_there = stands_still pause_said stopped (watched 1) [] [] [] stops_for_pause refl refl refl refl

@@ -37,8 +37,6 @@ use Rattle.joint_model.proofs.HeldLaws.{asked_by, came_by, done_is, exact, learn
 use Rattle.joint_model.proofs.HeldLaws.{total_last, undone_by}
 use Rattle.joint_model.proofs.ServedLaws.{served_lives}
 
--- A target that lives tells of no end ---------------------------------------------------------------------------------
-
 abbrev death_in : Composite → ℕ
 death_in composite = bit (has_death composite.events)
 
@@ -108,8 +106,6 @@ deaths (Joint.emits {packets = packets} {composite = composite} j emits) lives =
     let more = total_last death_of packets (some_events composite) in omega arith
 deaths (Joint.dies j) lives = absurd cc
 
--- The view of the messages, exactly -----------------------------------------------------------------------------------
-
 -- a composite that tells of the target's end suspends nothing in a view
 abbrev weight : Composite → ℕ
 weight composite = cond (has_death composite.events) 0 (suspensions_by composite.policy)
@@ -136,8 +132,8 @@ turned_exactly some undone view composite others are h =
 fresh_near : (phase : Phase) → is_fresh phase ≡ true → is_gone phase ≡ false
 fresh_near phase is = grind (arith, is)
 
-event_exactly : (some undone : ℕ) (view : View) (event : EventTold) → may_be view (Message.tells (an_event event)) ≡ true
-    → is_gone (event_view event view).phase ≡ false → (is_gone view.phase ≡ false → Exactly some undone view)
+event_exactly : (some undone : ℕ) (view : View) (event : EventTold)
+    → may_be view (Message.tells (an_event event)) ≡ true → is_gone (event_view event view).phase ≡ false → (is_gone view.phase ≡ false → Exactly some undone view)
     → Exactly some undone (event_view event view)
 event_exactly some undone view told_events.Initialized may near h = h (fresh_near view.phase may)
 event_exactly some undone view told_events.Terminated may near h = absurd cc
@@ -214,7 +210,11 @@ exactly (AreSaid.turns {messages} {view} composite others said attached are) nea
     turned_exactly (total weight_by messages + total asked_by messages) (total undone_by messages) view composite others
     are (exactly said near)
 exactly (AreSaid.one_more {messages} {view} message may said) near =
-    rw (total_last weight_by messages message, total_last asked_by messages message, total_last undone_by messages message)
+    rw (
+      total_last weight_by messages message,
+      total_last asked_by messages message,
+      total_last undone_by messages message,
+    )
     (says_exactly (total weight_by messages) (total asked_by messages) (total undone_by messages) view message may near
     (λ before. exactly said before))
 
@@ -225,7 +225,8 @@ weight_is composite is = by_death (has_death composite.events) (suspensions_by c
     by_death true n is = absurd (omega arith)
     by_death false n is = refl
 
-weights_are : (messages : List Message) → total death_by messages ≡ 0 → total weight_by messages ≡ total came_by messages
+weights_are : (messages : List Message) → total death_by messages ≡ 0
+    → total weight_by messages ≡ total came_by messages
 weights_are [] is = refl
 weights_are (Message.comes at composite ∷ messages) is =
     let none : death_in composite ≡ 0 = omega arith in let rest : total death_by messages ≡ 0 = omega arith in
@@ -235,8 +236,6 @@ weights_are (Message.reads at body composite ∷ messages) is =
     let one = weight_is composite none in let more = weights_are messages rest in omega arith
 weights_are (_ ∷ messages) is =
     let rest : total death_by messages ≡ 0 = omega arith in let more = weights_are messages rest in omega arith
-
--- At rest -------------------------------------------------------------------------------------------------------------
 
 waiting_none : (gone : Bool) (items : List Item) → items ≡ [] → waiting_composites gone items ≡ []
 waiting_none true items are = refl

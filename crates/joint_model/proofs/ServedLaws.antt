@@ -45,7 +45,8 @@ living_counts w (effects.Exit code) lives =
     leaves (Counts w (effects.Exit code)) _ _ (λ alive stays enough. absurd cc)
 living_counts w (effects.SetField object field value) lives =
     leaves_with (Counts w (effects.SetField object field value)) w (with_put w) answers.SetField
-    (field_stored w object field value) (λ x e alive stays enough. (lives, refl)) (λ code alive stays enough. (lives, refl))
+    (field_stored w object field value) (λ x e alive stays enough. (lives, refl))
+    (λ code alive stays enough. (lives, refl))
 living_counts w (effects.SetElement array first value) lives =
     leaves_with (Counts w (effects.SetElement array first value)) w (with_element w array (nat_abs first))
     answers.SetElement (element_stored w array first value) (λ x e alive stays enough. (lives, refl))

@@ -29,9 +29,10 @@ is_aside (Message.comes at composite) = false
 is_aside (Message.keeps at body) = false
 is_aside (Message.reads at body composite) = false
 
--- The messages so far and the machine; the world; the commands that it hasn't served, of which any may be served next; the
--- packets in flight, in their order; and the composites that the machine keeps unread, in the order in which they came. A
--- body that is kept or read is that of its composite, with the target's sizes of ids. The link may be lost at any time.
+-- The messages so far and the machine; the world; the commands that it hasn't served, of which any may be served
+-- next; the packets in flight, in their order; and the composites that the machine keeps unread, in the order in
+-- which they came. A body that is kept or read is that of its composite, with the target's sizes of ids. The link may
+-- be lost at any time.
 pub data Joint : List Message → Machine → World → List TargetCommand → List Packet → List Composite → Type 0 where
   starts : {w : World} → IsSound w → w.dead ≡ false → w.count ≡ 0 → w.requests ≡ [] → Joint [] fresh w [] [] []
   goes : {messages : List Message} {m : Machine} {w : World} {commands : List TargetCommand} {packets : List Packet}

@@ -25,8 +25,6 @@ use Rattle.world_model.specs.declared.world.World.{World}
 use Rattle.world_model.specs.Kept.{program_of, puts_values, values_of}
 use Rattle.world_model.specs.Replies.{reply_of}
 
--- Look-ups ------------------------------------------------------------------------------------------------------------
-
 -- what was replied is what a target may reply that has this world; and what is known of classes is so in it
 pub record IsOfTarget (w : World) (sight : Sight) : Type 0 where
   pub replies : (question : Question) (replied : Replied) → IsReply sight.asked question replied
@@ -61,8 +59,6 @@ pub record AreOfTarget (w : World) (state : State) : Type 0 where
 -- the target may choose for a question that it refuses.
 abbrev pub LookUps : Type 0
 LookUps = (w : World) (state : State) → AreOfTarget w state
-
--- Suspensions ---------------------------------------------------------------------------------------------------------
 
 -- what a message makes of the suspensions of the whole target that are held (JDWP, Event command set, Composite; JDWP,
 -- VirtualMachine command set, Suspend and Resume)
@@ -104,8 +100,8 @@ suspends_in (a_reply (an_effect (Does Suspend)) replied) = 1
 suspends_in (a_reply command replied) = 0
 suspends_in (some_events composite) = suspends_by composite
 
--- the suspensions that the messages don't tell yet: of Resumes that the target hasn't served, of packets in flight, and of
--- composites that are kept unread
+-- the suspensions that the messages don't tell yet: of Resumes that the target hasn't served, of packets in flight,
+-- and of composites that are kept unread
 abbrev pub untold : List TargetCommand → List Packet → List Composite → ℕ
 untold commands packets kept = total resumes_in commands + (total suspends_in packets + total suspends_by kept)
 
@@ -115,20 +111,20 @@ Balances = (messages : List Message) (m : Machine) (w : World) (commands : List 
     (kept : List Composite) → Joint messages m w commands packets kept → w.dead ≡ false
     → has_such sends_farewell messages ≡ false → w.count ≡ held messages + untold commands packets kept
 
--- A stop --------------------------------------------------------------------------------------------------------------
-
--- classes, objects, threads and values are as they were
+-- Classes, objects, threads, frames and values are as they were. So each question has the same reply, as long as the
+-- target lives and is suspended.
 pub record StaysSo (w now : World) : Type 0 where
   pub program : program_of now ≡ program_of w
   pub values : values_of now ≡ values_of w
+  pub replies : now.dead ≡ false → 0 < now.count → (question : Question) → reply_of now question ≡ reply_of w question
 
 -- a command that puts a value somewhere (JDWP, Detailed Command Information, commands SetValues)
 abbrev pub puts : Asked → Bool
 puts (commands.Question question) = false
 puts (commands.Effect effect) = puts_values effect
 
--- All threads are suspended. The program doesn't run; and whatever is told or served changes nothing, but for a value that
--- the debugger puts.
+-- All threads are suspended. The program doesn't run; and whatever is told or served changes nothing, but for a value
+-- that the debugger puts.
 pub record IsStill (w : World) : Type 0 where
   pub suspended : 0 < w.count
   pub no_run : (now : World) → Runs w now → ⊥

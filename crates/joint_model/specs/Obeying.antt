@@ -1,7 +1,7 @@
 -- What a target that obeys JDWP may do, over its world. Where JDWP leaves a choice to the target, any is allowed here:
 -- which number an error has, which id a request gets, which of the requests that match an event are told of it.
-use Rattle.std.specs.Prelude.{ℕ, ◌≡◌, ◌<◌, ◌==◌, ◌/◌, ◌%◌, ◌∷◌, ℤ, pos, Bool, true, false, List, [], map, fold, Contains}
-use Rattle.std.specs.Prelude.{Option, Some, Ok, is_some, unwrap_or}
+use Rattle.std.specs.Prelude.{ℕ, ◌≡◌, ◌<◌, ◌==◌, ◌/◌, ◌%◌, ◌∷◌, ℤ, pos, Bool, true, false, List, [], map, fold}
+use Rattle.std.specs.Prelude.{Contains, Option, Some, Ok, is_some, unwrap_or}
 use Rattle.std.specs.List.{AllByRecursion}
 use Rattle.jdwp_values.specs.declared.id.ClassId.{ClassId}
 use Rattle.jdwp_values.specs.declared.id.ObjectId.{ObjectId}
@@ -42,8 +42,6 @@ use Rattle.world_model.specs.Requests.{allowed, frames_under, is_in_use, line_of
 use Rattle.world_model.specs.Sound.{IsRequest, IsSound}
 use Rattle.world_model.specs.Threads.{is_alive}
 
--- Replies -------------------------------------------------------------------------------------------------------------
-
 -- a fact of a class, which may be absent (JDWP, ReferenceType, ClassType and Method command sets)
 abbrev pub is_of_class : Question → Bool
 is_of_class (questions.Signature class) = true
@@ -55,9 +53,9 @@ is_of_class (questions.LineTable class method) = true
 is_of_class (questions.VariableTable class method) = true
 is_of_class _ = false
 
--- Which error a target may choose in the place of the usual one: any, but 112 says that the target has ended, and 10 that
--- a thread isn't alive, and they say just that; of an absent fact any but 112 will do (JDWP, Error Constants, VM_DEAD and
--- INVALID_THREAD).
+-- Which error a target may choose in the place of the usual one: any, but 112 says that the target has ended, and 10
+-- that a thread isn't alive, and they say just that; of an absent fact any but 112 will do (JDWP, Error Constants,
+-- VM_DEAD and INVALID_THREAD).
 pub record MayRefuse (of_class : Bool) (usual code : ℕ) : Type 0 where
   pub is_error : 0 < code
   pub ended : (code == vm_dead) ≡ (usual == vm_dead)
@@ -85,8 +83,6 @@ pub data Serves (w : World) : Asked → Replied → World → Type 0 where
   refuses : {effect : Effect} {usual code : ℕ} {now : World} → applied w effect ≡ Some (now, an_error usual)
       → MayRefuse false usual code → Serves w (commands.Effect effect) (an_error code) now
 
--- The program runs ----------------------------------------------------------------------------------------------------
-
 -- Only a target that isn't suspended runs. Its threads, frames and objects may change as they will; what is said of
 -- classes and the event requests stay, and no class is prepared unseen that a request watches (JDWP, VirtualMachine
 -- command set, Suspend; JDWP, EventRequest command set, Set, ClassMatch).
@@ -101,8 +97,6 @@ pub record Runs (w now : World) : Type 0 where
   pub unwatched : (class : ClassId) → is_prepared w class ≡ false → is_prepared now class ≡ true
       → AllByRecursion (λ (request : Installed). watches w class request ≡ false) w.requests
   pub sound : IsSound now
-
--- Events --------------------------------------------------------------------------------------------------------------
 
 -- the innermost frame of a thread stands at a place
 abbrev pub IsThere : World → ThreadId → Location → Type 0
@@ -183,8 +177,8 @@ start_of policy thread = record { policy = policy; events = events.VMStart 0 thr
 abbrev pub end_of : Composite
 end_of = record { policy = NoThread; events = events.VMDeath 0 ∷ [] }
 
--- A composite goes out: some of the event requests are told of what happens; or, unasked, the target's start is told, or
--- its end (JDWP, Event command set, Composite).
+-- A composite goes out: some of the event requests are told of what happens; or, unasked, the target's start is told,
+-- or its end (JDWP, Event command set, Composite).
 pub data Emits (w : World) : Composite → World → Type 0 where
   tells : (first : Installed × Event) (others : List (Installed × Event)) → w.dead ≡ false
       → AllByRecursion (IsTold w) (first ∷ others) → IsSound (behind w (composite_of (first ∷ others)))

@@ -1,13 +1,13 @@
-//! What holds of look-ups over a target's world, and of every joint of the machine and a target. Each law is the contract
-//! of a function that does nothing.
+//! What holds of look-ups over a target's world, and of every joint of the machine and a target. Each law is the
+//! contract of a function that does nothing.
 
 ghost use Rattle.joint_model.specs.Laws.{Balances, CountsAtRest, LookUps, ResumesHeld, StandsStill};
 
-/// A look-up that is done by the replies of a target that obeys JDWP has the value that it has in the target's world, in
-/// whatever order they were asked for and came, and whatever numbers the target chose for its errors. One that has failed
-/// has no value there; it fails with an error of a question that the world refuses: with 112 just where the target has
-/// ended, and with 10, unless a fact of a class was asked for, just where a thread isn't alive (JDWP, Detailed Command
-/// Information; JDWP, Error Constants).
+/// A look-up that is done by the replies of a target that obeys JDWP has the value that it has in the target's world,
+/// in whatever order they were asked for and came, and whatever numbers the target chose for its errors. One that has
+/// failed has no value there; it fails with an error of a question that the world refuses: with 112 just where the
+/// target has ended, and with 10, unless a fact of a class was asked for, just where a thread isn't alive (JDWP,
+/// Detailed Command Information; JDWP, Error Constants).
 pub fn look_ups_show_the_targets_world()
     ensures { LookUps }
 {}
@@ -18,18 +18,19 @@ pub fn no_resume_is_sent_that_is_not_held()
     ensures { ResumesHeld }
 {}
 
-/// As long as a target that obeys JDWP lives and wasn't left, all its threads are suspended just as often as the messages
-/// say, and as they don't tell yet: for each Resume that it hasn't served, for each composite that suspends all threads
-/// and each reply to a Suspend in flight, and for each such composite that is kept unread (JDWP, Event command set,
-/// Composite; JDWP, VirtualMachine command set, Suspend and Resume).
+/// As long as a target that obeys JDWP lives and wasn't left, all its threads are suspended just as often as the
+/// messages say, and as they don't tell yet: for each Resume that it hasn't served, for each composite that suspends
+/// all threads and each reply to a Suspend in flight, and for each such composite that is kept unread (JDWP, Event
+/// command set, Composite; JDWP, VirtualMachine command set, Suspend and Resume).
 pub fn suspensions_balance()
     ensures { Balances }
 {}
 
-/// As long as a stop is in hand and no Suspend waits for its reply, a target that obeys JDWP, lives and wasn't left stands
-/// still: all its threads are suspended, its program doesn't run, and no event and no command changes a class, an object,
-/// a thread, a frame or a value, but for the value that a SetValues puts (DAP specification, Events, Stopped; JDWP,
-/// VirtualMachine command set, Suspend).
+/// As long as a stop is in hand and no Suspend waits for its reply, a target that obeys JDWP, lives and wasn't left
+/// stands still: all its threads are suspended, its program doesn't run, and no event and no command changes a class,
+/// an object, a thread, a frame or a value, but for the value that a SetValues puts. So each question has the same
+/// reply as before, as long as that is so (DAP specification, Events, Stopped; JDWP, VirtualMachine command set,
+/// Suspend).
 pub fn a_target_stands_still_in_a_stop()
     ensures { StandsStill }
 {}
