@@ -22,6 +22,8 @@ use Rattle.world_model.specs.Moving.{count_behind}
 use Rattle.joint_model.proofs.HeldLaws.{held_last, resumes_held, total_last, total_middle}
 use Rattle.joint_model.proofs.ServedLaws.{lets_go_asked, resumes_asked, served_counts, served_lives, suspends_asked}
 
+-- The machine beside its world ----------------------------------------------------------------------------------------
+
 -- the machine of a joint has a run of its own
 pub run_of : {messages : List Message} {m : Machine} {w : World} {commands : List TargetCommand}
     {packets : List Packet} {kept : List Composite} → Joint messages m w commands packets kept → Run messages m
@@ -56,6 +58,8 @@ not_left messages message is =
     neither true others is = cc
     neither false others is = (is, refl)
 
+-- Commands ------------------------------------------------------------------------------------------------------------
+
 abbrev leaves_in : TargetCommand → ℕ
 leaves_in command = bit (is_farewell command)
 
@@ -83,6 +87,8 @@ sent_held n (an_effect (Does (Resume suspension))) some = let more = some suspen
 sent_held n (an_effect (Does _)) some = omega arith
 sent_held n (an_effect _) some = omega arith
 sent_held n (a_question question) some = omega arith
+
+-- Composites ----------------------------------------------------------------------------------------------------------
 
 counted_by : (n : ℕ) (composite : Composite) → count_behind n (Some composite) ≡ suspends_by composite + n
 counted_by n composite = by_policy composite.policy composite refl
@@ -117,6 +123,8 @@ emitted_count {w} (Emits.tells first others lives told sound) alive =
 emitted_count {w} (Emits.begins {policy} {thread} lives there other sound) alive =
     (lives, behind_count w (start_of policy thread))
 emitted_count (Emits.ends lives) alive = absurd cc
+
+-- The balance ---------------------------------------------------------------------------------------------------------
 
 record IsBalanced (messages : List Message) (w : World) (commands : List TargetCommand) (packets : List Packet)
     (kept : List Composite) : Type 0 where

@@ -23,6 +23,8 @@ use Rattle.machine_model.proofs.Stepping.{moved}
 use Rattle.machine_model.proofs.TurnLaws.{Turns, is_beside, turned}
 use Rattle.suspend_ledger.specs.Suspensions.{suspensions_by}
 
+-- Sums ----------------------------------------------------------------------------------------------------------------
+
 pub total_last : {A : Type 0} (of : A → ℕ) (some : List A) (one : A)
     → total of (some ++ one ∷ []) ≡ of one + total of some
 total_last of [] one = refl
@@ -37,6 +39,8 @@ pub held_last : (n : ℕ) (messages : List Message) (message : Message)
     → held_from n (messages ++ message ∷ []) ≡ held_by (held_from n messages) message
 held_last n [] message = refl
 held_last n (first ∷ messages) message = held_last (held_by n first) messages message
+
+-- What messages count -------------------------------------------------------------------------------------------------
 
 -- suspensions by composites that came
 abbrev pub came_by : Message → ℕ
@@ -69,6 +73,8 @@ pub done_is : (messages : List Message) → count is_suspend (commands_replied m
 done_is [] = refl
 done_is (Message.answers command replied ∷ messages) = let more = done_is messages in omega arith
 done_is (message ∷ messages) = let more = done_is messages in omega arith
+
+-- The view of the messages --------------------------------------------------------------------------------------------
 
 -- what is held in a view, and what waits in it, came or was asked for, and wasn't undone
 abbrev Covers : ℕ → ℕ → View → Type 0
@@ -161,6 +167,8 @@ covers (AreSaid.one_more {messages} {view} message may said) =
     )
     (says_covers (total came_by messages) (total asked_by messages) (total undone_by messages) view message may
     (covers said))
+
+-- Resumes -------------------------------------------------------------------------------------------------------------
 
 -- a command that changes the target goes alone
 none_before : {pending now : List TargetCommand} {both sent : Bool} {said : Option Message} (effect : Effect)

@@ -37,6 +37,8 @@ use Rattle.world_model.specs.declared.world.World.{World}
 use Rattle.world_model.specs.Sound.{IsHold, IsSound}
 use Rattle.joint_model.proofs.StillLaws.{stands_still}
 
+-- The machine ---------------------------------------------------------------------------------------------------------
+
 -- the machine goes on by itself as far as it can, so many steps at most
 abbrev until : ℕ → Machine → Machine
 until zero m = m
@@ -84,6 +86,8 @@ in_hand_now : (hand : Option Hand) → is_some hand ≡ true → hand ≡ Some (
 in_hand_now (Some hand) is = refl
 in_hand_now None is = cc
 
+-- Rounds --------------------------------------------------------------------------------------------------------------
+
 -- the client says something
 hears : {messages : List Message} {m : Machine} {w : World} (request : Request) → Joint messages m w [] [] []
     → can_read m ≡ false → m.closing ≡ false
@@ -130,6 +134,8 @@ does {m = m} known effect replied j is serves read some flies sized fits =
     on 9 (Joint.gets (Joint.serves (an_effect effect) [] [] (Joint.sends j (Allows.acts is)) serves)
     (Allows.replies (hand_of (due false m).next.hand) read (in_hand_now (due false m).next.hand some) flies
     (rw sized fits)))
+
+-- The world -----------------------------------------------------------------------------------------------------------
 
 abbrev sizes : IdSizes
 sizes = record {
@@ -215,6 +221,8 @@ watched_sound count few = sound (watched count).requests 3 count (record {
   next_number = (omega arith, omega arith);
   few = few;
 })
+
+-- Attach --------------------------------------------------------------------------------------------------------------
 
 abbrev request : ℕ → Command → Request
 request seq command = record { seq = seq; name = seq ∷ []; command = command }
@@ -308,6 +316,8 @@ unfolding due wanted load_of newly_lacked next_change wished
 attaches = tells (Message.tells (an_event told_events.Initialized)) (tells (succeeds attach) sets_both refl refl) refl
     refl
 
+-- The target's start --------------------------------------------------------------------------------------------------
+
 abbrev start : Composite
 start = start_of All main
 
@@ -331,6 +341,8 @@ is_held : (started.state.entry ≡ true) × (held (attach_said ++ Message.comes 
 unfolding due wanted load_of newly_lacked next_change wished need made_with each
 is_held = (refl, refl)
 
+-- Configured ----------------------------------------------------------------------------------------------------------
+
 abbrev configures : Request
 configures = request 2 ConfigurationDone
 
@@ -353,6 +365,8 @@ unfolding due wanted load_of newly_lacked next_change wished need made_with each
 runs_on = tells (succeeds configures) (does known resumes (an_answer answers.Resume)
     (hears configures holds_start refl refl) refl (Serves.does refl) refl refl refl refl
     (IsReply.with_answer sizes SizesFor.sizes_read (record { row = refl; fits = tt }) refl)) refl refl
+
+-- Threads -------------------------------------------------------------------------------------------------------------
 
 abbrev lists : Request
 lists = request 3 Threads
@@ -394,6 +408,8 @@ lists_threads = tells (Message.tells (response_to lists (outcomes.Success (shape
     (record { id = 1; name = lossy (109 ∷ []) } ∷ [])))))
     (asks known (questions.ThreadName main) name_told lists_one refl (Replies.says refl) refl refl refl refl
     (IsReply.with_answer sizes SizesFor.sizes_read (record { row = refl; fits = (omega arith, tt) }) refl)) refl refl
+
+-- A stop --------------------------------------------------------------------------------------------------------------
 
 abbrev pauses : Request
 pauses = request 4 (Pause (record { thread_id = 1 }))

@@ -1,4 +1,5 @@
 pub mod BalanceLaws
+pub mod ErrorLaws
 pub mod HeldLaws
 mod JointExample
 pub mod LookUpLaws

@@ -37,6 +37,8 @@ use Rattle.joint_model.proofs.HeldLaws.{asked_by, came_by, done_is, exact, learn
 use Rattle.joint_model.proofs.HeldLaws.{total_last, undone_by}
 use Rattle.joint_model.proofs.ServedLaws.{served_lives}
 
+-- A target that lives tells of no end ---------------------------------------------------------------------------------
+
 abbrev death_in : Composite → ℕ
 death_in composite = bit (has_death composite.events)
 
@@ -105,6 +107,8 @@ deaths (Joint.emits {packets = packets} {composite = composite} j emits) lives =
     let one = emitted_lives emits lives in
     let more = total_last death_of packets (some_events composite) in omega arith
 deaths (Joint.dies j) lives = absurd cc
+
+-- The view of the messages, exactly -----------------------------------------------------------------------------------
 
 -- a composite that tells of the target's end suspends nothing in a view
 abbrev weight : Composite → ℕ
@@ -236,6 +240,8 @@ weights_are (Message.reads at body composite ∷ messages) is =
     let one = weight_is composite none in let more = weights_are messages rest in omega arith
 weights_are (_ ∷ messages) is =
     let rest : total death_by messages ≡ 0 = omega arith in let more = weights_are messages rest in omega arith
+
+-- At rest -------------------------------------------------------------------------------------------------------------
 
 waiting_none : (gone : Bool) (items : List Item) → items ≡ [] → waiting_composites gone items ≡ []
 waiting_none true items are = refl

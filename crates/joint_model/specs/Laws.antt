@@ -15,15 +15,17 @@ use Rattle.machine_model.specs.Names.{Answer, Composite, Question, Replied, Thre
 use Rattle.machine_model.specs.Pending.{bit, count, has_such}
 use Rattle.machine_model.specs.PlanLaws.{Agrees, IsReply, threads_in_world}
 use Rattle.machine_model.specs.Plans.{Need, Sight, answer_in, fails, has, lacks, of_world}
-use Rattle.machine_model.specs.Replying.{pending_of}
+use Rattle.machine_model.specs.Replying.{IsReply as IsTaken, pending_of, wire}
 use Rattle.machine_model.specs.Rest.{IsAtRest}
 use Rattle.machine_model.specs.Runs.{Allows, Message, Run}
-use Rattle.machine_model.specs.State.{Hand, Machine, State}
+use Rattle.machine_model.specs.State.{Hand, Machine, SizesRead, State}
 use Rattle.suspend_ledger.specs.Suspensions.{composite as composite_came, resumed, suspended, suspensions_by}
 use Rattle.suspend_ledger.specs.Suspensions.{with_happening}
 use Rattle.world_model.specs.declared.world.World.{World}
 use Rattle.world_model.specs.Kept.{program_of, puts_values, values_of}
 use Rattle.world_model.specs.Replies.{reply_of}
+
+-- Look-ups ------------------------------------------------------------------------------------------------------------
 
 -- what was replied is what a target may reply that has this world; and what is known of classes is so in it
 pub record IsOfTarget (w : World) (sight : Sight) : Type 0 where
@@ -59,6 +61,16 @@ pub record AreOfTarget (w : World) (state : State) : Type 0 where
 -- the target may choose for a question that it refuses.
 abbrev pub LookUps : Type 0
 LookUps = (w : World) (state : State) → AreOfTarget w state
+
+-- Errors --------------------------------------------------------------------------------------------------------------
+
+-- An error that a target may reply to a command is one that a session takes, and that doesn't end it: what it can't do
+-- without isn't refused, unless the target has ended.
+abbrev pub ErrorsAreTaken : Type 0
+ErrorsAreTaken = (w now : World) (sizes : Option SizesRead) (command : TargetCommand) (code : ℕ)
+    → Serves w (wire command) (an_error code) now → IsTaken sizes command (an_error code)
+
+-- Suspensions ---------------------------------------------------------------------------------------------------------
 
 -- what a message makes of the suspensions of the whole target that are held (JDWP, Event command set, Composite; JDWP,
 -- VirtualMachine command set, Suspend and Resume)
@@ -110,6 +122,8 @@ abbrev pub Balances : Type 0
 Balances = (messages : List Message) (m : Machine) (w : World) (commands : List TargetCommand) (packets : List Packet)
     (kept : List Composite) → Joint messages m w commands packets kept → w.dead ≡ false
     → has_such sends_farewell messages ≡ false → w.count ≡ held messages + untold commands packets kept
+
+-- A stop --------------------------------------------------------------------------------------------------------------
 
 -- Classes, objects, threads, frames and values are as they were. So each question has the same reply, as long as the
 -- target lives and is suspended.

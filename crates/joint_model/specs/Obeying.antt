@@ -42,6 +42,8 @@ use Rattle.world_model.specs.Requests.{allowed, frames_under, is_in_use, line_of
 use Rattle.world_model.specs.Sound.{IsRequest, IsSound}
 use Rattle.world_model.specs.Threads.{is_alive}
 
+-- Replies -------------------------------------------------------------------------------------------------------------
+
 -- a fact of a class, which may be absent (JDWP, ReferenceType, ClassType and Method command sets)
 abbrev pub is_of_class : Question → Bool
 is_of_class (questions.Signature class) = true
@@ -83,6 +85,8 @@ pub data Serves (w : World) : Asked → Replied → World → Type 0 where
   refuses : {effect : Effect} {usual code : ℕ} {now : World} → applied w effect ≡ Some (now, an_error usual)
       → MayRefuse false usual code → Serves w (commands.Effect effect) (an_error code) now
 
+-- The program runs ----------------------------------------------------------------------------------------------------
+
 -- Only a target that isn't suspended runs. Its threads, frames and objects may change as they will; what is said of
 -- classes and the event requests stay, and no class is prepared unseen that a request watches (JDWP, VirtualMachine
 -- command set, Suspend; JDWP, EventRequest command set, Set, ClassMatch).
@@ -97,6 +101,8 @@ pub record Runs (w now : World) : Type 0 where
   pub unwatched : (class : ClassId) → is_prepared w class ≡ false → is_prepared now class ≡ true
       → AllByRecursion (λ (request : Installed). watches w class request ≡ false) w.requests
   pub sound : IsSound now
+
+-- Events --------------------------------------------------------------------------------------------------------------
 
 -- the innermost frame of a thread stands at a place
 abbrev pub IsThere : World → ThreadId → Location → Type 0

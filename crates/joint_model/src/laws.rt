@@ -1,7 +1,7 @@
 //! What holds of look-ups over a target's world, and of every joint of the machine and a target. Each law is the
 //! contract of a function that does nothing.
 
-ghost use Rattle.joint_model.specs.Laws.{Balances, CountsAtRest, LookUps, ResumesHeld, StandsStill};
+ghost use Rattle.joint_model.specs.Laws.{Balances, CountsAtRest, ErrorsAreTaken, LookUps, ResumesHeld, StandsStill};
 
 /// A look-up that is done by the replies of a target that obeys JDWP has the value that it has in the target's world,
 /// in whatever order they were asked for and came, and whatever numbers the target chose for its errors. One that has
@@ -40,4 +40,11 @@ pub fn a_target_stands_still_in_a_stop()
 /// VirtualMachine command set, Suspend and Resume).
 pub fn a_target_runs_on_at_rest()
     ensures { CountsAtRest }
+{}
+
+/// An error that a target which obeys JDWP replies ends no session: of the commands that a session can't do without
+/// (IDSizes, AllClasses, Suspend, Resume and Clear) none is refused, unless the target has ended (JDWP, Error
+/// Constants).
+pub fn no_error_of_an_obeying_target_ends_a_session()
+    ensures { ErrorsAreTaken }
 {}
