@@ -1,3 +1,4 @@
 pub mod Flights
 pub mod Joints
 pub mod Hearing
+pub mod Courses
