@@ -20,7 +20,8 @@ import java.util.zip.CRC32;
  * A debugger by the Java Debug Interface that reads at each hit of a breakpoint what is there: the names of all
  * threads, the frames of the one that stopped, and the variables of the upper frame. With numbers it reads instead, at
  * the first hits, so many elements each of the array that is the second variable, behind those that were read before.
- * Prints a checksum of what it read, without names of threads and ids of objects, and the milliseconds of each read.
+ * Prints a checksum of what it read, without names of threads and ids of objects, the milliseconds of each read, and
+ * those of each cycle: from the resume of a hit to the end of the read at the next one.
  *
  * usage: java Reads PORT CLASS LINE [NUMBER..]
  */
@@ -33,6 +34,8 @@ public class Reads extends Hits {
     private final boolean readsElements;
     private int place;
     private final List<String> taken = new ArrayList<>();
+    private final List<String> cycles = new ArrayList<>();
+    private long left;
     private final CRC32 sum = new CRC32();
 
     private Reads(VirtualMachine machine, String name, int line, List<Integer> numbers) {
@@ -58,10 +61,18 @@ public class Reads extends Hits {
         long start = System.nanoTime();
         List<String> read = reading.read();
         long end = System.nanoTime();
-        taken.add(String.format(Locale.ROOT, "%.4f", (end - start) / 1e6));
+        taken.add(milliseconds(start, end));
+        if (left != 0) {
+            cycles.add(milliseconds(left, end));
+        }
         for (String line : read) {
             sum.update((line + "\n").getBytes(StandardCharsets.UTF_8));
         }
+        left = System.nanoTime();
+    }
+
+    private static String milliseconds(long start, long end) {
+        return String.format(Locale.ROOT, "%.4f", (end - start) / 1e6);
     }
 
     private List<String> stop(ThreadReference stopped) throws Exception {
@@ -108,6 +119,7 @@ public class Reads extends Hits {
         }
         Reads reads = new Reads(attached(words[0]), words[1], Integer.parseInt(words[2]), numbers);
         reads.run();
-        System.out.println("sum " + reads.sum.getValue() + ", milliseconds " + String.join(" ", reads.taken));
+        System.out.println("sum " + reads.sum.getValue() + ", milliseconds " + String.join(" ", reads.taken)
+                + ", cycles " + String.join(" ", reads.cycles));
     }
 }

@@ -7,7 +7,8 @@ same. Printed are milliseconds, the median of each run and of these, the ratio, 
 
 - a stop: all threads, fourteen frames, and the variables of the upper one, at 1,000 hits. The client asks `threads`,
   `stackTrace`, `scopes` and `variables`, each once the one before is answered; and once more all in one piece, since it
-  can tell the numbers ahead.
+  can tell the numbers ahead. And a whole cycle of the same hits: from where one is resumed to the end of the read at the
+  next one.
 - 100, 1,000 and 10,000 elements of an array, of five kinds in turn: objects, strings, arrays, numbers as objects, null.
   Other elements are read before, so that all is warm.
 
@@ -39,7 +40,7 @@ from stops import is_hit
 
 SOURCE, MAIN = "stops/Deep.java", "stops.Deep"
 READER = os.path.join(TOP, "bench", "Reads.java")
-READ = re.compile(r"sum (\d+), milliseconds ([\d. ]+)\n")
+READ = re.compile(r"sum (\d+), milliseconds ([\d. ]+), cycles ([\d. ]+)\n")
 RUNS = 5
 STOPS, FRAMES = 1000, 14
 # How many numbers are told at a stop: of the frames, of the variables, and of those of them that hold something.
@@ -87,7 +88,7 @@ class Asker:
 
 
 def by_jdi(classes, line, words, numbers=()):
-    """The checksum of what JDI reads at hits, and the milliseconds of each read."""
+    """The checksum of what JDI reads at hits, the milliseconds of each read, and those of each cycle."""
     with JavaProgram(classes, MAIN, words, suspend=True) as java:
         java.wait_until_listening()
         reader = [tool("java"), "-cp", classes, "Reads", str(java.port), MAIN, str(line), *map(str, numbers)]
@@ -95,7 +96,7 @@ def by_jdi(classes, line, words, numbers=()):
     found = READ.fullmatch(said.stdout.decode())
     if not found:
         raise ValueError("the debugger by the Java Debug Interface says %r" % said.stdout)
-    return int(found[1]), [float(word) for word in found[2].split()]
+    return int(found[1]), *([float(word) for word in found[place].split()] for place in (2, 3))
 
 
 def by_bridge(program, classes, line, words, read):
@@ -120,20 +121,23 @@ def timed(asker, pid, pieces):
 
 
 def stops_read(at_once):
-    """Reads stops, each by one piece or by one a request."""
+    """Reads stops, each by one piece or by one a request, and times each cycle, too."""
 
     def read(asker, pid):
-        texts, taken, told = [], [], 0
+        texts, taken, cycles, told, left = [], [], [], 0, None
         while True:
             asked = [asker.request("threads"), asker.request("stackTrace", threadId=asker.thread),
                      asker.request("scopes", frameId=told + 1),
                      asker.request("variables", variablesReference=told + FRAMES + 1)]
             answers, milliseconds = timed(asker, pid, [asked] if at_once else [[one] for one in asked])
+            if left:
+                cycles.append(1000 * (time.perf_counter() - left))
             texts.append(answers)
             taken.append(milliseconds)
             told += NUMBERS
+            left = time.perf_counter()
             if not asker.go_on():
-                return zlib.crc32("".join(map(text_of_stop, texts)).encode()), taken
+                return zlib.crc32("".join(map(text_of_stop, texts)).encode()), taken, cycles
 
     return read
 
@@ -156,7 +160,7 @@ def elements_read(asker, pid):
         texts += [plain(child) + "\n" for child in json.loads(answer)["body"]["variables"]]
         taken.append(milliseconds)
         asker.go_on()
-    return zlib.crc32("".join(texts).encode()), taken
+    return zlib.crc32("".join(texts).encode()), taken, []
 
 
 def plain(child):
@@ -206,13 +210,18 @@ def compare_stops(program, classes, line):
     reads = stops_read(False), stops_read(True)
     runs = [[by_jdi(classes, line, words), *(by_bridge(program, classes, line, words, read) for read in reads)]
             for _ in range(RUNS)]
-    alike(total for run in runs for total, _ in run)
+    alike(total for run in runs for total, *_ in run)
     jdi, *bridge = zip(*runs)
-    one_by_one, at_once = ([[statistics.median(part) for part in zip(*taken)] for _, taken in side] for side in bridge)
+    one_by_one, at_once = ([[statistics.median(part) for part in zip(*taken)] for _, taken, _ in side]
+                           for side in bridge)
     print("%d stops of %d frames; milliseconds to read one, medians of runs in turn" % (STOPS, FRAMES))
-    beside = show("by JDI", [statistics.median(taken) for _, taken in jdi])
+    beside = show("by JDI", [statistics.median(taken) for _, taken, _ in jdi])
     show_beside("by the bridge", one_by_one, beside)
     show_beside("the same in one piece", at_once, beside)
+    print("the same hits; milliseconds from a resume to the end of the next read")
+    names = "by JDI", "by the bridge", "the same in one piece"
+    whole = [show(name, [statistics.median(cycles) for _, _, cycles in side]) for name, side in zip(names, zip(*runs))]
+    print("  ratios %.2f and, in one piece, %.2f" % (whole[1] / whole[0], whole[2] / whole[0]), flush=True)
 
 
 def compare_elements(program, classes, line):
@@ -220,10 +229,10 @@ def compare_elements(program, classes, line):
     words = [str(len(numbers)), str(sum(numbers)), str(KINDS)]
     runs = [(by_jdi(classes, line, words, numbers), by_bridge(program, classes, line, words, elements_read))
             for _ in range(RUNS)]
-    alike(total for run in runs for total, _ in run)
+    alike(total for run in runs for total, *_ in run)
     for place, number in enumerate(ELEMENTS, 1):
         print("%d elements of %d kinds; milliseconds to read them, runs in turn" % (number, KINDS))
-        jdi, bridge = ([taken[place] for _, taken in side] for side in zip(*runs))
+        jdi, bridge = ([taken[place] for _, taken, _ in side] for side in zip(*runs))
         show_beside("by the bridge", bridge, show("by JDI", jdi), number)
 
 
