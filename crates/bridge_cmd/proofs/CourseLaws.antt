@@ -1,7 +1,7 @@
 -- What wires in memory give next is the first of what is still to come.
-use Rattle.std.proofs.Common.{◌≡◌, ◌∙◌, ℕ, zero, suc, ◌≤◌, ◌<◌, Bool, true, false, List, [], ◌∷◌, ◌++◌, length, take, drop, ◌-◌}
-use Rattle.std.proofs.Common.{map, refl, sym, ap, ap₂, subst, arith, true≢false}
-use Rattle.std.specs.Prelude.{filter, if◌then◌else◌, min}
+use Rattle.std.proofs.Common.{◌≡◌, ◌∙◌, ℕ, zero, suc, ◌≤◌, Bool, true, false, List, [], ◌∷◌, ◌++◌, length, take, drop, ◌-◌}
+use Rattle.std.proofs.Common.{map, refl, sym, ap, subst, arith, true≢false}
+use Rattle.std.specs.Prelude.{if◌then◌else◌, min}
 use Rattle.std.proofs.lemmas.List.{drop_min, length-drop, length-take, length-take-le}
 use Rattle.wire_core.specs.Links.{is_open_in, first_open}
 use Rattle.wire_core.specs.Outside.{entry_of}
@@ -16,7 +16,7 @@ use Rattle.wire_core.specs.declared.outside.Entry.{Entry}
 use Rattle.wire_core.specs.declared.outside.Entry.TheVariants.{In, Out, Shut as ends, Failed as fails, Quiet as nothing}
 use Rattle.wire_core.specs.declared.script.Step.{Step}
 use Rattle.wire_core.specs.declared.script.Step.TheVariants.{Bytes, Shut, Failed, Quiet}
-use Rattle.bridge_cmd.specs.Course.{Sides, both_open, came, closing, course, is_coming, is_open, pieces}
+use Rattle.bridge_cmd.specs.Course.{Sides, came, closing, course, is_coming, is_open, pieces}
 use Rattle.bridge_cmd.specs.Course.{ends as last_ends}
 use Rattle.bridge_cmd.specs.LogWires.{entry_of_step}
 

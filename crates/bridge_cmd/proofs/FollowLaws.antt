@@ -1,21 +1,19 @@
 -- What came and what is still to come stay what the text says.
-use Rattle.std.proofs.Common.{◌≡◌, ◌∙◌, ℕ, ◌≤◌, ◌+◌, Bool, true, false, List, [], ◌∷◌, ◌++◌, length, map, refl, sym, ap, ap₂}
-use Rattle.std.proofs.Common.{subst, arith, inl, inr, true≢false, Option, Some, None, Result, Ok, Err}
+use Rattle.std.proofs.Common.{◌≡◌, ◌∙◌, ℕ, Bool, true, false, List, [], ◌∷◌, ◌++◌, length, map, refl, sym, ap, ap₂}
+use Rattle.std.proofs.Common.{subst, inl, inr, true≢false, Option, Some, None, Ok}
 use Rattle.std.proofs.Math.Seq.{take-append_seam}
-use Rattle.std.specs.Prelude.{◌⊎◌, flat_map, take, unwrap_or}
+use Rattle.std.specs.Prelude.{flat_map, take, unwrap_or}
 use Rattle.script_text.specs.Reading.{reading_of}
 use Rattle.script_text.specs.declared.log.SessionLog.{SessionLog}
 use Rattle.wire_core.specs.Links.{Counts as CountsLinks, is_open_in, first_open}
 use Rattle.wire_core.specs.Log.{entries}
-use Rattle.wire_core.specs.MemoryWires.{Gives, IsNew, NextInMemory, SendsBy, SendsInMemory, Withholds}
-use Rattle.wire_core.specs.MemoryWires.{failing_of, is_refused, outside_of, sends_to, steps_of}
+use Rattle.wire_core.specs.MemoryWires.{Gives, IsNew, NextInMemory}
+use Rattle.wire_core.specs.MemoryWires.{is_refused, outside_of, steps_of}
 use Rattle.wire_core.specs.Names.{names_of}
 use Rattle.wire_core.specs.declared.names.Names.{Names}
 use Rattle.wire_core.specs.Outside.{Adds, HasOpen, Hears, Link, Outside, entry_of}
 use Rattle.wire_core.specs.declared.memory_wires.MemoryWires.{MemoryWires}
-use Rattle.wire_core.specs.declared.outside.Side.{Side}
 use Rattle.wire_core.specs.declared.outside.Side.TheVariants.{Client, Target}
-use Rattle.wire_core.specs.declared.outside.SendFailed.{SendFailed}
 use Rattle.wire_core.specs.declared.outside.Happening.{Happening}
 use Rattle.wire_core.specs.declared.outside.Happening.TheVariants.{Bytes as came_bytes, Shut as came_end}
 use Rattle.wire_core.specs.declared.outside.Happening.TheVariants.{Failed as came_failure, Quiet as came_nothing}

@@ -1,4 +1,4 @@
-use Rattle.std.proofs.Common.{◌≡◌, sym, subst}
+use Rattle.std.proofs.Common.{sym, subst}
 use Rattle.bridge_cmd.specs.Command.{IsReplayed}
 use Rattle.bridge_cmd.specs.declared.printing.Outcome.TheVariants.{Replayed}
 use Rattle.bridge_cmd.proofs.replay.replay_log.Goals as goal

@@ -1,4 +1,4 @@
-use Rattle.std.proofs.Common.{◌≡◌, ◌∙◌, ap, sym, false, Some, List, [], ◌∷◌, ℕ}
+use Rattle.std.proofs.Common.{◌≡◌, ◌∙◌, ap, sym, false, Some, [], ◌∷◌}
 use Rattle.bridge_cmd.specs.Lines.{status_of_ending}
 use Rattle.bridge_cmd.specs.LogWires.{asked_with, told_with}
 use Rattle.bridge_cmd.proofs.FollowLaws.{came_in_order}

@@ -1,4 +1,4 @@
-use Rattle.std.proofs.Common.{◌≡◌, ◌∙◌, ap, rules, true}
+use Rattle.std.proofs.Common.{◌∙◌, ap, rules, true}
 use Rattle.clap.specs.Simple.{app_of_fields, on_top}
 use Rattle.bridge_cmd.proofs.words.bare_command.Goals as goal
 

@@ -1,7 +1,6 @@
 use Rattle.std.proofs.Common.{◌≡◌, ◌∙◌, ap, ap₂, refl, rules, subst, true, codes, List, ℕ, map, is_some}
 use Rattle.std.proofs.lemmas.Result.{IfOk-weaker}
 use Rattle.std.specs.Str.{bytes_eq}
-use Rattle.clap.specs.Simple.{app_of_fields, on_top}
 use Rattle.clap.specs.Words.{App, FailsBy, app_of, fault_of, first_of, first_value, found_of, is_simple}
 use Rattle.clap.specs.Words.{is_simple_and_free, matches_of, rule_of, with_rule}
 use Rattle.clap.specs.Built.{IsParsedFrom}

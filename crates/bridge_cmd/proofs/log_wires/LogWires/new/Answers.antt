@@ -1,4 +1,4 @@
-use Rattle.std.proofs.Common.{◌≡◌, ◌∙◌, ap}
+use Rattle.std.proofs.Common.{◌∙◌, ap}
 use Rattle.std.specs.List.{flat_map}
 use Rattle.bridge_cmd.specs.LogWires.{steps_for}
 use Rattle.bridge_cmd.proofs.FollowLaws.{follows_new}

@@ -1,4 +1,4 @@
-use Rattle.std.proofs.Common.{◌≡◌, ◌∙◌}
+use Rattle.std.proofs.Common.{◌∙◌}
 use Rattle.bridge_cmd.proofs.FollowLaws.{follows_next}
 use Rattle.bridge_cmd.proofs.log_wires.LogWiresWires.next.Goals as goal
 
