@@ -171,7 +171,7 @@ covers (AreSaid.one_more {messages} {view} message may said) =
 -- Resumes -------------------------------------------------------------------------------------------------------------
 
 -- a command that changes the target goes alone
-none_before : {pending now : List TargetCommand} {both sent : Bool} {said : Option Message} (effect : Effect)
+pub none_before : {pending now : List TargetCommand} {both sent : Bool} {said : Option Message} (effect : Effect)
     → said ≡ Some (Message.sends (an_effect effect)) → Turns pending both sent said now → pending ≡ []
 none_before effect is (Turns.stays beside same) =
     let other : true ≡ false = sym beside ∙ ap is_beside is in cc

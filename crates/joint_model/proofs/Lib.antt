@@ -1,5 +1,6 @@
 pub mod BalanceLaws
 pub mod ErrorLaws
+pub mod FlightLaws
 pub mod HeldLaws
 mod JointExample
 pub mod LookUpLaws

@@ -1,12 +1,13 @@
 -- What holds of every look-up over a target's world, and of every joint. The laws stand behind what they speak of.
 use Rattle.std.specs.Prelude.{ℕ, ◌≡◌, ◌<◌, ◌+◌, Bool, true, false, List, [], ◌∷◌, Option, Some}
+use Rattle.std.specs.List.{AllByRecursion}
 use Rattle.jdwp_commands.specs.declared.answer.Answer.TheVariants as answers
 use Rattle.jdwp_commands.specs.declared.asked.Asked.{Asked}
 use Rattle.jdwp_commands.specs.declared.asked.Asked.TheVariants as commands
 use Rattle.jdwp_commands.specs.declared.question.Question.TheVariants as questions
 use Rattle.joint_model.specs.Joints.{Joint, Packet, a_reply, some_events}
 use Rattle.joint_model.specs.Names.{Attached, Does, Lookup, Resume, Suspend, Suspension, TargetCommand, all_threads}
-use Rattle.joint_model.specs.Names.{an_effect}
+use Rattle.joint_model.specs.Names.{a_question, an_effect}
 use Rattle.joint_model.specs.Obeying.{Emits, MayRefuse, Replies, Runs, Serves, is_of_class}
 use Rattle.machine_model.specs.Facts.{fact_known, fact_of}
 use Rattle.machine_model.specs.Leaving.{sends_farewell}
@@ -163,3 +164,30 @@ abbrev pub CountsAtRest : Type 0
 CountsAtRest = (messages : List Message) (m : Machine) (w : World) → Joint messages m w [] [] [] → w.dead ≡ false
     → has_such sends_farewell messages ≡ false → IsAtRest m → m.state.phase ≡ Attached
     → w.count ≡ bit m.state.stopped + bit m.state.entry
+
+-- What is in flight ---------------------------------------------------------------------------------------------------
+
+-- the replies in flight to commands that pass a test
+abbrev pub replies_to : (TargetCommand → Bool) → Packet → ℕ
+replies_to test (a_reply command replied) = bit (test command)
+replies_to test (some_events composite) = 0
+
+-- Of commands of any kind as many are pending as the target hasn't served, and as have a reply in flight.
+abbrev pub PendingOnTheWay : Type 0
+PendingOnTheWay = (messages : List Message) (m : Machine) (w : World) (commands : List TargetCommand)
+    (packets : List Packet) (kept : List Composite) (test : TargetCommand → Bool)
+    → Joint messages m w commands packets kept
+    → count test (pending_of m) ≡ count test commands + total (replies_to test) packets
+
+-- a reply to a question is one that the target may give as its world stands
+abbrev pub IsStillSo : World → Packet → Type 0
+IsStillSo w (a_reply (a_question question) replied) = Replies w question replied
+IsStillSo w (a_reply (an_effect effect) replied) = Unit {0}
+IsStillSo w (some_events composite) = Unit {0}
+
+-- In a stop, each reply to a question that is in flight is still so when it comes.
+abbrev pub RepliesStay : Type 0
+RepliesStay = (messages : List Message) (m : Machine) (w : World) (commands : List TargetCommand)
+    (packets : List Packet) (kept : List Composite) → Joint messages m w commands packets kept → w.dead ≡ false
+    → has_such sends_farewell messages ≡ false → m.state.stopped ≡ true → count is_suspend (pending_of m) ≡ 0
+    → AllByRecursion (IsStillSo w) packets

@@ -1,7 +1,7 @@
 //! What holds of look-ups over a target's world, and of every joint of the machine and a target. Each law is the
 //! contract of a function that does nothing.
 
-ghost use Rattle.joint_model.specs.Laws.{Balances, CountsAtRest, ErrorsAreTaken, LookUps, ResumesHeld, StandsStill};
+ghost use Rattle.joint_model.specs.Laws.{Balances, CountsAtRest, ErrorsAreTaken, LookUps, PendingOnTheWay, RepliesStay, ResumesHeld, StandsStill};
 
 /// A look-up that is done by the replies of a target that obeys JDWP has the value that it has in the target's world,
 /// in whatever order they were asked for and came, and whatever numbers the target chose for its errors. One that has
@@ -47,4 +47,17 @@ pub fn a_target_runs_on_at_rest()
 /// Constants).
 pub fn no_error_of_an_obeying_target_ends_a_session()
     ensures { ErrorsAreTaken }
+{}
+
+/// What is pending is on its way: of commands of any kind as many are pending as the target hasn't served, and as have
+/// a reply in flight (JDWP, JDWP Packets).
+pub fn what_is_pending_is_on_its_way()
+    ensures { PendingOnTheWay }
+{}
+
+/// As long as a stop is in hand and no Suspend waits for its reply, each reply to a question that is in flight from a
+/// target that obeys JDWP, lives and wasn't left is one that the target may give as its world stands: nothing that it
+/// tells has changed since (DAP specification, Events, Stopped; JDWP, JDWP Packets).
+pub fn replies_in_flight_stay_so_in_a_stop()
+    ensures { RepliesStay }
 {}
