@@ -18,7 +18,8 @@ use Rattle.machine_model.specs.Runs.{Allows, Message, Run}
 use Rattle.machine_model.specs.State.{Hand, Machine, State, has_waiting, is_flying, is_gone}
 use Rattle.machine_model.specs.Telling.{after_event}
 use Rattle.machine_model.specs.declared.parts.Event.{Event}
-use Rattle.machine_model.specs.declared.parts.Event.TheVariants.{Initialized, News as some_news, Stopped as a_stop, Terminated}
+use Rattle.machine_model.specs.declared.parts.Event.TheVariants.{Initialized, News as some_news, Stopped as a_stop}
+use Rattle.machine_model.specs.declared.parts.Event.TheVariants.{Terminated}
 use Rattle.machine_model.specs.declared.parts.Note.{Note}
 use Rattle.machine_model.specs.declared.parts.Part.{Part}
 use Rattle.machine_model.specs.declared.parts.Stopping.{Stopping}
@@ -314,7 +315,8 @@ same_reply : {w now : World} {question : Question} {replied : Replied} → reply
 same_reply same (Replies.says is) = Replies.says (same ∙ is)
 same_reply same (Replies.refuses is may) = Replies.refuses (same ∙ is) may
 
-still_so : (w now : World) (packets : List Packet) → ((question : Question) → reply_of now question ≡ reply_of w question)
+still_so : (w now : World) (packets : List Packet)
+    → ((question : Question) → reply_of now question ≡ reply_of w question)
     → AllByRecursion (IsStillSo w) packets → AllByRecursion (IsStillSo now) packets
 still_so w now [] same are = tt
 still_so w now (a_reply (a_question question) replied ∷ packets) same are =

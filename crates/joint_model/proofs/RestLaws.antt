@@ -137,7 +137,8 @@ fresh_near : (phase : Phase) → is_fresh phase ≡ true → is_gone phase ≡ f
 fresh_near phase is = grind (arith, is)
 
 event_exactly : (some undone : ℕ) (view : View) (event : EventTold)
-    → may_be view (Message.tells (an_event event)) ≡ true → is_gone (event_view event view).phase ≡ false → (is_gone view.phase ≡ false → Exactly some undone view)
+    → may_be view (Message.tells (an_event event)) ≡ true → is_gone (event_view event view).phase ≡ false
+    → (is_gone view.phase ≡ false → Exactly some undone view)
     → Exactly some undone (event_view event view)
 event_exactly some undone view told_events.Initialized may near h = h (fresh_near view.phase may)
 event_exactly some undone view told_events.Terminated may near h = absurd cc

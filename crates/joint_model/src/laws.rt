@@ -1,7 +1,8 @@
 //! What holds of look-ups over a target's world, and of every joint of the machine and a target. Each law is the
 //! contract of a function that does nothing.
 
-ghost use Rattle.joint_model.specs.Laws.{Balances, CountsAtRest, ErrorsAreTaken, LookUps, PendingOnTheWay, RepliesStay, ResumesHeld, StandsStill};
+ghost use Rattle.joint_model.specs.Laws.{Balances, CountsAtRest, ErrorsAreTaken, LookUps, PendingOnTheWay};
+ghost use Rattle.joint_model.specs.Laws.{RepliesStay, ResumesHeld, StandsStill};
 
 /// A look-up that is done by the replies of a target that obeys JDWP has the value that it has in the target's world,
 /// in whatever order they were asked for and came, and whatever numbers the target chose for its errors. One that has
