@@ -41,7 +41,7 @@ use Rattle.joint_model.proofs.StillLaws.{stands_still}
 
 -- Counts --------------------------------------------------------------------------------------------------------------
 
-count_append : (test : TargetCommand → Bool) (some others : List TargetCommand)
+pub count_append : (test : TargetCommand → Bool) (some others : List TargetCommand)
     → count test (some ++ others) ≡ count test some + count test others
 count_append test [] others = omega arith
 count_append test (command ∷ some) others = let more = count_append test some others in omega arith
@@ -126,11 +126,11 @@ pending_on_way messages m w commands packets kept test j =
 
 -- A stop begins -------------------------------------------------------------------------------------------------------
 
-silent_move : {m : Machine} → (due false m).act ≡ Act.Goes → Moves m None (due false m).next
+pub silent_move : {m : Machine} → (due false m).act ≡ Act.Goes → Moves m None (due false m).next
 silent_move {m} is = rw is at (walks_due m)
 
 -- where a stop is in hand behind a move, it was before it, nothing was pending, or a Suspend is sent
-data Begins (m : Machine) (said : Option Message) : Type 0 where
+pub data Begins (m : Machine) (said : Option Message) : Type 0 where
   stood : m.state.stopped ≡ true → Begins m said
   silent : pending_of m ≡ [] → Begins m said
   by_pause : said ≡ Some (Message.sends (an_effect (Does Suspend))) → Begins m said
@@ -157,7 +157,7 @@ none_at_stop {m = m} {hand} {stopping} {rest} r is at =
 resumed_stop : (suspension : Suspension) (stopped : Bool) → still_stopped suspension stopped ≡ true → stopped ≡ true
 resumed_stop suspension stopped is = grind (arith, is)
 
-noted_stop : (note : Note) (state : State) → (noted note state).stopped ≡ state.stopped
+pub noted_stop : (note : Note) (state : State) → (noted note state).stopped ≡ state.stopped
 noted_stop note state = grind arith
 
 told_begins : {messages : List Message} {m : Machine} {hand : Hand} {rest : List Part} {said : Option Message}
@@ -168,7 +168,7 @@ told_begins (some_news news) r is at stop = Begins.stood stop
 told_begins (a_stop stopping) r is at stop = Begins.silent (none_at_stop r is at)
 told_begins Terminated r is at stop = absurd cc
 
-begins : {messages : List Message} (m next : Machine) (said : Option Message) → Run messages m → Moves m said next
+pub begins : {messages : List Message} (m next : Machine) (said : Option Message) → Run messages m → Moves m said next
     → next.state.stopped ≡ true → Begins m said
 begins m next said r (Moves.responds {outcome = outcome} is at item) stop =
     Begins.stood (sym (numbered_stop outcome m.state) ∙ stop)
@@ -187,11 +187,11 @@ begins m next said r _ stop = Begins.stood stop
 
 -- A command that changes the target goes alone ------------------------------------------------------------------------
 
-abbrev is_question : TargetCommand → Bool
+abbrev pub is_question : TargetCommand → Bool
 is_question (a_question question) = true
 is_question (an_effect effect) = false
 
-no_change : (pending : List TargetCommand) → has_change pending ≡ false → count is_change pending ≡ 0
+pub no_change : (pending : List TargetCommand) → has_change pending ≡ false → count is_change pending ≡ 0
 no_change [] is = refl
 no_change (command ∷ pending) is =
     let two = neither (is_change command) (has_change pending) is in
@@ -201,7 +201,7 @@ no_change (command ∷ pending) is =
     neither true others is = absurd cc
     neither false others is = (refl, is)
 
-change_alone : {messages : List Message} {pending : List TargetCommand} → ArePending messages pending
+pub change_alone : {messages : List Message} {pending : List TargetCommand} → ArePending messages pending
     → 0 < count is_change pending → count is_question pending ≡ 0
 change_alone ArePending.none some = refl
 change_alone (ArePending.aside message is h) some = change_alone h some
@@ -292,7 +292,7 @@ before_turn {messages} {m} {w} {packets = packets} j (Turns.answers command repl
         let one : bit (is_suspend command) ≡ 0 = ap bit is in
         by_begins j (omega arith) (λ is. absurd cc) stays b
 
-before_message : {messages : List Message} {m next : Machine} {w : World} {commands : List TargetCommand}
+pub before_message : {messages : List Message} {m next : Machine} {w : World} {commands : List TargetCommand}
     {packets : List Packet} {kept : List Composite} {message : Message} → Joint messages m w commands packets kept
     → Allows m message next → next.state.stopped ≡ true → count is_suspend (pending_of next) ≡ 0 → Stays m w packets
     → AllByRecursion (IsStillSo w) packets
@@ -310,7 +310,7 @@ before_goes {m = m} j is stop few stays =
     before_turn j (turned m (due false m).next None (all_open r).holds (silent_move is)) few
     (begins m (due false m).next None r (silent_move is) stop) stays
 
-same_reply : {w now : World} {question : Question} {replied : Replied} → reply_of now question ≡ reply_of w question
+pub same_reply : {w now : World} {question : Question} {replied : Replied} → reply_of now question ≡ reply_of w question
     → Replies w question replied → Replies now question replied
 same_reply same (Replies.says is) = Replies.says (same ∙ is)
 same_reply same (Replies.refuses is may) = Replies.refuses (same ∙ is) may
@@ -339,7 +339,7 @@ served_so {messages} {m} {w} {now} {packets} {kept} {replied} (an_effect effect)
     all_push (IsStillSo now) packets (a_reply (an_effect effect) replied)
     (no_flight now j (change_alone (all_open (run_of j)).pending some)) tt
 
-replies_so : {messages : List Message} {m : Machine} {w : World} {commands : List TargetCommand}
+pub replies_so : {messages : List Message} {m : Machine} {w : World} {commands : List TargetCommand}
     {packets : List Packet} {kept : List Composite} → Joint messages m w commands packets kept → w.dead ≡ false
     → has_such sends_farewell messages ≡ false → m.state.stopped ≡ true → count is_suspend (pending_of m) ≡ 0
     → AllByRecursion (IsStillSo w) packets

@@ -1,6 +1,7 @@
 pub mod BalanceLaws
 pub mod ErrorLaws
 pub mod FlightLaws
+pub mod HandLaws
 pub mod HeldLaws
 mod JointExample
 pub mod LookUpLaws

@@ -1,6 +1,7 @@
 -- What holds of every look-up over a target's world, and of every joint. The laws stand behind what they speak of.
-use Rattle.std.specs.Prelude.{ℕ, ◌≡◌, ◌<◌, ◌+◌, Bool, true, false, List, [], ◌∷◌, Option, Some}
+use Rattle.std.specs.Prelude.{ℕ, ◌≡◌, ◌<◌, ◌+◌, Bool, true, false, List, [], ◌∷◌, Option, None, Some}
 use Rattle.std.specs.List.{AllByRecursion}
+use Rattle.class_tables.specs.Lookups.{found_in}
 use Rattle.jdwp_commands.specs.declared.answer.Answer.TheVariants as answers
 use Rattle.jdwp_commands.specs.declared.asked.Asked.{Asked}
 use Rattle.jdwp_commands.specs.declared.asked.Asked.TheVariants as commands
@@ -9,6 +10,8 @@ use Rattle.joint_model.specs.Joints.{Joint, Packet, a_reply, some_events}
 use Rattle.joint_model.specs.Names.{Attached, Does, Lookup, Resume, Suspend, Suspension, TargetCommand, all_threads}
 use Rattle.joint_model.specs.Names.{a_question, an_effect}
 use Rattle.joint_model.specs.Obeying.{Emits, MayRefuse, Replies, Runs, Serves, is_of_class}
+use Rattle.machine_model.specs.declared.items.Item.{Item}
+use Rattle.machine_model.specs.declared.items.Item.TheVariants.{Request as a_request}
 use Rattle.machine_model.specs.Facts.{fact_known, fact_of}
 use Rattle.machine_model.specs.Leaving.{sends_farewell}
 use Rattle.machine_model.specs.Lookups.{found_for, plan, sight_of}
@@ -191,3 +194,24 @@ RepliesStay = (messages : List Message) (m : Machine) (w : World) (commands : Li
     (packets : List Packet) (kept : List Composite) → Joint messages m w commands packets kept → w.dead ≡ false
     → has_such sends_farewell messages ≡ false → m.state.stopped ≡ true → count is_suspend (pending_of m) ≡ 0
     → AllByRecursion (IsStillSo w) packets
+
+-- A look-up in a stop -------------------------------------------------------------------------------------------------
+
+abbrev pub is_request : Item → Bool
+is_request (a_request request) = true
+is_request _ = false
+
+-- what is known of classes is so in the world
+pub record AreFactsOf (w : World) (state : State) : Type 0 where
+  pub facts : (question : Question) (fact : Option Answer) → fact_known (found_in state.classes) question ≡ Some fact
+      → fact ≡ fact_of question (answer_in (reply_of w question))
+
+-- In a stop, where what is known of classes is so in the world, a look-up that is done for a request, which has changed
+-- nothing yet, has what it has in the target's world as that stands; and one that has failed has nothing there.
+abbrev pub ShowsTheWorld : Type 0
+ShowsTheWorld = (messages : List Message) (m : Machine) (w : World) (commands : List TargetCommand)
+    (packets : List Packet) (kept : List Composite) (hand : Hand) (lookup : Lookup)
+    → Joint messages m w commands packets kept → w.dead ≡ false → has_such sends_farewell messages ≡ false
+    → m.state.stopped ≡ true → count is_suspend (pending_of m) ≡ 0 → m.hand ≡ Some hand → is_request hand.item ≡ true
+    → hand.effect ≡ None → AreFactsOf w m.state
+    → Agrees (found_for lookup m.state hand) (of_world (reply_of w) (plan lookup m.state))

@@ -2,7 +2,7 @@
 //! contract of a function that does nothing.
 
 ghost use Rattle.joint_model.specs.Laws.{Balances, CountsAtRest, ErrorsAreTaken, LookUps, PendingOnTheWay};
-ghost use Rattle.joint_model.specs.Laws.{RepliesStay, ResumesHeld, StandsStill};
+ghost use Rattle.joint_model.specs.Laws.{RepliesStay, ResumesHeld, ShowsTheWorld, StandsStill};
 
 /// A look-up that is done by the replies of a target that obeys JDWP has the value that it has in the target's world,
 /// in whatever order they were asked for and came, and whatever numbers the target chose for its errors. One that has
@@ -61,4 +61,13 @@ pub fn what_is_pending_is_on_its_way()
 /// tells has changed since (DAP specification, Events, Stopped; JDWP, JDWP Packets).
 pub fn replies_in_flight_stay_so_in_a_stop()
     ensures { RepliesStay }
+{}
+
+/// As long as a stop is in hand and no Suspend waits for its reply, over a target that obeys JDWP, lives and wasn't
+/// left, and where what is known of classes is so in its world: a look-up that is done for a request, which has changed
+/// nothing yet, has the value that it has in that world as it stands; one that has failed has none there (DAP
+/// specification, StackTrace, Scopes, Variables, Evaluate and ExceptionInfo requests; JDWP, Detailed Command
+/// Information).
+pub fn a_look_up_in_a_stop_shows_the_world_as_it_stands()
+    ensures { ShowsTheWorld }
 {}
