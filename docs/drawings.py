@@ -1,5 +1,5 @@
 #!/usr/bin/env python3
-"""Draws the documents' pictures, docs/layers.svg and docs/session.svg, from the tables ROWS and MESSAGES.
+"""Draws the documents' pictures, layers.svg, session.svg and stop.svg, from the tables ROWS, SESSION and STOP.
 
 usage: docs/drawings.py
 """
@@ -34,7 +34,7 @@ LEGEND = [
 ]
 
 # A session's messages: the way of each (the editor's side has one sign, the Java machine's two), and what it says.
-MESSAGES = [
+SESSION = [
     (">", "initialize"), ("<", "success, with the capabilities"),
     (">", "attach, with the roots of sources"), (">>", "JDWP-Handshake"), ("<<", "JDWP-Handshake"),
     (">>", "1: IDSizes"), ("<<", "1: 8, 8, 8, 8, 8"),
@@ -44,6 +44,21 @@ MESSAGES = [
     (">>", "5: ThreadName of 1"), (">>", "6: ThreadName of 2"), ("<<", "5: main"), ("<<", "6: Finalizer"),
     ("<", "success: 1 main, 2 Finalizer"),
     (">", "disconnect"), (">>", "7: Dispose"), ("<<", "7: done"), ("<", "success"),
+]
+
+# The messages of one stop, likewise, of examples/shop/Orders.java at the line `total += cost`.
+STOP = [
+    ("<<", "all threads suspended: Breakpoint, main"), ("<", "stopped: breakpoint 1, thread 2"),
+    (">", "stackTrace of thread 2"), (">>", "FrameCount of main"), ("<<", "3"), (">>", "Frames of main, 3 from 0 on"),
+    ("<<", "3 frames, each with its location"), ("<", "success: 1 Order.total, 2 Orders.take, 3 Orders.main"),
+    (">", "scopes of frame 1"), ("<", "success: Locals, under the number 4"),
+    (">", "variables of 4"), (">>", "ThisObject of the frame"), (">>", "VariableTable of the method"),
+    ("<<", "an object"), ("<<", "this, total, line, cost"), (">>", "GetSlots of the frame: total, line, cost"),
+    ("<<", "0, an object, 10"), (">>", "ObjectType of this"), (">>", "ObjectType of line"), ("<<", "Order"),
+    ("<<", "Line"), ("<", "success: this = Order@5, total = 0, line = Line@6, cost = 10"),
+    (">", "setVariable of 4: cost to 1"), (">>", "ThisObject of the frame"), ("<<", "an object"),
+    (">>", "SetSlot of the frame: cost to 1"), ("<<", "done"), ("<", "success: 1"),
+    (">", "continue thread 2"), (">>", "Resume"), ("<<", "done"), ("<", "success: all threads run on"),
 ]
 STEP = 24
 
@@ -86,17 +101,17 @@ def layers():
     return rows, y + 30
 
 
-def session():
-    """The messages of a session, from top to bottom, between three lines of time."""
+def exchange(messages):
+    """Messages, from top to bottom, between three lines of time."""
     editor, bridge, java = 120, WIDTH / 2, WIDTH - 120
     ways = {">": (editor, bridge), "<": (bridge, editor), ">>": (bridge, java), "<<": (java, bridge)}
-    bottom = 70 + STEP * len(MESSAGES)
+    bottom = 70 + STEP * len(messages)
     rows = []
     for x in (editor, bridge, java):
         rows.append('<line x1="%g" y1="50" x2="%g" y2="%g" stroke="#99a"/>' % (x, x, bottom))
     rows += box(editor - 60, 10, 120, 40, OUTSIDE, "editor") + box(bridge - 60, 10, 120, 40, PROVED, "bridge")
     rows += box(java - 60, 10, 120, 40, OUTSIDE, "Java machine")
-    for at, (way, text) in enumerate(MESSAGES):
+    for at, (way, text) in enumerate(messages):
         start, to = ways[way]
         inset = 3 if start < to else -3
         rows += arrow(start + inset, 80 + STEP * at, to - inset, text, "end")
@@ -118,4 +133,5 @@ def write(name, drawing):
 
 if __name__ == "__main__":
     write("layers.svg", layers())
-    write("session.svg", session())
+    write("session.svg", exchange(SESSION))
+    write("stop.svg", exchange(STOP))

@@ -1,49 +1,91 @@
 ;;; batch-session.el --- A session of dap-mode with the bridge, in batch -*- lexical-binding: t -*-
 
 ;;; Commentary:
-;; Attaches to the bridge that listens on BRIDGE_PORT, with a breakpoint in the file BRIDGE_FILE, asks for the threads,
-;; prints their names, and disconnects. `examples/emacs.py' runs this.
+;; Attaches to the bridge that listens on BRIDGE_PORT, with breakpoints in examples/shop/Orders.java, which waits for its
+;; debugger.  Stops there, steps, shows variables and evaluates, sets a variable and a field, and goes on to the end.
+;; Prints what dap-mode knows of each.  `examples/emacs.py' runs this.
 
 ;;; Code:
 (setq debug-on-error nil
       backtrace-on-error-noninteractive nil
-      ;; In batch an error of a process filter would end Emacs. Here it is shown and no more, as in a window.
+      ;; In batch an error of a process filter would end Emacs.  Here it is shown and no more, as in a window.
       command-error-function (lambda (data context _)
                                (princ (format "shown: %s%s\n" context (error-message-string data)))))
 (package-initialize)
-(load (expand-file-name "bridge-dap-mode.el" (file-name-directory load-file-name)) nil t)
+(defconst batch-session-folder (file-name-directory load-file-name))
+(load (expand-file-name "bridge-dap-mode.el" batch-session-folder) nil t)
 (setq dap-breakpoints-file (make-temp-file "bridge-breakpoints"))
+(defconst batch-session-source (expand-file-name "../examples/shop/Orders.java" batch-session-folder))
 
 (defun batch-session-await (test)
-  "Wait until TEST gives a value, at most ten seconds, and return it."
-  (let ((end (+ (float-time) 10))
+  "Wait until TEST gives a value, at most twenty seconds, and return it."
+  (let ((end (+ (float-time) 20))
         found)
     (while (not (or (setq found (funcall test)) (> (float-time) end)))
       (accept-process-output nil 0.05))
     found))
 
-(defun batch-session-threads (session)
-  "Return the names of the threads that SESSION shows, asked once it is attached."
-  (let (answer)
-    (batch-session-await (lambda () (dap--debug-session-current-capabilities session)))
-    (batch-session-await (lambda () (not (eq (dap--debug-session-state session) 'pending))))
-    (dap--send-message (dap--make-request "threads") (lambda (message) (setq answer message)) session)
-    (batch-session-await (lambda () answer))
-    (mapcar (lambda (thread) (gethash "name" thread)) (gethash "threads" (gethash "body" answer)))))
+(defun batch-session-toggle (text)
+  "Set a breakpoint at the line of TEXT, or take it away."
+  (with-current-buffer (find-file-noselect batch-session-source)
+    (save-excursion
+      (goto-char (point-min))
+      (search-forward text)
+      (dap-breakpoint-toggle))))
 
-(with-current-buffer (find-file-noselect (getenv "BRIDGE_FILE"))
-  (fundamental-mode)
-  (goto-char (point-min))
-  (search-forward "println")
-  (dap-breakpoint-add))
-(let ((settings (copy-tree (cdr (assoc "Java by the bridge" dap-debug-template-configurations)))))
-  (plist-put settings :debugServer (string-to-number (getenv "BRIDGE_PORT")))
-  (dap-start-debugging (funcall (gethash "bridge" dap--debug-providers) settings)))
-(let ((session (dap--cur-session)))
-  (princ (format "threads: %s\n" (mapconcat #'identity (batch-session-threads session) ", ")))
-  (princ (format "state: %s\n" (dap--debug-session-state session)))
-  (dap-disconnect session)
-  (batch-session-await (lambda () (not (process-live-p (dap--debug-session-proc session)))))
+(defun batch-session-started ()
+  "Start a session and return it."
+  (let ((settings (copy-tree (cdr (assoc "Java by the bridge" dap-debug-template-configurations)))))
+    (plist-put settings :debugServer (string-to-number (getenv "BRIDGE_PORT")))
+    (plist-put settings :sourceRoots (vector (expand-file-name "../examples" batch-session-folder)))
+    (dap-start-debugging (funcall (gethash "bridge" dap--debug-providers) settings))
+    (dap--cur-session)))
+
+(defun batch-session-stopped (session)
+  "Wait until SESSION shows a frame, print where it and the cursor stand, and return the frame."
+  (let ((frame (batch-session-await (lambda () (dap--debug-session-active-frame session)))))
+    (princ (format "stopped: %s, line %d, cursor in %s at line %d\n" (gethash "name" frame) (gethash "line" frame)
+                   (buffer-name (window-buffer)) (with-current-buffer (window-buffer) (line-number-at-pos))))
+    frame))
+
+(defun batch-session-locals (session frame)
+  "Print the variables of FRAME as SESSION shows them, and return their reference."
+  (let* ((scopes (gethash "scopes" (dap-request session "scopes" :frameId (gethash "id" frame))))
+         (locals (gethash "variablesReference" (car scopes)))
+         (shown (dap-ui-render-variables session locals nil)))
+    (princ (format "%s: %s\n" (gethash "name" (car scopes))
+                   (mapconcat (lambda (each) (substring-no-properties (plist-get each :label))) shown "; ")))
+    locals))
+
+(defun batch-session-set (session reference name value)
+  "Set the variable NAME of what has this REFERENCE to VALUE, and print what SESSION is answered."
+  (let ((said (dap-request session "setVariable" :variablesReference reference :name name :value value)))
+    (princ (format "set: %s = %s\n" name (gethash "value" said)))))
+
+(defun batch-session-evaluate (session frame expression)
+  "Print the value of EXPRESSION in FRAME."
+  (let ((said (dap-request session "evaluate" :expression expression :frameId (gethash "id" frame) :context "hover")))
+    (princ (format "evaluated: %s = %s\n" expression (gethash "result" said)))
+    said))
+
+(batch-session-toggle "total += cost")
+(batch-session-toggle "while (isOpen)")
+(let* ((session (batch-session-started))
+       (frame (batch-session-stopped session)))
+  (batch-session-evaluate session frame "line.thing")
+  (batch-session-set session (batch-session-locals session frame) "cost" "1")
+  (dolist (step '(dap-next dap-next dap-step-in dap-step-out))
+    (funcall step session)
+    (batch-session-stopped session))
+  (princ (format "threads: %s\n" (mapconcat (lambda (thread) (gethash "name" thread))
+                                            (gethash "threads" (dap-request session "threads")) ", ")))
+  (batch-session-toggle "total += cost")
+  (dap-continue session (dap--debug-session-thread-id session))
+  (setq frame (batch-session-stopped session))
+  (let ((shop (batch-session-evaluate session frame "this")))
+    (batch-session-set session (gethash "variablesReference" shop) "isOpen" "false"))
+  (dap-continue session (dap--debug-session-thread-id session))
+  (batch-session-await (lambda () (eq (dap--debug-session-state session) 'terminated)))
   (princ (format "state: %s\n" (dap--debug-session-state session))))
 (delete-file dap-breakpoints-file)
 

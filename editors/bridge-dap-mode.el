@@ -8,6 +8,8 @@
 
 ;;; Code:
 (require 'dap-mode)
+;; Filters of exceptions stand there, and dap-mode asks for them wherever a breakpoint is set.
+(require 'dap-ui)
 
 (dap-register-debug-provider "bridge" #'identity)
 

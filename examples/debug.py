@@ -35,7 +35,8 @@ from over_tcp import free_port
 
 # How long an editor has to disconnect once the Java program has ended, in seconds.
 LEAVE = 5
-# How long a bridge that reached its target may take to listen, in seconds, and the status of one that didn't reach it.
+# How long a bridge that reached its target may take to listen, or a Java program to end behind it, in seconds; and the
+# status of a bridge that didn't reach its target.
 SETTLE = 3
 NOT_OPENED = 7
 PACKAGE = re.compile(r"^\s*package\s+([\w.]+)\s*;", re.MULTILINE)
@@ -147,6 +148,8 @@ def watched(bridge, java):
         time.sleep(0.05)
     print("Session: %s" % bridge.stdout.read().strip(), flush=True)
     if left is None:
+        with contextlib.suppress(subprocess.TimeoutExpired):
+            java.wait(SETTLE)
         if java.poll() is None:
             print("Java program: runs on; Ctrl-C ends it", flush=True)
         tell_end(java)
