@@ -32,3 +32,6 @@ pub use sizes::{BadSizes, IdSizes};
 pub use tag::{Tag, TypeTag};
 pub use value::Value;
 pub use writer::Writer;
+
+#[cfg(test)]
+mod tests;

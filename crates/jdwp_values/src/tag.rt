@@ -124,3 +124,60 @@ impl Tag {
         }
     }
 }
+
+#[cfg(test)]
+mod tests {
+    use super::*;
+
+    #[test]
+    fn type_tags_have_the_bytes_up_to_three(rt: HostRuntime) {
+        for (byte, tag) in [
+            (0, TypeTag::Nothing),
+            (1, TypeTag::Class),
+            (2, TypeTag::Interface),
+            (3, TypeTag::Array),
+        ] {
+            assert_eq!(rt; TypeTag::from_byte(byte), Some(tag));
+            assert_eq!(rt; tag.byte(), byte);
+        }
+        assert_eq!(rt; TypeTag::from_byte(4), None);
+    }
+
+    // The bytes as the standard has them, in decimals (JDWP, Constants, Tag).
+    #[test]
+    fn tags_of_numbers_are_no_references(rt: HostRuntime) {
+        for (byte, tag) in [
+            (66, Tag::Byte),
+            (67, Tag::Char),
+            (68, Tag::Double),
+            (70, Tag::Float),
+            (73, Tag::Int),
+            (74, Tag::Long),
+            (83, Tag::Short),
+            (90, Tag::Boolean),
+            (86, Tag::Void),
+        ] {
+            assert_eq!(rt; Tag::from_byte(byte), Some(tag));
+            assert_eq!(rt; tag.byte(), byte);
+            assert_eq!(rt; tag.is_reference(), false);
+        }
+        assert_eq!(rt; Tag::from_byte(88), None);
+    }
+
+    #[test]
+    fn tags_of_objects_are_references(rt: HostRuntime) {
+        for (byte, tag) in [
+            (76, Tag::Object),
+            (91, Tag::Array),
+            (115, Tag::String),
+            (116, Tag::Thread),
+            (103, Tag::ThreadGroup),
+            (108, Tag::ClassLoader),
+            (99, Tag::ClassObject),
+        ] {
+            assert_eq!(rt; Tag::from_byte(byte), Some(tag));
+            assert_eq!(rt; tag.byte(), byte);
+            assert_eq!(rt; tag.is_reference(), true);
+        }
+    }
+}

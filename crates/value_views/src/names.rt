@@ -117,3 +117,47 @@ pub fn class_name(alloc: Global, signature: &[u8]) -> Result<Text, NoMemory>
     }
     Ok(Text::from_string(text))
 }
+
+#[cfg(test)]
+mod tests {
+    use super::*;
+    use std::test::Fail;
+
+    #[test]
+    fn types_have_the_names_that_the_language_writes(rt: HostRuntime) -> Result<(), Fail> {
+        for (signature, want) in [
+            (b"B".as_slice(), "byte"),
+            (b"C", "char"),
+            (b"D", "double"),
+            (b"F", "float"),
+            (b"I", "int"),
+            (b"J", "long"),
+            (b"S", "short"),
+            (b"Z", "boolean"),
+            (b"V", "void"),
+            (b"[I", "int[]"),
+            (b"[[Lcom/acme/Foo;", "com.acme.Foo[][]"),
+            (b"Lcom/acme/Foo$Bar;", "com.acme.Foo$Bar"),
+            (
+                b"Lcom/acme/Foo$$Lambda$1.0x00007f5c0c0018c0;",
+                "com.acme.Foo$$Lambda$1.0x00007f5c0c0018c0",
+            ),
+            (b"Lgr\xc3\xb6\xc3\x9fe/A\xff;", "größe.A\u{fffd}"),
+            (b"L;", ""),
+            (b"L", "L"),
+            (b"LX", "LX"),
+            (b"II", "II"),
+            (b"X", "X"),
+            (b"", ""),
+            (b"[", "[]"),
+            (b"a/\xed", "a/\u{fffd}"),
+        ] {
+            assert_eq!(rt;
+                class_name(rt.alloc(), signature)?.as_str(),
+                want,
+                "of {signature:?}"
+            );
+        }
+        Ok(())
+    }
+}

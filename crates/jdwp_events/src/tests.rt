@@ -1,9 +1,6 @@
 ghost use Rattle.std.specs.Prelude.{◌≡◌, [], ◌∷◌, IfOk};
 
-use jdwp_events::{
-    CompositeFault, Event, EventKind, Modifier, ModifierKind, Policy, read_composite,
-    write_composite,
-};
+use super::*;
 use jdwp_values::{
     ClassId, IdSizes, Location, MethodId, ObjectId, ReadTrouble, Reader, Row, RowFault, ThreadId,
     TypeTag, Value, ValueFault, Writer,

@@ -1,4 +1,4 @@
-use class_tables::{ClassView, Classes};
+use super::*;
 use jdwp_values::{
     ClassId, Field, FieldId, Line, LineTable, Location, Method, MethodId, TypeTag, Variable,
 };

@@ -1,9 +1,6 @@
 ghost use Rattle.std.specs.Prelude.{◌≡◌, ◌<◌, ◌^◌, length};
 
-use jdwp_commands::{
-    Asked, BodyFault, CommandKind, Effect, EffectKind, Question, QuestionKind, Slot,
-    an_answer_has_a_spelling, read_answer, read_command, write, write_answer,
-};
+use super::*;
 use jdwp_events::{EventKind, Policy};
 use jdwp_values::{FieldId, FrameId, IdSizes, Limit, ObjectId, ThreadId};
 use std::alloc::Global;

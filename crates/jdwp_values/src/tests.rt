@@ -1,10 +1,6 @@
 ghost use Rattle.std.specs.Prelude.{◌≡◌, [], ◌∷◌, IfOk};
 
-use jdwp_values::{
-    BadSizes, ClassId, Field, FieldId, FrameId, IdSizes, Limit, Line, LineTable, Location, Method,
-    MethodId, ObjectId, ReadTrouble, Reader, Row, RowFault, Tag, ThreadId, TypeTag, Value,
-    ValueFault, Variable, Writer, lossy, read_list, write_list,
-};
+use super::*;
 use std::alloc::Global;
 use std::test::Fail;
 use wire_core::{Blob, NoMemory};
@@ -391,94 +387,4 @@ fn a_row_fails_by_want_of_memory_or_by_a_part(rt: HostRuntime) {
     };
     assert_eq!(rt; RowFault::from(NoMemory), RowFault::NoMemory);
     assert_eq!(rt; RowFault::from(trouble), RowFault::Part(trouble));
-}
-
-#[test]
-fn each_limit_allows_its_counts(rt: HostRuntime) {
-    for (limit, count, want) in [
-        (Limit::Any, 0, true),
-        (Limit::Any, u32::MAX, true),
-        (Limit::Exactly(2), 1, false),
-        (Limit::Exactly(2), 2, true),
-        (Limit::Exactly(2), 3, false),
-        (Limit::AtMost(2), 0, true),
-        (Limit::AtMost(2), 2, true),
-        (Limit::AtMost(2), 3, false),
-        (Limit::Never, 0, false),
-    ] {
-        assert_eq!(rt; limit.allows(count), want, "{limit:?} at {count}");
-    }
-}
-
-#[test]
-fn each_byte_that_begins_no_sequence_is_replaced(rt: HostRuntime) -> Result<(), Fail> {
-    for (bytes, want) in [
-        (b"".as_slice(), ""),
-        (b"main".as_slice(), "main"),
-        (b"caf\xc3\xa9".as_slice(), "caf\u{e9}"),
-        (b"\xf0\x9f\x98\x80!".as_slice(), "\u{1f600}!"),
-        // A lone surrogate, an overlong form, a byte of no sequence, and a truncated sequence.
-        (b"a\xed\xa0\x80z".as_slice(), "a\u{fffd}\u{fffd}\u{fffd}z"),
-        (b"\xc0\x80\xc3\xa9".as_slice(), "\u{fffd}\u{fffd}\u{e9}"),
-        (b"\xff".as_slice(), "\u{fffd}"),
-        (
-            b"\xe2\x82\xac\xe2\x82".as_slice(),
-            "\u{20ac}\u{fffd}\u{fffd}",
-        ),
-    ] {
-        assert_eq!(rt; lossy(rt.alloc(), bytes)?.as_str(), want, "of {bytes:?}");
-    }
-    Ok(())
-}
-
-#[test]
-fn type_tags_have_the_bytes_up_to_three(rt: HostRuntime) {
-    for (byte, tag) in [
-        (0, TypeTag::Nothing),
-        (1, TypeTag::Class),
-        (2, TypeTag::Interface),
-        (3, TypeTag::Array),
-    ] {
-        assert_eq!(rt; TypeTag::from_byte(byte), Some(tag));
-        assert_eq!(rt; tag.byte(), byte);
-    }
-    assert_eq!(rt; TypeTag::from_byte(4), None);
-}
-
-// The bytes as the standard has them, in decimals (JDWP, Constants, Tag).
-#[test]
-fn tags_of_numbers_are_no_references(rt: HostRuntime) {
-    for (byte, tag) in [
-        (66, Tag::Byte),
-        (67, Tag::Char),
-        (68, Tag::Double),
-        (70, Tag::Float),
-        (73, Tag::Int),
-        (74, Tag::Long),
-        (83, Tag::Short),
-        (90, Tag::Boolean),
-        (86, Tag::Void),
-    ] {
-        assert_eq!(rt; Tag::from_byte(byte), Some(tag));
-        assert_eq!(rt; tag.byte(), byte);
-        assert_eq!(rt; tag.is_reference(), false);
-    }
-    assert_eq!(rt; Tag::from_byte(88), None);
-}
-
-#[test]
-fn tags_of_objects_are_references(rt: HostRuntime) {
-    for (byte, tag) in [
-        (76, Tag::Object),
-        (91, Tag::Array),
-        (115, Tag::String),
-        (116, Tag::Thread),
-        (103, Tag::ThreadGroup),
-        (108, Tag::ClassLoader),
-        (99, Tag::ClassObject),
-    ] {
-        assert_eq!(rt; Tag::from_byte(byte), Some(tag));
-        assert_eq!(rt; tag.byte(), byte);
-        assert_eq!(rt; tag.is_reference(), true);
-    }
 }

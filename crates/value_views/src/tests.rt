@@ -1,7 +1,7 @@
+use super::*;
 use jdwp_values::{ObjectId, Value};
 use std::alloc::Global;
 use std::test::Fail;
-use value_views::{Known, WriteFault, class_name, quote, value_text, write_value};
 use wire_core::{Blob, NoMemory, Text};
 
 // What is read from a text, by the byte of the kind.
@@ -463,44 +463,6 @@ fn strings_are_shown_in_quotes_and_nothing_as_null(rt: HostRuntime) -> Result<()
     ] {
         let null = value_text(alloc, &value, &Known::Plain)?;
         assert_eq!(rt; null.as_str(), "null", "of {value:?}");
-    }
-    Ok(())
-}
-
-#[test]
-fn types_have_the_names_that_the_language_writes(rt: HostRuntime) -> Result<(), Fail> {
-    for (signature, want) in [
-        (b"B".as_slice(), "byte"),
-        (b"C", "char"),
-        (b"D", "double"),
-        (b"F", "float"),
-        (b"I", "int"),
-        (b"J", "long"),
-        (b"S", "short"),
-        (b"Z", "boolean"),
-        (b"V", "void"),
-        (b"[I", "int[]"),
-        (b"[[Lcom/acme/Foo;", "com.acme.Foo[][]"),
-        (b"Lcom/acme/Foo$Bar;", "com.acme.Foo$Bar"),
-        (
-            b"Lcom/acme/Foo$$Lambda$1.0x00007f5c0c0018c0;",
-            "com.acme.Foo$$Lambda$1.0x00007f5c0c0018c0",
-        ),
-        (b"Lgr\xc3\xb6\xc3\x9fe/A\xff;", "größe.A\u{fffd}"),
-        (b"L;", ""),
-        (b"L", "L"),
-        (b"LX", "LX"),
-        (b"II", "II"),
-        (b"X", "X"),
-        (b"", ""),
-        (b"[", "[]"),
-        (b"a/\xed", "a/\u{fffd}"),
-    ] {
-        assert_eq!(rt;
-            class_name(rt.alloc(), signature)?.as_str(),
-            want,
-            "of {signature:?}"
-        );
     }
     Ok(())
 }
