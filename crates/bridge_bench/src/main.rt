@@ -1,16 +1,19 @@
 //! Cuts 256 MiB of frames of 200 bytes, or of packets of 60, in pieces of a size; or reads a number of small requests.
-//! It prints what there was: bench/run.sh measures it beside plain Rust loops.
+//! It prints what there was: bench/run.sh measures it beside plain Rust loops. Or it reads each line of a file as JSON and
+//! prints it again: bench/replay.py measures the bridge beside that.
 #![tactic(auto)]
 
+mod lines;
 mod requests;
 mod streams;
 
+use lines::rewrite_lines;
 use requests::count_requests;
 use std::alloc::Global;
-use std::env;
+use std::{env, fs};
 use streams::{Tally, cut_frames, cut_packets};
 
-const USAGE: &str = "usage: bridge_bench frames|packets PIECE, requests COUNT";
+const USAGE: &str = "usage: bridge_bench frames|packets PIECE, requests COUNT, lines FILE";
 
 fn main(rt: HostRuntime) -> anyhow::Result<()> {
     let mut words = env::args(&rt)?;
@@ -19,6 +22,11 @@ fn main(rt: HostRuntime) -> anyhow::Result<()> {
         println!(rt; "{USAGE}")?;
         return Ok(());
     };
+    if kind == "lines" {
+        let text = fs::read_to_string(&rt, number.as_str())?;
+        print!(rt; "{}", rewrite_lines(rt.alloc(), text.as_str())?)?;
+        return Ok(());
+    }
     match run(rt.alloc(), kind.as_str(), number.parse::<usize>()?)? {
         Some(tally) => {
             let messages = tally.messages;

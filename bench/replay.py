@@ -1,0 +1,106 @@
+#!/usr/bin/env python3
+"""Measures `replay` over a long session log, beside a plain loop that reads the same lines as JSON and writes them again.
+
+The log is of a client that attaches and then asks for the threads again and again, of a target with one thread: the
+program makes it itself from what came in, and both get the whole. They run in turn, five times each, over logs of
+25,000, 50,000, 100,000 and 200,000 entries. Printed are the least processor time of each, their ratio, and the peak of
+the bridge's memory. The plain loop is crates/bridge_bench, built by the same compiler over the same JSON library.
+
+usage: bench/replay.py [PROGRAM]
+"""
+import json
+import os
+import subprocess
+import sys
+import tempfile
+
+sys.path.insert(0, os.path.join(os.path.dirname(os.path.dirname(os.path.abspath(__file__))), "examples"))
+
+from building import CRATES, plainly, program_of, stop
+from over_tcp import framed, request
+
+LENGTHS = (25_000, 50_000, 100_000, 200_000)
+RUNS = 5
+# What a client asks before it asks for threads, and how many commands the target is sent meanwhile.
+BEGUN = (("initialize", {"adapterID": "jdwp"}), ("attach", {"sourceRoots": ["/p/src"]}))
+BEGUN_COMMANDS = 3
+HANDSHAKE = b"JDWP-Handshake"
+SIZES = b"\x00\x00\x00\x08" * 5
+# A request's entries: its frame, a command and its reply twice, and the response.
+ENTRIES = 6
+
+
+def reply(number, body=b""):
+    """The packet of a reply without an error (JDWP, Packet)."""
+    return (11 + len(body)).to_bytes(4, "big") + number.to_bytes(4, "big") + b"\x80\x00\x00" + body
+
+
+def came(entries):
+    """What comes in a session whose log has at least so many entries: of which side, and which bytes."""
+    for place, asked in enumerate(BEGUN):
+        yield "client", framed(request(place + 1, *asked))
+    yield "target", HANDSHAKE
+    yield "target", reply(1, SIZES)
+    for number in (2, 3):
+        yield "target", reply(number, number.to_bytes(4, "big"))
+    for turn in range(entries // ENTRIES):
+        yield "client", framed(request(len(BEGUN) + 1 + turn, "threads"))
+        first = BEGUN_COMMANDS + 1 + 2 * turn
+        yield "target", reply(first, b"\x00\x00\x00\x01" + (1).to_bytes(8, "big"))
+        yield "target", reply(first + 1, b"\x00\x00\x00\x04main")
+
+
+def run(words, out):
+    """Runs a program with its output in a file, and gives the seconds of its processor time and its peak in MB."""
+    with open(out, "wb") as file:
+        process = subprocess.Popen(words, stdin=subprocess.DEVNULL, stdout=file)
+        _, status, used = os.wait4(process.pid, 0)
+    if status:
+        stop("%s ended with status %d" % (" ".join(words), os.waitstatus_to_exitcode(status)))
+    return used.ru_utime + used.ru_stime, used.ru_maxrss / 1024
+
+
+def log_of(program, folder, entries):
+    """The file of a whole log, made by the program from what came in."""
+    some, whole = os.path.join(folder, "some"), os.path.join(folder, "whole")
+    with open(some, "w", encoding="ascii") as file:
+        for line in (["log", 1], *(["in", side, piece.hex()] for side, piece in came(entries)), ["end"]):
+            file.write(json.dumps(line, separators=(",", ":")) + "\n")
+    run([program, "replay", some], whole)
+    return whole
+
+
+def text_of(path):
+    with open(path, "rb") as file:
+        return file.read()
+
+
+def measured(program, plain, folder, entries):
+    """Prints a line of what both take for a log of so many entries."""
+    log, out = log_of(program, folder, entries), os.path.join(folder, "out")
+    text = text_of(log)
+    times, peaks = {"bridge": [], "plain": []}, []
+    for _ in range(RUNS):
+        for name, words in (("bridge", [program, "replay", log]), ("plain", [plain, "lines", log])):
+            seconds, peak = run(words, out)
+            if text_of(out) != text:
+                stop("%s doesn't print the log again" % name)
+            times[name].append(seconds)
+            peaks += [peak] if name == "bridge" else []
+    bridge, loop = min(times["bridge"]), min(times["plain"])
+    print("%7d entries, %.1f MB: bridge %.0f ms, plain loop %.0f ms, ratio %.2f; at most %.1f MB"
+          % (text.count(b"\n") - 3, len(text) / 1e6, 1000 * bridge, 1000 * loop, bridge / loop, max(peaks)), flush=True)
+
+
+def main():
+    program = program_of(sys.argv[1:])
+    plain = os.path.join(CRATES, "bridge_bench", "out", "bridge_bench")
+    if not os.path.isfile(plain):
+        stop("build the plain loop first: rt run in crates/bridge_bench")
+    with tempfile.TemporaryDirectory() as folder:
+        for entries in LENGTHS:
+            measured(program, plain, folder, entries)
+
+
+if __name__ == "__main__":
+    plainly(main)
