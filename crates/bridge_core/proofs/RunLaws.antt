@@ -17,7 +17,8 @@ use Rattle.machine_model.proofs.SpellLaws.{are_spelled}
 use Rattle.machine_model.proofs.TurnLaws.{none_flies, none_out}
 use Rattle.bridge_core.specs.Names.{Act, Effect, Question, TargetCommand, a_question, an_effect}
 use Rattle.bridge_core.specs.Names.{Clear, Does, Set}
-use Rattle.talk_plans.specs.Talking.{AreSized, IsNext}
+use Rattle.talk_plans.specs.Talking.{AreSized}
+use Rattle.session_facts.specs.Effects.{IsNext}
 
 -- What is pending -----------------------------------------------------------------------------------------------------
 

@@ -21,7 +21,7 @@ use Rattle.bridge_core.specs.Hearing.{IsBadBody, IsJudged, IsRefused, ReadsCompo
 use Rattle.bridge_core.specs.Moving.{IsFlight}
 use Rattle.session_model.specs.declared.ending.Ending.{Ending}
 use Rattle.session_model.specs.declared.ending.Ending.TheVariants.{NoMemory}
-use Rattle.talk_plans.specs.Talking.{IsNext}
+use Rattle.session_facts.specs.Effects.{IsNext}
 
 -- a packet was heard, and the core is sound behind it
 pub record Hears (old : CoreState) (at : ℕ) (packet : Packet) (new : CoreState) : Type 0 where

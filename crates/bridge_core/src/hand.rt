@@ -8,7 +8,8 @@ ghost use Rattle.machine_model.specs.declared.acts.Effect.{Effect as AnEffect};
 ghost use Rattle.machine_model.specs.declared.acts.TargetCommand.TheVariants.{Effect as an_effect};
 ghost use Rattle.machine_model.specs.declared.acts.TargetCommand.TheVariants.{Question as a_question};
 ghost use Rattle.talk_plans.specs.Replies.{IsInFlight};
-ghost use Rattle.talk_plans.specs.Talking.{AreSized, IsNext, act_of, hand_after, talk_due};
+ghost use Rattle.talk_plans.specs.Talking.{AreSized, act_of, hand_after, talk_due};
+ghost use Rattle.session_facts.specs.Effects.{IsNext};
 
 use jdwp_commands::{Question, Replied};
 use machine_model::TargetCommand;

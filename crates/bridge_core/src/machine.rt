@@ -11,8 +11,9 @@ ghost use Rattle.machine_model.specs.declared.acts.TargetCommand.TheVariants.{Qu
 ghost use Rattle.bridge_core.specs.Calls.{AreRead};
 ghost use Rattle.bridge_core.specs.Moving.{IsFlight, RefusesKept};
 ghost use Rattle.bridge_core.specs.Packets.{CanReply, Replies};
-ghost use Rattle.talk_plans.specs.Sizes.{sizes_seen};
-ghost use Rattle.talk_plans.specs.Talking.{AreSized, IsNext, act_of};
+ghost use Rattle.session_facts.specs.Sizes.{sizes_seen};
+ghost use Rattle.talk_plans.specs.Talking.{AreSized, act_of};
+ghost use Rattle.session_facts.specs.Effects.{IsNext};
 
 use crate::hand::{answered, done, give_up, go_on, hold, is_leaving, note_done, note_reply};
 use crate::hearing::{is_dead, read_kept};
@@ -21,11 +22,12 @@ use crate::waiting::{is_disconnect, take_next};
 use dap_messages::Request;
 use jdwp_commands::{Asked, Question, Replied};
 use machine_model::{Item, TargetCommand};
+use session_facts::SizesRead;
 use session_model::Ending;
 use std::alloc::Global;
 use std::collections::VecDeque;
 use std::marker::Model;
-use talk_plans::{Next, SizesRead, State, Talk};
+use talk_plans::{Next, State, Talk};
 use wire_core::NoMemory;
 
 /// The translation machine, which has to be spent by `finish`. Contracts see it as the machine's own state.

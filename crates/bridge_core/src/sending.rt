@@ -15,9 +15,10 @@ use dap_messages::Told;
 use jdwp_commands::Asked;
 use jdwp_packets::write_command;
 use machine_model::Finish;
+use session_facts::wire_effect;
 use session_model::{Ending, TargetFault};
 use std::alloc::Global;
-use talk_plans::{Next, wire_effect};
+use talk_plans::Next;
 use wire_core::{Blob, NoMemory, Side};
 
 // What goes to the target first (JDWP, JDWP Start Up).

@@ -1,10 +1,10 @@
 //! The sizes of ids that commands and bodies are spelled with.
 ghost use Rattle.std.specs.Prelude.{◌≡◌, option_map, IfOk};
 ghost use Rattle.machine_model.specs.Replying.{SizesFor, sizes_of};
-ghost use Rattle.talk_plans.specs.Sizes.{sizes_seen};
+ghost use Rattle.session_facts.specs.Sizes.{sizes_seen};
 
 use jdwp_values::IdSizes;
-use talk_plans::SizesRead;
+use session_facts::SizesRead;
 use wire_core::NoMemory;
 
 /// The sizes that the target said. Such as ids don't have end the session where they are said, so that none are here.

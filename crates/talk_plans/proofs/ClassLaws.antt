@@ -22,9 +22,9 @@ use Rattle.machine_model.specs.declared.acts.Sent.{Sent}
 use Rattle.machine_model.specs.declared.parts.Finding.TheVariants.{Classes as classes_found}
 use Rattle.machine_model.specs.declared.parts.Lookup.TheVariants.{Classes as class_facts}
 use Rattle.talk_plans.proofs.PlanLaws.{each_lacks, joined_lacks, made_lacks}
-use Rattle.talk_plans.specs.ClassPlanning.{ClassNeed, all_found, all_lacking, bound_need, class_need, keyed_need, known_or}
-use Rattle.talk_plans.specs.ClassPlanning.{lines_lacking, lines_question, methods_need, signed_need}
-use Rattle.talk_plans.specs.ClassPlanning.{source_heard, source_need, unless_heard, watched_by, watched_in}
+use Rattle.session_facts.specs.ClassPlanning.{ClassNeed, all_found, all_lacking, bound_need, class_need, keyed_need, known_or}
+use Rattle.session_facts.specs.ClassPlanning.{lines_lacking, lines_question, methods_need, signed_need}
+use Rattle.session_facts.specs.ClassPlanning.{source_heard, source_need, unless_heard, watched_by, watched_in}
 use Rattle.talk_plans.specs.Planning.{lacks_or, sight_in}
 use Rattle.wish_sets.specs.Places.{key_by}
 use Rattle.wish_sets.specs.Wanted.{Wanted}

@@ -1,7 +1,7 @@
 -- What the look-up of frames comes to, as the code computes it.
 use Rattle.std.proofs.Common.{◌≡◌, ℕ, zero, suc, ◌<◌, List, [], ◌∷◌, ◌++◌, Option, Some, None, refl, sym, ap, ◌∙◌}
-use Rattle.std.proofs.Common.{◌+◌, drop, flat_map, get_or, length, map, option_map, pos, arith, unwrap_or}
-use Rattle.std.proofs.lemmas.List.{append-nil, append_assoc, drop_more}
+use Rattle.std.proofs.Common.{◌+◌, flat_map, map, option_map, pos, arith, unwrap_or}
+use Rattle.std.proofs.lemmas.List.{append-nil}
 use Rattle.jdwp_commands.specs.declared.answer.Answer.TheVariants as answers
 use Rattle.jdwp_commands.specs.declared.listed.Frame.{Frame}
 use Rattle.jdwp_commands.specs.declared.question.Question.TheVariants as questions
@@ -22,22 +22,12 @@ use Rattle.machine_model.specs.declared.acts.Sent.{Sent}
 use Rattle.machine_model.specs.declared.acts.Want.{Want}
 use Rattle.machine_model.specs.declared.parts.Finding.TheVariants.{Frames as frames_found}
 use Rattle.talk_plans.proofs.PlanLaws.{each_lacks, made_lacks}
-use Rattle.talk_plans.specs.ClassPlanning.{known_or, lines_heard, lines_lacking, lines_question}
-use Rattle.talk_plans.specs.ClassPlanning.{unless_heard}
+use Rattle.session_facts.specs.ClassPlanning.{known_or, lines_heard, lines_lacking, lines_question}
+use Rattle.session_facts.specs.ClassPlanning.{unless_heard}
 use Rattle.talk_plans.specs.FramePlanning.{counted_in, frame_found, frame_lacking, listed_in, listed_plan}
 use Rattle.talk_plans.specs.FramePlanning.{methods_found, methods_lacking, shown_in, signature_found}
 use Rattle.talk_plans.specs.FramePlanning.{signature_lacking, source_found, source_lacking, stack_in}
 use Rattle.talk_plans.specs.Planning.{lacks_or, sight_in}
-
--- what is made of each, and of one more
-pub one_more : {A B : Type 0} (f : A → B) (made : List B) (all : List A) (place : ℕ) (one : A) (next : B)
-    → place < length all → one ≡ get_or all place one → next ≡ f one → made ++ map f (drop place all) ≡ map f all
-    → (made ++ next ∷ []) ++ map f (drop (place + 1) all) ≡ map f all
-one_more f made all place one next within is next_is are =
-    append_assoc made (next ∷ []) (map f (drop (place + 1) all))
-    ∙ ap (λ b. made ++ b ∷ map f (drop (place + 1) all)) (next_is ∙ ap f is)
-    ∙ ap (λ rest. made ++ map f rest) (sym (drop_more all place one within))
-    ∙ are
 
 -- Facts ---------------------------------------------------------------------------------------------------------------
 

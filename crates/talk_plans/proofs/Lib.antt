@@ -1,14 +1,9 @@
 pub mod AskingLaws
-pub mod BoundLaws
 pub mod ClassLaws
 pub mod DueLaws
-pub mod EffectLaws
 pub mod FrameLaws
-pub mod OpenLaws
 pub mod PlanLaws
-pub mod ReferenceLemmas
 pub mod ReplyLaws
 pub mod StopLaws
 pub mod TalkLaws
-pub mod ThreadLaws
 pub mod TakenLaws

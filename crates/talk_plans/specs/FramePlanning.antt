@@ -15,8 +15,8 @@ use Rattle.machine_model.specs.State.{State}
 use Rattle.machine_model.specs.declared.acts.Want.{Want}
 use Rattle.machine_model.specs.declared.parts.Finding.{Finding}
 use Rattle.machine_model.specs.declared.parts.ShownFrame.{ShownFrame}
-use Rattle.talk_plans.specs.ClassPlanning.{known_or, lines_heard, lines_lacking, methods_heard, source_heard}
-use Rattle.talk_plans.specs.ClassPlanning.{unless_heard}
+use Rattle.session_facts.specs.ClassPlanning.{known_or, lines_heard, lines_lacking, methods_heard, source_heard}
+use Rattle.session_facts.specs.ClassPlanning.{unless_heard}
 use Rattle.talk_plans.specs.declared.frame_names.ClassHeard.{ClassHeard}
 
 -- the signature of a class, where it was learnt or replied

@@ -1,10 +1,6 @@
 pub mod Asking
-pub mod ClassPlanning
 pub mod FramePlanning
 pub mod Laws
-pub mod Numbering
-pub mod OpenClasses
 pub mod Planning
 pub mod Replies
-pub mod Sizes
 pub mod Talking

@@ -19,10 +19,6 @@ use Rattle.machine_model.specs.declared.acts.Sent.{Sent}
 use Rattle.machine_model.specs.declared.parts.Outcome.TheVariants.{Success}
 use Rattle.machine_model.specs.Keys.{same_question}
 use Rattle.machine_model.specs.Replying.{is_waiting, sizes_in}
-use Rattle.machine_model.specs.Requests.{effect_due}
-use Rattle.machine_model.specs.declared.acts.Effect.{Effect}
-use Rattle.machine_model.specs.declared.acts.Effect.TheVariants.{Clear, Does, Set}
-use Rattle.wish_sets.specs.Wishes.{Wishes}
 use Rattle.machine_model.specs.State.{Hand, Machine, SizesRead, State, is_gone, is_some}
 use Rattle.talk_plans.specs.declared.next.Next.{Next}
 use Rattle.talk_plans.specs.declared.next.Next.TheVariants as nexts
@@ -100,12 +96,6 @@ pub record StaysSized (state : State) (hand : Hand) (later : State) (left : Hand
 -- a reply to the question of the sizes says them
 abbrev pub SaysSizes : Question → Replied → Type 0
 SaysSizes question replied = same_question question questions.IdSizes ≡ true → is_some (sizes_in replied) ≡ true
-
--- The effect is no change of event requests, or the one that is due.
-abbrev pub IsNext : Effect → Wishes → Type 0
-IsNext (Does deed) wishes = Unit {0}
-IsNext (Set wish) wishes = effect_due wishes ≡ Some (Set wish)
-IsNext (Clear wish request) wishes = effect_due wishes ≡ Some (Clear wish request)
 
 -- what attaches to a target, and what leaves it
 abbrev pub attach_parts : List (List ℕ) → List Part

@@ -6,14 +6,10 @@ ghost use Rattle.machine_model.specs.Telling.{reason_told, response_to, thread_t
 ghost use Rattle.machine_model.specs.declared.parts.Body.TheVariants.{StackFrames};
 ghost use Rattle.machine_model.specs.declared.parts.Event.TheVariants.{Stopped as a_stop};
 
-use crate::bound::BoundIds;
 use crate::breakpoints::breakpoint_told;
-use crate::frame_numbers::frames_told;
 use crate::hits::has_line;
 use crate::news::news_told;
 use crate::state::State;
-use crate::threads::ThreadNumbers;
-use crate::variable_numbers::{scope_told, value_told, variables_told, written_told};
 use dap_messages::{
     Breakpoint, Event as EventTold, Outcome as OutcomeTold, Request, Response, Shape, StopReason,
     Stopped, Thread, Told,
@@ -21,6 +17,9 @@ use dap_messages::{
 use jdwp_values::lossy;
 use machine_model::{
     Body, Event, ListedBreakpoint, NamedThread, Outcome, ShownFrame, StopCause, Stopping,
+};
+use session_facts::{
+    BoundIds, ThreadNumbers, frames_told, scope_told, value_told, variables_told, written_told,
 };
 use std::alloc::Global;
 use wire_core::{List, NoMemory, Text};

@@ -4,21 +4,20 @@ ghost use Rattle.std.specs.List.{flat_map};
 ghost use Rattle.class_tables.specs.Lookups.{found_in};
 ghost use Rattle.machine_model.specs.Classes.{counts};
 ghost use Rattle.machine_model.specs.declared.acts.Want.TheVariants.{Fact};
-ghost use Rattle.talk_plans.specs.ClassPlanning.{all_found, all_lacking, class_need, lines_lacking, methods_heard};
-ghost use Rattle.talk_plans.specs.ClassPlanning.{source_heard};
-ghost use Rattle.talk_plans.specs.OpenClasses.{AreOpen};
+ghost use Rattle.session_facts.specs.ClassPlanning.{all_found, all_lacking, class_need, lines_lacking, methods_heard};
+ghost use Rattle.session_facts.specs.ClassPlanning.{source_heard};
+ghost use Rattle.session_facts.specs.OpenClasses.{AreOpen};
 ghost use Rattle.talk_plans.specs.Planning.{sight_in};
 
-use crate::facts::{methods_in, source_in};
-use crate::known_classes::{
-    counts, is_bound, is_keyed, known_methods, known_source, watched_signature,
-};
-use crate::open_classes::{OpenClasses, all_open};
 use crate::state::State;
 use jdwp_commands::Question;
 use jdwp_values::{ClassId, Method, MethodId};
 use look_ups::{Asked, QuestionKey};
 use machine_model::Want;
+use session_facts::{
+    OpenClasses, all_open, counts, is_bound, is_keyed, known_methods, known_source, methods_in,
+    source_in, watched_signature,
+};
 use std::alloc::Global;
 use std::collections::VecDeque;
 use wire_core::{Blob, List, NoMemory};
@@ -224,7 +223,7 @@ fn found_among(
     Ok(found)
 }
 
-#[tactic(auto, using(crate::proofs::OpenLaws::left_lack))]
+#[tactic(auto, using(session_facts::proofs::OpenLaws::left_lack))]
 fn lacking_by(
     alloc: Global,
     state: &State,
@@ -257,7 +256,7 @@ pub(crate) fn all_lacking(
     }
 }
 
-#[tactic(auto, using(crate::proofs::OpenLaws::left_found))]
+#[tactic(auto, using(session_facts::proofs::OpenLaws::left_found))]
 fn found_by(
     alloc: Global,
     state: &State,

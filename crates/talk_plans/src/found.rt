@@ -1,14 +1,12 @@
 //! What becomes of a look-up that is done.
 ghost use Rattle.std.specs.Prelude.{◌≡◌, IfOk};
 ghost use Rattle.machine_model.specs.Lookups.{classes_of, finished, refusal, text_of, valued_by, write_parts};
-ghost use Rattle.talk_plans.specs.Numbering.{stop_of};
+ghost use Rattle.session_facts.specs.Numbering.{stop_of};
 ghost use Rattle.machine_model.specs.Plans.{gave, refused};
 ghost use Rattle.machine_model.specs.declared.parts.Event.TheVariants.{Stopped as a_stop};
 ghost use Rattle.machine_model.specs.declared.parts.Part.TheVariants as parts;
 ghost use Rattle.machine_model.specs.declared.parts.StopCause.TheVariants.{Exception as by_exception};
 
-use crate::numbers::Numbers;
-use crate::references::{body_of, shown_by};
 use crate::rows::failing;
 use crate::state::State;
 use dap_messages::Failure;
@@ -16,6 +14,7 @@ use jdwp_values::{ClassId, ThreadId};
 use machine_model::{
     Body, Choice, Deed, Event, Finding, Lookup, Note, Outcome, Part, StopCause, Stopping,
 };
+use session_facts::{Numbers, body_of, shown_by};
 use std::alloc::Global;
 use std::collections::VecDeque;
 use wire_core::{List, NoMemory, Text};

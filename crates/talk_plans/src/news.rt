@@ -7,11 +7,11 @@ ghost use Rattle.machine_model.specs.declared.parts.News.TheVariants.{Verified a
 ghost use Rattle.machine_model.specs.Rows.{each_told, news_of, told_in};
 ghost use Rattle.machine_model.specs.Telling.{news_told};
 
-use crate::bound::BoundIds;
 use crate::state::State;
 use dap_messages::{Breakpoint, BreakpointStatus, Event as EventTold, ThreadChange};
 use jdwp_events::Event as TargetEvent;
 use machine_model::{Event, Item, News, Part, Phase};
+use session_facts::BoundIds;
 use std::alloc::Global;
 use std::collections::VecDeque;
 use wire_core::{List, NoMemory};

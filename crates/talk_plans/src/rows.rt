@@ -11,8 +11,6 @@ ghost use Rattle.machine_model.specs.State.{Hand as AHand};
 ghost use Rattle.machine_model.specs.declared.parts.Part.TheVariants.{Responds};
 
 use crate::breakpoints::breakpoints_row;
-use crate::composites::{composite_parts, has_death};
-use crate::copies::text_copies;
 use crate::function_rows::functions_row;
 use crate::news::told_news;
 use crate::run_rows::{configured_row, continue_row, pause_row, stack_row};
@@ -25,6 +23,7 @@ use machine_model::{
     Body, Choice, ClientOptions, Deed, Doing, Event, Finish, Guard, Item, Lookup, Note, Outcome,
     Part, Phase,
 };
+use session_facts::{composite_parts, has_death, text_copies};
 use std::alloc::Global;
 use std::collections::VecDeque;
 use wire_core::{NoMemory, Text};

@@ -2,26 +2,22 @@
 ghost use Rattle.std.specs.Prelude.{◌≡◌, true, IfOk, OnOk, option_map};
 ghost use Rattle.machine_model.specs.Plans.{answer_in};
 ghost use Rattle.machine_model.specs.Replying.{done_by, learnt, told_by};
-ghost use Rattle.talk_plans.specs.Sizes.{sizes_seen};
-ghost use Rattle.talk_plans.specs.Talking.{IsNext};
+ghost use Rattle.session_facts.specs.Sizes.{sizes_seen};
+ghost use Rattle.session_facts.specs.Effects.{IsNext};
 ghost use Rattle.machine_model.specs.Due.{after_deed};
 ghost use Rattle.machine_model.specs.Rest.{awaits_greeting};
 ghost use Rattle.machine_model.specs.Rows.{taken};
 ghost use Rattle.machine_model.specs.State.{is_attached, is_gone, lost, nothing_known};
 ghost use Rattle.machine_model.specs.Telling.{after_event, attached_from};
 
-use crate::bound::BoundIds;
-use crate::composites::{learn_in, tells_of_none};
-use crate::effects::{entry_by, forget_thrown, settle, unlisted_by};
-use crate::facts::learn;
-use crate::numbers::{Numbers, begin_stop, end_stop, has_stop, send, spend};
-use crate::open_classes::{OpenClasses, all_open, stays_open, trimmed};
-use crate::paths::Paths;
-use crate::sizes::{SizesRead, sizes_in};
-use crate::threads::ThreadNumbers;
 use class_tables::Classes;
 use jdwp_commands::{Question, Replied};
 use machine_model::{ClientOptions, Deed, Effect, Event, Item, News, Phase, Thrown};
+use session_facts::{
+    BoundIds, Numbers, OpenClasses, Paths, SizesRead, ThreadNumbers, all_open, begin_stop,
+    end_stop, entry_by, forget_thrown, has_stop, learn, learn_in, send, settle, sizes_in, spend,
+    stays_open, tells_of_none, trimmed, unlisted_by,
+};
 use std::alloc::Global;
 use std::marker::Model;
 use std::mem;
@@ -64,9 +60,9 @@ impl Model for State {
     ghost use Rattle.std.specs.Prelude.{IfSome, option_map};
     ghost use Rattle.class_tables.specs.Lookups.{found_in};
     ghost use Rattle.machine_model.specs.State.{State as AState};
-    ghost use Rattle.talk_plans.specs.Numbering.{has_stop, stop_of};
-    ghost use Rattle.talk_plans.specs.OpenClasses.{AreOpen};
-    ghost use Rattle.talk_plans.specs.Sizes.{sizes_seen};
+    ghost use Rattle.session_facts.specs.Numbering.{has_stop, stop_of};
+    ghost use Rattle.session_facts.specs.OpenClasses.{AreOpen};
+    ghost use Rattle.session_facts.specs.Sizes.{sizes_seen};
 
     ghost Value = { AState };
 
@@ -316,7 +312,7 @@ impl State {
     }
 
     // The fact of a class is learnt. Where it is new, classes that lack nothing still do.
-    #[tactic(auto, using(crate::proofs::OpenLaws::stay_found_out))]
+    #[tactic(auto, using(session_facts::proofs::OpenLaws::stay_found_out))]
     fn learn_fact(
         &mut self,
         alloc: Global,

@@ -12,8 +12,6 @@ ghost use Rattle.talk_plans.specs.declared.next.Next.{Next as ANext};
 
 use crate::asking::Asking;
 use crate::bodies::{event_told, outcome_told, response_to};
-use crate::copies::effect_copy;
-use crate::effects::effect_due;
 use crate::found::{found_parts, refused_parts};
 use crate::next::Next;
 use crate::plans::{Need, found_for};
@@ -22,6 +20,7 @@ use crate::state::State;
 use dap_messages::Told;
 use jdwp_commands::Question;
 use machine_model::{Deed, Doing, Effect, Guard, Item, Lookup, Outcome, Part, Want};
+use session_facts::{effect_copy, effect_due};
 use std::alloc::Global;
 use std::collections::VecDeque;
 use std::marker::Model;

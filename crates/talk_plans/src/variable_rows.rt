@@ -7,7 +7,6 @@ ghost use Rattle.machine_model.specs.Variables.{reference_failure};
 ghost use Rattle.stop_refs.specs.Numbers.{container, frame};
 
 use crate::found::refusal;
-use crate::references::{container_with, frame_with, shown_by};
 use crate::rows::failing;
 use crate::state::State;
 use dap_messages::{
@@ -15,6 +14,7 @@ use dap_messages::{
 };
 use field_exprs::{ExprFault, parse};
 use machine_model::{Body, Lookup, Outcome, Part, Seen};
+use session_facts::{container_with, frame_with, shown_by};
 use std::alloc::Global;
 use std::collections::VecDeque;
 use stop_refs::{FrameThing, RefFault};

@@ -1,7 +1,7 @@
 -- One more method is gone through.
 use Rattle.jdwp_values.specs.declared.class.Method.{Method}
 use Rattle.machine_model.specs.Classes.{counts}
-use Rattle.talk_plans.specs.ClassPlanning.{lines_lacking}
+use Rattle.session_facts.specs.ClassPlanning.{lines_lacking}
 use Rattle.talk_plans.specs.Planning.{sight_in}
 use Rattle.talk_plans.proofs.ClassLaws.{one_counted}
 use Rattle.talk_plans.proofs.class_plans.add_all_lines.Goals as goal

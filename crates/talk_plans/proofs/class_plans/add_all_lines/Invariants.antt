@@ -1,6 +1,6 @@
 use Rattle.std.proofs.Common.{◌≡◌, ◌++◌, drop, filter, flat_map}
 use Rattle.machine_model.specs.Classes.{counts}
-use Rattle.talk_plans.specs.ClassPlanning.{lines_lacking}
+use Rattle.session_facts.specs.ClassPlanning.{lines_lacking}
 use Rattle.talk_plans.specs.Planning.{sight_in}
 use Rattle.talk_plans.proofs.class_plans.add_all_lines.Given as goal
 

@@ -1,5 +1,5 @@
 use Rattle.std.proofs.Common.{◌≡◌, ◌++◌, drop}
-use Rattle.talk_plans.specs.ClassPlanning.{all_found}
+use Rattle.session_facts.specs.ClassPlanning.{all_found}
 use Rattle.talk_plans.specs.Planning.{sight_in}
 use Rattle.talk_plans.proofs.class_plans.found_among.Given as goal
 

@@ -1,0 +1,5 @@
+pub mod ClassPlanning
+pub mod Effects
+pub mod Numbering
+pub mod OpenClasses
+pub mod Sizes
