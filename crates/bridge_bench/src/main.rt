@@ -22,7 +22,7 @@ fn main(rt: HostRuntime) -> anyhow::Result<()> {
         println!(rt; "{USAGE}")?;
         return Ok(());
     };
-    if kind == "lines" {
+    if kind.as_str() == "lines" {
         let text = fs::read_to_string(&rt, number.as_str())?;
         print!(rt; "{}", rewrite_lines(rt.alloc(), text.as_str())?)?;
         return Ok(());
