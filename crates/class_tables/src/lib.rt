@@ -18,6 +18,3 @@ pub use laws::{
 pub use lines::{entry_at, line_start};
 pub use signature::{class_path, package_in};
 pub use view::{ClassView, KeyView};
-
-#[cfg(test)]
-mod tests;

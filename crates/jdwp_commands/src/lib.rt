@@ -27,6 +27,3 @@ pub use listed::{ClassStatus, Frame, LoadedClass, Slot};
 pub use question::Question;
 pub use region::Region;
 pub use reply::{read_answer, write_answer};
-
-#[cfg(test)]
-mod tests;

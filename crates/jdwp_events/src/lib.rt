@@ -12,6 +12,3 @@ pub use event::Event;
 pub use kind::{EventKind, Policy};
 pub use laws::composites_are_read_as_they_are_spelled;
 pub use modifier::{Modifier, ModifierKind};
-
-#[cfg(test)]
-mod tests;

@@ -32,6 +32,3 @@ pub use sizes::{BadSizes, IdSizes};
 pub use tag::{Tag, TypeTag};
 pub use value::Value;
 pub use writer::Writer;
-
-#[cfg(test)]
-mod tests;

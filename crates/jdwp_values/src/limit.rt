@@ -27,25 +27,3 @@ impl Limit {
         }
     }
 }
-
-#[cfg(test)]
-mod tests {
-    use super::*;
-
-    #[test]
-    fn each_limit_allows_its_counts(rt: HostRuntime) {
-        for (limit, count, want) in [
-            (Limit::Any, 0, true),
-            (Limit::Any, u32::MAX, true),
-            (Limit::Exactly(2), 1, false),
-            (Limit::Exactly(2), 2, true),
-            (Limit::Exactly(2), 3, false),
-            (Limit::AtMost(2), 0, true),
-            (Limit::AtMost(2), 2, true),
-            (Limit::AtMost(2), 3, false),
-            (Limit::Never, 0, false),
-        ] {
-            assert_eq!(rt; limit.allows(count), want, "{limit:?} at {count}");
-        }
-    }
-}

@@ -55,30 +55,3 @@ pub fn a_byte_that_begins_no_character_is_replaced()
     ensures { (byte : ℕ) (rest : List ℕ) → StartsWithNoChar (byte ∷ rest)
         → lossy (byte ∷ rest) ≡ replacement_bytes ++ lossy rest }
 {}
-
-#[cfg(test)]
-mod tests {
-    use super::*;
-    use std::test::Fail;
-
-    #[test]
-    fn each_byte_that_begins_no_sequence_is_replaced(rt: HostRuntime) -> Result<(), Fail> {
-        for (bytes, want) in [
-            (b"".as_slice(), ""),
-            (b"main".as_slice(), "main"),
-            (b"caf\xc3\xa9".as_slice(), "caf\u{e9}"),
-            (b"\xf0\x9f\x98\x80!".as_slice(), "\u{1f600}!"),
-            // A lone surrogate, an overlong form, a byte of no sequence, and a truncated sequence.
-            (b"a\xed\xa0\x80z".as_slice(), "a\u{fffd}\u{fffd}\u{fffd}z"),
-            (b"\xc0\x80\xc3\xa9".as_slice(), "\u{fffd}\u{fffd}\u{e9}"),
-            (b"\xff".as_slice(), "\u{fffd}"),
-            (
-                b"\xe2\x82\xac\xe2\x82".as_slice(),
-                "\u{20ac}\u{fffd}\u{fffd}",
-            ),
-        ] {
-            assert_eq!(rt; lossy(rt.alloc(), bytes)?.as_str(), want, "of {bytes:?}");
-        }
-        Ok(())
-    }
-}

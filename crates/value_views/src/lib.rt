@@ -20,6 +20,3 @@ pub use names::class_name;
 pub use quotes::quote;
 pub use reading::write_value;
 pub use showing::value_text;
-
-#[cfg(test)]
-mod tests;
