@@ -27,7 +27,7 @@ fn method(alloc: Global, id: u64) -> Result<Method, NoMemory> {
 fn methods_of(alloc: Global, ids: &str) -> Result<List<Method>, Fail> {
     let mut methods = List::new(alloc);
     for id in ids.split_whitespace() {
-        methods.push(method(alloc, id.parse()?)?)?;
+        methods.push(method(alloc, number(id)?.0)?)?;
     }
     Ok(methods)
 }
@@ -36,7 +36,7 @@ fn methods_of(alloc: Global, ids: &str) -> Result<List<Method>, Fail> {
 fn fields_of(alloc: Global, id: &str) -> Result<List<Field>, Fail> {
     let mut fields = List::new(alloc);
     fields.push(Field {
-        id: FieldId(id.parse()?),
+        id: FieldId(number(id)?.0),
         name: Blob::from_slice(alloc, b"n")?,
         signature: Blob::from_slice(alloc, b"I")?,
         bits: 2,
@@ -63,7 +63,7 @@ fn variables_of(alloc: Global, slot: &str) -> Result<Option<List<Variable>>, Fai
 fn line(entry: &str) -> Result<Line, Fail> {
     let (index, line) = entry.split_once(':').ok_or("no entry")?;
     Ok(Line {
-        index: index.parse()?,
+        index: number(index)?.0,
         line: line.parse()?,
     })
 }
@@ -132,7 +132,7 @@ fn learn(classes: &mut Classes, alloc: Global, fact: &str) -> Result<(), Fail> {
         "source" => Ok(classes.learn_source(class, source_of(alloc, rest)?)?),
         "methods" => Ok(classes.learn_methods(class, methods_of(alloc, rest)?)?),
         "fields" => Ok(classes.learn_fields(class, fields_of(alloc, rest)?)?),
-        "super" => Ok(classes.learn_super(class, ClassId(rest.parse()?))?),
+        "super" => Ok(classes.learn_super(class, ClassId(number(rest)?.0))?),
         "lines" => learn_lines(classes, alloc, class, rest),
         "variables" => learn_variables(classes, alloc, class, rest),
         _ => Err("no fact".into()),
@@ -204,7 +204,7 @@ fn method_answer(
     match rest {
         "lines" => shown(alloc, line_count(classes, class, method)),
         "variables" => shown(alloc, variable_count(classes, class, method)),
-        _ => shown(alloc, line_of(classes, class, method, rest.parse()?)),
+        _ => shown(alloc, line_of(classes, class, method, number(rest)?.0)),
     }
 }
 

@@ -55,7 +55,12 @@ pub(crate) fn bytes_of(alloc: Global, pieces: &str) -> Result<Blob, Fail>
 
 fn add_digits(alloc: Global, bytes: &mut Vec<u8>, digits: &str) -> Result<(), Fail> {
     for word in digits.split_whitespace() {
-        bytes.extend_from_slice(hex::decode(alloc, word)?.as_slice())?;
+        add_word(alloc, bytes, word)?;
     }
     Ok(())
+}
+
+fn add_word(alloc: Global, bytes: &mut Vec<u8>, digits: &str) -> Result<(), Fail> {
+    let word = hex::decode(alloc, digits)?;
+    Ok(bytes.extend_from_slice(word.as_slice())?)
 }

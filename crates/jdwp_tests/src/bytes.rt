@@ -1,4 +1,4 @@
-use crate::rows::{cut, expect, shown};
+use crate::rows::{byte, cut, expect, shown};
 use jdwp_events::{EventKind, ModifierKind, Policy};
 use jdwp_values::{Tag, TypeTag};
 use std::alloc::Global;
@@ -42,8 +42,8 @@ fn check(alloc: Global, rows: &str) -> Result<(), Fail> {
     for row in rows.split('\n') {
         if !row.is_empty() {
             let (table, rest) = cut(row)?;
-            let (byte, wanted) = cut(rest)?;
-            let given = meaning(alloc, table, byte.parse()?)?;
+            let (digits, wanted) = cut(rest)?;
+            let given = meaning(alloc, table, byte(digits)?)?;
             expect(alloc, row, given.as_str(), wanted)?;
         }
     }

@@ -1,5 +1,5 @@
 //! Parts and rows that a reader reads one after the other.
-use crate::rows::{bytes_of, expect, head, limit_of, shown, sizes_of};
+use crate::rows::{byte, bytes_of, expect, head, limit_of, shown, sizes_of};
 use jdwp_events::Modifier;
 use jdwp_values::{
     Field, FieldId, IdSizes, Line, Method, ReadTrouble, Reader, Row, RowFault, ThreadId, Value,
@@ -8,22 +8,16 @@ use jdwp_values::{
 use std::alloc::Global;
 use std::test::Fail;
 
-// A value that was read, with its tag.
+// A value that was read, behind its tag.
 fn tagged(alloc: Global, read: Result<Value, ReadTrouble>) -> Result<String, Fail> {
-    match read {
-        Ok(value) => shown(alloc, (value.tag(), value)),
-        Err(trouble) => shown(alloc, trouble),
-    }
+    shown(alloc, read.map(|value| (value.tag(), value)))
 }
 
-// A modifier that was read, with its kind.
+// A modifier that was read, behind its kind.
 fn kind_and_modifier(alloc: Global, read: Result<Modifier, RowFault>) -> Result<String, Fail> {
-    let said = match &read {
-        Ok(modifier) => shown(alloc, modifier.kind()),
-        Err(_) => Ok(String::new(alloc)),
-    };
-    let kind = said?;
-    Ok(format!(in alloc; "{kind}: {read:?}")?)
+    let said = shown(alloc, (read.as_ref().ok().map(Modifier::kind), &read));
+    drop(read);
+    said
 }
 
 // What a call of the reader answers, as printed.
@@ -56,7 +50,7 @@ fn answer(alloc: Global, reader: &mut Reader<'_>, call: &str) -> Result<String, 
 fn other_answer(alloc: Global, reader: &mut Reader<'_>, call: &str) -> Result<String, Fail> {
     let (word, rest) = head(call);
     match word {
-        "untagged" => tagged(alloc, reader.untagged(rest.parse()?)),
+        "untagged" => tagged(alloc, reader.untagged(byte(rest)?)),
         "count" => shown(alloc, reader.count(limit_of(rest)?)),
         "threads" => shown(alloc, read_list::<ThreadId>(alloc, limit_of(rest)?, reader)),
         "fields" => shown(alloc, read_list::<FieldId>(alloc, limit_of(rest)?, reader)),
@@ -95,21 +89,21 @@ fn check(alloc: Global, text: &str) -> Result<(), Fail> {
 // Values as they stand in the replies to GetValues (JDWP, ObjectReference and StackFrame command sets, GetValues).
 const NUMBERS: &str = "
 body 0808080808 'B' ff 'C' d800 'D' 0000000000000001
-value = (Byte, Byte(-1))
-value = (Char, Char(55296))
-value = (Double, Double(1))
+value = Ok((Byte, Byte(-1)))
+value = Ok((Char, Char(55296)))
+value = Ok((Double, Double(1)))
 left = 0
 
 body 0808080808 'F' 7fc00000 'I' fffffffb 'J' 00007fc358004ed0
-value = (Float, Float(2143289344))
-value = (Int, Int(-5))
-value = (Long, Long(140476971765456))
+value = Ok((Float, Float(2143289344)))
+value = Ok((Int, Int(-5)))
+value = Ok((Long, Long(140476971765456)))
 left = 0
 
 body 0808080808 'S' 8000 'Z' 01 'V'
-value = (Short, Short(-32768))
-value = (Boolean, Boolean(1))
-value = (Void, Void)
+value = Ok((Short, Short(-32768)))
+value = Ok((Boolean, Boolean(1)))
+value = Ok((Void, Void))
 left = 0
 ";
 
@@ -121,23 +115,23 @@ fn numbers_stand_behind_their_tags(rt: HostRuntime) -> Result<(), Fail> {
 // Each is read as a value, and as a reference.
 const OBJECTS: &str = "
 body 0808020808 'L' 001f '[' 0100 's' 0000 't' 0002 'g' 0003 'l' ffff 'c' 0005
-value = (Object, Object(ObjectId(31)))
-value = (Array, Array(ObjectId(256)))
-value = (String, String(ObjectId(0)))
-value = (Thread, Thread(ObjectId(2)))
-value = (ThreadGroup, ThreadGroup(ObjectId(3)))
-value = (ClassLoader, ClassLoader(ObjectId(65535)))
-value = (ClassObject, ClassObject(ObjectId(5)))
+value = Ok((Object, Object(ObjectId(31))))
+value = Ok((Array, Array(ObjectId(256))))
+value = Ok((String, String(ObjectId(0))))
+value = Ok((Thread, Thread(ObjectId(2))))
+value = Ok((ThreadGroup, ThreadGroup(ObjectId(3))))
+value = Ok((ClassLoader, ClassLoader(ObjectId(65535))))
+value = Ok((ClassObject, ClassObject(ObjectId(5))))
 left = 0
 
 body 0808020808 'L' 001f '[' 0100 's' 0000 't' 0002 'g' 0003 'l' ffff 'c' 0005
-reference = (Object, Object(ObjectId(31)))
-reference = (Array, Array(ObjectId(256)))
-reference = (String, String(ObjectId(0)))
-reference = (Thread, Thread(ObjectId(2)))
-reference = (ThreadGroup, ThreadGroup(ObjectId(3)))
-reference = (ClassLoader, ClassLoader(ObjectId(65535)))
-reference = (ClassObject, ClassObject(ObjectId(5)))
+reference = Ok((Object, Object(ObjectId(31))))
+reference = Ok((Array, Array(ObjectId(256))))
+reference = Ok((String, String(ObjectId(0))))
+reference = Ok((Thread, Thread(ObjectId(2))))
+reference = Ok((ThreadGroup, ThreadGroup(ObjectId(3))))
+reference = Ok((ClassLoader, ClassLoader(ObjectId(65535))))
+reference = Ok((ClassObject, ClassObject(ObjectId(5))))
 left = 0
 ";
 
@@ -153,11 +147,11 @@ byte = Ok(0)
 type tag = Err(ReadTrouble { fault: BadTag, at: 1 })
 location = Err(ReadTrouble { fault: BadTag, at: 1 })
 text = Err(ReadTrouble { fault: Short, at: 1 })
-untagged 88 = ReadTrouble { fault: BadTag, at: 1 }
+untagged 88 = Err(ReadTrouble { fault: BadTag, at: 1 })
 int = Ok(67108864)
 byte = Ok(1)
-reference = ReadTrouble { fault: BadTag, at: 6 }
-value = (Int, Int(-1))
+reference = Err(ReadTrouble { fault: BadTag, at: 6 })
+value = Ok((Int, Int(-1)))
 tail = Err(ReadTrouble { fault: Short, at: 11 })
 
 body 0808080808 ffffffff
@@ -191,17 +185,17 @@ frame = Ok(FrameId(5))
 field = Ok(FieldId(6))
 type tag = Ok(Array)
 text = Ok([104, 105])
-reference = (Object, Object(ObjectId(10)))
-value = (Short, Short(-256))
+reference = Ok((Object, Object(ObjectId(10))))
+value = Ok((Short, Short(-256)))
 tail = Ok([33, 34])
 left = 0
 
 body 0808020808 ffffffff 00000002 't' 0102 0003 fffe
 number = Ok(4294967295)
 count exactly 2 = Ok(2)
-reference = (Thread, Thread(ObjectId(258)))
-untagged 99 = (ClassObject, ClassObject(ObjectId(3)))
-untagged 83 = (Short, Short(-2))
+reference = Ok((Thread, Thread(ObjectId(258))))
+untagged 99 = Ok((ClassObject, ClassObject(ObjectId(3))))
+untagged 83 = Ok((Short, Short(-2)))
 at = 15
 left = 0
 ";
@@ -261,18 +255,18 @@ fn members_of_classes_have_ids_names_and_signatures(rt: HostRuntime) -> Result<(
 // One modifier of each kind behind the others, of which two have the patterns com.acme.* and *; and a byte of none.
 const MODIFIERS: &str = "
 body 0101010101 01 00000005 03 07 04 08 05 0000000a 'com.acme.*' 06 00000001 '*' 07 01 09 0a 000000000000000b 08 00 00 01 0a 07 00000001 00000002
-a-modifier = Count: Ok(Count(5))
-a-modifier = ThreadOnly: Ok(ThreadOnly(ThreadId(7)))
-a-modifier = ClassOnly: Ok(ClassOnly(ClassId(8)))
-a-modifier = ClassMatch: Ok(ClassMatch(List { items: [99, 111, 109, 46, 97, 99, 109, 101, 46, 42] }))
-a-modifier = ClassExclude: Ok(ClassExclude(List { items: [42] }))
-a-modifier = LocationOnly: Ok(LocationOnly(Location { tag: Class, class: ClassId(9), method: MethodId(10), index: 11 }))
-a-modifier = ExceptionOnly: Ok(ExceptionOnly { class: ClassId(0), caught: 0, uncaught: 1 })
-a-modifier = Step: Ok(Step { thread: ThreadId(7), size: 1, depth: 2 })
+a-modifier = (Some(Count), Ok(Count(5)))
+a-modifier = (Some(ThreadOnly), Ok(ThreadOnly(ThreadId(7))))
+a-modifier = (Some(ClassOnly), Ok(ClassOnly(ClassId(8))))
+a-modifier = (Some(ClassMatch), Ok(ClassMatch(List { items: [99, 111, 109, 46, 97, 99, 109, 101, 46, 42] })))
+a-modifier = (Some(ClassExclude), Ok(ClassExclude(List { items: [42] })))
+a-modifier = (Some(LocationOnly), Ok(LocationOnly(Location { tag: Class, class: ClassId(9), method: MethodId(10), index: 11 })))
+a-modifier = (Some(ExceptionOnly), Ok(ExceptionOnly { class: ClassId(0), caught: 0, uncaught: 1 }))
+a-modifier = (Some(Step), Ok(Step { thread: ThreadId(7), size: 1, depth: 2 }))
 left = 0
 
 body 0101010101 02
-a-modifier = : Err(Part(ReadTrouble { fault: BadTag, at: 0 }))
+a-modifier = (None, Err(Part(ReadTrouble { fault: BadTag, at: 0 })))
 ";
 
 #[test]

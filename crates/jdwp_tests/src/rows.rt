@@ -24,10 +24,15 @@ pub(crate) fn head(words: &str) -> (&str, &str) {
     }
 }
 
+/// A byte in decimal.
+pub(crate) fn byte(digits: &str) -> Result<u8, Fail> {
+    Ok(digits.parse()?)
+}
+
 /// The command set and the command, each a byte.
 pub(crate) fn numbers_of(command: &str) -> Result<(u8, u8), Fail> {
     let (set, number) = command.split_once('.').ok_or("a command without its set")?;
-    Ok((set.parse()?, number.parse()?))
+    Ok((byte(set)?, byte(number)?))
 }
 
 /// A value as it is printed.
@@ -63,9 +68,14 @@ pub(crate) fn bytes_of(alloc: Global, pieces: &str) -> Result<Blob, Fail>
 
 fn add_digits(alloc: Global, bytes: &mut Vec<u8>, digits: &str) -> Result<(), Fail> {
     for word in digits.split_whitespace() {
-        bytes.extend_from_slice(hex::decode(alloc, word)?.as_slice())?;
+        add_word(alloc, bytes, word)?;
     }
     Ok(())
+}
+
+fn add_word(alloc: Global, bytes: &mut Vec<u8>, digits: &str) -> Result<(), Fail> {
+    let word = hex::decode(alloc, digits)?;
+    Ok(bytes.extend_from_slice(word.as_slice())?)
 }
 
 /// The sizes of ids of a field, a method, an object, a class and a frame, two digits each.
@@ -95,8 +105,8 @@ pub(crate) fn limit_of(words: &str) -> Result<Limit, Fail> {
     match word {
         "any" => Ok(Limit::Any),
         "never" => Ok(Limit::Never),
-        "exactly" => Ok(Limit::Exactly(number.parse()?)),
-        "at-most" => Ok(Limit::AtMost(number.parse()?)),
+        "exactly" => Ok(Limit::Exactly(usize::from(byte(number)?))),
+        "at-most" => Ok(Limit::AtMost(usize::from(byte(number)?))),
         _ => Err("no limit".into()),
     }
 }
