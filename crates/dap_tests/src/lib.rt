@@ -3,4 +3,8 @@
 #![tactic(auto)]
 
 #[cfg(test)]
-mod messages;
+mod reads;
+#[cfg(test)]
+mod rows;
+#[cfg(test)]
+mod tellings;
