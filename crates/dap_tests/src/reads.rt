@@ -1,7 +1,7 @@
 use crate::rows::is_row;
 use dap_messages::{
-    Command, EvaluateArguments, Filter, FunctionBreakpoint, Incoming, InitializeArguments, ReadFault,
-    Request, SetExceptionBreakpointsArguments, SetVariableArguments, SourceBreakpoint,
+    Command, EvaluateArguments, Filter, FunctionBreakpoint, Incoming, InitializeArguments,
+    ReadFault, Request, SetExceptionBreakpointsArguments, SetVariableArguments, SourceBreakpoint,
     StackTraceArguments, VariablesArguments, read_request,
 };
 use std::alloc::{AllocError, Global};
@@ -183,12 +183,7 @@ fn are_read(alloc: Global, around: (&str, &str), first: &str, rows: &str) -> Res
 }
 
 // In a row a sign stands for the end of a line.
-fn is_row_read(
-    alloc: Global,
-    around: (&str, &str),
-    first: &str,
-    row: &str,
-) -> Result<(), Fail> {
+fn is_row_read(alloc: Global, around: (&str, &str), first: &str, row: &str) -> Result<(), Fail> {
     let (before, behind) = around;
     let (inside, wanted) = row.split_once(" => ").ok_or("a row that says nothing")?;
     let body = format!(in alloc; "{before}{inside}{behind}")?.replace(alloc, '␊', "\n")?;

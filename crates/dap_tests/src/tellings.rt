@@ -1,7 +1,8 @@
 use crate::rows::{head, is_row};
 use dap_messages::{
     BreakMode, Breakpoint, BreakpointStatus, Evaluated, Event, Failure, Outcome, Response, Shape,
-    Source, StackFrame, StopReason, Stopped, Thread, ThreadChange, Told, Variable, Written, text_of,
+    Source, StackFrame, StopReason, Stopped, Thread, ThreadChange, Told, Variable, Written,
+    text_of,
 };
 use std::alloc::Global;
 use std::test::Fail;
@@ -44,7 +45,12 @@ fn told_of(alloc: Global, word: &str, about: &str) -> Result<Told, Fail> {
         "nothing" => response(alloc, 2, "disconnect", Outcome::Success(Shape::Nothing)),
         "failure" => response(alloc, 4, "c", Outcome::Failure(failure_of(alloc, about)?)),
         "event" => Ok(Told::Event(event_of(alloc, about)?)),
-        _ => response(alloc, 7, "é", Outcome::Success(shape_of(alloc, word, about)?)),
+        _ => response(
+            alloc,
+            7,
+            "é",
+            Outcome::Success(shape_of(alloc, word, about)?),
+        ),
     }
 }
 

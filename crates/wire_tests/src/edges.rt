@@ -103,7 +103,8 @@ fn shaken<W: Wires + Drop>(
 #[test]
 fn bytes_go_both_ways(rt: HostRuntime) -> Result<(), Fail> {
     let listener = TcpListener::bind(&rt, "127.0.0.1:0")?;
-    let (silent, editor) = (Cell::new(None), Cell::new(None));
+    let silent = Cell::new(None);
+    let editor = Cell::new(None);
     let staged = Staged {
         rt: &rt,
         target: Some(&listener),
@@ -116,7 +117,10 @@ fn bytes_go_both_ways(rt: HostRuntime) -> Result<(), Fail> {
     // Nobody hears that the target dropped its link, and the first send dials again.
     assert_eq!(rt; hear(&mut running), Some(Happening::Bytes(Side::Client, 3)));
     let target = shaken(&mut running, &listener)?;
-    assert_eq!(rt; hear(&mut running), Some(Happening::Bytes(Side::Target, 14)));
+    assert_eq!(rt;
+        hear(&mut running),
+        Some(Happening::Bytes(Side::Target, 14))
+    );
     assert!(rt; running.send(Side::Client, b"de"));
     assert_eq!(rt; editor.read(&mut [0; 16])?, 2);
     drop(target);
@@ -130,7 +134,8 @@ fn bytes_go_both_ways(rt: HostRuntime) -> Result<(), Fail> {
 #[test]
 fn what_was_sent_arrives(rt: HostRuntime) -> Result<(), Fail> {
     let listener = TcpListener::bind(&rt, "127.0.0.1:0")?;
-    let (silent, editor) = (Cell::new(None), Cell::new(None));
+    let silent = Cell::new(None);
+    let editor = Cell::new(None);
     let staged = Staged {
         rt: &rt,
         target: None,

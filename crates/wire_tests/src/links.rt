@@ -141,6 +141,11 @@ fn counted() -> Links {
     for _ in 0..3 {
         links = links.after(Happening::Failed(Side::Target));
     }
-    links = links.opened().after(Happening::Quiet).after(Happening::Quiet);
-    links.asked_in_vain(Side::Target).asked_in_vain(Side::Target)
+    links = links
+        .opened()
+        .after(Happening::Quiet)
+        .after(Happening::Quiet);
+    links
+        .asked_in_vain(Side::Target)
+        .asked_in_vain(Side::Target)
 }

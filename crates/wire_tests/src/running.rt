@@ -39,9 +39,12 @@ impl<W: Wires + Drop> Running<W> {
         }
         let happening = self.wires.next(self.buffer.as_mut_slice());
         match happening {
-            Happening::Shut(side) => self.close(side),
-            Happening::Failed(side) => self.close(side),
-            _ => {}
+            Happening::Shut(Side::Client) => self.client = false,
+            Happening::Shut(Side::Target) => self.target = false,
+            Happening::Failed(Side::Client) => self.client = false,
+            Happening::Failed(Side::Target) => self.target = false,
+            Happening::Bytes(_, _) => {}
+            Happening::Quiet => {}
         }
         Some(happening)
     }
@@ -51,11 +54,16 @@ impl<W: Wires + Drop> Running<W> {
         if bytes.is_empty() || !self.is_open(side) {
             return false;
         }
-        let sent = self.wires.send(side, bytes).is_ok();
-        if !sent {
-            self.close(side);
+        match self.wires.send(side, bytes) {
+            Ok(()) => true,
+            Err(_) => {
+                match side {
+                    Side::Client => self.client = false,
+                    Side::Target => self.target = false,
+                }
+                false
+            }
         }
-        sent
     }
 
     /// The wires themselves, to be closed.
@@ -69,13 +77,6 @@ impl<W: Wires + Drop> Running<W> {
         match side {
             Side::Client => self.client,
             Side::Target => self.target,
-        }
-    }
-
-    fn close(&mut self, side: Side) {
-        match side {
-            Side::Client => self.client = false,
-            Side::Target => self.target = false,
         }
     }
 }

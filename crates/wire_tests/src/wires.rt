@@ -100,11 +100,7 @@ pub(crate) fn sent_told(alloc: Global, sends: &str) -> Result<String, Fail> {
     told
 }
 
-fn sent(
-    alloc: Global,
-    running: &mut Running<MemoryWires>,
-    sends: &str,
-) -> Result<String, Fail> {
+fn sent(alloc: Global, running: &mut Running<MemoryWires>, sends: &str) -> Result<String, Fail> {
     let mut told = String::new(alloc);
     for send in sends.split("; ") {
         let (name, bytes) = head(send);
