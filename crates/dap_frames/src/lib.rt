@@ -6,8 +6,6 @@ mod fault;
 mod front;
 mod header;
 pub mod laws;
-#[cfg(test)]
-mod tests;
 mod usual;
 mod writing;
 

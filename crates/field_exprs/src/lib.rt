@@ -17,6 +17,3 @@ pub use laws::{
 };
 pub use printing::print;
 pub use reading::parse;
-
-#[cfg(test)]
-mod tests;

@@ -5,8 +5,6 @@ mod cutter;
 mod fault;
 mod front;
 pub mod laws;
-#[cfg(test)]
-mod tests;
 mod writing;
 
 pub use cutter::{Packet, PacketCutter};

@@ -12,6 +12,3 @@ pub use laws::{a_log_that_was_read_keeps_the_order, a_printed_log_is_read_again}
 pub use log::{ScriptFault, ScriptTrouble, SessionLog};
 pub use print::print_log;
 pub use read::read_log;
-
-#[cfg(test)]
-mod tests;

@@ -66,21 +66,3 @@ impl Output for MemoryOutput {
         }
     }
 }
-
-#[cfg(test)]
-mod tests {
-    use super::*;
-    use std::test::Fail;
-
-    #[test]
-    fn a_failing_call_writes_nothing(rt: HostRuntime) -> Result<(), Fail> {
-        let mut failing = List::new(rt.alloc());
-        failing.push(1)?;
-        let mut out = MemoryOutput::new(rt.alloc(), failing);
-        assert_eq!(rt; out.write(b"one "), Ok(()));
-        assert_eq!(rt; out.write(b"two "), Err(OutRefusal::Failed));
-        assert_eq!(rt; out.write(b"three"), Ok(()));
-        assert_eq!(rt; out.bytes().as_slice(), b"one three".as_slice());
-        Ok(())
-    }
-}

@@ -77,14 +77,3 @@ pub trait Wires {
         ensures ok { OnOk result (Sends (outside self.old) (outside self.new) side bytes.now) }
         ensures err { OnErr result (FailsToSend (outside self.old) (outside self.new) side bytes.now) };
 }
-
-#[cfg(test)]
-mod tests {
-    use super::*;
-
-    #[test]
-    fn each_side_has_the_other(rt: HostRuntime) {
-        assert_eq!(rt; Side::Client.other(), Side::Target);
-        assert_eq!(rt; Side::Target.other(), Side::Client);
-    }
-}

@@ -95,33 +95,3 @@ fn make_room(bytes: &mut Vec<u8>, start: &mut usize, piece: usize)
         *start = 0;
     }
 }
-
-#[cfg(test)]
-mod tests {
-    use super::*;
-    use std::test::Fail;
-
-    #[test]
-    fn bytes_are_taken_as_they_were_fed(rt: HostRuntime) -> Result<(), Fail> {
-        let mut stream = StreamBuffer::new(rt.alloc());
-        assert_eq!(rt; stream.at(), 0);
-        assert_eq!(rt; stream.pending(), b"".as_slice());
-        stream.feed(b"abc")?;
-        stream.feed(b"de")?;
-        assert_eq!(rt; stream.at(), 0);
-        assert_eq!(rt; stream.pending(), b"abcde".as_slice());
-        assert_eq!(rt; stream.take(3), b"abc".as_slice());
-        assert_eq!(rt; stream.at(), 3);
-        assert_eq!(rt; stream.pending(), b"de".as_slice());
-        // a piece for which the rest has to move to the front
-        stream.feed(b"0123456789abcdefghijklmnopqrstuvwxyz")?;
-        assert_eq!(rt; stream.at(), 3);
-        assert_eq!(rt; stream.take(4), b"de01".as_slice());
-        assert_eq!(rt; stream.at(), 7);
-        assert_eq!(rt;
-            stream.pending(),
-            b"23456789abcdefghijklmnopqrstuvwxyz".as_slice()
-        );
-        Ok(())
-    }
-}

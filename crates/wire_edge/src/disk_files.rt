@@ -94,31 +94,3 @@ impl<R: rt::Files + Drop> Files for DiskFiles<R> {
         }
     }
 }
-
-#[cfg(test)]
-mod tests {
-    use super::*;
-    use std::test::Fail;
-
-    #[test]
-    fn a_file_is_written_and_read(rt: HostRuntime) -> Result<(), Fail> {
-        let alloc = rt.alloc();
-        let path = "wire_edge_test.tmp";
-        let name = Word::from_str(alloc, path)?;
-        assert_eq!(rt; DiskFiles::new(rt.clone()?).write(name, b"abc"), Ok(()));
-        for (limit, want) in [(3, Ok(b"abc")), (2, Err(FileRefusal::TooLong))] {
-            let name = Word::from_str(alloc, path)?;
-            let read = DiskFiles::new(rt.clone()?).read(alloc, name, limit);
-            match (read, want) {
-                (Ok(bytes), Ok(want)) => assert_eq!(rt; bytes.as_slice(), want.as_slice()),
-                (Err(refusal), Err(want)) => assert_eq!(rt; refusal, want),
-                _ => assert!(rt; false, "up to {limit}"),
-            }
-        }
-        fs::remove_file(&rt, path)?;
-        let name = Word::from_str(alloc, path)?;
-        let missing = DiskFiles::new(rt.clone()?).read(alloc, name, 3);
-        assert_eq!(rt; missing.err(), Some(FileRefusal::Failed));
-        Ok(())
-    }
-}

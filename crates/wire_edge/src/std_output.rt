@@ -65,14 +65,3 @@ impl<W: Write + Drop> Output for WriterOutput<W> {
         }
     }
 }
-
-#[cfg(test)]
-mod tests {
-    use super::*;
-
-    #[test]
-    fn a_line_is_printed(rt: HostRuntime) {
-        let mut out = StdOutput::new(&rt);
-        assert_eq!(rt; out.write(b"a line\n"), Ok(()));
-    }
-}

@@ -55,14 +55,3 @@ fn can_read<S: Read + IsTerminal>(stream: &mut S) -> bool {
 fn can_write<S: Write + IsTerminal>(stream: &mut S) -> bool {
     stream.is_terminal() || stream.write(&[]).is_ok()
 }
-
-#[cfg(test)]
-mod tests {
-    use super::*;
-
-    #[test]
-    fn streams_of_a_run_are_tried(rt: HostRuntime) {
-        let mut streams = StdStreams::new(rt.stdin(), rt.stdout(), rt.stderr());
-        assert_eq!(rt; streams.try_all(), Ok(()));
-    }
-}
