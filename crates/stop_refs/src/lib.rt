@@ -14,6 +14,3 @@ pub use laws::{
 };
 pub use stop::{FrameRef, Running, Stop, ThingRef};
 pub use thing::{FrameThing, Thing};
-
-#[cfg(test)]
-mod tests;

@@ -6,6 +6,3 @@ mod ledger;
 
 pub use laws::held_is_suspensions_less_resumes;
 pub use ledger::Ledger;
-
-#[cfg(test)]
-mod tests;

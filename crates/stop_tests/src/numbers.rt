@@ -1,5 +1,5 @@
-use super::*;
 use jdwp_values::{ClassId, FrameId, Location, MethodId, ObjectId, ThreadId, TypeTag};
+use stop_refs::{FrameThing, NumberFault, RefFault, Running, Thing};
 
 fn frame_at(index: u64) -> FrameThing {
     FrameThing {

@@ -1,5 +1,5 @@
-use super::*;
 use jdwp_events::Policy;
+use suspend_ledger::Ledger;
 
 #[test]
 fn held_rises_at_composites_and_suspends_and_falls_at_resumes(rt: HostRuntime) {
