@@ -1,6 +1,0 @@
-use Rattle.std.proofs.Common.{◌≡◌, ◌+◌, length}
-use Rattle.dap_frames.proofs.tests.take_all.Given as goal
-
--- as many bytes were fed as before
-abbrev pub invariant-loop : goal.invariant-loop
-invariant-loop l = l.cutter.at + length l.cutter.pending ≡ l.fn.cutter.at + length l.fn.cutter.pending
