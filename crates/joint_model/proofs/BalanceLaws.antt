@@ -120,9 +120,9 @@ pub emitted_count : {w now : World} {composite : Composite} → Emits w composit
     → (w.dead ≡ false) × (now.count ≡ suspends_by composite + w.count)
 emitted_count {w} (Emits.tells first others lives told sound) alive =
     (lives, behind_count w (composite_of (first ∷ others)))
-emitted_count {w} (Emits.begins {policy} {thread} lives there other sound) alive =
+emitted_count {w} (Emits.begins {policy} {thread} lives other sound) alive =
     (lives, behind_count w (start_of policy thread))
-emitted_count (Emits.ends lives) alive = absurd cc
+emitted_count Emits.ends alive = absurd cc
 
 -- The balance ---------------------------------------------------------------------------------------------------------
 

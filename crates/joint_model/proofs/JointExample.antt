@@ -325,7 +325,7 @@ abbrev started : Machine
 started = until 9 (with_item attached (a_composite 90 start))
 
 starts : Joint attach_said attached (watched 1) [] (some_events start ∷ []) []
-starts = Joint.emits attaches (Emits.begins {policy = All} {thread = main} refl refl (λ is. cc)
+starts = Joint.emits attaches (Emits.begins {policy = All} {thread = main} refl (λ is. cc)
     (watched_sound 1 (omega arith)))
 
 -- it is held, as the messages say and as it is in the target

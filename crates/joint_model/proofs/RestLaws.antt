@@ -67,8 +67,8 @@ told_lives w (one ∷ told) are =
 emitted_lives : {w now : World} {composite : Composite} → Emits w composite now → now.dead ≡ false
     → death_in composite ≡ 0
 emitted_lives {w} (Emits.tells first others lives told sound) alive = ap bit (told_lives w (first ∷ others) told)
-emitted_lives (Emits.begins lives there other sound) alive = refl
-emitted_lives (Emits.ends lives) alive = absurd cc
+emitted_lives (Emits.begins lives other sound) alive = refl
+emitted_lives Emits.ends alive = absurd cc
 
 aside_lives : (message : Message) → is_aside message ≡ true → death_by message ≡ 0
 aside_lives message is = grind (arith, is)

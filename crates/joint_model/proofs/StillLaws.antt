@@ -195,8 +195,8 @@ told_still : {w now : World} {composite : Composite} → 0 < w.count → Emits w
     → (program_of now ≡ program_of w) × (values_of now ≡ values_of w)
 told_still {w} held (Emits.tells first others lives told sound) =
     let same = prepare_none w (first ∷ others) held told in (ap program_of same, ap values_of same)
-told_still held (Emits.begins lives there other sound) = (refl, refl)
-told_still held (Emits.ends lives) = (refl, refl)
+told_still held (Emits.begins lives other sound) = (refl, refl)
+told_still held Emits.ends = (refl, refl)
 
 served_still : {w now : World} {asked : Asked} {replied : Replied} → Serves w asked replied now → puts asked ≡ false
     → (program_of now ≡ program_of w) × (values_of now ≡ values_of w)

@@ -184,12 +184,13 @@ abbrev pub end_of : Composite
 end_of = record { policy = NoThread; events = events.VMDeath 0 ∷ [] }
 
 -- A composite goes out: some of the event requests are told of what happens; or, unasked, the target's start is told,
--- or its end (JDWP, Event command set, Composite).
+-- whatever became of its thread, or its end, by which it has ended if it had not before (JDWP, Event command set,
+-- Composite; JDWP, VirtualMachine command set, Exit).
 pub data Emits (w : World) : Composite → World → Type 0 where
   tells : (first : Installed × Event) (others : List (Installed × Event)) → w.dead ≡ false
       → AllByRecursion (IsTold w) (first ∷ others) → IsSound (behind w (composite_of (first ∷ others)))
       → Emits w (composite_of (first ∷ others)) (behind w (composite_of (first ∷ others)))
-  begins : {policy : Policy} {thread : ThreadId} → w.dead ≡ false → is_alive w thread ≡ true
-      → (policy ≡ EventThread → ⊥) → IsSound (behind w (start_of policy thread))
+  begins : {policy : Policy} {thread : ThreadId} → w.dead ≡ false → (policy ≡ EventThread → ⊥)
+      → IsSound (behind w (start_of policy thread))
       → Emits w (start_of policy thread) (behind w (start_of policy thread))
-  ends : w.dead ≡ false → Emits w end_of (record w { dead = true })
+  ends : Emits w end_of (record w { dead = true })
