@@ -1,0 +1,10 @@
+pub mod ErrorNumbers
+pub mod Passing
+pub mod Telling
+pub mod Standing
+pub mod ProgramLaws
+pub mod CommandLaws
+pub mod Sending
+pub mod SideLaws
+pub mod CallLaws
+pub mod SessionLaws

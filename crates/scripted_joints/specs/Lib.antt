@@ -1,0 +1,4 @@
+pub mod Sides
+pub mod Scripts
+pub mod Sessions
+pub mod Laws
