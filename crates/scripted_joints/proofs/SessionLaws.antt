@@ -1,8 +1,9 @@
 -- A session over a scripted target is a joint of the machine and an obeying target.
 use Rattle.std.proofs.Common.{◌≡◌, ◌∙◌, ℕ, zero, suc, ◌+◌, Bool, true, false, cond, List, [], ◌∷◌, ◌++◌, refl}
-use Rattle.std.proofs.Common.{sym, ap, subst, length, take, drop, Option, None, Some, append_assoc}
+use Rattle.std.proofs.Common.{sym, ap, subst, take, drop, Option, None, Some, append_assoc}
 use Rattle.std.specs.Prelude.{not, remove, reverse, slice_get, ◌&&◌}
 use Rattle.std.proofs.lemmas.List.{append-nil, reverse-append}
+use Rattle.jdwp_commands.specs.declared.asked.Asked.{Asked}
 use Rattle.joint_model.specs.Joints.{Joint as Beside, Packet, a_reply, some_events}
 use Rattle.joint_model.specs.Laws.{held, untold}
 use Rattle.joint_model.specs.Names.{TargetCommand}
@@ -14,42 +15,28 @@ use Rattle.machine_model.specs.Pending.{has_such}
 use Rattle.machine_model.specs.Replying.{wire}
 use Rattle.machine_model.specs.Runs.{Message}
 use Rattle.machine_model.specs.State.{Machine}
-use Rattle.jdwp_commands.specs.declared.asked.Asked.{Asked}
 use Rattle.target_server.specs.declared.commands.Command.{Command}
-use Rattle.target_server.specs.Joints.{Advances, Greets, Joint, Serves, end_event, end_of, left, received}
-use Rattle.target_server.specs.Joints.{start_of}
+use Rattle.target_server.specs.declared.trouble.TargetTrouble.{TargetTrouble}
+use Rattle.target_server.specs.Courses.{Calls}
+use Rattle.target_server.specs.Flights.{Flight}
+use Rattle.target_server.specs.Hearing.{Answers, Hears, HearsUpTo, Takes, TargetState, fed}
+use Rattle.target_server.specs.Joints.{Greets, Joint, Serves, end_event, end_of, start_of}
 use Rattle.world_model.specs.declared.world.World.{World}
-use Rattle.scripted_joints.specs.Laws.{first_side}
-use Rattle.scripted_joints.specs.Sessions.{Session, and_events}
+use Rattle.scripted_joints.specs.Laws.{first_side, out_by}
+use Rattle.scripted_joints.specs.Scripts.{IsScripted}
+use Rattle.scripted_joints.specs.Sessions.{AreFirst, Session, and_events, begun_by}
 use Rattle.scripted_joints.specs.Sides.{Side}
-use Rattle.scripted_joints.proofs.CallLaws.{Stage, first_stage, leads_on}
+use Rattle.scripted_joints.proofs.CallLaws.{Stage, calls_on, first_stage}
 use Rattle.scripted_joints.proofs.Passing.{Passes}
-use Rattle.scripted_joints.proofs.SideLaws.{advances_leads, advances_so, ends_dead, greets_leads, greets_so, is_served}
-use Rattle.scripted_joints.proofs.SideLaws.{leaves_leads, receives_leads, serves_leads}
+use Rattle.scripted_joints.proofs.SideLaws.{advances_so, ends_dead, greeted_now, greets_so, is_served}
 
 -- The commands that the target got ------------------------------------------------------------------------------------
-
--- they are the first of those that were sent and not served
-abbrev AreFirst : List Command → List TargetCommand → Type 0
-AreFirst [] asked = Unit {0}
-AreFirst (command ∷ unserved) [] = ⊥
-AreFirst (command ∷ unserved) (sent ∷ asked) = (command.asked ≡ wire sent) × AreFirst unserved asked
 
 first_sends : (unserved : List Command) (asked : List TargetCommand) (sent : TargetCommand) → AreFirst unserved asked
     → AreFirst unserved (asked ++ sent ∷ [])
 first_sends [] asked sent h = tt
 first_sends (command ∷ unserved) [] sent h = absurd h
 first_sends (command ∷ unserved) (first ∷ asked) sent h = (h.0, first_sends unserved asked sent h.1)
-
-first_receives : (unserved : List Command) (asked : List TargetCommand) (command : Command) (sent : TargetCommand)
-    → AreFirst unserved asked → slice_get asked (length unserved) ≡ Some sent → command.asked ≡ wire sent
-    → AreFirst (unserved ++ command ∷ []) asked
-first_receives [] [] command sent h at is = absurd cc
-first_receives [] (first ∷ asked) command sent h at is =
-    let same : sent ≡ first = cc in (is ∙ ap wire same, tt)
-first_receives (one ∷ unserved) [] command sent h at is = absurd h
-first_receives (one ∷ unserved) (first ∷ asked) command sent h at is =
-    (h.0, first_receives unserved asked command sent h.1 at is)
 
 first_at : (unserved : List Command) (asked : List TargetCommand) (place : ℕ) (command : Command) (sent : TargetCommand)
     → AreFirst unserved asked → slice_get unserved place ≡ Some command → slice_get asked place ≡ Some sent
@@ -131,22 +118,85 @@ beside_serves {messages} {m} {w} {now} {packets} {kept} {replied} asked place se
     (subst (λ (commands : List TargetCommand). Beside messages m w commands packets kept)
     (split_back asked place sent at) b) may)
 
+-- What is fed ---------------------------------------------------------------------------------------------------------
+
+-- commands that are taken change neither the world nor what is on its way
+record Keeps (old new : Joint) : Type 0 where
+  world : new.world ≡ old.world
+  flight : new.flight ≡ old.flight
+
+takes_keep : (old new : TargetState) → Takes old new → Keeps old.joint new.joint
+takes_keep old new Takes.none = record { world = refl; flight = refl }
+takes_keep old new (Takes.one_more {middle = middle} before one) =
+    let k = takes_keep old middle before in
+    record {
+      world = ap (λ (t : TargetState). t.joint.world) one.same ∙ k.world;
+      flight = ap (λ (t : TargetState). t.joint.flight) one.same ∙ k.flight;
+    }
+
+begun_none : (start : Option Composite) (b : Bool) → cond (b && not b) start None ≡ None
+begun_none start true = refl
+begun_none start false = refl
+
+-- what an obeying target does as a piece is fed, where nothing is greeted
+fed_same : (old new : Joint) → Keeps old new → Passes old.world (begun_by old new) new.world
+fed_same old new k =
+    let start = start_of old.world.dead old.begin in
+    subst (λ (w : World). Passes old.world (begun_by old new) w) (sym k.world)
+    (subst (λ (told : Option Composite). Passes old.world told old.world)
+    (sym (ap (λ (f : Flight). cond (f.greeted && not old.flight.greeted) start None) k.flight
+    ∙ begun_none start old.flight.greeted)) Passes.stays)
+
+-- and where the handshake is answered
+fed_greets : (old middle new : Joint) → Greets old middle → Keeps middle new → IsScripted old
+    → Passes old.world (begun_by old new) new.world
+fed_greets old middle new g k is =
+    let start = start_of old.world.dead old.begin in
+    let greeted : new.flight.greeted ≡ true =
+    ap (λ (f : Flight). f.greeted) k.flight ∙ (ap (λ (j : Joint). j.flight.greeted) g.same ∙ greeted_now start old) in
+    let begun : begun_by old new ≡ start =
+    ap (λ (b : Bool). cond (b && not old.flight.greeted) start None) greeted
+    ∙ ap (λ (b : Bool). cond (not b) start None) g.first in
+    subst (λ (w : World). Passes old.world (begun_by old new) w) (sym k.world)
+    (subst (λ (told : Option Composite). Passes old.world told middle.world) (sym begun) (greets_so old middle g is))
+
+fed_so : (old greeted : TargetState) (new : Joint) → IsScripted old.joint → Answers old greeted
+    → Keeps greeted.joint new → Passes old.joint.world (begun_by old.joint new) new.world
+fed_so old greeted new is (Answers.is_greeted g) k = fed_same old.joint new k
+fed_so old greeted new is (Answers.waits_on w) k = fed_same old.joint new k
+fed_so old greeted new is (Answers.greets {joint = joint} g greets) k = fed_greets old.joint joint new greets k is
+
+hears_passes : (old new : TargetState) (piece : List ℕ) → IsScripted old.joint → Hears old piece new
+    → Passes old.joint.world (begun_by old.joint new.joint) new.joint.world
+hears_passes old new piece is h =
+    fed_so (fed old piece) h.greeted new.joint is h.answers (takes_keep h.greeted new h.takes.takes)
+
+hears_up_to_passes : (old new : TargetState) (piece : List ℕ) (trouble : TargetTrouble) → IsScripted old.joint
+    → HearsUpTo old piece trouble new → Passes old.joint.world (begun_by old.joint new.joint) new.joint.world
+hears_up_to_passes old new piece trouble is h =
+    let k = takes_keep h.greeted h.takes.last h.takes.takes in
+    fed_so (fed old piece) h.greeted new.joint is h.answers (record {
+      world = ap (λ (t : TargetState). t.joint.world) h.takes.same ∙ k.world;
+      flight = ap (λ (t : TargetState). t.joint.flight) h.takes.same ∙ k.flight;
+    })
+
 -- Sessions ------------------------------------------------------------------------------------------------------------
 
 -- what is so of a session over a scripted target at any time
-record Goes (messages : List Message) (m : Machine) (j : Joint) (asked : List TargetCommand) (packets : List Packet)
-    (kept : List Composite) : Type 0 where
-  beside : Beside messages m j.world (reverse asked) packets kept
-  first : AreFirst j.unserved asked
+record Goes (messages : List Message) (m : Machine) (t : TargetState) (asked : List TargetCommand)
+    (packets : List Packet) (kept : List Composite) : Type 0 where
+  beside : Beside messages m t.joint.world (reverse asked) packets kept
+  first : AreFirst t.joint.unserved asked
   begin : Side
   out : List ℕ
-  stage : Stage begin out j
+  stage : Stage begin out t.joint
 
 -- a move of the machine
-machine_goes : {messages later : List Message} {m next : Machine} {j : Joint} {asked : List TargetCommand}
-    {packets on_way : List Packet} {kept still : List Composite} → Goes messages m j asked packets kept
-    → (Beside messages m j.world (reverse asked) packets kept → Beside later next j.world (reverse asked) on_way still)
-    → Goes later next j asked on_way still
+machine_goes : {messages later : List Message} {m next : Machine} {t : TargetState} {asked : List TargetCommand}
+    {packets on_way : List Packet} {kept still : List Composite} → Goes messages m t asked packets kept
+    → (Beside messages m t.joint.world (reverse asked) packets kept
+    → Beside later next t.joint.world (reverse asked) on_way still)
+    → Goes later next t asked on_way still
 machine_goes g step = record {
   beside = step g.beside;
   first = g.first;
@@ -155,59 +205,36 @@ machine_goes g step = record {
   stage = g.stage;
 }
 
-serves_goes : {messages : List Message} {m : Machine} {j new : Joint} {asked : List TargetCommand}
-    {packets : List Packet} {kept : List Composite} (place : ℕ) (sent : TargetCommand) (s : Serves j place new)
-    → slice_get asked place ≡ Some sent → Goes messages m j asked packets kept
-    → Goes messages m new (remove asked place)
-    (packets ++ a_reply sent s.reply ∷ and_events (end_of j.world.dead new.world.dead)) kept
-serves_goes {j = j} {new} {asked} {packets} place sent s at g =
-    let is = first_at j.unserved asked place s.command sent g.first s.waited at in
-    let served = is_served j.world new.world s.command.asked s.reply s.answers in
-    let may = subst (λ (a : Asked). MayServe j.world a s.reply new.world) is served.may in
-    let l = g.stage in
-    record {
-      beside = beside_ends packets (a_reply sent s.reply) (new.world.dead && not j.world.dead)
-          (ends_dead new.world.dead (not j.world.dead)) (beside_serves asked place sent g.beside at may);
-      first = subst (λ (list : List Command). AreFirst list (remove asked place))
-          (sym (ap (λ (x : Joint). x.unserved) s.others))
-          (first_removes j.unserved asked place s.command g.first s.waited);
-      begin = g.begin;
-      out = g.out;
-      stage = leads_on g.begin g.out g.out j new l
-          (serves_leads j new place s l.sent g.out l.scripted l.spelled l.bytes);
-    }
+-- a call of the target
+calls_goes : {messages : List Message} {m : Machine} {t new : TargetState} {asked after : List TargetCommand}
+    {packets on_way : List Packet} {kept : List Composite} (g : Goes messages m t asked packets kept)
+    → Calls t new → Beside messages m new.joint.world (reverse after) on_way kept → AreFirst new.joint.unserved after
+    → Goes messages m new after on_way kept
+calls_goes {t = t} {new} g call beside first = record {
+  beside = beside;
+  first = first;
+  begin = g.begin;
+  out = g.out ++ out_by call;
+  stage = calls_on g.begin g.out t new g.stage call;
+}
 
-greets_goes : {messages : List Message} {m : Machine} {j new : Joint} {asked : List TargetCommand}
-    {packets : List Packet} {kept : List Composite} (g : Greets j new) → Goes messages m j asked packets kept
-    → Goes messages m new asked (packets ++ and_events (start_of j.world.dead j.begin)) kept
-greets_goes {j = j} {new} {asked} greets g =
-    let l = g.stage in
-    record {
-      beside = beside_passes g.beside (greets_so j new greets l.scripted);
-      first = subst (λ (list : List Command). AreFirst list asked)
-          (sym (ap (λ (x : Joint). x.unserved) greets.same)) g.first;
-      begin = g.begin;
-      out = g.out;
-      stage = leads_on g.begin g.out g.out j new l
-          (greets_leads j new greets l.sent g.out l.scripted l.spelled l.bytes);
-    }
+serves_goes : {messages : List Message} {m : Machine} {t : TargetState} {joint : Joint} {asked : List TargetCommand}
+    {packets : List Packet} {kept : List Composite} (place : ℕ) (sent : TargetCommand) (s : Serves t.joint place joint)
+    → slice_get asked place ≡ Some sent → Goes messages m t asked packets kept
+    → Goes messages m (record t { joint = joint }) (remove asked place)
+    (packets ++ a_reply sent s.reply ∷ and_events (end_of t.joint.world.dead joint.world.dead)) kept
+serves_goes {t = t} {joint} {asked} {packets} place sent s at g =
+    let is = first_at t.joint.unserved asked place s.command sent g.first s.waited at in
+    let served = is_served t.joint.world joint.world s.command.asked s.reply s.answers in
+    let may = subst (λ (a : Asked). MayServe t.joint.world a s.reply joint.world) is served.may in
+    calls_goes g (Calls.serves place s)
+    (beside_ends packets (a_reply sent s.reply) (joint.world.dead && not t.joint.world.dead)
+    (ends_dead joint.world.dead (not t.joint.world.dead)) (beside_serves asked place sent g.beside at may))
+    (subst (λ (list : List Command). AreFirst list (remove asked place)) (sym (ap (λ (x : Joint). x.unserved) s.others))
+    (first_removes t.joint.unserved asked place s.command g.first s.waited))
 
-advances_goes : {messages : List Message} {m : Machine} {j new : Joint} {asked : List TargetCommand}
-    {packets : List Packet} {kept : List Composite} (a : Advances j new) → Goes messages m j asked packets kept
-    → Goes messages m new asked (packets ++ and_events a.made.1) kept
-advances_goes {j = j} {new} {asked} a g =
-    let l = g.stage in
-    record {
-      beside = beside_passes g.beside (advances_so j new a l.scripted);
-      first = subst (λ (list : List Command). AreFirst list asked) (sym (ap (λ (x : Joint). x.unserved) a.same)) g.first;
-      begin = g.begin;
-      out = g.out;
-      stage = leads_on g.begin g.out g.out j new l
-          (advances_leads j new a l.sent g.out l.scripted l.spelled l.bytes);
-    }
-
-goes : {messages : List Message} {m : Machine} {j : Joint} {asked : List TargetCommand} {packets : List Packet}
-    {kept : List Composite} → Session messages m j asked packets kept → Goes messages m j asked packets kept
+goes : {messages : List Message} {m : Machine} {t : TargetState} {asked : List TargetCommand} {packets : List Packet}
+    {kept : List Composite} → Session messages m t asked packets kept → Goes messages m t asked packets kept
 goes (Session.starts {world} {program} {begin} is) = record {
   beside = Beside.starts is.sound is.lives is.free is.none;
   first = tt;
@@ -217,13 +244,13 @@ goes (Session.starts {world} {program} {begin} is) = record {
 }
 goes (Session.goes s is) = machine_goes (goes s) (λ b. Beside.goes b is)
 goes (Session.says s allows aside) = machine_goes (goes s) (λ b. Beside.says b allows aside)
-goes (Session.sends {messages} {next = next} {j = j} {asked} {packets} {kept} {command} s allows) =
+goes (Session.sends {messages} {next = next} {t = t} {asked} {packets} {kept} {command} s allows) =
     let g = goes s in
     record {
       beside = subst (λ (commands : List TargetCommand).
-          Beside (messages ++ Message.sends command ∷ []) next j.world commands packets kept)
+          Beside (messages ++ Message.sends command ∷ []) next t.joint.world commands packets kept)
           (sym (reverse-append asked (command ∷ []))) (Beside.sends g.beside allows);
-      first = first_sends j.unserved asked command g.first;
+      first = first_sends t.joint.unserved asked command g.first;
       begin = g.begin;
       out = g.out;
       stage = g.stage;
@@ -233,41 +260,34 @@ goes (Session.takes s allows) = machine_goes (goes s) (λ b. Beside.takes b allo
 goes (Session.keeps s is allows) = machine_goes (goes s) (λ b. Beside.keeps b is allows)
 goes (Session.reads s is allows) = machine_goes (goes s) (λ b. Beside.reads b is allows)
 goes (Session.loses s allows) = machine_goes (goes s) (λ b. Beside.loses b allows)
-goes (Session.receives {j = j} {asked} command sent s greeted at is) =
+goes (Session.feeds {t = t} {new} piece s f first) =
     let g = goes s in
-    let l = g.stage in
-    record {
-      beside = g.beside;
-      first = first_receives j.unserved asked command sent g.first at is;
-      begin = g.begin;
-      out = g.out;
-      stage = leads_on g.begin g.out g.out j (received command j) l
-          (receives_leads j command l.sent g.out greeted l.scripted l.spelled l.bytes);
-    }
+    calls_goes g (Calls.feeds piece f)
+    (beside_passes g.beside (hears_passes t new piece g.stage.scripted f.hears)) first
+goes (Session.feeds_up_to {t = t} {new} piece trouble s f first) =
+    let g = goes s in
+    let all = hears_up_to_passes t f.last piece trouble g.stage.scripted f.hears in
+    calls_goes g (Calls.feeds_up_to piece trouble f)
+    (beside_passes g.beside (subst (λ (n : TargetState).
+    Passes t.joint.world (begun_by t.joint n.joint) n.joint.world) (sym f.same) all)) first
 goes (Session.serves place sent s serves at) = serves_goes place sent serves at (goes s)
-goes (Session.greets s greets) = greets_goes greets (goes s)
-goes (Session.advances s advances) = advances_goes advances (goes s)
-goes (Session.leaves {j = j} n s) =
+goes (Session.advances {t = t} {joint} {asked} s a) =
     let g = goes s in
-    let l = g.stage in
-    record {
-      beside = g.beside;
-      first = g.first;
-      begin = g.begin;
-      out = _;
-      stage = leads_on g.begin g.out (g.out ++ take n j.flight.bytes) j (left n j) l
-          (leaves_leads j n l.sent g.out l.scripted l.spelled l.bytes);
-    }
+    calls_goes g (Calls.advances a) (beside_passes g.beside (advances_so t.joint joint a g.stage.scripted))
+    (subst (λ (list : List Command). AreFirst list asked) (sym (ap (λ (x : Joint). x.unserved) a.same)) g.first)
+goes (Session.leaves n s) = let g = goes s in calls_goes g (Calls.sends n) g.beside g.first
 
 -- a session over a scripted target is a joint
-pub session_joins : (messages : List Message) (m : Machine) (j : Joint) (asked : List TargetCommand)
-    (packets : List Packet) (kept : List Composite) → Session messages m j asked packets kept
-    → Beside messages m j.world (reverse asked) packets kept
-session_joins messages m j asked packets kept s = (goes s).beside
+pub session_joins : (messages : List Message) (m : Machine) (t : TargetState) (asked : List TargetCommand)
+    (packets : List Packet) (kept : List Composite) → Session messages m t asked packets kept
+    → Beside messages m t.joint.world (reverse asked) packets kept
+session_joins messages m t asked packets kept s = (goes s).beside
 
 -- and its suspensions balance
-pub session_balances : (messages : List Message) (m : Machine) (j : Joint) (asked : List TargetCommand)
-    (packets : List Packet) (kept : List Composite) → Session messages m j asked packets kept → j.world.dead ≡ false
-    → has_such sends_farewell messages ≡ false → j.world.count ≡ held messages + untold (reverse asked) packets kept
-session_balances messages m j asked packets kept s lives near =
-    balances messages m j.world (reverse asked) packets kept (session_joins messages m j asked packets kept s) lives near
+pub session_balances : (messages : List Message) (m : Machine) (t : TargetState) (asked : List TargetCommand)
+    (packets : List Packet) (kept : List Composite) → Session messages m t asked packets kept
+    → t.joint.world.dead ≡ false → has_such sends_farewell messages ≡ false
+    → t.joint.world.count ≡ held messages + untold (reverse asked) packets kept
+session_balances messages m t asked packets kept s lives near =
+    balances messages m t.joint.world (reverse asked) packets kept (session_joins messages m t asked packets kept s)
+    lives near

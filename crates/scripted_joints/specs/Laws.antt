@@ -12,7 +12,6 @@ use Rattle.machine_model.specs.Runs.{Message}
 use Rattle.machine_model.specs.State.{Machine}
 use Rattle.target_server.specs.Courses.{Calls, Course, fresh}
 use Rattle.target_server.specs.Hearing.{TargetState}
-use Rattle.target_server.specs.Joints.{Joint}
 use Rattle.world_model.specs.declared.moves.Move.{Move}
 use Rattle.world_model.specs.declared.world.World.{World}
 use Rattle.scripted_joints.specs.Scripts.{IsScript, IsScripted}
@@ -63,12 +62,13 @@ CoursesObey = (world : World) (program : List Move) (begin : Option (ThreadId ×
 -- A session over a scripted target is a joint of the machine and a target that obeys JDWP, with the same world, and the
 -- same messages on their way. So each law of crate joint_model holds of it, with no premise on the target.
 abbrev pub SessionsJoin : Type 0
-SessionsJoin = (messages : List Message) (m : Machine) (j : Joint) (asked : List TargetCommand) (packets : List Packet)
-    (kept : List Composite) → Session messages m j asked packets kept
-    → Beside messages m j.world (reverse asked) packets kept
+SessionsJoin = (messages : List Message) (m : Machine) (t : TargetState) (asked : List TargetCommand)
+    (packets : List Packet) (kept : List Composite) → Session messages m t asked packets kept
+    → Beside messages m t.joint.world (reverse asked) packets kept
 
 -- For instance: while it lives and wasn't left, it is suspended as often as the messages say, and as is still untold.
 abbrev pub SessionsBalance : Type 0
-SessionsBalance = (messages : List Message) (m : Machine) (j : Joint) (asked : List TargetCommand)
-    (packets : List Packet) (kept : List Composite) → Session messages m j asked packets kept → j.world.dead ≡ false
-    → has_such sends_farewell messages ≡ false → j.world.count ≡ held messages + untold (reverse asked) packets kept
+SessionsBalance = (messages : List Message) (m : Machine) (t : TargetState) (asked : List TargetCommand)
+    (packets : List Packet) (kept : List Composite) → Session messages m t asked packets kept
+    → t.joint.world.dead ≡ false → has_such sends_farewell messages ≡ false
+    → t.joint.world.count ≡ held messages + untold (reverse asked) packets kept
