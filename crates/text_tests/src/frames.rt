@@ -68,6 +68,9 @@ pub(crate) fn frames_told(alloc: Global, stream: &[u8]) -> Result<String, Fail> 
 }
 
 fn frames_in(alloc: Global, stream: &[u8], size: usize) -> Result<String, Fail> {
+    if size == 0 {
+        return Err("no piece".into());
+    }
     let mut feed = FrameFeed::new(alloc);
     let mut told = String::new(alloc);
     for piece in stream.chunks(size) {

@@ -56,6 +56,9 @@ pub(crate) fn packets_told(alloc: Global, digits: &[u8]) -> Result<String, Fail>
 }
 
 fn packets_in(alloc: Global, stream: &[u8], size: usize) -> Result<String, Fail> {
+    if size == 0 {
+        return Err("no piece".into());
+    }
     let mut feed = PacketFeed::new(alloc);
     let mut told = String::new(alloc);
     for piece in stream.chunks(size) {

@@ -58,10 +58,16 @@ fn bytes_of(alloc: Global, row: &str) -> Result<Vec<u8>, Fail> {
             '␍' => bytes.push(b'\r')?,
             '␠' => bytes.push(b' ')?,
             '⁇' => bytes.push(0xff)?,
-            _ => bytes.extend_from_slice(sign.encode_utf8(&mut [0; 4]).as_bytes())?,
+            _ => push_sign(alloc, &mut bytes, sign)?,
         }
     }
     Ok(bytes)
+}
+
+fn push_sign(alloc: Global, bytes: &mut Vec<u8>, sign: char) -> Result<(), Fail> {
+    let mut text = String::new(alloc);
+    text.push(sign)?;
+    Ok(bytes.extend_from_slice(text.as_bytes())?)
 }
 
 /// A text that a row can have, with such signs.
