@@ -1,5 +1,7 @@
 -- Each move of a scripted target's joint is a course of an obeying target.
 use Rattle.std.proofs.Common.{◌≡◌, ◌∙◌, ℕ, ◌<◌, ◌^◌, Bool, true, false, cond, List, [], ◌∷◌, ◌++◌, refl, sym, ap, subst}
+use Rattle.std.proofs.Common.{append_assoc, map}
+use Rattle.std.proofs.lemmas.List.{append-nil}
 use Rattle.std.proofs.Common.{arith, Option, Some, None, take}
 use Rattle.std.specs.Prelude.{not, remove, slice_get, Ok, ◌&&◌}
 use Rattle.std.specs.List.{AllByRecursion}
@@ -18,7 +20,7 @@ use Rattle.target_server.specs.Flights.{CanTell, CanTellIf, Flight, id_behind, p
 use Rattle.target_server.specs.Flights.{packet_of_reply, replied, told_if}
 use Rattle.target_server.specs.Flights.{sent as put}
 use Rattle.target_server.specs.Joints.{Advances, Greets, Joint, Serves, answered, end_event, end_of}
-use Rattle.target_server.specs.Joints.{greeted_with, left, next_move, received, start_event, start_of}
+use Rattle.target_server.specs.Joints.{greeted_with, left, next_move, start_event, start_of}
 use Rattle.target_server.proofs.JointLaws.{answered_program, answered_sound, made_is}
 use Rattle.world_model.specs.declared.moves.Move.{Move}
 use Rattle.world_model.specs.declared.world.World.{World}
@@ -31,11 +33,12 @@ use Rattle.world_model.proofs.HoldLaws.{all_push}
 use Rattle.world_model.proofs.MoveLaws.{facts_stay, makes, requests_stay}
 use Rattle.world_model.proofs.MoveSound.{moves_sound}
 use Rattle.scripted_joints.specs.Scripts.{IsQuiet, IsScripted, MayBegin}
-use Rattle.scripted_joints.specs.Sides.{AreSent, CanSend, Does, Obeys, Sent, Side, a_reply, some_events}
+use Rattle.scripted_joints.specs.Sides.{AreSent, CanSend, Does, Obeys, Said, Sent, Side, a_reply, said_by, said_of}
+use Rattle.scripted_joints.specs.Sides.{some_events}
 use Rattle.scripted_joints.proofs.CommandLaws.{applied_quiet, serves_effect, serves_question}
 use Rattle.scripted_joints.proofs.Passing.{Passes}
 use Rattle.scripted_joints.proofs.ProgramLaws.{passes, untold}
-use Rattle.scripted_joints.proofs.Sending.{goes_out, no_wait, numbered, put_behind, shakes, shakes_and_tells}
+use Rattle.scripted_joints.proofs.Sending.{goes_out, numbered, put_behind, shakes, shakes_and_tells}
 
 -- Courses -------------------------------------------------------------------------------------------------------------
 
@@ -53,9 +56,12 @@ abbrev pub with_told : ℕ → Option Composite → List Sent → List Sent
 with_told id None sent = sent
 with_told id (Some composite) sent = sent ++ some_events id composite ∷ []
 
--- where a move of a scripted target leads
-pub record Leads (old : Joint) (sent : List Sent) (out : List ℕ) (new : Joint) : Type 0 where
+-- where a move of a scripted target leads, and what is said by what it sends
+pub record Leads (old : Joint) (sent : List Sent) (out : List ℕ) (new : Joint) (said : List Said) : Type 0 where
   pub later : List Sent
+  pub more : List Sent
+  pub grown : later ≡ sent ++ more
+  pub says : map said_of more ≡ said
   pub obeys : Obeys (side_of old sent) (side_of new later)
   pub spelled : AllByRecursion (CanSend new.world.sizes) later
   pub bytes : AreSent new.world.sizes later out new.flight
@@ -187,8 +193,12 @@ module _ (old new : Joint) (place : ℕ) (s : Serves old place new) (sent : List
   }
 
   ends_by : (b : Bool) → (now.dead && not old.world.dead) ≡ b → Leads old sent out (behind (cond b (Some end_event) None))
+      (Said.of_reply s.reply ∷ said_by (cond b (Some end_event) None))
   ends_by false e = record {
     later = sent ++ one ∷ [];
+    more = one ∷ [];
+    grown = refl;
+    says = refl;
     obeys = replied_to;
     spelled = reply_spelled;
     bytes = reply_sent;
@@ -200,6 +210,9 @@ module _ (old new : Joint) (place : ℕ) (s : Serves old place new) (sent : List
       let end = some_events flight.next_id end_event in
       record {
         later = sent_so ++ end ∷ [];
+        more = one ∷ end ∷ [];
+        grown = append_assoc sent (one ∷ []) (end ∷ []);
+        says = refl;
         obeys = Obeys.does replied_to (subst (λ (w : World). Does
             (record { world = now; unserved = rest; sent = sent_so })
             (record { world = w; unserved = rest; sent = sent_so ++ end ∷ [] }))
@@ -210,11 +223,12 @@ module _ (old new : Joint) (place : ℕ) (s : Serves old place new) (sent : List
       }
 
   -- a command that is served leads on
-  pub serves_leads : Leads old sent out new
+  pub serves_leads : Leads old sent out new (Said.of_reply s.reply ∷ said_by (end_of old.world.dead now.dead))
   serves_leads =
       let same : new ≡ behind (end_of old.world.dead now.dead) =
       s.others ∙ ap (λ (f : Flight). record old { world = now; unserved = rest; flight = f }) s.flight in
-      subst (λ (j : Joint). Leads old sent out j) (sym same) (ends_by (now.dead && not old.world.dead) refl)
+      subst (λ (j : Joint). Leads old sent out j (Said.of_reply s.reply ∷ said_by (end_of old.world.dead now.dead)))
+      (sym same) (ends_by (now.dead && not old.world.dead) refl)
 
 -- The handshake -------------------------------------------------------------------------------------------------------
 
@@ -253,9 +267,12 @@ greets_so old new g is =
 module _ (old : Joint) (sent : List Sent) (out : List ℕ) (is : IsScripted old)
     (spelled : AllByRecursion (CanSend old.world.sizes) sent) (bytes : AreSent old.world.sizes sent out old.flight)
     (still : old.flight.greeted ≡ false) where
-  none_greets : Leads old sent out (greeted_with None old)
+  none_greets : Leads old sent out (greeted_with None old) []
   none_greets = record {
     later = sent;
+    more = [];
+    grown = sym (append-nil sent);
+    says = refl;
     obeys = Obeys.stays;
     spelled = spelled;
     bytes = shakes old.world.sizes sent out old.flight still bytes;
@@ -270,7 +287,7 @@ module _ (old : Joint) (sent : List Sent) (out : List ℕ) (is : IsScripted old)
   greets_by : (dead : Bool) (begin : Option (ThreadId × Policy)) → old.world.dead ≡ dead → old.begin ≡ begin
       → CanTellIf old.world.sizes (start_of dead begin)
       → (greeted_with (start_of dead begin) old).world.count < 2 ^ 64
-      → Leads old sent out (greeted_with (start_of dead begin) old)
+      → Leads old sent out (greeted_with (start_of dead begin) old) (said_by (start_of dead begin))
   greets_by true begin d b can few = none_greets
   greets_by false None d b can few = none_greets
   greets_by false (Some begin) d b can few =
@@ -278,6 +295,9 @@ module _ (old : Joint) (sent : List Sent) (out : List ℕ) (is : IsScripted old)
       let sound = counted_sound old.world (greeted_with (Some (start_event begin)) old).world.count is.sound few in
       record {
         later = sent ++ one ∷ [];
+        more = one ∷ [];
+        grown = refl;
+        says = refl;
         obeys = Obeys.does Obeys.stays (Does.emits old.flight.next_id
             (Emits.begins {policy = begin.1} {thread = begin.0} d (is.begin begin.0 begin.1 b) sound));
         spelled = all_push (CanSend old.world.sizes) sent one spelled can;
@@ -293,10 +313,10 @@ module _ (old : Joint) (sent : List Sent) (out : List ℕ) (is : IsScripted old)
 
 pub greets_leads : (old new : Joint) (g : Greets old new) (sent : List Sent) (out : List ℕ) → IsScripted old
     → AllByRecursion (CanSend old.world.sizes) sent → AreSent old.world.sizes sent out old.flight
-    → Leads old sent out new
+    → Leads old sent out new (said_by (start_of old.world.dead old.begin))
 greets_leads old new g sent out is spelled bytes =
     let few = g.few in
-    subst (λ (j : Joint). Leads old sent out j) (sym g.same)
+    subst (λ (j : Joint). Leads old sent out j (said_by (start_of old.world.dead old.begin))) (sym g.same)
     (greets_by old sent out is spelled bytes g.first old.world.dead old.begin refl refl g.spelled
     (subst (λ (j : Joint). j.world.count < 2 ^ 64) g.same few))
 
@@ -323,9 +343,17 @@ advances_so old new a is =
     subst (λ (j : Joint). Passes old.world a.made.1 j.world) (sym a.same)
     (passes old.world a.made.0 m.next a.made.1 is.sound is.quiet m.is)
 
+told_grown : (id : ℕ) (what : Option Composite) (sent : List Sent) → with_told id what sent ≡ sent ++ with_told id what []
+told_grown id None sent = sym (append-nil sent)
+told_grown id (Some composite) sent = refl
+
+told_says : (id : ℕ) (what : Option Composite) → map said_of (with_told id what []) ≡ said_by what
+told_says id None = refl
+told_says id (Some composite) = refl
+
 pub advances_leads : (old new : Joint) (a : Advances old new) (sent : List Sent) (out : List ℕ) → IsScripted old
     → AllByRecursion (CanSend old.world.sizes) sent → AreSent old.world.sizes sent out old.flight
-    → Leads old sent out new
+    → Leads old sent out new (said_by a.made.1)
 advances_leads old new a sent out is spelled bytes =
     let w = old.world in
     let now = a.made.0 in
@@ -336,8 +364,11 @@ advances_leads old new a sent out is spelled bytes =
     let sizes : w.sizes ≡ now.sizes = sym (ap (λ (f : Facts). f.sizes) (facts_stay w now m.next what m.is)) in
     let sent_bytes = subst (λ (z : IdSizes). AreSent z sent out old.flight) sizes bytes in
     let id = old.flight.next_id in
-    subst (λ (j : Joint). Leads old sent out j) (sym a.same) (record {
+    subst (λ (j : Joint). Leads old sent out j (said_by a.made.1)) (sym a.same) (record {
       later = with_told id what sent;
+      more = with_told id what [];
+      grown = told_grown id what sent;
+      says = told_says id what;
       obeys = obeys_by (side_of old sent) now what id (passes w now m.next what is.sound is.quiet m.is);
       spelled = told_spelled now.sizes sent id what a.spelled
           (subst (λ (z : IdSizes). AllByRecursion (CanSend z) sent) sizes spelled);
@@ -365,27 +396,14 @@ advances_leads old new a sent out is spelled bytes =
 
 -- What comes and goes -------------------------------------------------------------------------------------------------
 
-pub receives_leads : (old : Joint) (command : Command) (sent : List Sent) (out : List ℕ) → old.flight.greeted ≡ true
-    → IsScripted old → AllByRecursion (CanSend old.world.sizes) sent → AreSent old.world.sizes sent out old.flight
-    → Leads old sent out (received command old)
-receives_leads old command sent out greeted is spelled bytes = record {
-  later = sent;
-  obeys = Obeys.does Obeys.stays (Does.gets command);
-  spelled = spelled;
-  bytes = bytes;
-  scripted = record {
-    sound = is.sound;
-    quiet = is.quiet;
-    begin = is.begin;
-    first = λ still. no_wait old.flight.greeted still greeted;
-  };
-}
-
 pub leaves_leads : (old : Joint) (n : ℕ) (sent : List Sent) (out : List ℕ) → IsScripted old
     → AllByRecursion (CanSend old.world.sizes) sent → AreSent old.world.sizes sent out old.flight
-    → Leads old sent (out ++ take n old.flight.bytes) (left n old)
+    → Leads old sent (out ++ take n old.flight.bytes) (left n old) []
 leaves_leads old n sent out is spelled bytes = record {
   later = sent;
+  more = [];
+  grown = sym (append-nil sent);
+  says = refl;
   obeys = Obeys.stays;
   spelled = spelled;
   bytes = goes_out old.world.sizes sent out old.flight n bytes;

@@ -1,5 +1,6 @@
 -- What holds of each scripted target: it is one that obeys JDWP.
-use Rattle.std.specs.Prelude.{◌≡◌, ℕ, ◌+◌, false, true, List, [], ◌++◌, reverse, take, Option}
+use Rattle.std.specs.Prelude.{◌≡◌, ℕ, ◌+◌, false, true, List, [], ◌++◌, reverse, take, Option, map}
+use Rattle.std.specs.List.{AllByRecursion}
 use Rattle.jdwp_values.specs.declared.id.ThreadId.{ThreadId}
 use Rattle.jdwp_events.specs.declared.kind.Policy.{Policy}
 use Rattle.joint_model.specs.Joints.{Joint as Beside, Packet}
@@ -15,8 +16,8 @@ use Rattle.target_server.specs.Hearing.{TargetState}
 use Rattle.world_model.specs.declared.moves.Move.{Move}
 use Rattle.world_model.specs.declared.world.World.{World}
 use Rattle.scripted_joints.specs.Scripts.{IsScript, IsScripted}
-use Rattle.scripted_joints.specs.Sessions.{Session}
-use Rattle.scripted_joints.specs.Sides.{IsBeside, Obeys, Side}
+use Rattle.scripted_joints.specs.Sessions.{Session, said_in, went_out}
+use Rattle.scripted_joints.specs.Sides.{AreSent, CanSend, IsBeside, Obeys, Sent, Side, said_of}
 
 -- the same of the target: once its debugger's handshake came it has sent its own
 pub record IsTarget (t : TargetState) : Type 0 where
@@ -65,6 +66,21 @@ abbrev pub SessionsJoin : Type 0
 SessionsJoin = (messages : List Message) (m : Machine) (t : TargetState) (asked : List TargetCommand)
     (packets : List Packet) (kept : List Composite) → Session messages m t asked packets kept
     → Beside messages m t.joint.world (reverse asked) packets kept
+
+-- These packets are in flight: the bytes that went out, and those on their way, are the handshake and the packets of what
+-- was read, and then of these.
+pub record AreInFlight (t : TargetState) (out : List ℕ) (packets : List Packet) : Type 0 where
+  pub read : List Sent
+  pub flying : List Sent
+  pub same : map said_of flying ≡ map said_in packets
+  pub spelled : AllByRecursion (CanSend t.joint.world.sizes) (read ++ flying)
+  pub bytes : AreSent t.joint.world.sizes (read ++ flying) out t.joint.flight
+
+-- In a session the packets in flight are so.
+abbrev pub SessionsSend : Type 0
+SessionsSend = (messages : List Message) (m : Machine) (t : TargetState) (asked : List TargetCommand)
+    (packets : List Packet) (kept : List Composite) (session : Session messages m t asked packets kept)
+    → AreInFlight t (went_out session) packets
 
 -- For instance: while it lives and wasn't left, it is suspended as often as the messages say, and as is still untold.
 abbrev pub SessionsBalance : Type 0

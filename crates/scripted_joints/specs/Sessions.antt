@@ -2,7 +2,7 @@
 -- target (crate joint_model), and what is fed to the target are the machine's commands, in the order in which they were
 -- sent.
 use Rattle.std.specs.Prelude.{ℕ, ◌≡◌, ◌∷◌, ◌++◌, false, true, not, ◌&&◌, if◌then◌else◌, List, [], remove, slice_get, Ok}
-use Rattle.std.specs.Prelude.{Option, None, Some}
+use Rattle.std.specs.Prelude.{take, Option, None, Some}
 use Rattle.jdwp_values.specs.declared.id.ThreadId.{ThreadId}
 use Rattle.jdwp_events.specs.declared.kind.Policy.{Policy}
 use Rattle.jdwp_events.specs.Composites.{composite_at}
@@ -21,6 +21,7 @@ use Rattle.target_server.specs.Joints.{Advances, Joint, Serves, end_of, left, st
 use Rattle.world_model.specs.declared.moves.Move.{Move}
 use Rattle.world_model.specs.declared.world.World.{World}
 use Rattle.scripted_joints.specs.Scripts.{IsScript}
+use Rattle.scripted_joints.specs.Sides.{Said}
 
 -- the events that go on their way, if any
 abbrev pub and_events : Option Composite → List Packet
@@ -97,3 +98,26 @@ pub data Session : List Message → Machine → TargetState → List TargetComma
   leaves : {messages : List Message} {m : Machine} {t : TargetState} {asked : List TargetCommand}
       {packets : List Packet} {kept : List Composite} (n : ℕ) → Session messages m t asked packets kept
       → Session messages m (record t { joint = left n t.joint }) asked packets kept
+
+-- what is said by a packet
+abbrev pub said_in : Packet → Said
+said_in (a_reply command replied) = Said.of_reply replied
+said_in (some_events composite) = Said.of_events composite
+
+-- the bytes that went out in a session
+abbrev pub went_out : {messages : List Message} {m : Machine} {t : TargetState} {asked : List TargetCommand}
+    {packets : List Packet} {kept : List Composite} → Session messages m t asked packets kept → List ℕ
+went_out (Session.starts is) = []
+went_out (Session.goes s is) = went_out s
+went_out (Session.says s allows aside) = went_out s
+went_out (Session.sends s allows) = went_out s
+went_out (Session.gets s allows) = went_out s
+went_out (Session.takes s allows) = went_out s
+went_out (Session.keeps s is allows) = went_out s
+went_out (Session.reads s is allows) = went_out s
+went_out (Session.loses s allows) = went_out s
+went_out (Session.feeds piece s f first) = went_out s ++ []
+went_out (Session.feeds_up_to piece trouble s f first) = went_out s ++ []
+went_out (Session.serves place sent s v at) = went_out s ++ []
+went_out (Session.advances s a) = went_out s ++ []
+went_out (Session.leaves {t = t} n s) = went_out s ++ take n t.joint.flight.bytes

@@ -1,6 +1,6 @@
 -- A target that obeys JDWP, apart from its debugger: its world, the commands that it hasn't served, and what it has
 -- sent; and the bytes of that, as a scripted target sends them.
-use Rattle.std.specs.Prelude.{◌≡◌, ℕ, true, false, List, [], ◌∷◌, ◌++◌, remove, slice_get, Some}
+use Rattle.std.specs.Prelude.{◌≡◌, ℕ, true, false, List, [], ◌∷◌, ◌++◌, remove, slice_get, Some, Option, None}
 use Rattle.std.specs.List.{AllByRecursion}
 use Rattle.jdwp_values.specs.declared.sizes.IdSizes.{IdSizes}
 use Rattle.jdwp_events.specs.declared.composite.Composite.{Composite}
@@ -16,6 +16,20 @@ use Rattle.world_model.specs.declared.world.World.{World}
 pub data Sent : Type 0 where
   a_reply : (id : ℕ) → Replied → Sent
   some_events : (id : ℕ) → Composite → Sent
+
+-- what is said by it, whatever the number of its packet
+pub data Said : Type 0 where
+  of_reply : Replied → Said
+  of_events : Composite → Said
+
+abbrev pub said_of : Sent → Said
+said_of (a_reply id replied) = Said.of_reply replied
+said_of (some_events id composite) = Said.of_events composite
+
+-- what is said by events, if there are any
+abbrev pub said_by : Option Composite → List Said
+said_by None = []
+said_by (Some composite) = Said.of_events composite ∷ []
 
 -- A world, the commands that came and were not served, and all that was sent, each in order.
 pub record Side : Type 0 where

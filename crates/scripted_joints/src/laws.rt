@@ -1,6 +1,6 @@
 //! A scripted target is one that obeys JDWP. Each law is the contract of a function that does nothing.
 
-ghost use Rattle.scripted_joints.specs.Laws.{CallsObey, CoursesObey, SessionsBalance, SessionsJoin};
+ghost use Rattle.scripted_joints.specs.Laws.{CallsObey, CoursesObey, SessionsBalance, SessionsJoin, SessionsSend};
 
 /// Each call of a scripted target, whatever is fed, served, moved or read, is a course of a target that obeys JDWP:
 /// commands come to it, it serves some, its program runs, and events go out. Behind the call the two have the same
@@ -22,6 +22,12 @@ pub fn each_course_obeys()
 /// script gives a sound world.
 pub fn each_session_is_a_joint()
     ensures { SessionsJoin }
+{}
+
+/// In such a session the bytes that went out, and those on their way, are the handshake and the packets of the replies and
+/// composites that were read, and then of those in flight, in order (JDWP, JDWP Start Up; JDWP, JDWP Packets).
+pub fn packets_in_flight_are_those_of_the_bytes()
+    ensures { SessionsSend }
 {}
 
 /// For instance: as long as a scripted target lives and wasn't left, all its threads are suspended just as often as the
