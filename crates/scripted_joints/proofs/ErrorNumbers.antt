@@ -29,7 +29,8 @@ use Rattle.world_model.specs.declared.rows.WorldField.{WorldField}
 use Rattle.world_model.specs.declared.rows.WorldMethod.{WorldMethod}
 use Rattle.world_model.specs.declared.rows.WorldObject.{WorldObject}
 use Rattle.world_model.specs.declared.world.World.{World}
-use Rattle.world_model.specs.Classes.{and_then, fields_in, fields_of, has_class, is_threads_class, method_at, lines_of, known_lines, some_variables, source_of}
+use Rattle.world_model.specs.Classes.{and_then, fields_in, fields_of, has_class, is_threads_class, known_lines}
+use Rattle.world_model.specs.Classes.{lines_of, method_at, some_variables, source_of}
 use Rattle.world_model.specs.Codes.{told, vm_dead}
 use Rattle.world_model.specs.Effects.{Outcome, done_with, refused, living, applied, set_where, installed}
 use Rattle.world_model.specs.Effects.{with_put, with_element, with_slot}
@@ -255,7 +256,8 @@ done_numbers w change answer (Ok x) h = λ now replied e. reply_same _ now (an_a
 done_numbers w change answer (Err code) (IsCoded.coded more) =
     λ now replied e. reply_same _ now (an_error code) replied more e
 
-suspended_numbers : (w : World) (fits : Bool) (then : World) → AreNumbered (cond fits (Some (then, an_answer answers.Suspend)) None)
+suspended_numbers : (w : World) (fits : Bool) (then : World)
+    → AreNumbered (cond fits (Some (then, an_answer answers.Suspend)) None)
 suspended_numbers w true then = λ now replied e. reply_same then now (an_answer answers.Suspend) replied tt e
 suspended_numbers w false then = λ now replied e. absurd cc
 

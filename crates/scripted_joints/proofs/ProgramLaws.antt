@@ -1,5 +1,6 @@
 -- A move of a script's program is one that an obeying target may make: it runs, and tells what happens.
-use Rattle.std.proofs.Common.{◌≡◌, ◌∙◌, ℕ, ◌+◌, ◌<◌, ◌^◌, Bool, true, false, cond, List, [], ◌∷◌, ◌++◌, map, refl, sym, ap, subst}
+use Rattle.std.proofs.Common.{◌≡◌, ◌∙◌, ℕ, ◌+◌, ◌<◌, ◌^◌, Bool, true, false, cond, List, []}
+use Rattle.std.proofs.Common.{◌∷◌, ◌++◌, map, refl, sym, ap, subst}
 use Rattle.std.proofs.Common.{arith, Option, Some, None, option_map, nat_eq}
 use Rattle.std.specs.Prelude.{filter, find, fold, is_some, Contains, Ok, option_and_then, ◌&&◌}
 use Rattle.std.specs.BTreeSet.{insert_key}
@@ -33,7 +34,8 @@ use Rattle.world_model.specs.declared.world.World.{World}
 use Rattle.world_model.specs.Effects.{same_event}
 use Rattle.world_model.specs.Emitting.{composite_of, emitted, event_of, greater, hit_of, hits, is_end, matches}
 use Rattle.world_model.specs.Emitting.{standing_event, unasked, watches}
-use Rattle.world_model.specs.Happenings.{at_index, can_enter, can_hold, catch_in, frames_outside, is_unprepared, place_at, returns_from, running}
+use Rattle.world_model.specs.Happenings.{at_index, can_enter, can_hold, catch_in, frames_outside, is_unprepared}
+use Rattle.world_model.specs.Happenings.{place_at, returns_from, running}
 use Rattle.world_model.specs.Happenings.{stands, stored, throws_in, what_happens}
 use Rattle.world_model.specs.MoveFacts.{facts_of, is_prepared, requested_of, tells_prepared}
 use Rattle.world_model.specs.Moving.{behind as moved_on, class_behind, count_behind, frames_left, gone_on, held_slot}
@@ -372,8 +374,8 @@ plain_passes w now next told s h plain m what is lives tells none =
     (runs_and_tells w (moved_on w next) what (plain_runs w now next told s h plain) tells none))
 
 -- an exception is thrown where the thread stands
-throw_passes : (w now : World) (thread : ThreadId) (object : ObjectId) (class : ClassId)
-    (method : MethodId) (index : ℕ) (told : Option Composite) → IsSound w → moved w (moves.Throw thread object class method index) ≡ Ok (now, told)
+throw_passes : (w now : World) (thread : ThreadId) (object : ObjectId) (class : ClassId) (method : MethodId) (index : ℕ)
+    (told : Option Composite) → IsSound w → moved w (moves.Throw thread object class method index) ≡ Ok (now, told)
     → Passes w told now
 throw_passes w now thread object class method index told s h =
     let next = moves.Throw thread object class method index in
@@ -684,7 +686,7 @@ passes w now (moves.Die thread) told s quiet h = die_passes w now thread told s 
 passes w now (moves.Store object field value) told s quiet h = store_passes w now object field value told s h
 passes w now moves.Death told s quiet h = death_passes w now told h
 
--- What is told where nothing was asked for -----------------------------------------------------------------------------
+-- What is told where nothing was asked for ----------------------------------------------------------------------------
 
 not_end : (w : World) (next : Move) (happened : Happening) → what_happens w next ≡ Some happened → is_death next ≡ false
     → is_end happened ≡ false

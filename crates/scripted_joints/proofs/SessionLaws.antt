@@ -6,17 +6,19 @@ use Rattle.std.proofs.Common.{map}
 use Rattle.std.specs.List.{AllByRecursion}
 use Rattle.std.proofs.lemmas.List.{append-nil, map-append, reverse-append}
 use Rattle.jdwp_commands.specs.declared.asked.Asked.{Asked}
+use Rattle.jdwp_commands.specs.declared.asked.Replied.TheVariants.{Error as an_error}
 use Rattle.joint_model.specs.Joints.{Joint as Beside, Packet, a_reply, some_events}
 use Rattle.joint_model.specs.Laws.{held, untold}
 use Rattle.joint_model.specs.Names.{TargetCommand}
 use Rattle.joint_model.specs.Obeying.{Emits, Serves as MayServe}
 use Rattle.joint_model.proofs.BalanceLaws.{balances}
+use Rattle.joint_model.proofs.ErrorLaws.{errors_taken}
 use Rattle.machine_model.specs.Leaving.{sends_farewell}
 use Rattle.machine_model.specs.Names.{Composite, Replied}
 use Rattle.machine_model.specs.Pending.{has_such}
-use Rattle.machine_model.specs.Replying.{wire}
+use Rattle.machine_model.specs.Replying.{IsReply as IsTaken, wire}
 use Rattle.machine_model.specs.Runs.{Message}
-use Rattle.machine_model.specs.State.{Machine}
+use Rattle.machine_model.specs.State.{Machine, SizesRead}
 use Rattle.target_server.specs.declared.commands.Command.{Command}
 use Rattle.target_server.specs.declared.trouble.TargetTrouble.{TargetTrouble}
 use Rattle.target_server.specs.Courses.{Calls}
@@ -408,3 +410,13 @@ session_sends messages m t asked packets kept session =
       bytes = subst (λ (sent : List Sent). AreSent t.joint.world.sizes sent (went_out session) t.joint.flight) o.parts
           g.stage.bytes;
     }
+
+-- an error that is served ends no session
+pub served_errors : (old new : Joint) (place : ℕ) (serves : Serves old place new) (sizes : Option SizesRead)
+    (sent : TargetCommand) (code : ℕ) → serves.command.asked ≡ wire sent → serves.reply ≡ an_error code
+    → IsTaken sizes sent (an_error code)
+served_errors old new place s sizes sent code is error =
+    let served = is_served old.world new.world s.command.asked s.reply s.answers in
+    errors_taken old.world new.world sizes sent code
+    (subst (λ (r : Replied). MayServe old.world (wire sent) r new.world) error
+    (subst (λ (a : Asked). MayServe old.world a s.reply new.world) is served.may))

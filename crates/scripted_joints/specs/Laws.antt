@@ -3,6 +3,7 @@ use Rattle.std.specs.Prelude.{◌≡◌, ℕ, ◌+◌, false, true, List, [], �
 use Rattle.std.specs.List.{AllByRecursion}
 use Rattle.jdwp_values.specs.declared.id.ThreadId.{ThreadId}
 use Rattle.jdwp_events.specs.declared.kind.Policy.{Policy}
+use Rattle.jdwp_commands.specs.declared.asked.Replied.TheVariants.{Error as an_error}
 use Rattle.joint_model.specs.Joints.{Joint as Beside, Packet}
 use Rattle.joint_model.specs.Laws.{held, untold}
 use Rattle.joint_model.specs.Names.{TargetCommand}
@@ -10,9 +11,11 @@ use Rattle.machine_model.specs.Leaving.{sends_farewell}
 use Rattle.machine_model.specs.Names.{Composite}
 use Rattle.machine_model.specs.Pending.{has_such}
 use Rattle.machine_model.specs.Runs.{Message}
-use Rattle.machine_model.specs.State.{Machine}
+use Rattle.machine_model.specs.Replying.{IsReply as IsTaken, wire}
+use Rattle.machine_model.specs.State.{Machine, SizesRead}
 use Rattle.target_server.specs.Courses.{Calls, Course, fresh}
 use Rattle.target_server.specs.Hearing.{TargetState}
+use Rattle.target_server.specs.Joints.{Joint, Serves}
 use Rattle.world_model.specs.declared.moves.Move.{Move}
 use Rattle.world_model.specs.declared.world.World.{World}
 use Rattle.scripted_joints.specs.Scripts.{IsScript, IsScripted}
@@ -67,8 +70,8 @@ SessionsJoin = (messages : List Message) (m : Machine) (t : TargetState) (asked 
     (packets : List Packet) (kept : List Composite) → Session messages m t asked packets kept
     → Beside messages m t.joint.world (reverse asked) packets kept
 
--- These packets are in flight: the bytes that went out, and those on their way, are the handshake and the packets of what
--- was read, and then of these.
+-- These packets are in flight: the bytes that went out, and those on their way, are the handshake and the packets of
+-- what was read, and then of these.
 pub record AreInFlight (t : TargetState) (out : List ℕ) (packets : List Packet) : Type 0 where
   pub read : List Sent
   pub flying : List Sent
@@ -88,3 +91,10 @@ SessionsBalance = (messages : List Message) (m : Machine) (t : TargetState) (ask
     (packets : List Packet) (kept : List Composite) → Session messages m t asked packets kept
     → t.joint.world.dead ≡ false → has_such sends_farewell messages ≡ false
     → t.joint.world.count ≡ held messages + untold (reverse asked) packets kept
+
+-- And an error that a scripted target replies ends no session: what a session can't do without isn't refused, unless the
+-- target has ended.
+abbrev pub ErrorsTaken : Type 0
+ErrorsTaken = (old new : Joint) (place : ℕ) (serves : Serves old place new) (sizes : Option SizesRead)
+    (sent : TargetCommand) (code : ℕ) → serves.command.asked ≡ wire sent → serves.reply ≡ an_error code
+    → IsTaken sizes sent (an_error code)

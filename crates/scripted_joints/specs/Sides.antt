@@ -81,8 +81,8 @@ pub data AreSent (sizes : IdSizes) (sent : List Sent) (out : List ℕ) (f : Flig
   go : f.greeted ≡ true → f.held ≡ [] → out ++ f.bytes ≡ handshake ++ bytes_sent sizes sent
       → AreSent sizes sent out f
 
--- A scripted target beside a target that obeys JDWP, and the bytes that went out: they have one world, the same commands
--- are unserved, and the bytes are those of what was sent.
+-- A scripted target beside a target that obeys JDWP, and the bytes that went out: the two have one world, the same
+-- commands are unserved, and the bytes are those of what was sent.
 pub record IsBeside (out : List ℕ) (j : Joint) (side : Side) : Type 0 where
   pub world : j.world ≡ side.world
   pub unserved : j.unserved ≡ side.unserved

@@ -1,6 +1,7 @@
 //! A scripted target is one that obeys JDWP. Each law is the contract of a function that does nothing.
 
-ghost use Rattle.scripted_joints.specs.Laws.{CallsObey, CoursesObey, SessionsBalance, SessionsJoin, SessionsSend};
+ghost use Rattle.scripted_joints.specs.Laws.{CallsObey, CoursesObey, ErrorsTaken, SessionsBalance, SessionsJoin};
+ghost use Rattle.scripted_joints.specs.Laws.{SessionsSend};
 
 /// Each call of a scripted target, whatever is fed, served, moved or read, is a course of a target that obeys JDWP:
 /// commands come to it, it serves some, its program runs, and events go out. Behind the call the two have the same
@@ -24,8 +25,8 @@ pub fn each_session_is_a_joint()
     ensures { SessionsJoin }
 {}
 
-/// In such a session the bytes that went out, and those on their way, are the handshake and the packets of the replies and
-/// composites that were read, and then of those in flight, in order (JDWP, JDWP Start Up; JDWP, JDWP Packets).
+/// In such a session the bytes that went out, and those on their way, are the handshake and the packets of the replies
+/// and composites that were read, and then of those in flight, in order (JDWP, JDWP Start Up; JDWP, JDWP Packets).
 pub fn packets_in_flight_are_those_of_the_bytes()
     ensures { SessionsSend }
 {}
@@ -35,4 +36,11 @@ pub fn packets_in_flight_are_those_of_the_bytes()
 /// Suspend and Resume).
 pub fn suspensions_balance_over_a_script()
     ensures { SessionsBalance }
+{}
+
+/// An error that a scripted target replies ends no session, whatever its world: of the commands that a session can't do
+/// without (IDSizes, AllClasses, Suspend, Resume and Clear) none is refused, unless the target has ended (JDWP, Error
+/// Constants).
+pub fn no_error_of_a_scripted_target_ends_a_session()
+    ensures { ErrorsTaken }
 {}

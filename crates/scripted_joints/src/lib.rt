@@ -6,5 +6,6 @@ mod laws;
 
 pub use laws::{
     each_call_obeys, each_course_obeys, each_session_is_a_joint,
-    packets_in_flight_are_those_of_the_bytes, suspensions_balance_over_a_script,
+    no_error_of_a_scripted_target_ends_a_session, packets_in_flight_are_those_of_the_bytes,
+    suspensions_balance_over_a_script,
 };
