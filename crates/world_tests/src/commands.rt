@@ -4,7 +4,6 @@ use crate::rows::head;
 use jdwp_commands::{Answer, Asked, Replied, read_answer, read_command};
 use jdwp_values::IdSizes;
 use std::alloc::Global;
-use std::mem::forget;
 use std::test::Fail;
 use wire_core::NoMemory;
 use world_model::World;
@@ -53,7 +52,7 @@ fn answered(alloc: Global, sizes: IdSizes, asked: &Asked, body: &str) -> Result<
 /// A reply as its contents are printed.
 pub(crate) fn text_of(alloc: Global, replied: Replied) -> Result<String, NoMemory> {
     let text = format!(in alloc; "{replied:?}");
-    forget(replied);
+    drop(replied);
     Ok(text?)
 }
 
@@ -66,7 +65,7 @@ pub(crate) fn answer_text(
 ) -> Result<String, Fail> {
     let asked = asked_of(alloc, sizes, command)?;
     let answer = answered(alloc, sizes, &asked, body);
-    forget(asked);
+    drop(asked);
     Ok(text_of(alloc, Replied::Answer(answer?))?)
 }
 
@@ -74,7 +73,7 @@ pub(crate) fn answer_text(
 pub(crate) fn reply_text(alloc: Global, world: &mut World, command: &str) -> Result<String, Fail> {
     let asked = asked_of(alloc, world.sizes, command)?;
     let replied = replied(alloc, world, &asked);
-    forget(asked);
+    drop(asked);
     Ok(text_of(alloc, replied?)?)
 }
 

@@ -4,12 +4,11 @@ use crate::rows::{add_row, head};
 use jdwp_commands::Replied;
 use jdwp_values::IdSizes;
 use std::alloc::Global;
-use std::mem::forget;
 use std::test::Fail;
 use wire_core::{List, NoMemory};
 use world_model::World;
 
-// The proof that a world is let go takes minutes, and one of a large enum takes long: both are forgotten.
+// A value that goes at the end of a scope is taken apart in the proof of that scope: large ones are let go by a call.
 
 /// Makes a world, and asks of it what the rows of its course say: an error names the first that is told something else.
 /// Lines that are empty or begin with `#` are no rows. A row is one of the world (see `rows`), or a question, and behind
@@ -23,7 +22,7 @@ use world_model::World;
 pub(crate) fn check(alloc: Global, rows: &str, course: &str) -> Result<(), Fail> {
     let mut world = empty(alloc, sizes_of([8, 8, 8, 8, 8])?);
     let done = run_both(alloc, &mut world, rows, course);
-    forget(world);
+    drop(world);
     done
 }
 

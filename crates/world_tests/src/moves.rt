@@ -3,7 +3,6 @@ use crate::rows::{head, id_of, slots_of};
 use jdwp_events::{Composite, read_composite};
 use jdwp_values::{ClassId, FrameId, IdSizes, MethodId, ObjectId, ThreadId};
 use std::alloc::Global;
-use std::mem::forget;
 use std::test::Fail;
 use wire_core::{Blob, List};
 use world_model::{Move, World};
@@ -12,7 +11,7 @@ use world_model::{Move, World};
 pub(crate) fn move_text(alloc: Global, world: &mut World, text: &str) -> Result<String, Fail> {
     let next = move_of(alloc, text)?;
     let made = world.make_move(alloc, &next);
-    forget(next);
+    drop(next);
     match made {
         Ok(told) => told_text(alloc, told),
         Err(_) => Err("a move that is not made".into()),
@@ -21,7 +20,7 @@ pub(crate) fn move_text(alloc: Global, world: &mut World, text: &str) -> Result<
 
 fn told_text(alloc: Global, told: Option<Composite>) -> Result<String, Fail> {
     let text = format!(in alloc; "{told:?}");
-    forget(told);
+    drop(told);
     Ok(text?)
 }
 

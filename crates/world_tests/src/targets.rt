@@ -6,7 +6,6 @@ use crate::rows::{head, id_of};
 use jdwp_events::Policy;
 use jdwp_values::ThreadId;
 use std::alloc::Global;
-use std::mem::forget;
 use std::test::Fail;
 use target_server::{Target, TargetTrouble};
 use wire_core::List;
@@ -170,19 +169,19 @@ fn begin_of(words: &str) -> Result<Option<(ThreadId, Policy)>, Fail> {
     Ok(Some((ThreadId(id_of(thread)?), policy)))
 }
 
-// A target is forgotten, as a world is.
+// A target is let go by a call, as a world is.
 fn run_target(alloc: Global, begin: Option<(ThreadId, Policy)>, lines: &str) -> Result<(), Fail> {
     let mut world = empty(alloc, sizes_of([1, 1, 1, 1, 1])?);
     let mut program = List::new(alloc);
     if let Err(fail) = make(alloc, &mut world, &mut program, lines) {
-        forget(world);
-        forget(program);
+        drop(world);
+        drop(program);
         return Err(fail);
     }
     match Target::new(alloc, world, program, begin) {
         Ok(mut target) => {
             let done = run_lines(alloc, &mut target, lines);
-            forget(target);
+            drop(target);
             done
         }
         Err(_) => Err("no memory".into()),
