@@ -3,14 +3,19 @@ use crate::rows::{bytes_of, cut, expect};
 use std::alloc::Global;
 use std::test::Fail;
 use value_views::{class_name, quote};
-use wire_core::NoMemory;
+use wire_core::{NoMemory, Text};
+
+fn named(alloc: Global, signature: &str) -> Result<Text, Fail> {
+    let bytes = bytes_of(alloc, signature)?;
+    Ok(class_name(alloc, bytes.as_slice())?)
+}
 
 // Each row has the bytes of a signature, and the type's name.
 fn check_names(alloc: Global, rows: &str) -> Result<(), Fail> {
     for row in rows.split('\n') {
         if !row.is_empty() {
             let (signature, wanted) = cut(row)?;
-            let given = class_name(alloc, bytes_of(alloc, signature)?.as_slice())?;
+            let given = named(alloc, signature)?;
             expect(alloc, row, given.as_str(), wanted)?;
         }
     }
@@ -47,12 +52,17 @@ fn types_have_the_names_that_the_language_writes(rt: HostRuntime) -> Result<(), 
     check_names(rt.alloc(), NAMES)
 }
 
+fn quoted(alloc: Global, string: &str) -> Result<Text, Fail> {
+    let bytes = bytes_of(alloc, string)?;
+    Ok(quote(alloc, bytes.as_slice())?)
+}
+
 // Each row has the bytes of a string, and what is shown.
 fn check_quotes(alloc: Global, rows: &str) -> Result<(), Fail> {
     for row in rows.split('\n') {
         if !row.is_empty() {
-            let (bytes, wanted) = cut(row)?;
-            let given = quote(alloc, bytes_of(alloc, bytes)?.as_slice())?;
+            let (string, wanted) = cut(row)?;
+            let given = quoted(alloc, string)?;
             expect(alloc, row, given.as_str(), wanted)?;
         }
     }
@@ -128,14 +138,21 @@ fn text_of(alloc: Global, columns: &str) -> Result<Vec<u8>, Fail> {
     Ok(bytes)
 }
 
+fn check_string(alloc: Global, string: &str, shown: &str) -> Result<(), Fail> {
+    let bytes = string_of(alloc, string)?;
+    let wanted = text_of(alloc, shown)?;
+    let given = quote(alloc, bytes.as_slice())?;
+    if given.as_bytes() == wanted.as_slice() {
+        return Ok(());
+    }
+    Err(format!(in alloc; "another text is shown of {string}")?.into())
+}
+
 // Each row has a string by three columns, and what is shown by three others, with ` shows ` between them.
 fn check_long(alloc: Global, rows: &str) -> Result<(), Fail> {
     for row in rows.split('\n') {
         if let Some((string, shown)) = row.split_once(" shows ") {
-            let given = quote(alloc, string_of(alloc, string)?.as_slice())?;
-            if given.as_bytes() != text_of(alloc, shown)?.as_slice() {
-                return Err(format!(in alloc; "of {row}")?.into());
-            }
+            check_string(alloc, string, shown)?;
         }
     }
     Ok(())
