@@ -1,0 +1,4 @@
+pub mod Given
+pub mod Shapes
+pub mod Known
+pub mod Growing
