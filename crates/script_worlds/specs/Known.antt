@@ -3,7 +3,9 @@
 use Rattle.std.specs.Prelude.{ℕ, Bool, true, false, not, ◌==◌, ◌&&◌, ◌||◌, List, is_some}
 use Rattle.std.specs.List.{list_all, list_any}
 use Rattle.std.specs.Option.{option_map_or}
+use Rattle.jdwp_values.specs.declared.id.ClassId.{ClassId}
 use Rattle.jdwp_values.specs.declared.id.FrameId.{FrameId}
+use Rattle.jdwp_values.specs.declared.id.MethodId.{MethodId}
 use Rattle.jdwp_values.specs.declared.id.ObjectId.{ObjectId}
 use Rattle.jdwp_values.specs.declared.id.ThreadId.{ThreadId}
 use Rattle.jdwp_values.specs.declared.value.Value.{Value}
@@ -97,18 +99,28 @@ move_is_new w program (moves.Die thread) = true
 move_is_new w program (moves.Store object field value) = true
 move_is_new w program moves.Death = true
 
+-- the thread, the method, the object and the values of a frame that is entered
+unfoldable pub call_is_known : World → List Move → ThreadId → ClassId → MethodId → ObjectId → List SlotValue → Bool
+call_is_known w program thread class method this slots =
+    (is_given_thread w program thread && is_method w class method)
+    && (is_known w program this && are_known_slots w program slots)
+
+-- the thread and the object that it throws, and where that is caught
+unfoldable pub throw_is_known : World → List Move → ThreadId → ObjectId → ClassId → MethodId → ℕ → Bool
+throw_is_known w program thread object class method index =
+    (is_given_thread w program thread && is_given_object w program object)
+    && (is_nowhere class method index || is_method w class method)
+
 -- what a move names was given
 abbrev pub move_is_known : World → List Move → Move → Bool
 move_is_known w program (moves.At thread index slots) =
     is_given_thread w program thread && are_known_slots w program slots
 move_is_known w program (moves.Call thread frame class method index this slots) =
-    (is_given_thread w program thread && is_method w class method)
-    && (is_known w program this && are_known_slots w program slots)
+    call_is_known w program thread class method this slots
 move_is_known w program (moves.Return thread) = is_given_thread w program thread
 move_is_known w program (moves.Prepare class thread) = is_class w class && is_given_thread w program thread
 move_is_known w program (moves.Throw thread object class method index) =
-    (is_given_thread w program thread && is_given_object w program object)
-    && (is_nowhere class method index || is_method w class method)
+    throw_is_known w program thread object class method index
 move_is_known w program (moves.Start thread name) = true
 move_is_known w program (moves.Die thread) = is_given_thread w program thread
 move_is_known w program (moves.Store object field value) =

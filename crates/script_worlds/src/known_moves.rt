@@ -1,14 +1,14 @@
 //! Which moves name what was given, and give what was not.
 ghost use Rattle.std.specs.Prelude.{◌≡◌};
 ghost use Rattle.world_model.specs.Happenings.{is_nowhere};
-ghost use Rattle.script_worlds.specs.Known.{move_is_new, move_is_known};
+ghost use Rattle.script_worlds.specs.Known.{move_is_new, move_is_known, call_is_known, throw_is_known};
 
 use crate::given::{field_in_object, is_class, is_method};
 use crate::known::{
     are_known_slots, is_given_frame, is_given_object, is_given_thread, is_known, is_known_value,
 };
-use jdwp_values::{ClassId, MethodId, ObjectId};
-use world_model::{Move, World};
+use jdwp_values::{ClassId, MethodId, ObjectId, ThreadId};
+use world_model::{Move, SlotValue, World};
 
 /// Whether a move gives no id that was given before.
 pub fn move_is_new(world: &World, program: &[Move], row: &Move) -> bool
@@ -28,6 +28,40 @@ fn is_nowhere(class: ClassId, method: MethodId, index: u64) -> bool
     class.0 == 0 && (method.0 == 0 && index == 0)
 }
 
+// Whether the thread, the method, the object and the values of a frame that is entered were given.
+#[tactic(auto, unfolding(crate::specs::Known::call_is_known))]
+fn call_is_known(
+    world: &World,
+    program: &[Move],
+    thread: ThreadId,
+    class: ClassId,
+    method: MethodId,
+    this: ObjectId,
+    slots: &[SlotValue],
+) -> bool
+    ensures { result ≡ call_is_known world.now program.now thread class method this slots.now }
+{
+    (is_given_thread(world, program, thread) && is_method(world, class, method))
+        && (is_known(world, program, this) && are_known_slots(world, program, slots))
+}
+
+// Whether the thread, the object that it throws and the place where that is caught were given.
+#[tactic(auto, unfolding(crate::specs::Known::throw_is_known))]
+fn throw_is_known(
+    world: &World,
+    program: &[Move],
+    thread: ThreadId,
+    object: ObjectId,
+    class: ClassId,
+    method: MethodId,
+    index: u64,
+) -> bool
+    ensures { result ≡ throw_is_known world.now program.now thread object class method index }
+{
+    (is_given_thread(world, program, thread) && is_given_object(world, program, object))
+        && (is_nowhere(class, method, index) || is_method(world, class, method))
+}
+
 /// Whether a move names ids alone that were given before.
 pub fn move_is_known(world: &World, program: &[Move], row: &Move) -> bool
     ensures { result ≡ move_is_known world.now program.now row.now }
@@ -44,11 +78,15 @@ pub fn move_is_known(world: &World, program: &[Move], row: &Move) -> bool
             this,
             slots,
             ..
-        } => {
-            (is_given_thread(world, program, *thread) && is_method(world, *class, *method))
-                && (is_known(world, program, *this)
-                    && are_known_slots(world, program, slots.as_slice()))
-        }
+        } => call_is_known(
+            world,
+            program,
+            *thread,
+            *class,
+            *method,
+            *this,
+            slots.as_slice(),
+        ),
         Move::Return(thread) => is_given_thread(world, program, *thread),
         Move::Prepare { class, thread } => {
             is_class(world, *class) && is_given_thread(world, program, *thread)
@@ -59,10 +97,7 @@ pub fn move_is_known(world: &World, program: &[Move], row: &Move) -> bool
             class,
             method,
             index,
-        } => {
-            (is_given_thread(world, program, *thread) && is_given_object(world, program, *object))
-                && (is_nowhere(*class, *method, *index) || is_method(world, *class, *method))
-        }
+        } => throw_is_known(world, program, *thread, *object, *class, *method, *index),
         Move::Start { .. } => true,
         Move::Die(thread) => is_given_thread(world, program, *thread),
         Move::Store {

@@ -1,7 +1,9 @@
 //! Which rows have numbers of the sizes that a world says, and values of the kinds that it says.
 ghost use Rattle.std.specs.Prelude.{◌≡◌};
 ghost use Rattle.std.specs.List.{list_all};
+ghost use Rattle.jdwp_values.specs.Parts.{tag_of_value};
 ghost use Rattle.world_model.specs.Happenings.{fits};
+ghost use Rattle.world_model.specs.Kinds.{same_kind};
 ghost use Rattle.world_model.specs.Requests.{frames_under};
 ghost use Rattle.script_worlds.specs.Shapes.{value_fits, slots_fit, place_fits, is_of_kind, are_of_kind, class_fits};
 ghost use Rattle.script_worlds.specs.Shapes.{method_fits, variable_fits, field_fits, object_fits, array_fits};
@@ -70,12 +72,19 @@ fn is_of_kind(kind: Option<Tag>, value: &Value) -> bool
     }
 }
 
+// Whether all values are of a kind.
+fn are_all_of(kind: Tag, values: &[Value]) -> bool
+    ensures { result ≡ list_all (λ value. same_kind kind (tag_of_value value)) values.now }
+{
+    values.iter().all(|value| same_kind(kind, value.tag()))
+}
+
 // Whether all values are of a kind, where there is one.
 fn are_of_kind(kind: Option<Tag>, values: &[Value]) -> bool
     ensures { result ≡ are_of_kind kind values.now }
 {
     match kind {
-        Some(kind) => values.iter().all(|value| same_kind(kind, value.tag())),
+        Some(kind) => are_all_of(kind, values),
         None => false,
     }
 }
@@ -180,19 +189,14 @@ pub fn frame_fits(sizes: IdSizes, row: &WorldFrame) -> bool
 pub fn has_room(world: &World, thread: ThreadId) -> bool
     ensures { result ≡ has_room world.now thread }
 {
-    frames_under(world, thread) + 1 < END
+    frames_under(world.frames.as_slice(), thread) + 1 < END
 }
 
 // How many frames a thread has.
-fn frames_under(world: &World, thread: ThreadId) -> usize
-    ensures { result ≡ frames_under world.now.frames thread }
+fn frames_under(frames: &[WorldFrame], thread: ThreadId) -> usize
+    ensures { result ≡ frames_under frames.now thread }
 {
-    world
-        .frames
-        .as_slice()
-        .iter()
-        .filter(|row| row.thread.0 == thread.0)
-        .count()
+    frames.iter().filter(|row| row.thread.0 == thread.0).count()
 }
 
 /// Whether the ids of a move and of its values fit their sizes.
