@@ -11,7 +11,8 @@ use Rattle.jdwp_packets.specs.declared.fault.PacketFault.TheVariants.{BadHandsha
 use Rattle.jdwp_packets.specs.declared.fault.PacketFault.TheVariants.{TooLong as packet_too_long}
 use Rattle.script_text.specs.declared.log.ScriptFault.{ScriptFault}
 use Rattle.script_text.specs.declared.log.ScriptFault.TheVariants.{NotUtf8, BadShape, BadVersion, BadOrder, NoEnd}
-use Rattle.script_text.specs.declared.log.ScriptFault.TheVariants.{AfterEnd, NotJson as no_json}
+use Rattle.script_text.specs.declared.log.ScriptFault.TheVariants.{RepeatedId, UnknownId, BadMove, AfterEnd}
+use Rattle.script_text.specs.declared.log.ScriptFault.TheVariants.{NotJson as no_json}
 use Rattle.wire_core.specs.Output.{Printed, Appends, FailsToWrite}
 use Rattle.session_model.specs.declared.ending.ClientFault.{ClientFault}
 use Rattle.session_model.specs.declared.ending.ClientFault.TheVariants.{Frame, NotJson, NotAMessage}
@@ -124,6 +125,9 @@ log_fault_name no_json = codes "NotJson"
 log_fault_name BadShape = codes "BadShape"
 log_fault_name BadVersion = codes "BadVersion"
 log_fault_name BadOrder = codes "BadOrder"
+log_fault_name RepeatedId = codes "RepeatedId"
+log_fault_name UnknownId = codes "UnknownId"
+log_fault_name BadMove = codes "BadMove"
 log_fault_name NoEnd = codes "NoEnd"
 log_fault_name AfterEnd = codes "AfterEnd"
 

@@ -202,6 +202,9 @@ fn log_fault_name(kind: ScriptFault) -> &'static str
         ScriptFault::BadShape => "BadShape",
         ScriptFault::BadVersion => "BadVersion",
         ScriptFault::BadOrder => "BadOrder",
+        ScriptFault::RepeatedId => "RepeatedId",
+        ScriptFault::UnknownId => "UnknownId",
+        ScriptFault::BadMove => "BadMove",
         ScriptFault::NoEnd => "NoEnd",
         ScriptFault::AfterEnd => "AfterEnd",
     }

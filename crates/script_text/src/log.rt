@@ -21,6 +21,12 @@ pub enum ScriptFault {
     BadVersion,
     /// It is a row that may not stand here, or no first line.
     BadOrder,
+    /// It gives an id again within its kind.
+    RepeatedId,
+    /// It names an id that no line before it gave; of a class above another one, that no line of the world gives.
+    UnknownId,
+    /// It is a move that can't be made where all moves before it were made.
+    BadMove,
     /// It is the line after the last: `end` is missing, or the last line has no line feed.
     NoEnd,
     /// It stands after `end`.
