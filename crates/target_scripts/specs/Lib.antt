@@ -1,0 +1,4 @@
+pub mod Judging
+pub mod Adding
+pub mod Chains
+pub mod Fit
