@@ -1,0 +1,7 @@
+pub mod RequestLaws
+pub mod WeightLaws
+pub mod PieceLaws
+pub mod PlayLaws
+pub mod WireLaws
+pub mod CourseLaws
+pub mod PlayedLaws

@@ -1,0 +1,66 @@
+-- The log of wires over a script is one of that script.
+use Rattle.std.proofs.Common.{◌≡◌, ℕ, Bool, true, false, List, [], ◌∷◌, ◌++◌, refl, sym, ap, subst, ◌∙◌, inl, inr}
+use Rattle.std.proofs.Common.{Option, None, Some}
+use Rattle.std.specs.Prelude.{Result, Ok, Err}
+use Rattle.wire_core.specs.declared.outside.Side.{Side}
+use Rattle.wire_core.specs.declared.outside.Happening.{Happening}
+use Rattle.wire_core.specs.declared.outside.Entry.{Entry}
+use Rattle.wire_core.specs.declared.outside.SendFailed.{SendFailed}
+use Rattle.script_rows.specs.declared.script.Script.{Script}
+use Rattle.script_wires.specs.declared.wires.ScriptWires.{ScriptWires}
+use Rattle.script_wires.specs.Played.{Played}
+use Rattle.script_wires.specs.Playing.{Playing, beginning}
+use Rattle.script_wires.specs.ScriptWires.{playing_of, is_refused, IsNew, KeepsPlaying, NextOfScript, SendsOfScript}
+use Rattle.script_wires.specs.ScriptWires.{IsOver, HasPlayed}
+
+abbrev log_of : ScriptWires → List Entry
+log_of w = w.journal.entries.items
+
+some_same : {A : Type 0} (x y : A) → ◌≡◌ {A = Option A} (Some x) (Some y) → x ≡ y
+some_same x y h = cc
+
+not_both : (b : Bool) → b ≡ true → b ≡ false → ⊥
+not_both b h k = cc
+
+as_played : (script : Script) (log more : List Entry) (p q : Playing) → more ≡ log → q ≡ p → Played script log p
+    → Played script more q
+as_played script log more p q same stands played =
+    subst (λ (l : List Entry). Played script l q) (sym same)
+    (subst (λ (s : Playing). Played script log s) (sym stands) played)
+
+hears_played : (script : Script) (old new : ScriptWires) (buffer : List ℕ) (happening : Happening)
+    → NextOfScript old new buffer happening → is_refused new ≡ false
+    → (is_refused old ≡ false → Played script (log_of old) (playing_of old))
+    → Played script (log_of new) (playing_of new)
+hears_played script old new buffer happening (inl gives) kept before =
+    as_played script _ (log_of new) (playing_of new) (playing_of new) (some_same _ _ gives.log) refl
+    (Played.hears (before (sym gives.refused ∙ kept)) gives.comes)
+hears_played script old new buffer happening (inr withholds) kept before =
+    absurd (not_both (is_refused new) withholds.refuses.refused kept)
+
+sends_played : (script : Script) (old new : ScriptWires) (side : Side) (bytes : List ℕ) (result : Result Unit SendFailed)
+    → SendsOfScript old new side bytes result → is_refused new ≡ false
+    → (is_refused old ≡ false → Played script (log_of old) (playing_of old))
+    → Played script (log_of new) (playing_of new)
+sends_played script old new side bytes (Ok u) sends kept before =
+    as_played script _ (log_of new) (playing_of new) (playing_of new) (some_same _ _ sends.log) refl
+    (Played.sends side bytes (before (sym sends.refused ∙ kept)) sends.sends)
+sends_played script old new side bytes (Err e) refuses kept before =
+    absurd (not_both (is_refused new) refuses.refused kept)
+
+over_played : (script : Script) (w : ScriptWires) → IsOver script w → is_refused w ≡ false
+    → Played script (log_of w) (playing_of w)
+over_played script w (IsOver.made new) kept =
+    as_played script [] (log_of w) (beginning script) (playing_of w) (some_same _ _ new.log) new.playing
+    Played.begins
+over_played script w (IsOver.connects {old = old} over keeps) kept =
+    as_played script (log_of old) (log_of w) (playing_of old) (playing_of w) (some_same _ _ keeps.log) keeps.playing
+    (over_played script old over (sym keeps.refused ∙ kept))
+over_played script w (IsOver.hears {old = old} buffer happening over next) kept =
+    hears_played script old w buffer happening next kept (over_played script old over)
+over_played script w (IsOver.sends {old = old} side bytes result over sends) kept =
+    sends_played script old w side bytes result sends kept (over_played script old over)
+
+pub over_has : (script : Script) (w : ScriptWires) → IsOver script w → is_refused w ≡ false → HasPlayed script w
+over_has script w over kept =
+    record { log = log_of w; whole = refl; played = over_played script w over kept }

@@ -1,0 +1,188 @@
+//! What came and went out over wires, and their links.
+ghost use Rattle.std.specs.Prelude.{◌≡◌, ◌+◌, ◌≤◌, true, [], ◌∷◌, ◌++◌, length, IfOk, IsOk, OnOk, OnErr, Some};
+ghost use Rattle.std.specs.Prelude.{◌↔◌};
+ghost use Rattle.wire_core.specs.declared.outside.Side.TheVariants.{Client, Target};
+ghost use Rattle.wire_core.specs.declared.outside.Happening.TheVariants.{Failed as fails};
+ghost use Rattle.wire_core.specs.declared.outside.Entry.TheVariants.{Out, Failed};
+ghost use Rattle.wire_core.specs.Outside.{entry_of, Adds, IsOpen, Connects, FailsToConnect};
+ghost use Rattle.wire_core.specs.Links.{is_open_in, open_count, Counts, Keeps, IsWithin};
+ghost use Rattle.script_wires.specs.Rooms.{HasRoom, HasRoomLeft};
+
+use std::alloc::Global;
+use wire_core::{Blob, Entry, Happening, Links, Names, NoMemory, OpenFailed, Side, Text, raise};
+
+/// What came and went out over wires, their links, and what they were asked to open. The failure of each side that is
+/// open can be logged without memory.
+#[derive(Debug, Drop)]
+pub(crate) struct Journal {
+    entries: Vec<Entry>,
+    links: Links,
+    open_faults: u64,
+    asked: Option<Names>,
+    ghost room: { HasRoom entries (open_count links) },
+}
+
+// Adds an entry, and keeps room for so many behind it.
+fn add(entries: &mut Vec<Entry>, entry: Entry, kept: usize) -> Result<(), NoMemory>
+    requires { kept ≤ 2 }
+    ensures ok { OnOk result (entries.new.items ≡ entries.old.items ++ entry ∷ []) }
+    ensures room { OnOk result (HasRoom entries.new kept) }
+    ensures err { OnErr result (entries.new.items ≡ entries.old.items) }
+    ensures kept { OnErr result (HasRoomLeft entries.old entries.new 0) }
+{
+    entries.reserve(kept + 1)?;
+    entries.push_reserved(entry);
+    Ok(())
+}
+
+// Adds an entry for which room was kept.
+fn add_reserved(entries: &mut Vec<Entry>, entry: Entry)
+    requires { HasRoom entries.old 1 }
+    ensures entries { entries.new.items ≡ entries.old.items ++ entry ∷ [] }
+    ensures room { HasRoomLeft entries.old entries.new 1 }
+{
+    entries.push_reserved(entry);
+}
+
+// The entry of a happening, with a copy of the bytes that came.
+fn entry(alloc: Global, buffer: &[u8], happening: Happening) -> Result<Entry, NoMemory>
+    requires { IsWithin (length buffer.now) happening }
+    ensures { IfOk result (λ e. e ≡ entry_of buffer.now happening) }
+{
+    match happening {
+        Happening::Bytes(side, n) => Ok(Entry::In(side, Blob::from_slice(alloc, &buffer[..n])?)),
+        Happening::Shut(side) => Ok(Entry::Shut(side)),
+        Happening::Failed(side) => Ok(Entry::Failed(side)),
+        Happening::Quiet => Ok(Entry::Quiet),
+    }
+}
+
+// Adds what came, and keeps room for so many entries behind it.
+fn add_happening(
+    alloc: Global,
+    entries: &mut Vec<Entry>,
+    buffer: &[u8],
+    happening: Happening,
+    kept: usize,
+) -> Result<(), NoMemory>
+    requires room { kept ≤ 2 }
+    requires within { IsWithin (length buffer.now) happening }
+    ensures ok { OnOk result (entries.new.items ≡ entries.old.items ++ entry_of buffer.now happening ∷ []) }
+    ensures room { OnOk result (HasRoom entries.new kept) }
+    ensures err { OnErr result (entries.new.items ≡ entries.old.items) }
+    ensures kept { OnErr result (HasRoomLeft entries.old entries.new 0) }
+{
+    add(entries, entry(alloc, buffer, happening)?, kept)
+}
+
+// Adds bytes that went out, and keeps room for so many entries behind them.
+fn add_send(
+    alloc: Global,
+    entries: &mut Vec<Entry>,
+    side: Side,
+    bytes: &[u8],
+    kept: usize,
+) -> Result<(), NoMemory>
+    requires { kept ≤ 2 }
+    ensures ok { OnOk result (entries.new.items ≡ entries.old.items ++ Out side bytes.now ∷ []) }
+    ensures room { OnOk result (HasRoom entries.new kept) }
+    ensures err { OnErr result (entries.new.items ≡ entries.old.items) }
+    ensures kept { OnErr result (HasRoomLeft entries.old entries.new 0) }
+{
+    add(
+        entries,
+        Entry::Out(side, Blob::from_slice(alloc, bytes)?),
+        kept,
+    )
+}
+
+impl Journal {
+    ghost use Rattle.script_wires.specs.Journals.{outside_in, IsNewJournal};
+
+    /// The journal of wires with both sides open, of which nothing was asked yet.
+    pub(crate) fn new(alloc: Global) -> Result<Journal, NoMemory>
+        ensures { IfOk result IsNewJournal }
+    {
+        let mut entries = Vec::new(alloc);
+        entries.reserve(2)?;
+        Ok(Journal {
+            entries,
+            links: Links::new(true),
+            open_faults: 0,
+            asked: None,
+        })
+    }
+
+    /// What came and went so far.
+    pub(crate) fn entries(&self) -> &[Entry]
+        ensures { (outside_in self.now).log ≡ Some result.now }
+    {
+        self.entries.as_slice()
+    }
+
+    /// The links.
+    pub(crate) fn links(&self) -> Links
+        ensures { result ≡ self.now.links }
+    {
+        self.links
+    }
+
+    /// Opens what is open already, under these names; it fails exactly where a side isn't open.
+    pub(crate) fn connect(&mut self, listen: Text, target: Text) -> Result<(), OpenFailed>
+        requires { (outside_in self.old).asked ≡ [] }
+        ensures ok { OnOk result (Connects (outside_in self.old) (outside_in self.new) listen target) }
+        ensures err { OnErr result (FailsToConnect (outside_in self.old) (outside_in self.new) listen target) }
+        ensures both_open { IsOk result
+            ↔ (IsOpen Client (outside_in self.old) × IsOpen Target (outside_in self.old)) }
+        ensures log { (outside_in self.new).log ≡ (outside_in self.old).log }
+        ensures links { self.new.links ≡ self.old.links }
+    {
+        self.asked = Some(Names { listen, target });
+        if self.links.is_open(Side::Client) && self.links.is_open(Side::Target) {
+            return Ok(());
+        }
+        self.open_faults = raise(self.open_faults);
+        Err(OpenFailed)
+    }
+
+    /// Logs and counts the failure of a side, which takes no memory.
+    pub(crate) fn fail(&mut self, side: Side)
+        requires { is_open_in self.old.links side ≡ true }
+        ensures log { Adds (outside_in self.old) (outside_in self.new) (Failed side ∷ []) }
+        ensures links { Counts (outside_in self.old) (outside_in self.new) (fails side) }
+    {
+        add_reserved(&mut self.entries, Entry::Failed(side));
+        self.links = self.links.after(Happening::Failed(side));
+    }
+
+    /// Logs and counts what came; where memory is refused nothing changes.
+    pub(crate) fn hear(
+        &mut self,
+        alloc: Global,
+        buffer: &[u8],
+        happening: Happening,
+    ) -> Result<(), NoMemory>
+        requires { IsWithin (length buffer.now) happening }
+        ensures log { OnOk result (Adds (outside_in self.old) (outside_in self.new) (entry_of buffer.now happening ∷ [])) }
+        ensures links { OnOk result (Counts (outside_in self.old) (outside_in self.new) happening) }
+        ensures same { OnErr result (outside_in self.new ≡ outside_in self.old) }
+        ensures kept { OnErr result (self.new.links ≡ self.old.links) }
+    {
+        let links = self.links.after(happening);
+        let kept = links.open_count();
+        add_happening(alloc, &mut self.entries, buffer, happening, kept)?;
+        self.links = links;
+        Ok(())
+    }
+
+    /// Logs what went out; where memory is refused nothing changes.
+    pub(crate) fn send(&mut self, alloc: Global, side: Side, bytes: &[u8]) -> Result<(), NoMemory>
+        ensures log { OnOk result (Adds (outside_in self.old) (outside_in self.new) (Out side bytes.now ∷ [])) }
+        ensures links { OnOk result (Keeps (outside_in self.old) (outside_in self.new)) }
+        ensures same { OnErr result (outside_in self.new ≡ outside_in self.old) }
+        ensures kept { self.new.links ≡ self.old.links }
+    {
+        let kept = self.links.open_count();
+        add_send(alloc, &mut self.entries, side, bytes, kept)
+    }
+}

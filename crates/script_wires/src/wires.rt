@@ -1,0 +1,141 @@
+//! Wires that join a bridge to a scripted target.
+ghost use Rattle.std.specs.Prelude.{◌≡◌, ◌<◌, true, [], length, IfOk, IsOk, OnOk, OnErr, Some, ◌↔◌};
+ghost use Rattle.wire_core.specs.declared.outside.Side.TheVariants.{Client, Target};
+ghost use Rattle.wire_core.specs.Outside.{IsOpen, HasOpen, Connects, FailsToConnect, Hears, Sends, FailsToSend};
+ghost use Rattle.wire_core.specs.Links.{is_open_in, first_open, IsPossible};
+
+use crate::journal::Journal;
+use crate::play::Play;
+use script_rows::Script;
+use std::alloc::Global;
+use wire_core::{Entry, Happening, NoMemory, OpenFailed, SendFailed, Side, Text, Wires};
+
+/// Wires that join a bridge to a scripted target: what comes is what a script's schedule gives, and what is sent to the
+/// target is fed to it. They keep a log of all that came and went. When the schedule is used up, each side that is still
+/// open ends, the client first. Where memory is refused, a link fails; so it does where a number of the wires would
+/// reach 2^63, or a packet of the target would be too long.
+#[derive(Drop)]
+pub struct ScriptWires {
+    alloc: Global,
+    journal: Journal,
+    play: Play,
+    refused: bool,
+}
+
+impl ScriptWires {
+    ghost use Rattle.script_wires.specs.ScriptWires.{outside_of, links_of, is_refused, IsNew, Refuses, GivesNext};
+    ghost use Rattle.script_wires.specs.ScriptWires.{SendsAll};
+
+    /// Wires with both sides open that stand at the beginning of a script; `NoMemory` comes where memory is refused.
+    pub fn new(alloc: Global, script: Script) -> Result<ScriptWires, NoMemory>
+        ensures { IfOk result (IsNew script) }
+    {
+        let journal = Journal::new(alloc)?;
+        let play = Play::new(alloc, script)?;
+        Ok(ScriptWires {
+            alloc,
+            journal,
+            play,
+            refused: false,
+        })
+    }
+
+    /// What came and went so far.
+    pub fn log(&self) -> &[Entry]
+        ensures { (outside_of self.now).log ≡ Some result.now }
+    {
+        self.journal.entries()
+    }
+
+    /// Whether a link failed since memory was refused.
+    pub fn refused(&self) -> bool
+        ensures { result ≡ is_refused self.now }
+    {
+        self.refused
+    }
+
+    // Fails a side, for want of memory.
+    fn refuse(&mut self, side: Side)
+        requires { is_open_in (links_of self.old) side ≡ true }
+        ensures { Refuses self.old self.new side }
+    {
+        self.journal.fail(side);
+        self.refused = true;
+    }
+
+    // Waits for what comes next, and logs it; where memory is refused, nothing is logged.
+    fn hear(&mut self, buffer: &mut [u8]) -> Result<Happening, NoMemory>
+        requires room { length buffer.old ≡ 65536 }
+        requires some_open { is_open_in (links_of self.old) (first_open (links_of self.old)) ≡ true }
+        ensures ok { IfOk result (GivesNext self.old self.new buffer.new) }
+        ensures possible { IfOk result (IsPossible (links_of self.old) 65536) }
+        ensures err { OnErr result (outside_of self.new ≡ outside_of self.old) }
+        ensures kept { OnErr result (links_of self.new ≡ links_of self.old) }
+    {
+        let links = self.journal.links();
+        let happening = self.play.next(self.alloc, links, buffer)?;
+        self.journal.hear(self.alloc, buffer, happening)?;
+        Ok(happening)
+    }
+
+    // The target gets what is sent to it, and all is logged; where memory is refused, nothing is logged.
+    fn pass_on(&mut self, side: Side, bytes: &[u8]) -> Result<(), NoMemory>
+        ensures ok { OnOk result (SendsAll self.old self.new side bytes.now) }
+        ensures err { OnErr result (outside_of self.new ≡ outside_of self.old) }
+        ensures kept { OnErr result (links_of self.new ≡ links_of self.old) }
+    {
+        self.play.take_in(self.alloc, side, bytes)?;
+        self.journal.send(self.alloc, side, bytes)?;
+        Ok(())
+    }
+}
+
+impl Wires for ScriptWires {
+    ghost use Rattle.script_wires.specs.ScriptWires.{outside_of, KeepsPlaying, NextOfScript, SendsOfScript};
+
+    ghost outside = { outside_of };
+
+    // It answers `OpenFailed` exactly where a side isn't open.
+    fn connect(&mut self, listen: Text, target: Text) -> Result<(), OpenFailed>
+        requires { (outside_of self.old).asked ≡ [] }
+        ensures ok { OnOk result (Connects (outside_of self.old) (outside_of self.new) listen target) }
+        ensures err { OnErr result (FailsToConnect (outside_of self.old) (outside_of self.new) listen target) }
+        ensures both_open { IsOk result
+            ↔ (IsOpen Client (outside_of self.old) × IsOpen Target (outside_of self.old)) }
+        ensures playing { KeepsPlaying self.old self.new }
+    {
+        self.journal.connect(listen, target)
+    }
+
+    fn next(&mut self, buffer: &mut [u8]) -> Happening
+        requires room { length buffer.old ≡ 65536 }
+        requires some_open { HasOpen (outside_of self.old) }
+        ensures hears { Hears (outside_of self.old) (outside_of self.new) buffer.new result }
+        ensures comes { NextOfScript self.old self.new buffer.new result }
+    {
+        match self.hear(buffer) {
+            Ok(happening) => happening,
+            Err(NoMemory) => {
+                let side = self.journal.links().first();
+                self.refuse(side);
+                Happening::Failed(side)
+            }
+        }
+    }
+
+    fn send(&mut self, side: Side, bytes: &[u8]) -> Result<(), SendFailed>
+        requires is_open { IsOpen side (outside_of self.old) }
+        requires some_bytes { 0 < length bytes.now }
+        ensures ok { OnOk result (Sends (outside_of self.old) (outside_of self.new) side bytes.now) }
+        ensures err { OnErr result (FailsToSend (outside_of self.old) (outside_of self.new) side bytes.now) }
+        ensures sends { SendsOfScript self.old self.new side bytes.now result }
+    {
+        match self.pass_on(side, bytes) {
+            Ok(()) => Ok(()),
+            Err(NoMemory) => {
+                self.refuse(side);
+                Err(SendFailed)
+            }
+        }
+    }
+}
