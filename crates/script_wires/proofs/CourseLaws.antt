@@ -1,20 +1,19 @@
 -- A script's session is a course of its target.
-use Rattle.std.proofs.Common.{◌≡◌, ℕ, Bool, true, false, List, [], ◌∷◌, ◌++◌, length, refl, sym, ap, subst, ◌∙◌}
+use Rattle.std.proofs.Common.{◌≡◌, ℕ, Bool, true, false, List, [], ◌∷◌, length, sym, subst}
 use Rattle.std.proofs.Common.{Option, None, Some}
 use Rattle.wire_core.specs.declared.outside.Side.{Side}
 use Rattle.wire_core.specs.declared.outside.Side.TheVariants.{Client, Target}
 use Rattle.wire_core.specs.declared.outside.Entry.{Entry}
 use Rattle.wire_core.specs.declared.outside.Entry.TheVariants.{In, Out, Shut, Failed, Quiet}
-use Rattle.target_server.specs.declared.trouble.TargetTrouble.{TargetTrouble}
-use Rattle.target_server.specs.Courses.{Calls, Course, Goes, fresh}
+use Rattle.target_server.specs.Courses.{Calls, Course, Goes}
 use Rattle.target_server.specs.Hearing.{TargetState}
-use Rattle.target_server.specs.Joints.{joint_of, left}
+use Rattle.target_server.specs.Joints.{joint_of}
 use Rattle.target_server.proofs.CourseLaws.{fresh_leads}
 use Rattle.script_rows.specs.declared.script.Script.{Script}
 use Rattle.script_rows.specs.declared.script.Turn.{Turn}
 use Rattle.script_rows.specs.declared.script.Turn.TheVariants as lines
 use Rattle.script_wires.specs.Played.{Played, Takes, SendsTo}
-use Rattle.script_wires.specs.Playing.{Playing, beginning, start_of, come, with_lines, piece, closed, closed_by}
+use Rattle.script_wires.specs.Playing.{Playing, beginning, start_of, come, with_lines, piece, closed_by}
 use Rattle.script_wires.specs.Schedules.{ServesAt, MovesOn, ServesIf, MovesIf, Works, Gives, GivesFirst, Settles, Does}
 use Rattle.script_wires.specs.Schedules.{GoesOn, Comes}
 

@@ -1,6 +1,5 @@
 pub mod RequestLaws
 pub mod WeightLaws
-pub mod PieceLaws
 pub mod PlayLaws
 pub mod WireLaws
 pub mod CourseLaws

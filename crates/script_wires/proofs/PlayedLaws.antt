@@ -1,6 +1,6 @@
 -- The log of wires over a script is one of that script.
-use Rattle.std.proofs.Common.{◌≡◌, ℕ, Bool, true, false, List, [], ◌∷◌, ◌++◌, refl, sym, ap, subst, ◌∙◌, inl, inr}
-use Rattle.std.proofs.Common.{Option, None, Some}
+use Rattle.std.proofs.Common.{◌≡◌, ℕ, Bool, true, false, List, [], refl, sym, subst, ◌∙◌, inl, inr}
+use Rattle.std.proofs.Common.{Option, Some}
 use Rattle.std.specs.Prelude.{Result, Ok, Err}
 use Rattle.wire_core.specs.declared.outside.Side.{Side}
 use Rattle.wire_core.specs.declared.outside.Happening.{Happening}
@@ -10,7 +10,7 @@ use Rattle.script_rows.specs.declared.script.Script.{Script}
 use Rattle.script_wires.specs.declared.wires.ScriptWires.{ScriptWires}
 use Rattle.script_wires.specs.Played.{Played}
 use Rattle.script_wires.specs.Playing.{Playing, beginning}
-use Rattle.script_wires.specs.ScriptWires.{playing_of, is_refused, IsNew, KeepsPlaying, NextOfScript, SendsOfScript}
+use Rattle.script_wires.specs.ScriptWires.{playing_of, is_refused, NextOfScript, SendsOfScript}
 use Rattle.script_wires.specs.ScriptWires.{IsOver, HasPlayed}
 
 abbrev log_of : ScriptWires → List Entry

@@ -1,12 +1,10 @@
 -- What is left to do gets less with each line of which the bridge hears nothing.
-use Rattle.std.proofs.Common.{◌≡◌, ℕ, ◌+◌, ◌<◌, Bool, true, false, List, [], ◌∷◌, length, drop, refl, sym, ap, ◌∙◌, arith}
+use Rattle.std.proofs.Common.{◌≡◌, ℕ, ◌+◌, ◌<◌, Bool, true, false, List, [], ◌∷◌, length, drop, refl, ap, arith}
 use Rattle.std.proofs.Common.{Option, None, Some}
 use Rattle.std.proofs.lemmas.List.{length-drop}
 use Rattle.std.proofs.lemmas.List.Edits.{length-remove}
 use Rattle.std.proofs.lemmas.Option.{slice_get_within}
-use Rattle.std.specs.List.{remove}
 use Rattle.jdwp_events.specs.declared.composite.Composite.{Composite}
-use Rattle.wire_core.specs.declared.outside.Entry.{Entry}
 use Rattle.world_model.specs.declared.moves.Move.{Move}
 use Rattle.world_model.specs.declared.world.World.{World}
 use Rattle.target_server.specs.Joints.{Joint, Serves, Advances, next_move}

@@ -1,11 +1,11 @@
 -- Which sides are open behind what is heard.
-use Rattle.std.proofs.Common.{◌≡◌, ℕ, Bool, true, false, List, refl, sym, ap, ◌∙◌}
+use Rattle.std.proofs.Common.{◌≡◌, ℕ, Bool, false, List, refl, ap, ◌∙◌}
 use Rattle.wire_core.specs.declared.outside.Side.{Side}
 use Rattle.wire_core.specs.declared.outside.Side.TheVariants.{Client, Target}
 use Rattle.wire_core.specs.declared.outside.Happening.{Happening}
 use Rattle.wire_core.specs.declared.outside.Happening.TheVariants.{Bytes, Shut, Failed, Quiet}
 use Rattle.wire_core.specs.declared.links.Links.{Links}
-use Rattle.wire_core.specs.Outside.{Link, Outside, entry_of}
+use Rattle.wire_core.specs.Outside.{Link, entry_of}
 use Rattle.wire_core.specs.Links.{link_after, told, is_open_in, Counts}
 use Rattle.script_wires.specs.declared.journal.Journal.{Journal}
 use Rattle.script_wires.specs.declared.play.Play.{Play}

@@ -1,6 +1,5 @@
 -- What wires tell of themselves, as they keep it.
-use Rattle.std.specs.Prelude.{◌≡◌, true, List, [], Some}
-use Rattle.wire_core.specs.declared.outside.Entry.{Entry}
+use Rattle.std.specs.Prelude.{◌≡◌, true, [], Some}
 use Rattle.wire_core.specs.Links.{outside_with, fresh_link}
 use Rattle.wire_core.specs.Names.{names_of}
 use Rattle.wire_core.specs.Outside.{Outside}

@@ -1,5 +1,5 @@
 -- Where a scripted session stands.
-use Rattle.std.specs.Prelude.{ℕ, ◌+◌, min, Bool, true, false, if◌then◌else◌, List, [], ◌∷◌, ◌++◌, length, take, drop}
+use Rattle.std.specs.Prelude.{ℕ, ◌+◌, min, Bool, true, false, if◌then◌else◌, List, [], ◌∷◌, ◌++◌, take, drop}
 use Rattle.std.specs.Prelude.{Option, option_map}
 use Rattle.wire_core.specs.declared.outside.Side.{Side}
 use Rattle.wire_core.specs.declared.outside.Side.TheVariants.{Client, Target}

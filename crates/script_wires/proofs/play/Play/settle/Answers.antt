@@ -1,4 +1,4 @@
-use Rattle.std.proofs.Common.{◌≡◌, Bool, ap}
+use Rattle.std.proofs.Common.{Bool, ap}
 use Rattle.std.specs.Prelude.{Ok}
 use Rattle.script_wires.specs.declared.play.Play.{Play}
 use Rattle.script_wires.specs.Lines.{lines_left}
