@@ -163,7 +163,8 @@ impl Journal {
         happening: Happening,
     ) -> Result<(), NoMemory>
         requires { IsWithin (length buffer.now) happening }
-        ensures log { OnOk result (Adds (outside_in self.old) (outside_in self.new) (entry_of buffer.now happening ∷ [])) }
+        ensures log { OnOk result (Adds (outside_in self.old) (outside_in self.new)
+            (entry_of buffer.now happening ∷ [])) }
         ensures links { OnOk result (Counts (outside_in self.old) (outside_in self.new) happening) }
         ensures same { OnErr result (outside_in self.new ≡ outside_in self.old) }
         ensures kept { OnErr result (self.new.links ≡ self.old.links) }

@@ -1,6 +1,6 @@
 //! A scripted session: what its schedule does, line by line.
-ghost use Rattle.std.specs.Prelude.{◌≡◌, ℕ, ◌<◌, ◌≤◌, true, false, [], ◌∷◌, List, length, take, drop, Ok, Some, None, option_map};
-ghost use Rattle.std.specs.Prelude.{IfOk, IfSome, IfNone, OnOk, if◌then◌else◌};
+ghost use Rattle.std.specs.Prelude.{◌≡◌, ℕ, ◌<◌, ◌≤◌, true, false, [], ◌∷◌, List, length, take, drop, Ok, Some, None};
+ghost use Rattle.std.specs.Prelude.{option_map, IfOk, IfSome, IfNone, OnOk, if◌then◌else◌};
 ghost use Rattle.wire_core.specs.declared.links.Links.{Links as TheLinks};
 ghost use Rattle.wire_core.specs.declared.outside.Side.TheVariants.{Client as client_side, Target as target_side};
 ghost use Rattle.wire_core.specs.declared.outside.Entry.TheVariants.{Shut as ends};

@@ -11,9 +11,9 @@ use std::alloc::Global;
 use wire_core::{Entry, Happening, NoMemory, OpenFailed, SendFailed, Side, Text, Wires};
 
 /// Wires that join a bridge to a scripted target: what comes is what a script's schedule gives, and what is sent to the
-/// target is fed to it. They keep a log of all that came and went. When the schedule is used up, each side that is still
-/// open ends, the client first. Where memory is refused, a link fails; so it does where a number of the wires would
-/// reach 2^63, or a packet of the target would be too long.
+/// target is fed to it. They keep a log of all that came and went. When the schedule is used up, each side that is
+/// still open ends, the client first. Where memory is refused, a link fails; so it does where a number of the wires
+/// would reach 2^63, or a packet of the target would be too long.
 #[derive(Drop)]
 pub struct ScriptWires {
     alloc: Global,
