@@ -1,0 +1,197 @@
+//! Lines of the world.
+ghost use Rattle.std.specs.Prelude.{◌≡◌};
+ghost use Rattle.script_rows.specs.Parts.{row_at, Tells};
+ghost use Rattle.script_rows.specs.Rows.{class_parts, class_made, method_parts, method_made, variable_parts};
+ghost use Rattle.script_rows.specs.Rows.{variable_made, field_parts, field_made, object_parts, object_made, array_parts};
+ghost use Rattle.script_rows.specs.Rows.{array_made, string_parts, string_made, put_parts, put_made, thread_parts};
+ghost use Rattle.script_rows.specs.Rows.{thread_made, frame_parts, frame_made, begin_parts, begin_made, world_row};
+ghost use Rattle.script_rows.specs.declared.kinds.WorldKind.TheVariants as world;
+
+use crate::elements::{Elements, LineFault};
+use crate::kinds::WorldKind;
+use crate::rows::Row;
+use crate::script::Begin;
+use jdwp_values::{
+    ClassId, Field, FieldId, FrameId, Method, MethodId, ObjectId, ThreadId, Variable,
+};
+use std::alloc::Global;
+use world_model::{
+    Put, WorldArray, WorldClass, WorldField, WorldFrame, WorldMethod, WorldObject, WorldString,
+    WorldThread, WorldVariable,
+};
+
+fn class(alloc: Global, elements: &mut Elements<'_>) -> Result<WorldClass, LineFault>
+    ensures { Tells (λ x. x) (row_at class_parts class_made elements.old) elements.new result }
+{
+    Ok(WorldClass {
+        id: ClassId(elements.id()?),
+        tag: elements.class_tag()?,
+        signature: elements.text(alloc)?,
+        source: elements.text_or_null(alloc)?,
+        above: ClassId(elements.id_or_none()?),
+        prepared: elements.truth()?,
+    })
+}
+
+fn method(alloc: Global, elements: &mut Elements<'_>) -> Result<WorldMethod, LineFault>
+    ensures { Tells (λ x. x) (row_at method_parts method_made elements.old) elements.new result }
+{
+    Ok(WorldMethod {
+        class: ClassId(elements.id()?),
+        method: Method {
+            id: MethodId(elements.id()?),
+            name: elements.text(alloc)?,
+            signature: elements.text(alloc)?,
+            bits: elements.int()?,
+        },
+        start: elements.long()?,
+        end: elements.long()?,
+        lines: elements.lines(alloc)?,
+    })
+}
+
+fn variable(alloc: Global, elements: &mut Elements<'_>) -> Result<WorldVariable, LineFault>
+    ensures { Tells (λ x. x) (row_at variable_parts variable_made elements.old) elements.new result }
+{
+    let class = ClassId(elements.id()?);
+    let method = MethodId(elements.id()?);
+    let index = elements.id_or_none()?;
+    let length = elements.small(0, 1 << 32)?;
+    Ok(WorldVariable {
+        class,
+        method,
+        variable: Variable {
+            index,
+            name: elements.text(alloc)?,
+            signature: elements.text(alloc)?,
+            length,
+            slot: elements.int()?,
+        },
+    })
+}
+
+fn field(alloc: Global, elements: &mut Elements<'_>) -> Result<WorldField, LineFault>
+    ensures { Tells (λ x. x) (row_at field_parts field_made elements.old) elements.new result }
+{
+    Ok(WorldField {
+        class: ClassId(elements.id()?),
+        field: Field {
+            id: FieldId(elements.id()?),
+            name: elements.text(alloc)?,
+            signature: elements.text(alloc)?,
+            bits: elements.int()?,
+        },
+    })
+}
+
+fn object(elements: &mut Elements<'_>) -> Result<WorldObject, LineFault>
+    ensures { Tells (λ x. x) (row_at object_parts object_made elements.old) elements.new result }
+{
+    Ok(WorldObject {
+        id: ObjectId(elements.id()?),
+        tag: elements.object_tag()?,
+        class: ClassId(elements.id()?),
+    })
+}
+
+fn array(alloc: Global, elements: &mut Elements<'_>) -> Result<WorldArray, LineFault>
+    ensures { Tells (λ x. x) (row_at array_parts array_made elements.old) elements.new result }
+{
+    Ok(WorldArray {
+        id: ObjectId(elements.id()?),
+        class: ClassId(elements.id()?),
+        values: elements.values(alloc)?,
+    })
+}
+
+fn string(alloc: Global, elements: &mut Elements<'_>) -> Result<WorldString, LineFault>
+    ensures { Tells (λ x. x) (row_at string_parts string_made elements.old) elements.new result }
+{
+    Ok(WorldString {
+        id: ObjectId(elements.id()?),
+        class: ClassId(elements.id()?),
+        text: elements.text(alloc)?,
+    })
+}
+
+fn put(elements: &mut Elements<'_>) -> Result<Put, LineFault>
+    ensures { Tells (λ x. x) (row_at put_parts put_made elements.old) elements.new result }
+{
+    Ok(Put {
+        object: ObjectId(elements.id()?),
+        field: FieldId(elements.id()?),
+        value: elements.value()?,
+    })
+}
+
+fn thread(alloc: Global, elements: &mut Elements<'_>) -> Result<WorldThread, LineFault>
+    ensures { Tells (λ x. x) (row_at thread_parts thread_made elements.old) elements.new result }
+{
+    Ok(WorldThread {
+        id: ThreadId(elements.id()?),
+        name: elements.text(alloc)?,
+    })
+}
+
+fn frame(alloc: Global, elements: &mut Elements<'_>) -> Result<WorldFrame, LineFault>
+    ensures { Tells (λ x. x) (row_at frame_parts frame_made elements.old) elements.new result }
+{
+    Ok(WorldFrame {
+        thread: ThreadId(elements.id()?),
+        id: FrameId(elements.id()?),
+        class: ClassId(elements.id()?),
+        method: MethodId(elements.id()?),
+        index: elements.index()?,
+        this: ObjectId(elements.id_or_none()?),
+        slots: elements.slots(alloc)?,
+    })
+}
+
+fn begin(elements: &mut Elements<'_>) -> Result<Begin, LineFault>
+    ensures { Tells (λ x. x) (row_at begin_parts begin_made elements.old) elements.new result }
+{
+    Ok(Begin {
+        thread: ThreadId(elements.id()?),
+        policy: elements.policy()?,
+    })
+}
+
+fn sizes(elements: &mut Elements<'_>) -> Result<Row, LineFault>
+    ensures { Tells (λ x. x) (world_row world.Sizes elements.old) elements.new result }
+{
+    Ok(Row::Sizes([
+        elements.small(1, 9)?,
+        elements.small(1, 9)?,
+        elements.small(1, 9)?,
+        elements.small(1, 9)?,
+        elements.small(1, 9)?,
+    ]))
+}
+
+/// The row of a kind of line, of the parts behind its name.
+pub(crate) fn world_row(
+    alloc: Global,
+    kind: WorldKind,
+    elements: &mut Elements<'_>,
+) -> Result<Row, LineFault>
+    ensures { Tells (λ x. x) (world_row kind elements.old) elements.new result }
+{
+    match kind {
+        WorldKind::Script => Ok(Row::Head {
+            known: elements.version()?,
+        }),
+        WorldKind::Sizes => sizes(elements),
+        WorldKind::Class => Ok(Row::Class(class(alloc, elements)?)),
+        WorldKind::Method => Ok(Row::Method(method(alloc, elements)?)),
+        WorldKind::Variable => Ok(Row::Variable(variable(alloc, elements)?)),
+        WorldKind::Field => Ok(Row::Field(field(alloc, elements)?)),
+        WorldKind::Object => Ok(Row::Object(object(elements)?)),
+        WorldKind::Array => Ok(Row::Array(array(alloc, elements)?)),
+        WorldKind::String => Ok(Row::Text(string(alloc, elements)?)),
+        WorldKind::Put => Ok(Row::Put(put(elements)?)),
+        WorldKind::Thread => Ok(Row::Thread(thread(alloc, elements)?)),
+        WorldKind::Frame => Ok(Row::Frame(frame(alloc, elements)?)),
+        WorldKind::Begin => Ok(Row::Begin(begin(elements)?)),
+        WorldKind::End => Ok(Row::End),
+    }
+}
