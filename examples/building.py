@@ -12,7 +12,7 @@ TOP = os.path.dirname(os.path.dirname(os.path.abspath(__file__)))
 CRATES = os.path.join(TOP, "crates")
 PROGRAM = os.path.join(CRATES, "bridge_cmd", "out", "bridge_cmd")
 LOG = os.path.join(TOP, "build.log")
-USAGE = "usage: bridge serve --listen A --target B, replay LOG\n"
+USAGE = "usage: bridge serve --listen A --target B, script FILE, replay LOG\n"
 PATIENCE = 60
 
 

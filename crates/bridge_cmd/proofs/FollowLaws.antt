@@ -9,8 +9,6 @@ use Rattle.wire_core.specs.Links.{Counts as CountsLinks, is_open_in, first_open}
 use Rattle.wire_core.specs.Log.{entries}
 use Rattle.wire_core.specs.MemoryWires.{Gives, IsNew, NextInMemory}
 use Rattle.wire_core.specs.MemoryWires.{is_refused, outside_of, steps_of}
-use Rattle.wire_core.specs.Names.{names_of}
-use Rattle.wire_core.specs.declared.names.Names.{Names}
 use Rattle.wire_core.specs.Outside.{Adds, HasOpen, Hears, Link, Outside, entry_of}
 use Rattle.wire_core.specs.declared.memory_wires.MemoryWires.{MemoryWires}
 use Rattle.wire_core.specs.declared.outside.Side.TheVariants.{Client, Target}
@@ -21,9 +19,10 @@ use Rattle.wire_core.specs.declared.outside.Entry.{Entry}
 use Rattle.wire_core.specs.declared.outside.Entry.TheVariants.{In, Out, Shut as ends, Failed as fails, Quiet as nothing}
 use Rattle.wire_core.specs.declared.script.Step.{Step}
 use Rattle.bridge_cmd.specs.Course.{Sides, both_open, came, course}
-use Rattle.bridge_cmd.specs.LogWires.{Follows, FollowsAny, ahead, asked_with, entries_read, entry_of_step, sides_of}
-use Rattle.bridge_cmd.specs.LogWires.{steps_for, told_with}
+use Rattle.bridge_cmd.specs.LogWires.{Follows, FollowsAny, ahead, entries_read, entry_of_step, sides_of, steps_for}
+use Rattle.bridge_cmd.specs.Told.{asked_with, told_with}
 use Rattle.bridge_cmd.proofs.CourseLaws.{FitsIn, came_more, comes_in, course_of_came, next_comes, sides_behind}
+use Rattle.bridge_cmd.proofs.ToldLaws.{told_text}
 
 -- which sides are open by what both links tell
 abbrev sides_by : Link → Link → Sides
@@ -112,28 +111,10 @@ follows_new text log w steps read given fresh not_refused =
 
 -- ---- what the wires tell in the end
 
--- whether just one name was asked for
-abbrev is_single : List (List ℕ) → Bool
-is_single [] = false
-is_single (name ∷ []) = true
-is_single (name ∷ other ∷ names) = false
-
--- a text never stands in place of two addresses, nor of none
-two_or_none : (names : Option Names) (text : List ℕ) → names_of names ≡ text ∷ [] → ⊥
-two_or_none None text h = true≢false (sym (ap is_single h))
-two_or_none (Some names) text h = true≢false (sym (ap is_single h))
-
-abbrev first_name : List (List ℕ) → List ℕ
-first_name [] = []
-first_name (name ∷ names) = name
-
 -- wires that tell this text follow it
 follows_told : (text : List ℕ) (told : Option (List ℕ)) (w : MemoryWires)
     → asked_with told (outside_of w).asked ≡ text ∷ [] → FollowsAny told w → Follows text w
-follows_told text None w asked follows = absurd (two_or_none w.asked text asked)
-follows_told text (Some told) w asked follows =
-    let same : told ≡ text = ap first_name asked in
-    subst (λ t. Follows t w) same follows
+follows_told text told w asked follows = subst (λ t. FollowsAny t w) (told_text text told w.asked asked) follows
 
 -- what came is the front of what the text says
 pub came_in_order : (text : List ℕ) (read : SessionLog) (told : Option (List ℕ)) (w : MemoryWires) (log : List Entry)

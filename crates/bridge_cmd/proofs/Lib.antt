@@ -1,4 +1,7 @@
 pub mod WordLaws
 pub mod OptionLaws
+pub mod ToldLaws
 pub mod CourseLaws
 pub mod FollowLaws
+pub mod PlayedLaws
+pub mod FileLaws

@@ -1,9 +1,9 @@
 -- What `clap` makes of the words in the forms of the usage.
 use Rattle.std.proofs.Common.{◌≡◌, ℕ, false, List, [], ◌∷◌, codes, refl, Some, nat_eq, ne_eqb}
 use Rattle.clap.proofs.OnLiterals.{clap_on_literals}
-use Rattle.bridge_cmd.specs.Words.{IsValue, Names, replay_fault, replay_value, replay_words, serve_fault, serve_value}
-use Rattle.bridge_cmd.specs.Words.{serve_words}
-use Rattle.bridge_cmd.specs.declared.words.Task.TheVariants.{Serve, Replay}
+use Rattle.bridge_cmd.specs.Words.{IsFile, IsValue, Names, file_fault, file_value, replay_words, script_words}
+use Rattle.bridge_cmd.specs.Words.{serve_fault, serve_value, serve_words}
+use Rattle.bridge_cmd.specs.declared.words.Task.TheVariants.{Serve, Script, Replay}
 
 -- the words of the usage behind the command's name, with values of these bytes
 abbrev options : ℕ → List ℕ → ℕ → List ℕ → List (List ℕ)
@@ -39,17 +39,23 @@ serve_taken (b ∷ bs) (c ∷ cs) h k =
       },
     )
 
-no_log_fault : (b : ℕ) (bs : List ℕ) → nat_eq b 45 ≡ false → replay_fault ((b ∷ bs) ∷ []) ≡ []
-unfolding replay_fault clap_on_literals
-no_log_fault b bs log = simp log refl
+no_file_fault : (name : List ℕ) (b : ℕ) (bs : List ℕ) → nat_eq b 45 ≡ false → file_fault name ((b ∷ bs) ∷ []) ≡ []
+unfolding file_fault clap_on_literals
+no_file_fault name b bs file = simp file refl
 
-log_value : (b : ℕ) (bs : List ℕ) → nat_eq b 45 ≡ false
-    → replay_value (codes "log") ((b ∷ bs) ∷ []) ≡ Some (b ∷ bs)
-unfolding replay_value clap_on_literals
-log_value b bs log = simp log refl
+given_file : (name : List ℕ) (b : ℕ) (bs : List ℕ) → nat_eq b 45 ≡ false
+    → file_value name (codes "file") ((b ∷ bs) ∷ []) ≡ Some (b ∷ bs)
+unfolding file_value clap_on_literals
+given_file name b bs file = simp file refl
 
-pub replay_taken : (log : List ℕ) → IsValue log → Names (replay_words log) (Replay log)
-replay_taken [] h = absurd h
-replay_taken (b ∷ bs) h =
-    let log = ne_eqb b 45 h in
-    (refl, record { taken = no_log_fault b bs log; file_is = log_value b bs log })
+file_taken : (name : List ℕ) (file : List ℕ) → IsValue file → IsFile name (file ∷ []) file
+file_taken name [] h = absurd h
+file_taken name (b ∷ bs) h =
+    let plain = ne_eqb b 45 h in
+    record { taken = no_file_fault name b bs plain; file_is = given_file name b bs plain }
+
+pub script_taken : (file : List ℕ) → IsValue file → Names (script_words file) (Script file)
+script_taken file h = (refl, file_taken (codes "script") file h)
+
+pub replay_taken : (file : List ℕ) → IsValue file → Names (replay_words file) (Replay file)
+replay_taken file h = (refl, file_taken (codes "replay") file h)

@@ -1,7 +1,7 @@
 -- What the program prints and the status that it ends with, for each outcome of a run.
 use Rattle.std.specs.Prelude.{ℕ, ◌≡◌, Bool, true, false, if◌then◌else◌, nat_eq, List, ◌++◌, codes, decimal}
 use Rattle.bridge_cmd.specs.declared.printing.Outcome.{Outcome}
-use Rattle.bridge_cmd.specs.declared.printing.Outcome.TheVariants.{Misused, NotOpened, NotRead, BadLog, Replayed, Ended}
+use Rattle.bridge_cmd.specs.declared.printing.Outcome.TheVariants.{Misused, NotOpened, NotRead, BadLine, Logged, Ended}
 use Rattle.bridge_cmd.specs.declared.printing.Outcome.TheVariants.{TooLong as too_long}
 use Rattle.dap_frames.specs.declared.fault.FrameFault.{FrameFault}
 use Rattle.dap_frames.specs.declared.fault.FrameFault.TheVariants.{NoLength, TwoLengths, BadLength, TooLong}
@@ -118,32 +118,32 @@ status_of_ending Spent = 13
 status_of_ending Flood = 14
 status_of_ending NoMemory = 70
 
--- the name of a fault of a session log
-abbrev pub log_fault_name : ScriptFault → List ℕ
-log_fault_name NotUtf8 = codes "NotUtf8"
-log_fault_name no_json = codes "NotJson"
-log_fault_name BadShape = codes "BadShape"
-log_fault_name BadVersion = codes "BadVersion"
-log_fault_name BadOrder = codes "BadOrder"
-log_fault_name RepeatedId = codes "RepeatedId"
-log_fault_name UnknownId = codes "UnknownId"
-log_fault_name BadMove = codes "BadMove"
-log_fault_name NoEnd = codes "NoEnd"
-log_fault_name AfterEnd = codes "AfterEnd"
+-- the name of a fault of a line, of a script or a session log
+abbrev pub line_fault_name : ScriptFault → List ℕ
+line_fault_name NotUtf8 = codes "NotUtf8"
+line_fault_name no_json = codes "NotJson"
+line_fault_name BadShape = codes "BadShape"
+line_fault_name BadVersion = codes "BadVersion"
+line_fault_name BadOrder = codes "BadOrder"
+line_fault_name RepeatedId = codes "RepeatedId"
+line_fault_name UnknownId = codes "UnknownId"
+line_fault_name BadMove = codes "BadMove"
+line_fault_name NoEnd = codes "NoEnd"
+line_fault_name AfterEnd = codes "AfterEnd"
 
--- the line of a session log's first faulty line, with its number
-abbrev pub log_fault_line : ℕ → ScriptFault → List ℕ
-log_fault_line line kind =
-    codes "ended 10 script line " ++ (decimal line ++ (codes " " ++ (log_fault_name kind ++ codes "\n")))
+-- the line that tells a text's first faulty line, by its number
+abbrev pub faulty_line : ℕ → ScriptFault → List ℕ
+faulty_line line kind =
+    codes "ended 10 script line " ++ (decimal line ++ (codes " " ++ (line_fault_name kind ++ codes "\n")))
 
 -- what is printed of an outcome
 unfoldable pub text_of : Outcome → List ℕ
-text_of Misused = codes "usage: bridge serve --listen A --target B, replay LOG\n"
+text_of Misused = codes "usage: bridge serve --listen A --target B, script FILE, replay LOG\n"
 text_of NotOpened = codes "ended 7 not opened\n"
 text_of NotRead = codes "ended 8 file\n"
 text_of too_long = codes "ended 10 script line 0 TooLong\n"
-text_of (BadLog line kind) = log_fault_line line kind
-text_of (Replayed log) = log
+text_of (BadLine line kind) = faulty_line line kind
+text_of (Logged log) = log
 text_of (Ended ending) = line_of_ending ending
 
 -- the status of an outcome
@@ -152,8 +152,8 @@ status_of Misused = 2
 status_of NotOpened = 7
 status_of NotRead = 8
 status_of too_long = 10
-status_of (BadLog line kind) = 10
-status_of (Replayed log) = 0
+status_of (BadLine line kind) = 10
+status_of (Logged log) = 0
 status_of (Ended ending) = status_of_ending ending
 
 -- the status in place of another where the text could not be written: that of want of memory stays

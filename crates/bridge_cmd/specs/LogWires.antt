@@ -57,15 +57,6 @@ abbrev pub FollowsAny : Option (List ℕ) → MemoryWires → Type 0
 FollowsAny None w = Unit {0}
 FollowsAny (Some text) w = Follows text w
 
--- The names that were asked for: the text that is replayed stands in place of two addresses.
-abbrev pub asked_with : Option (List ℕ) → List (List ℕ) → List (List ℕ)
-asked_with None names = names
-asked_with (Some text) names = text ∷ []
-
--- what the wires tell of themselves
-abbrev pub told_with : Option (List ℕ) → Outside → Outside
-told_with text o = record o { asked = asked_with text o.asked }
-
 -- ---- no two proofs that wires follow a text differ, since an entry is told by a code
 
 abbrev is_target : Side → Bool

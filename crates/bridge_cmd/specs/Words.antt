@@ -8,7 +8,7 @@ use Rattle.clap.specs.declared.builder.command.Command.{Command}
 use Rattle.clap.specs.declared.builder.command.Command.TheViews.{out-Command}
 use Rattle.bridge_cmd.specs.declared.words.Addresses.{Addresses}
 use Rattle.bridge_cmd.specs.declared.words.Task.{Task}
-use Rattle.bridge_cmd.specs.declared.words.Task.TheVariants.{Serve, Replay}
+use Rattle.bridge_cmd.specs.declared.words.Task.TheVariants.{Serve, Script, Replay}
 use Rattle.bridge_cmd.specs.declared.words.WordsFault.{WordsFault}
 use Rattle.bridge_cmd.specs.declared.words.WordsFault.TheVariants.{Refused, NoMemory}
 
@@ -55,22 +55,22 @@ pub record IsServe (words : List (List ℕ)) (addresses : Addresses) : Type 0 wh
   pub listen : serve_value (codes "listen") words ≡ Some addresses.listen
   pub target : serve_value (codes "target") words ≡ Some addresses.target
 
--- the command `replay`
-abbrev pub replay_app : App
-replay_app = with_rule (bare_command (codes "replay")) (required_value (codes "log"))
+-- a command that is given a file
+abbrev pub file_app : List ℕ → App
+file_app name = with_rule (bare_command name) (required_value (codes "file"))
 
--- the causes for which the words behind `replay` are refused, none where they are taken
-unfoldable pub replay_fault : List (List ℕ) → Kinds
-replay_fault words = fault_of replay_app words
+-- the causes for which the words behind the name of such a command are refused, none where they are taken
+unfoldable pub file_fault : List ℕ → List (List ℕ) → Kinds
+file_fault name words = fault_of (file_app name) words
 
--- the value that the words behind `replay` give a name
-unfoldable pub replay_value : List ℕ → List (List ℕ) → Option (List ℕ)
-replay_value name words = first_of name (matches_of replay_app words)
+-- what the words behind the name of such a command give a value
+unfoldable pub file_value : List ℕ → List ℕ → List (List ℕ) → Option (List ℕ)
+file_value name value words = first_of value (matches_of (file_app name) words)
 
--- the words behind `replay` are taken, and name this file
-pub record IsReplay (words : List (List ℕ)) (file : List ℕ) : Type 0 where
-  pub taken : replay_fault words ≡ []
-  pub file_is : replay_value (codes "log") words ≡ Some file
+-- the words behind the name of such a command are taken, and name this file
+pub record IsFile (name : List ℕ) (words : List (List ℕ)) (file : List ℕ) : Type 0 where
+  pub taken : file_fault name words ≡ []
+  pub file_is : file_value name (codes "file") words ≡ Some file
 
 -- what reading the words behind a command's name gives, by the causes for which they are refused
 abbrev pub ReadsBy : {A : Type 0} → Kinds → (A → Type 0) → Result A WordsFault → Type 0
@@ -81,20 +81,22 @@ ReadsBy fault Is (Err NoMemory) = Unit {0}
 abbrev pub ReadsServe : List (List ℕ) → Result Addresses WordsFault → Type 0
 ReadsServe words result = ReadsBy (serve_fault words) (IsServe words) result
 
-abbrev pub ReadsReplay : List (List ℕ) → Result (List ℕ) WordsFault → Type 0
-ReadsReplay words result = ReadsBy (replay_fault words) (IsReplay words) result
+abbrev pub ReadsFile : List ℕ → List (List ℕ) → Result (List ℕ) WordsFault → Type 0
+ReadsFile name words result = ReadsBy (file_fault name words) (IsFile name words) result
 
 -- the words are this task: the name of its command, and what that is given
 abbrev pub Names : List (List ℕ) → Task → Type 0
 Names [] task = ⊥
 Names (name ∷ words) (Serve addresses) = (name ≡ codes "serve") × IsServe words addresses
-Names (name ∷ words) (Replay file) = (name ≡ codes "replay") × IsReplay words file
+Names (name ∷ words) (Script file) = (name ≡ codes "script") × IsFile name words file
+Names (name ∷ words) (Replay file) = (name ≡ codes "replay") × IsFile name words file
 
 -- the words are refused: there is no name, or where it is that of a command, the words behind it are refused
 abbrev pub AreRefused : List (List ℕ) → Type 0
 AreRefused [] = Unit {0}
 AreRefused (name ∷ words) =
-    (name ≡ codes "serve" → ¬ (serve_fault words ≡ [])) × (name ≡ codes "replay" → ¬ (replay_fault words ≡ []))
+    (name ≡ codes "serve" → ¬ (serve_fault words ≡ [])) × (name ≡ codes "script" → ¬ (file_fault name words ≡ []))
+    × (name ≡ codes "replay" → ¬ (file_fault name words ≡ []))
 
 -- what reading the words of the program gives
 abbrev pub Reads : List (List ℕ) → Result Task WordsFault → Type 0
@@ -107,9 +109,12 @@ abbrev pub IsValue : List ℕ → Type 0
 IsValue [] = ⊥
 IsValue (b ∷ bs) = ¬ (b ≡ 45)
 
--- the words in the two forms of the usage
+-- the words in the forms of the usage
 abbrev pub serve_words : List ℕ → List ℕ → List (List ℕ)
 serve_words listen target = codes "serve" ∷ codes "--listen" ∷ listen ∷ codes "--target" ∷ target ∷ []
+
+abbrev pub script_words : List ℕ → List (List ℕ)
+script_words file = codes "script" ∷ file ∷ []
 
 abbrev pub replay_words : List ℕ → List (List ℕ)
 replay_words file = codes "replay" ∷ file ∷ []

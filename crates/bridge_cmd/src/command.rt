@@ -1,10 +1,11 @@
 ghost use Rattle.std.specs.Prelude.{◌≡◌, ℕ, List, []};
 ghost use Rattle.bridge_cmd.specs.Command.{Does, Runs};
-ghost use Rattle.bridge_cmd.specs.Words.{IsValue, Names, replay_words, serve_words};
-ghost use Rattle.bridge_cmd.specs.declared.words.Task.TheVariants.{Serve, Replay};
+ghost use Rattle.bridge_cmd.specs.Words.{IsValue, Names, replay_words, script_words, serve_words};
+ghost use Rattle.bridge_cmd.specs.declared.words.Task.TheVariants.{Serve, Script, Replay};
 
 use crate::printing::{Outcome, tell};
 use crate::replay::replay;
+use crate::script::play;
 use crate::words::{Addresses, Task, WordsFault, read_words};
 use bridge_serve::serve;
 use session_model::{Ending, Limits};
@@ -12,9 +13,10 @@ use std::alloc::Global;
 use wire_core::{Files, Output, Wires, Word};
 
 /// Runs the program on its words, prints what says how the run ended, and gives its status. `serve --listen A --target B`
-/// connects to a Java machine at B, accepts an editor at A, serves a session between them, and prints a line. `replay
-/// LOG` reads the session log in the file LOG, serves a session over what came in it, and prints the log of this session.
-/// It is printed once all else is done.
+/// connects to a Java machine at B, accepts an editor at A, serves a session between them, and prints a line. `script
+/// FILE` reads the script in the file FILE, serves a session between its client and its target, and prints the log of
+/// this session. `replay LOG` reads the session log in the file LOG, serves a session over what came in it, and prints
+/// the log of this session. It is printed once all else is done.
 pub fn bridge_main<W: Wires, F: Files, O: Output>(
     alloc: Global,
     words: &[Word],
@@ -28,9 +30,10 @@ pub fn bridge_main<W: Wires, F: Files, O: Output>(
         (record { wires = W.outside wires.old; files = F.store files.old; printed = O.printed out.old })
         (record { wires = W.outside wires.new; files = F.store files.new; printed = O.printed out.new }) result }
 
-    // The words in the two forms of the usage are taken, for all values that are not empty and don't begin with a hyphen.
+    // The words in the forms of the usage are taken, for all values that are not empty and don't begin with a hyphen.
     ensures serve_usage { (listen target : List ℕ) → IsValue listen → IsValue target
         → Names (serve_words listen target) (Serve (record { listen = listen; target = target })) }
+    ensures script_usage { (file : List ℕ) → IsValue file → Names (script_words file) (Script file) }
     ensures replay_usage { (log : List ℕ) → IsValue log → Names (replay_words log) (Replay log) }
 {
     let outcome = run(alloc, words, wires, files);
@@ -47,6 +50,7 @@ fn run<W: Wires, F: Files>(alloc: Global, words: &[Word], wires: &mut W, files: 
             Ok(()) => Outcome::Ended(serve(alloc, &Limits::standard(), wires)),
             Err(_) => Outcome::NotOpened,
         },
+        Ok(Task::Script(name)) => play(alloc, name, files),
         Ok(Task::Replay(name)) => replay(alloc, name, files),
         Err(WordsFault::Refused) => Outcome::Misused,
         Err(WordsFault::NoMemory) => Outcome::Ended(Ending::NoMemory),

@@ -25,7 +25,7 @@ pub(crate) struct LogWires {
 }
 
 impl LogWires {
-    ghost use Rattle.bridge_cmd.specs.LogWires.{told_with};
+    ghost use Rattle.bridge_cmd.specs.Told.{told_with};
     ghost use Rattle.wire_core.specs.Outside.{IsOpen};
     ghost use Rattle.wire_core.specs.declared.outside.Side.TheVariants.{Client, Target};
 
@@ -88,7 +88,7 @@ fn add_step(alloc: Global, steps: &mut List<Step>, entry: &Entry) -> Result<(), 
 }
 
 impl Wires for LogWires {
-    ghost use Rattle.bridge_cmd.specs.LogWires.{told_with};
+    ghost use Rattle.bridge_cmd.specs.Told.{told_with};
     ghost use Rattle.wire_core.specs.MemoryWires.{outside_of};
 
     ghost outside = { λ w. told_with w.text (outside_of w.wires) };

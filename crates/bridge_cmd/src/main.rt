@@ -6,9 +6,14 @@ ghost use Rattle.std.specs.Prelude.{IfOk};
 ghost use Rattle.bridge_cmd.specs.Command.{IsRun};
 
 mod command;
+mod file_runs;
 mod log_wires;
+mod played_wires;
 mod printing;
 mod replay;
+mod script;
+#[cfg(test)]
+mod script_tests;
 #[cfg(test)]
 mod tests;
 mod words;

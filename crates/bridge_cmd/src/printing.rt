@@ -2,7 +2,7 @@ ghost use Rattle.std.specs.Prelude.{◌≡◌, ℕ, List, IfOk, string_bytes};
 ghost use Rattle.bridge_cmd.specs.Lines.{Prints, line_of_ending, status_of, status_of_ending, text_of};
 ghost use Rattle.bridge_cmd.specs.Lines.{client_fault_line, client_fault_name, frame_fault_name, target_fault_line};
 ghost use Rattle.bridge_cmd.specs.Lines.{target_fault_name, packet_fault_name, is_unknown_reply, refused_line};
-ghost use Rattle.bridge_cmd.specs.Lines.{log_fault_line, log_fault_name};
+ghost use Rattle.bridge_cmd.specs.Lines.{faulty_line, line_fault_name};
 
 use dap_frames::FrameFault;
 use jdwp_packets::PacketFault;
@@ -16,17 +16,17 @@ const NOT_PRINTED: u8 = 9;
 
 pub(crate) const OUT_OF_MEMORY: u8 = 70;
 
-/// What a run comes to: its words are refused; a link was not opened; the file of a session log was not read, is too
-/// long, or has this fault in this line, counted from 1; a session log was replayed, and this is the text of what came of
-/// it; or a session ended so, for want of memory maybe before it began.
+/// What a run comes to: its words are refused; a link was not opened; a file was not read, is too long, or has this
+/// fault in this line, counted from 1; a session was served of what a file says, and this is the text of its log; or a
+/// session ended so, for want of memory maybe before it began.
 #[derive(Debug, Drop)]
 pub enum Outcome {
     Misused,
     NotOpened,
     NotRead,
     TooLong,
-    BadLog { line: u32, kind: ScriptFault },
-    Replayed(Blob),
+    BadLine { line: u32, kind: ScriptFault },
+    Logged(Blob),
     Ended(Ending),
 }
 
@@ -37,14 +37,14 @@ pub fn tell<O: Output>(alloc: Global, outcome: Outcome, out: &mut O) -> u8
     match outcome {
         Outcome::Misused => print_line(
             out,
-            "usage: bridge serve --listen A --target B, replay LOG\n",
+            "usage: bridge serve --listen A --target B, script FILE, replay LOG\n",
             2,
         ),
         Outcome::NotOpened => print_line(out, "ended 7 not opened\n", 7),
         Outcome::NotRead => print_line(out, "ended 8 file\n", 8),
         Outcome::TooLong => print_line(out, "ended 10 script line 0 TooLong\n", 10),
-        Outcome::BadLog { line, kind } => print_made(out, log_fault_line(alloc, line, kind), 10),
-        Outcome::Replayed(text) => print(out, text.as_slice(), 0),
+        Outcome::BadLine { line, kind } => print_made(out, faulty_line(alloc, line, kind), 10),
+        Outcome::Logged(text) => print(out, text.as_slice(), 0),
         Outcome::Ended(ending) => tell_ending(alloc, ending, out),
     }
 }
@@ -186,15 +186,15 @@ fn packet_fault_name(fault: PacketFault) -> &'static str
     }
 }
 
-fn log_fault_line(alloc: Global, line: u32, kind: ScriptFault) -> Result<String, AllocError>
-    ensures { IfOk result (λ text. string_bytes text ≡ log_fault_line line kind) }
+fn faulty_line(alloc: Global, line: u32, kind: ScriptFault) -> Result<String, AllocError>
+    ensures { IfOk result (λ text. string_bytes text ≡ faulty_line line kind) }
 {
-    let name = log_fault_name(kind);
+    let name = line_fault_name(kind);
     format!(in alloc; "ended 10 script line {line} {name}\n")
 }
 
-fn log_fault_name(kind: ScriptFault) -> &'static str
-    ensures { result.now ≡ log_fault_name kind }
+fn line_fault_name(kind: ScriptFault) -> &'static str
+    ensures { result.now ≡ line_fault_name kind }
 {
     match kind {
         ScriptFault::NotUtf8 => "NotUtf8",

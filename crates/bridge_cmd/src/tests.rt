@@ -58,7 +58,7 @@ const SERVE: &[&str] = &[
     "127.0.0.1:5005",
 ];
 
-const USAGE: &str = "usage: bridge serve --listen A --target B, replay LOG\n";
+const USAGE: &str = "usage: bridge serve --listen A --target B, script FILE, replay LOG\n";
 
 const NOT_OPENED: &str = "ended 7 not opened\n";
 

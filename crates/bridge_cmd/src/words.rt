@@ -1,7 +1,7 @@
 ghost use Rattle.std.specs.Prelude.{◌≡◌, ℕ, List, true, is_some, map, codes, IfOk, Some};
 ghost use Rattle.clap.specs.Words.{FailsBy, first_value, found_of, kind_of};
 ghost use Rattle.clap.specs.declared.error.kind.ErrorKind.TheVariants.{OutOfMemory};
-ghost use Rattle.bridge_cmd.specs.Words.{IsBare, Reads, ReadsReplay, ReadsServe, replay_fault, replay_value};
+ghost use Rattle.bridge_cmd.specs.Words.{IsBare, Reads, ReadsFile, ReadsServe, file_fault, file_value};
 ghost use Rattle.bridge_cmd.specs.Words.{serve_fault, serve_value};
 ghost use Rattle.bridge_cmd.specs.declared.words.WordsFault.TheVariants.{NoMemory as out_of_memory, Refused};
 
@@ -17,10 +17,12 @@ pub struct Addresses {
     pub target: Text,
 }
 
-/// What the words ask for: a session between these addresses, or the session log of this file once more.
+/// What the words ask for: a session between these addresses, one of the script in this file, or the session log of
+/// this file once more.
 #[derive(Debug, Drop)]
 pub enum Task {
     Serve(Addresses),
+    Script(Word),
     Replay(Word),
 }
 
@@ -65,9 +67,14 @@ pub fn read_words(alloc: Global, words: &[Word]) -> Result<Task, WordsFault>
                     Ok(addresses) => Ok(Task::Serve(addresses)),
                     Err(fault) => Err(fault),
                 }
+            } else if name.as_str() == "script" {
+                match read_file(alloc, "script", rest) {
+                    Ok(file) => Ok(Task::Script(file)),
+                    Err(fault) => Err(fault),
+                }
             } else if name.as_str() == "replay" {
-                match read_replay(alloc, rest) {
-                    Ok(log) => Ok(Task::Replay(log)),
+                match read_file(alloc, "replay", rest) {
+                    Ok(file) => Ok(Task::Replay(file)),
                     Err(fault) => Err(fault),
                 }
             } else {
@@ -91,12 +98,13 @@ fn read_serve(alloc: Global, words: &[Word]) -> Result<Addresses, WordsFault>
     }
 }
 
-fn read_replay(alloc: Global, words: &[Word]) -> Result<Word, WordsFault>
-    ensures { ReadsReplay words.now result }
+// Reads the words behind the name of a command that is given a file.
+fn read_file(alloc: Global, name: &str, words: &[Word]) -> Result<Word, WordsFault>
+    ensures { ReadsFile name.now words.now result }
 {
     let texts = texts_of(alloc, words)?;
-    match replay_matches(alloc, texts.as_slice()) {
-        Ok(matches) => Ok(value_of(alloc, &matches, "log")?),
+    match file_matches(alloc, name, texts.as_slice()) {
+        Ok(matches) => Ok(value_of(alloc, &matches, "file")?),
         Err(error) => Err(fault_of(&error)),
     }
 }
@@ -133,16 +141,22 @@ fn serve_matches<'a>(alloc: Global, words: &'a [&'a str]) -> Result<ArgMatches<'
     command.try_get_matches_from(words)
 }
 
-// `replay` as `clap` reads it: one simple command, with one value that has to be there.
-fn replay_matches<'a>(alloc: Global, words: &'a [&'a str]) -> Result<ArgMatches<'a>, Error>
-    ensures kinds { FailsBy (replay_fault (map (λ word. word.now) words.entry.now)) result }
-    ensures values { IfOk result (λ matches. (value : List ℕ)
-        → first_value (found_of matches) value ≡ replay_value value (map (λ word. word.now) words.entry.now)) }
-    ensures log { IfOk result (λ matches. is_some (first_value (found_of matches) (codes "log")) ≡ true) }
+// A command that is given a file, as `clap` reads it: one simple command, with one value that has to be there.
+fn file_matches<'a>(
+    alloc: Global,
+    name: &'a str,
+    words: &'a [&'a str],
+) -> Result<ArgMatches<'a>, Error>
+    ensures kinds { FailsBy (file_fault name.entry.now (map (λ word. word.now) words.entry.now)) result }
+    ensures values { IfOk result (λ matches. (value : List ℕ) → first_value (found_of matches) value
+        ≡ file_value name.entry.now value (map (λ word. word.now) words.entry.now)) }
+    ensures file { IfOk result (λ matches. is_some (first_value (found_of matches) (codes "file")) ≡ true) }
 {
-    let log = Arg::new(alloc, "log").action(ArgAction::Set).required(true);
-    let replay = bare_command(alloc, "replay");
-    let command = replay.arg(log)?;
+    let file = Arg::new(alloc, "file")
+        .action(ArgAction::Set)
+        .required(true);
+    let bare = bare_command(alloc, name);
+    let command = bare.arg(file)?;
     command.try_get_matches_from(words)
 }
 

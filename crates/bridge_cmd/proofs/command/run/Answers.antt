@@ -14,6 +14,9 @@ returns-in-Ok g c = Does.serves (rw c.in-Ok-Serve.field-0-is at c.in-Ok-Serve.en
 pub returns-in-Err : goal.returns-in-Err
 returns-in-Err g c = Does.fails_to_open (rw c.in-Ok-Serve.field-0-is at c.in-Ok-Serve.ensures) c.in-Err.ensures.err
 
+pub returns-in-Ok-Script : goal.returns-in-Ok-Script
+returns-in-Ok-Script g c = Does.plays (rw c.in-Ok-Script.field-0-is at c.in-Ok-Script.ensures) c.play.ensures
+
 pub returns-in-Ok-Replay : goal.returns-in-Ok-Replay
 returns-in-Ok-Replay g c = Does.replays (rw c.in-Ok-Replay.field-0-is at c.in-Ok-Replay.ensures) c.replay.ensures
 

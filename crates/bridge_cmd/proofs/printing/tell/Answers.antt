@@ -17,13 +17,13 @@ pub returns-in-TooLong : goal.returns-in-TooLong
 unfolding text_of
 returns-in-TooLong g c = rw c.in-TooLong.is c.print_line-in-TooLong.ensures
 
-pub returns-in-BadLog : goal.returns-in-BadLog
+pub returns-in-BadLine : goal.returns-in-BadLine
 unfolding text_of
-returns-in-BadLog g c = rw c.in-BadLog.is (c.print_made.ensures _ c.log_fault_line.ensures)
+returns-in-BadLine g c = rw c.in-BadLine.is (c.print_made.ensures _ c.faulty_line.ensures)
 
-pub returns-in-Replayed : goal.returns-in-Replayed
+pub returns-in-Logged : goal.returns-in-Logged
 unfolding text_of
-returns-in-Replayed g c = rw c.in-Replayed.is (rw c.as_slice.ensures at c.print.ensures)
+returns-in-Logged g c = rw c.in-Logged.is (rw c.as_slice.ensures at c.print.ensures)
 
 pub returns-in-Ended : goal.returns-in-Ended
 unfolding text_of

@@ -1,10 +1,10 @@
 use Rattle.std.proofs.Common.{◌≡◌, ◌∙◌, ◌<◌, ◌-◌, ℕ, List, [], ◌∷◌, codes, length, get_or, take, drop, arith}
 use Rattle.std.proofs.Common.{rules, refl, sym, Result, Ok, Err}
 use Rattle.std.proofs.lemmas.Grind.{common_steps}
-use Rattle.bridge_cmd.specs.Words.{Reads, ReadsReplay, ReadsServe}
+use Rattle.bridge_cmd.specs.Words.{Reads, ReadsFile, ReadsServe}
 use Rattle.bridge_cmd.specs.declared.words.Addresses.{Addresses}
 use Rattle.bridge_cmd.specs.declared.words.Task.{Task}
-use Rattle.bridge_cmd.specs.declared.words.Task.TheVariants.{Serve, Replay}
+use Rattle.bridge_cmd.specs.declared.words.Task.TheVariants.{Serve, Script, Replay}
 use Rattle.bridge_cmd.specs.declared.words.WordsFault.{WordsFault}
 use Rattle.bridge_cmd.specs.declared.words.WordsFault.TheVariants.{Refused, NoMemory}
 use Rattle.bridge_cmd.proofs.OptionLaws.{unlike}
@@ -15,20 +15,35 @@ abbrev as_task : {A : Type 0} → (A → Task) → Result A WordsFault → Resul
 as_task task (Ok a) = Ok (task a)
 as_task task (Err fault) = Err fault
 
--- the name of one command isn't that of the other
-other_name : (name : List ℕ) → name ≡ codes "serve" → name ≡ codes "replay" → ⊥
-other_name name serve replay = unlike (codes "serve") (codes "replay") refl (sym serve ∙ replay)
+-- the name of one command isn't that of another
+not_script : (name : List ℕ) → name ≡ codes "serve" → name ≡ codes "script" → ⊥
+not_script name serve script = unlike (codes "serve") (codes "script") refl (sym serve ∙ script)
+
+not_replay : (name : List ℕ) → name ≡ codes "serve" → name ≡ codes "replay" → ⊥
+not_replay name serve replay = unlike (codes "serve") (codes "replay") refl (sym serve ∙ replay)
+
+other_file : (name : List ℕ) → name ≡ codes "script" → name ≡ codes "replay" → ⊥
+other_file name script replay = unlike (codes "script") (codes "replay") refl (sym script ∙ replay)
 
 serve_named : (name : List ℕ) (rest : List (List ℕ)) (r : Result Addresses WordsFault) → name ≡ codes "serve"
     → ReadsServe rest r → Reads (name ∷ rest) (as_task Serve r)
 serve_named name rest (Ok addresses) is h = (is, h)
-serve_named name rest (Err Refused) is h = ((λ _. h), (λ other. absurd (other_name name is other)))
+serve_named name rest (Err Refused) is h =
+    ((λ _. h), (λ other. absurd (not_script name is other)), (λ other. absurd (not_replay name is other)))
 serve_named name rest (Err NoMemory) is h = tt
 
+script_named : (name : List ℕ) (rest : List (List ℕ)) (r : Result (List ℕ) WordsFault) → name ≡ codes "script"
+    → ReadsFile (codes "script") rest r → Reads (name ∷ rest) (as_task Script r)
+script_named name rest (Ok file) is h = (is, rw is h)
+script_named name rest (Err Refused) is h =
+    ((λ other. absurd (not_script name other is)), (λ _. rw is h), (λ other. absurd (other_file name is other)))
+script_named name rest (Err NoMemory) is h = tt
+
 replay_named : (name : List ℕ) (rest : List (List ℕ)) (r : Result (List ℕ) WordsFault) → name ≡ codes "replay"
-    → ReadsReplay rest r → Reads (name ∷ rest) (as_task Replay r)
-replay_named name rest (Ok log) is h = (is, h)
-replay_named name rest (Err Refused) is h = ((λ other. absurd (other_name name other is)), (λ _. h))
+    → ReadsFile (codes "replay") rest r → Reads (name ∷ rest) (as_task Replay r)
+replay_named name rest (Ok file) is h = (is, rw is h)
+replay_named name rest (Err Refused) is h =
+    ((λ other. absurd (not_replay name other is)), (λ other. absurd (other_file name other is)), (λ _. rw is h))
 replay_named name rest (Err NoMemory) is h = tt
 
 -- the words are their first one and the rest
@@ -45,8 +60,16 @@ returns-in-Ok c =
     by_first c.args.words.now _ c.name-item.result (Ok (Serve c.in-Ok.addresses)) (search rules) c.name-item.is refl
     (λ first is all behind. serve_named first all (Ok c.in-Ok.addresses) (is ∙ search rules) (rw behind c.in-Ok.ensures))
 
-pub returns-in-Ok-read_replay : goal.returns-in-Ok-read_replay
-returns-in-Ok-read_replay c =
-    by_first c.args.words.now _ c.name-item.result (Ok (Replay c.in-Ok-read_replay.log)) (search rules) c.name-item.is refl
-    (λ first is all behind. replay_named first all (Ok c.in-Ok-read_replay.log) (is ∙ search rules)
-    (rw behind c.in-Ok-read_replay.ensures))
+pub returns-in-Ok-read_file : goal.returns-in-Ok-read_file
+returns-in-Ok-read_file c =
+    by_first c.args.words.now _ c.name-item.result (Ok (Script c.in-Ok-read_file.file)) (search rules) c.name-item.is
+    refl
+    (λ first is all behind. script_named first all (Ok c.in-Ok-read_file.file) (is ∙ search rules)
+    (rw behind c.in-Ok-read_file.ensures))
+
+pub returns-in-Ok-read_file-2 : goal.returns-in-Ok-read_file-2
+returns-in-Ok-read_file-2 c =
+    by_first c.args.words.now _ c.name-item.result (Ok (Replay c.in-Ok-read_file-2.file)) (search rules) c.name-item.is
+    refl
+    (λ first is all behind. replay_named first all (Ok c.in-Ok-read_file-2.file) (is ∙ search rules)
+    (rw behind c.in-Ok-read_file-2.ensures))
