@@ -1,6 +1,5 @@
 use crate::running::Running;
 use std::alloc::Global;
-use std::cell::Cell;
 use std::io::{self, Read, Write};
 use std::net::{Net, Shutdown, SocketAddr, TcpListener, TcpStream};
 use std::test::Fail;
@@ -8,14 +7,12 @@ use std::time::{Clock, Duration};
 use wire_core::{Happening, OpenFailed, Side, Text, Wires};
 use wire_edge::TcpWires;
 
-// The system's network. As soon as there is a listener, a connection to it ends, another stays silent, and an editor's
-// sends three bytes; a target that listens has dropped its link before.
+// The system's network, with this listener in place of a new one; a target that listens has dropped its link by then.
 #[derive(Drop)]
 struct Staged<'a> {
     rt: &'a HostRuntime,
+    listener: &'a TcpListener,
     target: Option<&'a TcpListener>,
-    silent: &'a Cell<Option<TcpStream>>,
-    editor: &'a Cell<Option<TcpStream>>,
 }
 
 impl Net for Staged<'_> {
@@ -23,18 +20,11 @@ impl Net for Staged<'_> {
 
     type Listener = TcpListener;
 
-    fn bind(&self, address: SocketAddr) -> io::Result<TcpListener> {
+    fn bind(&self, _address: SocketAddr) -> io::Result<TcpListener> {
         if let Some(target) = self.target {
             target.accept()?;
         }
-        let listener = TcpListener::bind(self.rt, address)?;
-        let address = listener.local_addr()?;
-        drop(TcpStream::connect(self.rt, address)?);
-        self.silent.set(Some(TcpStream::connect(self.rt, address)?));
-        let mut editor = TcpStream::connect(self.rt, address)?;
-        editor.write_all(b"abc")?;
-        self.editor.set(Some(editor));
-        Ok(listener)
+        self.listener.try_clone()
     }
 
     fn connect(&self, address: SocketAddr) -> io::Result<TcpStream> {
@@ -58,6 +48,16 @@ impl Clock for Staged<'_> {
     fn since_1970(&self) -> io::Result<Duration> {
         self.rt.since_1970()
     }
+}
+
+// Connections to a listener: one ends at once, another stays silent, and an editor's sends three bytes.
+fn editors(rt: &HostRuntime, listener: &TcpListener) -> io::Result<(TcpStream, TcpStream)> {
+    let address = listener.local_addr()?;
+    drop(TcpStream::connect(rt, address)?);
+    let silent = TcpStream::connect(rt, address)?;
+    let mut editor = TcpStream::connect(rt, address)?;
+    editor.write_all(b"abc")?;
+    Ok((silent, editor))
 }
 
 // Wires that were opened to the target at this address.
@@ -102,21 +102,19 @@ fn shaken<W: Wires + Drop>(
 
 #[test]
 fn bytes_go_both_ways(rt: HostRuntime) -> Result<(), Fail> {
+    let dialled = TcpListener::bind(&rt, "127.0.0.1:0")?;
     let listener = TcpListener::bind(&rt, "127.0.0.1:0")?;
-    let silent = Cell::new(None);
-    let editor = Cell::new(None);
+    let (_silent, mut editor) = editors(&rt, &listener)?;
     let staged = Staged {
         rt: &rt,
-        target: Some(&listener),
-        silent: &silent,
-        editor: &editor,
+        listener: &listener,
+        target: Some(&dialled),
     };
-    let mut running = opened(staged, listener.local_addr()?)?;
-    let mut editor = editor.take().ok_or("no editor")?;
+    let mut running = opened(staged, dialled.local_addr()?)?;
 
     // Nobody hears that the target dropped its link, and the first send dials again.
     assert_eq!(rt; hear(&mut running), Some(Happening::Bytes(Side::Client, 3)));
-    let target = shaken(&mut running, &listener)?;
+    let target = shaken(&mut running, &dialled)?;
     assert_eq!(rt;
         hear(&mut running),
         Some(Happening::Bytes(Side::Target, 14))
@@ -133,17 +131,15 @@ fn bytes_go_both_ways(rt: HostRuntime) -> Result<(), Fail> {
 
 #[test]
 fn what_was_sent_arrives(rt: HostRuntime) -> Result<(), Fail> {
+    let dialled = TcpListener::bind(&rt, "127.0.0.1:0")?;
     let listener = TcpListener::bind(&rt, "127.0.0.1:0")?;
-    let silent = Cell::new(None);
-    let editor = Cell::new(None);
+    let (_silent, mut editor) = editors(&rt, &listener)?;
     let staged = Staged {
         rt: &rt,
+        listener: &listener,
         target: None,
-        silent: &silent,
-        editor: &editor,
     };
-    let mut running = opened(staged, listener.local_addr()?)?;
-    let mut editor = editor.take().ok_or("no editor")?;
+    let mut running = opened(staged, dialled.local_addr()?)?;
     assert!(rt; running.send(Side::Client, b"answer"));
 
     // Three bytes of the editor are not read before the end, and the link isn't reset for that.
