@@ -8,8 +8,6 @@ mod laws;
 mod lists;
 mod move_rows;
 mod numbers;
-mod print;
-mod print_moves;
 mod read;
 mod rows;
 mod script;
@@ -20,7 +18,6 @@ mod world_rows;
 
 pub use arguments::Arguments;
 pub use laws::{a_printed_row_has_no_float, a_printed_row_is_read_again};
-pub use print::row_value;
 pub use read::read_row;
 pub use rows::Row;
 pub use script::{Begin, Script, Turn};

@@ -1,7 +1,7 @@
 //! Lists of a line, and the elements that they have.
-ghost use Rattle.std.specs.Prelude.{◌≡◌, ◌++◌, map, IfOk};
+ghost use Rattle.std.specs.Prelude.{◌≡◌, IfOk};
 ghost use Rattle.serde_json.specs.View.{view, items_view};
-ghost use Rattle.script_rows.specs.Values.{each_of, list_of, lines_of, list_data};
+ghost use Rattle.script_rows.specs.Values.{each_of, list_of, lines_of};
 
 use crate::{shown, values};
 use jdwp_values::{Line, Value};
@@ -111,15 +111,4 @@ pub(crate) fn lines(alloc: Global, value: &Json) -> Result<Option<Option<List<Li
         Some(lines) => Ok(Some(Some(lines))),
         None => Ok(None),
     }
-}
-
-/// A list, as a JSON array.
-pub(crate) fn list_value<T: Element>(alloc: Global, items: &[T]) -> Result<Json, AllocError>
-    ensures { IfOk result (λ value. view value ≡ list_data T.data_of items.now) }
-{
-    let mut shown = Vec::new(alloc);
-    for item in items {
-        shown.push(item.value(alloc)?)?;
-    }
-    Ok(Json::Array(shown))
 }
