@@ -8,7 +8,7 @@ from xml.sax.saxutils import escape
 
 WIDTH, HEIGHT, GAP = 1060, 46, 10
 LEFT, RIGHT = 150, 910
-PROVED, MODEL, EDGE, LATER, OUTSIDE = "#dceafa", "#e3f1dc", "#fbe3c8", "#f2f2f2", "#ffffff"
+PROVED, MODEL, EDGE, OUTSIDE = "#dceafa", "#e3f1dc", "#fbe3c8", "#ffffff"
 
 # A row is a list of boxes, each the share of the row's width, its colour, its name, and what it does.
 ROWS = [
@@ -19,7 +19,7 @@ ROWS = [
      (0.5, PROVED, "session_facts", "what is known"), (0.85, MODEL, "session_model", "which bytes are a session, and its laws")],
     [(0.8, MODEL, "machine_model", "what a session does, and its laws"),
      (0.6, MODEL, "joint_model", "beside an obeying target"), (0.45, PROVED, "script_text", "texts of logs"),
-     (0.7, LATER, "for later", "suspend_ledger, world_model")],
+     (0.7, PROVED, "scripts", "texts, worlds, targets, wires")],
     [(0.37, PROVED, "dap_messages", "requests, responses"), (0.36, PROVED, "pending_table", "pending commands"),
      (0.37, PROVED, "jdwp_commands", "commands, answers"), (0.32, PROVED, "wish_sets", "event requests"),
      (0.28, PROVED, "stop_refs", "numbers told"), (0.3, PROVED, "value_views", "texts of values")],
@@ -30,7 +30,7 @@ ROWS = [
     [(1, EDGE, "wire_edge", "TCP, disk, standard output: what the system did is trusted")],
 ]
 LEGEND = [
-    (PROVED, "proved code"), (MODEL, "definitions and laws"), (LATER, "proved, for later"), (EDGE, "trusted edge"),
+    (PROVED, "proved code"), (MODEL, "definitions and laws"), (EDGE, "trusted edge"),
 ]
 
 # A session's messages: the way of each (the editor's side has one sign, the Java machine's two), and what it says.
