@@ -7,6 +7,7 @@ import shutil
 import subprocess
 import sys
 import time
+from concurrent.futures import FIRST_COMPLETED, ThreadPoolExecutor, wait
 
 TOP = os.path.dirname(os.path.dirname(os.path.abspath(__file__)))
 CRATES = os.path.join(TOP, "crates")
@@ -55,49 +56,85 @@ def built():
     """Proves and builds the program, and gives its path."""
     if not shutil.which("rt"):
         stop("there is no command rt in the path: README.md says under Set up what the Rattle kit is")
-    names = crates_below("bridge_cmd")
-    print("Proving and building the program: %d crates, one line each." % len(names))
+    uses, lanes = uses_below("bridge_cmd"), at_once()
+    print("Proving and building the program: %d crates, one line each, up to %d at once." % (len(uses), lanes))
     print("From nothing this takes up to an hour on four processors; later only what changed is proved again.")
     print("What the prover says goes to %s" % LOG, flush=True)
     start = time.monotonic()
     with open(LOG, "wb") as log:
-        for name in names:
-            # The program itself is run by this, without words, and ends with status 2.
-            command, due = ("run", 2) if name == names[-1] else ("lib", 0)
-            if logged(name, command, log) != due:
-                stop("%s wasn't proved; the end of %s says why" % (name, LOG))
+        prove_all(uses, lanes, log)
     print("The program is at %s, after %s." % (checked(PROGRAM), minutes(time.monotonic() - start)), flush=True)
     return PROGRAM
 
 
-def logged(name, command, log):
-    """Runs rt in a crate's folder, says how long it took, and gives its status."""
-    print("  %-14s" % name, end="", flush=True)
+def prove_all(uses, lanes, log):
+    """Proves the crates side by side, each behind those that it uses, and first those that most of the work waits for."""
+    left, proved, running = sorted(uses, key=work_behind(uses), reverse=True), set(), {}
+    with ThreadPoolExecutor(lanes) as pool:
+        while left or running:
+            for name in [it for it in left if proved.issuperset(uses[it])][:lanes - len(running)]:
+                left.remove(name)
+                running[pool.submit(proof_of, name)] = name
+            for ended in wait(running, return_when=FIRST_COMPLETED).done:
+                name = running.pop(ended)
+                is_proved, said, took = ended.result()
+                log.write(said)
+                log.flush()
+                print("  %-16s %s" % (name, took if is_proved else "NOT PROVED"), flush=True)
+                if not is_proved:
+                    left.clear()
+                    continue
+                proved.add(name)
+    missing = [name for name in uses if name not in proved]
+    if missing:
+        stop("%s wasn't proved; %s says why" % (missing[0], LOG))
+
+
+def proof_of(name):
+    """Runs rt in a crate's folder, and gives whether it is proved, what was said, and how long it took."""
+    # The program itself is run by this, without words, and ends with status 2.
+    command, due = ("run", 2) if name == "bridge_cmd" else ("lib", 0)
     start = time.monotonic()
-    log.write(b"== rt %s in crates/%s\n" % (command.encode(), name.encode()))
-    log.flush()
-    ran = subprocess.run(["rt", command], cwd=os.path.join(CRATES, name), stdin=subprocess.DEVNULL, stdout=log,
-                         stderr=subprocess.STDOUT, check=False)
-    print(" %s" % minutes(time.monotonic() - start), flush=True)
-    return ran.returncode
+    ran = subprocess.run(["rt", command, "--jobs", "1"], cwd=os.path.join(CRATES, name), stdin=subprocess.DEVNULL,
+                         stdout=subprocess.PIPE, stderr=subprocess.STDOUT, check=False)
+    said = b"== rt %s in crates/%s\n" % (command.encode(), name.encode()) + ran.stdout
+    return ran.returncode == due, said, minutes(time.monotonic() - start)
+
+
+def at_once():
+    """How many proofs run side by side: one a processor, as far as each finds three gigabytes of memory."""
+    with open("/proc/meminfo", encoding="utf-8") as file:
+        free = next(int(line.split()[1]) for line in file if line.startswith("MemAvailable:"))
+    return max(1, min(len(os.sched_getaffinity(0)), free // 3_000_000))
+
+
+def work_behind(uses):
+    """Gives for a crate the bytes of the longest chain of sources that begins with it."""
+    behind = {}
+    for name in reversed(list(uses)):
+        folder = os.path.join(CRATES, name, "src")
+        own = sum(os.path.getsize(os.path.join(at, file)) for at, _, files in os.walk(folder) for file in files)
+        behind[name] = own + max((behind[it] for it in behind if name in uses[it]), default=0)
+    return behind.get
 
 
 def minutes(seconds):
     return "%d:%02d min" % divmod(round(seconds), 60)
 
 
-def crates_below(name):
-    """The crates that a crate stands on and the crate itself, each behind those that it stands on (crates.txt)."""
+def uses_below(name):
+    """The crates that a crate stands on and the crate itself, each with those that it uses, which come before it."""
     with open(os.path.join(TOP, "crates.txt"), encoding="utf-8") as file:
         rows = (line.partition("#")[0].partition(":") for line in file)
         uses = {crate.strip(): below.split() for crate, colon, below in rows if colon}
-    names = []
+    found = {}
 
     def add(crate):
-        if crate in uses and crate not in names:
-            for below in uses[crate]:
-                add(below)
-            names.append(crate)
+        if crate in uses and crate not in found:
+            below = [it for it in uses[crate] if it in uses]
+            for it in below:
+                add(it)
+            found[crate] = below
 
     add(name)
-    return names
+    return found
