@@ -28,6 +28,7 @@ use Rattle.jdwp_commands.specs.Commands.{kind_of}
 use Rattle.jdwp_commands.specs.Items.{threads, values, methods, fields, lines, variables, class_statuses}
 use Rattle.jdwp_commands.specs.Items.{loaded_classes, frames, Item, part, many, region, items_at, Saying, says}
 use Rattle.jdwp_commands.specs.Items.{spell_sayings, FitsSayings, InRangeSayings}
+use Rattle.jdwp_commands.specs.Table.{question_table, effect_table}
 
 -- which command it answers
 abbrev pub kind_of_answer : Answer → CommandKind
@@ -100,42 +101,13 @@ abbrev pub limit_of : Asked → Limit
 limit_of (a_question q) = limit_of_question q
 limit_of (an_effect e) = Any
 
--- the items of the answer to each question (JDWP, Detailed Command Information)
+-- the items of the answer to each question
 abbrev pub question_answer_row : QuestionKind → Limit → List Item
-question_answer_row question_kinds.ClassesBySignature limit = many Any class_statuses ∷ []
-question_answer_row question_kinds.AllClasses limit = many Any loaded_classes ∷ []
-question_answer_row question_kinds.AllThreads limit = many Any threads ∷ []
-question_answer_row question_kinds.IdSizes limit =
-    part number ∷ part number ∷ part number ∷ part number ∷ part number ∷ []
-question_answer_row question_kinds.Signature limit = part text ∷ []
-question_answer_row question_kinds.Fields limit = many Any fields ∷ []
-question_answer_row question_kinds.Methods limit = many Any methods ∷ []
-question_answer_row question_kinds.SourceFile limit = part text ∷ []
-question_answer_row question_kinds.Superclass limit = part class ∷ []
-question_answer_row question_kinds.LineTable limit = part long ∷ part long ∷ many Any lines ∷ []
-question_answer_row question_kinds.VariableTable limit = part int ∷ many Any variables ∷ []
-question_answer_row question_kinds.ObjectType limit = part type_tag ∷ part class ∷ []
-question_answer_row question_kinds.GetFields limit = many limit values ∷ []
-question_answer_row question_kinds.StringValue limit = part text ∷ []
-question_answer_row question_kinds.ThreadName limit = part text ∷ []
-question_answer_row question_kinds.Frames limit = many limit frames ∷ []
-question_answer_row question_kinds.FrameCount limit = part (count Any) ∷ []
-question_answer_row question_kinds.ArrayLength limit = part (count Any) ∷ []
-question_answer_row question_kinds.GetElements limit = region limit ∷ []
-question_answer_row question_kinds.GetSlots limit = many limit values ∷ []
-question_answer_row question_kinds.ThisObject limit = part reference ∷ []
+question_answer_row kind limit = (question_table kind).answer limit
 
--- the items of the answer to each effect (JDWP, Detailed Command Information)
+-- the items of the answer to each effect
 abbrev pub effect_answer_row : EffectKind → List Item
-effect_answer_row effect_kinds.Dispose = []
-effect_answer_row effect_kinds.Suspend = []
-effect_answer_row effect_kinds.Resume = []
-effect_answer_row effect_kinds.Exit = []
-effect_answer_row effect_kinds.SetField = []
-effect_answer_row effect_kinds.SetElement = []
-effect_answer_row effect_kinds.Set = part number ∷ []
-effect_answer_row effect_kinds.Clear = []
-effect_answer_row effect_kinds.SetSlot = []
+effect_answer_row kind = (effect_table kind).answer Any
 
 -- a line table of its parts (JDWP, Method command set, LineTable)
 abbrev pub line_table : ℤ → ℤ → List Line → Answer

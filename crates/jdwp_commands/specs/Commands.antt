@@ -27,6 +27,7 @@ use Rattle.jdwp_commands.specs.Bodies.{whole}
 use Rattle.jdwp_commands.specs.Items.{field_ids, modifiers, slots, Item, part, many, event_kind, policy, items_at}
 use Rattle.jdwp_commands.specs.Items.{Saying, says, spell_sayings, FitsSayings, InRangeSayings}
 use Rattle.jdwp_commands.specs.Kinds.{numbers, kind_of_numbers}
+use Rattle.jdwp_commands.specs.Table.{question_table, effect_table}
 
 -- which question it is
 abbrev pub kind_of_question : Question → QuestionKind
@@ -73,42 +74,13 @@ kind_of (an_effect e) = commands.Effect (kind_of_effect e)
 abbrev pub number_of : Asked → ℕ × ℕ
 number_of asked = numbers (kind_of asked)
 
--- the items of each question's body (JDWP, Detailed Command Information)
+-- the items of each question's body
 abbrev pub question_row : QuestionKind → List Item
-question_row question_kinds.ClassesBySignature = part text ∷ []
-question_row question_kinds.AllClasses = []
-question_row question_kinds.AllThreads = []
-question_row question_kinds.IdSizes = []
-question_row question_kinds.Signature = part class ∷ []
-question_row question_kinds.Fields = part class ∷ []
-question_row question_kinds.Methods = part class ∷ []
-question_row question_kinds.SourceFile = part class ∷ []
-question_row question_kinds.Superclass = part class ∷ []
-question_row question_kinds.LineTable = part class ∷ part method ∷ []
-question_row question_kinds.VariableTable = part class ∷ part method ∷ []
-question_row question_kinds.ObjectType = part object ∷ []
-question_row question_kinds.GetFields = part object ∷ many Any field_ids ∷ []
-question_row question_kinds.StringValue = part object ∷ []
-question_row question_kinds.ThreadName = part thread ∷ []
-question_row question_kinds.Frames = part thread ∷ part int ∷ part int ∷ []
-question_row question_kinds.FrameCount = part thread ∷ []
-question_row question_kinds.ArrayLength = part object ∷ []
-question_row question_kinds.GetElements = part object ∷ part int ∷ part int ∷ []
-question_row question_kinds.GetSlots = part thread ∷ part frame ∷ many Any slots ∷ []
-question_row question_kinds.ThisObject = part thread ∷ part frame ∷ []
+question_row kind = (question_table kind).body
 
--- the items of each effect's body (JDWP, Detailed Command Information): the count of the values that are set is 1, and
--- their bytes in SetField and SetElement are what is left
+-- the items of each effect's body
 abbrev pub effect_row : EffectKind → List Item
-effect_row effect_kinds.Dispose = []
-effect_row effect_kinds.Suspend = []
-effect_row effect_kinds.Resume = []
-effect_row effect_kinds.Exit = part int ∷ []
-effect_row effect_kinds.SetField = part object ∷ part (count (Exactly 1)) ∷ part field ∷ part tail ∷ []
-effect_row effect_kinds.SetElement = part object ∷ part int ∷ part (count (Exactly 1)) ∷ part tail ∷ []
-effect_row effect_kinds.Set = event_kind ∷ policy ∷ many Any modifiers ∷ []
-effect_row effect_kinds.Clear = event_kind ∷ part number ∷ []
-effect_row effect_kinds.SetSlot = part thread ∷ part frame ∷ part (count (Exactly 1)) ∷ part int ∷ part value ∷ []
+effect_row kind = (effect_table kind).body
 
 -- a question read by its row
 abbrev pub question_at : QuestionKind → Place → Result (Question × Place) RowFault
