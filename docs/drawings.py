@@ -12,7 +12,8 @@ PROVED, MODEL, EDGE, OUTSIDE = "#dceafa", "#e3f1dc", "#fbe3c8", "#ffffff"
 
 # A row is a list of boxes, each the share of the row's width, its colour, its name, and what it does.
 ROWS = [
-    [(1, PROVED, "bridge_cmd", "the program: words in, a line and a status out")],
+    [(1, PROVED, "bridge_cmd", "the program, over what the edge gives")],
+    [(1, PROVED, "bridge_runs", "a run of the program: words in, a line and a status out")],
     [(1, PROVED, "bridge_serve", "a session over wires")],
     [(1, PROVED, "bridge_core", "a session over whole messages")],
     [(0.6, PROVED, "talk_plans", "what is done for a request"), (0.5, PROVED, "look_ups", "what a look-up finds"),

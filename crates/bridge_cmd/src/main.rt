@@ -3,22 +3,9 @@
 #![tactic(auto)]
 
 ghost use Rattle.std.specs.Prelude.{IfOk};
-ghost use Rattle.bridge_cmd.specs.Command.{IsRun};
+ghost use Rattle.bridge_cmd.specs.Program.{IsRun};
 
-mod command;
-mod file_runs;
-mod log_wires;
-mod played_wires;
-mod printing;
-mod replay;
-mod script;
-#[cfg(test)]
-mod script_tests;
-#[cfg(test)]
-mod tests;
-mod words;
-
-use command::bridge_main;
+use bridge_runs::bridge_main;
 use std::io::ErrorKind;
 use std::process::ExitCode;
 use std::{env, io};

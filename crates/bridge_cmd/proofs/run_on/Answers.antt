@@ -2,7 +2,7 @@
 use Rattle.std.proofs.Common.{◌≡◌, true, Result, Ok, Err, OnErr}
 use Rattle.std.proofs.lemmas.Bool.{false≢true}
 use Rattle.std.specs.Prelude.{is_err}
-use Rattle.bridge_cmd.specs.Command.{begun, not_begun}
+use Rattle.bridge_cmd.specs.Program.{begun, not_begun}
 use Rattle.bridge_cmd.proofs.run_on.Goals as goal
 
 -- what holds of an error holds where there is one

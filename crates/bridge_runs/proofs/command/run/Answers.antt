@@ -1,0 +1,27 @@
+use Rattle.bridge_runs.specs.Command.{Does}
+use Rattle.bridge_runs.proofs.command.run.Goals as goal
+
+pub returns-in-Ok : goal.returns-in-Ok
+returns-in-Ok g c = Does.serves (rw c.in-Ok-Serve.field-0-is at c.in-Ok-Serve.ensures) (record {
+  opened = _;
+  connects = c.in-Ok.ensures.ok;
+  session = rw c.standard.ensures.values at c.serve.ensures.session;
+  keeps = c.serve.ensures.keeps;
+  blames = c.serve.ensures.blames;
+  idles = rw c.standard.ensures.values at c.serve.ensures.idles;
+})
+
+pub returns-in-Err : goal.returns-in-Err
+returns-in-Err g c = Does.fails_to_open (rw c.in-Ok-Serve.field-0-is at c.in-Ok-Serve.ensures) c.in-Err.ensures.err
+
+pub returns-in-Ok-Script : goal.returns-in-Ok-Script
+returns-in-Ok-Script g c = Does.plays (rw c.in-Ok-Script.field-0-is at c.in-Ok-Script.ensures) c.play.ensures
+
+pub returns-in-Ok-Replay : goal.returns-in-Ok-Replay
+returns-in-Ok-Replay g c = Does.replays (rw c.in-Ok-Replay.field-0-is at c.in-Ok-Replay.ensures) c.replay.ensures
+
+pub returns-in-Err-Refused : goal.returns-in-Err-Refused
+returns-in-Err-Refused g c = Does.misused (rw c.in-Err-Refused.field-0-is at c.in-Err-Refused.ensures)
+
+pub returns-in-Err-NoMemory : goal.returns-in-Err-NoMemory
+returns-in-Err-NoMemory g c = Does.forgets

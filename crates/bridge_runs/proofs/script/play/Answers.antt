@@ -1,0 +1,16 @@
+use Rattle.bridge_runs.specs.FileRuns.{OfFile}
+use Rattle.bridge_runs.proofs.FileLaws.{printed_of, text_read, troubled_file}
+use Rattle.bridge_runs.proofs.script.play.Goals as goal
+
+pub returns-in-Ok-read_script : goal.returns-in-Ok-read_script
+returns-in-Ok-read_script g c =
+    OfFile.has_log (text_read _ _ _ _ c.in-Ok.ensures) (rw c.as_slice.ensures at c.in-Ok-read_script.ensures)
+    (printed_of _ _ _ c.served_of.ensures c.show.ensures)
+
+pub returns-in-Err-read_script : goal.returns-in-Err-read_script
+returns-in-Err-read_script g c =
+    rw c.troubled.ensures (troubled_file _ _ _ _ _ _ _ (text_read _ _ _ _ c.in-Ok.ensures)
+    (rw c.as_slice.ensures at c.in-Err-read_script.ensures))
+
+pub returns-in-Err : goal.returns-in-Err
+returns-in-Err g c = OfFile.has_no_text c.in-Err.ensures

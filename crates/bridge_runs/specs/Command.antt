@@ -1,0 +1,78 @@
+-- A run of the program: what its words make it do, what it prints, and the status that it ends with.
+use Rattle.std.specs.Prelude.{ℕ, ◌≡◌, List, length, take}
+use Rattle.bridge_runs.specs.Course.{both_open, came, course}
+use Rattle.bridge_runs.specs.FileRuns.{IsLogged, OfFile, usual_limits}
+use Rattle.bridge_runs.specs.Lines.{Prints, status_of, text_of}
+use Rattle.bridge_runs.specs.PlayedWires.{IsLogOf}
+use Rattle.bridge_runs.specs.Words.{AreRefused, Names}
+use Rattle.bridge_runs.specs.declared.printing.Outcome.{Outcome}
+use Rattle.bridge_runs.specs.declared.printing.Outcome.TheVariants.{Misused, NotOpened, Ended}
+use Rattle.bridge_runs.specs.declared.words.Addresses.{Addresses}
+use Rattle.bridge_runs.specs.declared.words.Task.TheVariants.{Serve, Script, Replay}
+use Rattle.bridge_serve.specs.Serving.{Blames, Idles, Keeps}
+use Rattle.script_files.specs.Reading.{script_of}
+use Rattle.script_rows.specs.declared.script.Script.{Script as TheScript}
+use Rattle.script_text.specs.Reading.{reading_of}
+use Rattle.script_text.specs.declared.log.SessionLog.{SessionLog}
+use Rattle.wire_core.specs.Files.{Store}
+use Rattle.wire_core.specs.Output.{Printed}
+use Rattle.wire_core.specs.Outside.{Outside, Connects, FailsToConnect}
+use Rattle.wire_core.specs.declared.outside.Entry.{Entry}
+use Rattle.session_model.specs.Session.{IsSession}
+use Rattle.session_model.specs.declared.ending.Ending.{Ending}
+use Rattle.session_model.specs.declared.ending.Ending.TheVariants.{NoMemory}
+
+-- a session was served over wires that were opened under these addresses
+pub record Serves (addresses : Addresses) (old new : Outside) (ending : Ending) : Type 0 where
+  pub opened : Outside
+  pub connects : Connects old opened addresses.listen addresses.target
+  pub session : IsSession opened new usual_limits ending
+  pub keeps : Keeps opened new
+  pub blames : Blames opened new ending
+  pub idles : Idles usual_limits opened new ending
+
+-- the log of a session that was served over wires that gave what came in these entries, in order, up to its ending
+pub record IsServedAgain (entries : List Entry) (log : SessionLog) : Type 0 where
+  pub logged : IsLogged log
+  pub in_order : came log.entries ≡ take (length (came log.entries)) (course both_open entries)
+
+-- what becomes of the file with a session log
+abbrev pub Replays : List ℕ → Store → Store → Outcome → Type 0
+Replays name old new outcome = OfFile reading_of (λ log. IsServedAgain log.entries) name old new outcome
+
+-- the log of a session that was served over wires that play this script
+pub record IsServedOf (script : TheScript) (log : SessionLog) : Type 0 where
+  pub logged : IsLogged log
+  pub of_script : IsLogOf script log.entries
+
+-- what becomes of the file with a script
+abbrev pub Plays : List ℕ → Store → Store → Outcome → Type 0
+Plays name old new outcome = OfFile script_of IsServedOf name old new outcome
+
+-- What the words make of the wires and the files, and the outcome: where they are refused nothing is done; else a
+-- session is served, or the links are not opened; or a script is played; or a session log is replayed. Want of memory
+-- may come before anything is done.
+pub data Does : List (List ℕ) → Outside → Outside → Store → Store → Outcome → Type 0 where
+  misused : {words : List (List ℕ)} {o : Outside} {s : Store} → AreRefused words → Does words o o s s Misused
+  forgets : {words : List (List ℕ)} {o : Outside} {s : Store} → Does words o o s s (Ended NoMemory)
+  fails_to_open : {words : List (List ℕ)} {addresses : Addresses} {old new : Outside} {s : Store}
+      → Names words (Serve addresses)
+      → FailsToConnect old new addresses.listen addresses.target → Does words old new s s NotOpened
+  serves : {words : List (List ℕ)} {addresses : Addresses} {old new : Outside} {s : Store} {ending : Ending}
+      → Names words (Serve addresses) → Serves addresses old new ending → Does words old new s s (Ended ending)
+  plays : {words : List (List ℕ)} {name : List ℕ} {o : Outside} {old new : Store} {outcome : Outcome}
+      → Names words (Script name) → Plays name old new outcome → Does words o o old new outcome
+  replays : {words : List (List ℕ)} {name : List ℕ} {o : Outside} {old new : Store} {outcome : Outcome}
+      → Names words (Replay name) → Replays name old new outcome → Does words o o old new outcome
+
+-- what a run finds and what it leaves: its wires, its files, and what is printed
+pub record Surroundings : Type 0 where
+  pub wires : Outside
+  pub files : Store
+  pub printed : Printed
+
+-- a run of the program: what it did over its wires and files, what it printed of that, and its status
+pub record Runs (words : List (List ℕ)) (old new : Surroundings) (status : ℕ) : Type 0 where
+  pub outcome : Outcome
+  pub does : Does words old.wires new.wires old.files new.files outcome
+  pub prints : Prints old.printed new.printed (text_of outcome) (status_of outcome) status

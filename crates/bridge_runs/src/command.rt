@@ -1,0 +1,59 @@
+//! Runs the program on its words.
+ghost use Rattle.std.specs.Prelude.{◌≡◌, ℕ, List, []};
+ghost use Rattle.bridge_runs.specs.Command.{Does, Runs};
+ghost use Rattle.bridge_runs.specs.Words.{IsValue, Names, replay_words, script_words, serve_words};
+ghost use Rattle.bridge_runs.specs.declared.words.Task.TheVariants.{Serve, Script, Replay};
+
+use crate::printing::{Outcome, tell};
+use crate::replay::replay;
+use crate::script::play;
+use crate::words::{Addresses, Task, WordsFault, read_words};
+use bridge_serve::serve;
+use session_model::{Ending, Limits};
+use std::alloc::Global;
+use wire_core::{Files, Output, Wires, Word};
+
+/// Runs the program on its words, prints what says how the run ended, and gives its status. `serve --listen A --target B`
+/// connects to a Java machine at B, accepts an editor at A, serves a session between them, and prints a line. `script
+/// FILE` reads the script in the file FILE, serves a session between its client and its target, and prints the log of
+/// this session. `replay LOG` reads the session log in the file LOG, serves a session over what came in it, and prints
+/// the log of this session. It is printed once all else is done.
+pub fn bridge_main<W: Wires, F: Files, O: Output>(
+    alloc: Global,
+    words: &[Word],
+    wires: &mut W,
+    files: &mut F,
+    out: &mut O,
+) -> u8
+    requires wires_unused { (W.outside wires.old).asked ≡ [] }
+    requires files_unused { (F.store files.old).asked ≡ [] }
+    ensures runs { Runs words.now
+        (record { wires = W.outside wires.old; files = F.store files.old; printed = O.printed out.old })
+        (record { wires = W.outside wires.new; files = F.store files.new; printed = O.printed out.new }) result }
+
+    // The words in the forms of the usage are taken, for all values that are not empty and don't begin with a hyphen.
+    ensures serve_usage { (listen target : List ℕ) → IsValue listen → IsValue target
+        → Names (serve_words listen target) (Serve (record { listen = listen; target = target })) }
+    ensures script_usage { (file : List ℕ) → IsValue file → Names (script_words file) (Script file) }
+    ensures replay_usage { (log : List ℕ) → IsValue log → Names (replay_words log) (Replay log) }
+{
+    let outcome = run(alloc, words, wires, files);
+    tell(alloc, outcome, out)
+}
+
+fn run<W: Wires, F: Files>(alloc: Global, words: &[Word], wires: &mut W, files: &mut F) -> Outcome
+    requires wires_unused { (W.outside wires.old).asked ≡ [] }
+    requires files_unused { (F.store files.old).asked ≡ [] }
+    ensures { Does words.now (W.outside wires.old) (W.outside wires.new) (F.store files.old) (F.store files.new) result }
+{
+    match read_words(alloc, words) {
+        Ok(Task::Serve(Addresses { listen, target })) => match wires.connect(listen, target) {
+            Ok(()) => Outcome::Ended(serve(alloc, &Limits::standard(), wires)),
+            Err(_) => Outcome::NotOpened,
+        },
+        Ok(Task::Script(name)) => play(alloc, name, files),
+        Ok(Task::Replay(name)) => replay(alloc, name, files),
+        Err(WordsFault::Refused) => Outcome::Misused,
+        Err(WordsFault::NoMemory) => Outcome::Ended(Ending::NoMemory),
+    }
+}

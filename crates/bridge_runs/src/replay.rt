@@ -1,0 +1,41 @@
+//! Replays a session log.
+ghost use Rattle.std.specs.Prelude.{◌≡◌, [], IfOk, Ok};
+ghost use Rattle.script_text.specs.Reading.{reading_of};
+ghost use Rattle.bridge_runs.specs.Command.{IsServedAgain, Replays};
+
+use crate::file_runs::{log_of, read_text, show, troubled};
+use crate::log_wires::LogWires;
+use crate::printing::Outcome;
+use bridge_serve::serve;
+use script_text::{SessionLog, read_log};
+use session_model::Limits;
+use std::alloc::Global;
+use wire_core::{Blob, Files, NoMemory, Word};
+
+/// Replays the session log in a file: what came of the outside in it comes once more, and a session is served over that.
+/// The outcome has the log of this session, as text; or it says why there is none.
+pub fn replay<F: Files>(alloc: Global, name: Word, files: &mut F) -> Outcome
+    requires { (F.store files.old).asked ≡ [] }
+    ensures { Replays name (F.store files.old) (F.store files.new) result }
+{
+    match read_text(alloc, name, files) {
+        Ok(text) => match read_log(alloc, text.as_slice()) {
+            Ok(log) => show(alloc, served_again(alloc, text, &log)),
+            Err(trouble) => troubled(trouble),
+        },
+        Err(outcome) => outcome,
+    }
+}
+
+// Serves a session over what came in a log, and gives the log of that session.
+fn served_again(alloc: Global, text: Blob, log: &SessionLog) -> Result<SessionLog, NoMemory>
+    requires { reading_of text ≡ Ok log.now }
+    ensures { IfOk result (IsServedAgain log.now.entries) }
+{
+    let mut wires = LogWires::new(alloc, text, log)?;
+    let ending = serve(alloc, &Limits::standard(), &mut wires);
+    if wires.refused() {
+        return Err(NoMemory);
+    }
+    log_of(alloc, ending, wires.entries())
+}

@@ -1,0 +1,40 @@
+//! Plays a script.
+ghost use Rattle.std.specs.Prelude.{◌≡◌, [], IfOk, Ok};
+ghost use Rattle.script_files.specs.Reading.{script_of};
+ghost use Rattle.bridge_runs.specs.Command.{IsServedOf, Plays};
+
+use crate::file_runs::{log_of, read_text, show, troubled};
+use crate::played_wires::PlayedWires;
+use crate::printing::Outcome;
+use bridge_serve::serve;
+use script_files::read_script;
+use script_rows::Script;
+use script_text::SessionLog;
+use session_model::Limits;
+use std::alloc::Global;
+use wire_core::{Blob, Files, NoMemory, Word};
+
+/// Plays the script in a file: a session is served between its client and its target. The outcome has the log of this
+/// session, as text; or it says why there is none.
+pub fn play<F: Files>(alloc: Global, name: Word, files: &mut F) -> Outcome
+    requires { (F.store files.old).asked ≡ [] }
+    ensures { Plays name (F.store files.old) (F.store files.new) result }
+{
+    match read_text(alloc, name, files) {
+        Ok(text) => match read_script(alloc, text.as_slice()) {
+            Ok(script) => show(alloc, served_of(alloc, text, script)),
+            Err(trouble) => troubled(trouble),
+        },
+        Err(outcome) => outcome,
+    }
+}
+
+// Serves a session over the wires of a script, and gives the log of that session.
+fn served_of(alloc: Global, text: Blob, script: Script) -> Result<SessionLog, NoMemory>
+    requires { script_of text ≡ Ok script }
+    ensures { IfOk result (IsServedOf script) }
+{
+    let mut wires = PlayedWires::new(alloc, text, script)?;
+    let ending = serve(alloc, &Limits::standard(), &mut wires);
+    log_of(alloc, ending, wires.entries()?)
+}
