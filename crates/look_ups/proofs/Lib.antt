@@ -1,11 +1,6 @@
 pub mod AskedLemmas
 pub mod ChildLaws
 pub mod EachLaws
-pub mod FieldLaws
 pub mod MetLaws
 pub mod NeedLaws
-pub mod PageLaws
-pub mod SearchLaws
 pub mod SlotLaws
-pub mod StepLaws
-pub mod WriteLaws

@@ -9,7 +9,7 @@ use wire_core::NoMemory;
 
 /// The ids of the classes that were met, each once, in their order. Contracts see that list.
 #[derive(Debug, Drop)]
-pub(crate) struct MetClasses {
+pub struct MetClasses {
     classes: IndexSet<u64>,
 }
 
@@ -23,7 +23,7 @@ impl Model for MetClasses {
 
 impl MetClasses {
     /// None was met; it takes no memory.
-    pub(crate) fn new(alloc: Global) -> MetClasses
+    pub fn new(alloc: Global) -> MetClasses
         ensures { result ≡ [] }
     {
         MetClasses {
@@ -32,14 +32,14 @@ impl MetClasses {
     }
 
     /// Whether a class was met.
-    pub(crate) fn has(&self, class: u64) -> bool
+    pub fn has(&self, class: u64) -> bool
         ensures { result ≡ list_any (λ other. other == class) self.now }
     {
         self.classes.contains(&class)
     }
 
-    /// A class is met that wasn't.
-    pub(crate) fn add(&mut self, class: u64) -> Result<(), NoMemory>
+    /// A class is met that wasn't. `NoMemory` comes where memory is refused.
+    pub fn add(&mut self, class: u64) -> Result<(), NoMemory>
         requires { list_any (λ other. other == class) self.old ≡ false }
         ensures { OnOk result (self.new ≡ self.old ++ class ∷ []) }
     {
@@ -47,8 +47,8 @@ impl MetClasses {
         Ok(())
     }
 
-    /// Their ids, in order.
-    pub(crate) fn listed(&self, alloc: Global) -> Result<Vec<u64>, NoMemory>
+    /// Their ids, in the order in which they were met. `NoMemory` comes where memory is refused.
+    pub fn listed(&self, alloc: Global) -> Result<Vec<u64>, NoMemory>
         ensures { IfOk result (λ listed. listed.items ≡ self.now) }
     {
         Ok(self.classes.iter().copied().collect(alloc)?)

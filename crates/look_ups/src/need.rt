@@ -82,11 +82,8 @@ fn beside_lack<A: Drop, B: Drop>(
 }
 
 /// Two look-ups side by side: an error beats what is lacking, and of two errors the first in order of sending counts.
-/// The time is that of the first's wants.
-pub(crate) fn both<A: Drop, B: Drop>(
-    first: Need<A>,
-    second: Need<B>,
-) -> Result<Need<(A, B)>, NoMemory>
+/// The time is that of the first's wants. `NoMemory` comes where memory is refused.
+pub fn both<A: Drop, B: Drop>(first: Need<A>, second: Need<B>) -> Result<Need<(A, B)>, NoMemory>
     ensures { IfOk result (λ found. need_of found ≡ beside (need_of first) (need_of second)) }
 {
     match first {
@@ -96,8 +93,9 @@ pub(crate) fn both<A: Drop, B: Drop>(
     }
 }
 
-/// A look-up beside others, whose values stand in their order.
-pub(crate) fn beside_others<T: Drop>(
+/// A look-up beside others: its value stands before theirs. The time is that of its own wants. `NoMemory` comes where
+/// memory is refused.
+pub fn beside_others<T: Drop>(
     first: Need<T>,
     others: Need<VecDeque<T>>,
 ) -> Result<Need<VecDeque<T>>, NoMemory>
@@ -115,8 +113,8 @@ pub(crate) fn beside_others<T: Drop>(
     }
 }
 
-/// Values as a list.
-pub(crate) fn listed<T: Drop>(found: Need<VecDeque<T>>) -> Need<List<T>>
+/// Values as a list, in their order.
+pub fn listed<T: Drop>(found: Need<VecDeque<T>>) -> Need<List<T>>
     ensures { need_of result ≡ need_with (λ values. values.items) found }
 {
     match found {

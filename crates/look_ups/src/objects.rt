@@ -63,13 +63,10 @@ fn known_signature(classes: &Classes, class: ClassId) -> Option<&[u8]>
     Some(classes.class(class)?.signature?.as_slice())
 }
 
-/// The class of an object (JDWP, ObjectReference command set, ReferenceType).
+/// The class of the object of an id, by what was replied. `NoMemory` comes where memory is refused (JDWP,
+/// ObjectReference command set, ReferenceType).
 #[tactic(auto, unfolding(machine_model::specs::Plans::need))]
-pub(crate) fn class_need(
-    alloc: Global,
-    sight: Sight<'_>,
-    id: u64,
-) -> Result<Need<ClassId>, NoMemory>
+pub fn class_need(alloc: Global, sight: Sight<'_>, id: u64) -> Result<Need<ClassId>, NoMemory>
     ensures { IfOk result (λ found. need_of found ≡ need (seen_by sight.entry) (class_plan id)) }
 {
     match must_hear(alloc, sight.asked, Question::ObjectType(ObjectId(id)))? {
@@ -79,9 +76,10 @@ pub(crate) fn class_need(
     }
 }
 
-/// The length of an array (JDWP, ArrayReference command set, Length).
+/// How many elements the array of an id has, by what was replied. `NoMemory` comes where memory is refused (JDWP,
+/// ArrayReference command set, Length).
 #[tactic(auto, unfolding(machine_model::specs::Plans::need))]
-pub(crate) fn length_need(alloc: Global, sight: Sight<'_>, id: u64) -> Result<Need<u32>, NoMemory>
+pub fn length_need(alloc: Global, sight: Sight<'_>, id: u64) -> Result<Need<u32>, NoMemory>
     ensures { IfOk result (λ found. need_of found ≡ need (seen_by sight.entry) (length_plan id)) }
 {
     match must_hear(alloc, sight.asked, Question::ArrayLength(ObjectId(id)))? {
@@ -103,9 +101,10 @@ pub(crate) fn text_need(alloc: Global, sight: Sight<'_>, id: u64) -> Result<Need
     }
 }
 
-/// The signature of a class (JDWP, ReferenceType command set, Signature).
+/// The signature of a class as the target's bytes, by what was learnt and replied. `NoMemory` comes where memory is
+/// refused (JDWP, ReferenceType command set, Signature).
 #[tactic(auto, unfolding(machine_model::specs::Plans::need))]
-pub(crate) fn signature_need(
+pub fn signature_need(
     alloc: Global,
     sight: Sight<'_>,
     class: ClassId,

@@ -1,39 +1,11 @@
-//! Children of a container, and where their values stand.
+//! What is said of the place that a value stands in.
 
-use jdwp_commands::Slot;
-use jdwp_values::{FieldId, Value};
-use std::marker::Model;
-use wire_core::{Blob, Text};
+use wire_core::Blob;
 
-/// The signature of a value's place: it is known, or that of the elements of an array.
+/// The signature of a value's place: it is known, as the target's bytes; or it is that of the elements of the array
+/// of an id (Java Virtual Machine Specification, The class File Format, Field Descriptors).
 #[derive(Debug, Drop)]
-pub(crate) enum Declared {
+pub enum Declared {
     Signature(Blob),
     ElementOf(u64),
-}
-
-/// Where a child's value stands: it is known; or in a slot, in a field or at an index.
-#[derive(Clone, Copy, Debug)]
-pub(crate) enum Place {
-    Known(Value),
-    Slot(Slot),
-    Field(FieldId),
-    Index(u32),
-}
-
-/// A child of a container, before its value is known. Contracts see it as the definitions do.
-#[derive(Debug, Drop)]
-pub(crate) struct Child {
-    pub(crate) name: Text,
-    pub(crate) declared: Declared,
-    pub(crate) place: Place,
-}
-
-impl Model for Child {
-    ghost use Rattle.machine_model.specs.Children as children;
-    ghost use Rattle.look_ups.specs.Shown.{declared_of, place_of};
-
-    ghost Value = { children.Child };
-
-    ghost view = { λ c. record { name = c.name; declared = declared_of c.declared; place = place_of c.place } };
 }

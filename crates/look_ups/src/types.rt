@@ -13,12 +13,9 @@ use std::alloc::Global;
 use value_views::class_name;
 use wire_core::{Blob, NoMemory, Text};
 
-/// The name of a type, where types are shown.
-pub(crate) fn type_if(
-    alloc: Global,
-    types: bool,
-    signature: &[u8],
-) -> Result<Option<Text>, NoMemory>
+/// The name of the type that a signature says, where types are shown. `NoMemory` comes where memory is refused (DAP
+/// specification, Types, Variable, type).
+pub fn type_if(alloc: Global, types: bool, signature: &[u8]) -> Result<Option<Text>, NoMemory>
     ensures { IfOk result (λ kind. kind ≡ type_if types signature.now) }
 {
     if types {
@@ -81,9 +78,10 @@ fn element_need(alloc: Global, sight: Sight<'_>, id: u64) -> Result<Need<Blob>, 
     }
 }
 
-/// The signature of a place.
+/// The signature of a place as the target's bytes, by what was learnt and replied; an element's is empty where its
+/// array is null, or has no array's. `NoMemory` comes where memory is refused.
 #[tactic(auto, unfolding(machine_model::specs::Plans::need))]
-pub(crate) fn declared_need(
+pub fn declared_need(
     alloc: Global,
     sight: Sight<'_>,
     declared: &Declared,

@@ -21,8 +21,8 @@ use stop_refs::Thing;
 use value_views::{Known, value_text};
 use wire_core::{Blob, NoMemory, Text};
 
-/// A value with no children.
-pub(crate) fn childless(text: Text, kind: Option<Text>) -> Seen
+/// A value with this text and type that has no children (DAP specification, Types, Variable).
+pub fn childless(text: Text, kind: Option<Text>) -> Seen
     ensures { result ≡ childless text kind }
 {
     Seen {
@@ -225,9 +225,11 @@ fn string_or_null(
     }
 }
 
-/// A value as it is shown; nothing is asked of null.
+/// A value as it is shown, by what was learnt and replied: its text, its type where `types` holds, and its children.
+/// Nothing is asked of null but the type of its place. `NoMemory` comes where memory is refused (DAP specification,
+/// Types, Variable).
 #[tactic(auto, unfolding(machine_model::specs::Plans::need))]
-pub(crate) fn seen_need(
+pub fn seen_need(
     alloc: Global,
     sight: Sight<'_>,
     types: bool,

@@ -45,9 +45,10 @@ fn values_heard<'a>(
     }
 }
 
-/// Values of slots; where none is shown nothing is asked.
+/// The values of slots of a frame in their order, by what was replied; of no slots nothing is asked. `NoMemory` comes
+/// where memory is refused (JDWP, StackFrame command set, GetValues).
 #[tactic(auto, unfolding(machine_model::specs::Plans::need))]
-pub(crate) fn slots_heard<'a>(
+pub fn slots_heard<'a>(
     alloc: Global,
     sight: Sight<'a>,
     frame: FrameThing,
@@ -70,9 +71,10 @@ pub(crate) fn slots_heard<'a>(
     )
 }
 
-/// Values of fields; where none is shown nothing is asked.
+/// The values of fields of the object of an id in their order, by what was replied; of no fields nothing is asked.
+/// `NoMemory` comes where memory is refused (JDWP, ObjectReference command set, GetValues).
 #[tactic(auto, unfolding(machine_model::specs::Plans::need))]
-pub(crate) fn fields_heard<'a>(
+pub fn fields_heard<'a>(
     alloc: Global,
     sight: Sight<'a>,
     object: u64,
@@ -94,8 +96,8 @@ pub(crate) fn fields_heard<'a>(
     )
 }
 
-/// A number as an int; one of 2^31 or more is none, and no target tells or takes it.
-pub(crate) fn as_int(number: u32) -> Result<i32, NoMemory>
+/// A number as an int. `NoMemory` comes for one of 2^31 or more: it is none, and no target tells or takes it.
+pub fn as_int(number: u32) -> Result<i32, NoMemory>
     ensures { IfOk result (λ int. int ≡ pos number) }
 {
     if number > LAST_INT {
@@ -104,9 +106,11 @@ pub(crate) fn as_int(number: u32) -> Result<i32, NoMemory>
     Ok(number as i32)
 }
 
-/// Values of elements from a place on; where none is shown nothing is asked.
+/// The values of so many elements of the array of an id, from an index on, by what was replied; of no elements
+/// nothing is asked. `NoMemory` comes where memory is refused, and for a number of 2^31 or more (JDWP, ArrayReference
+/// command set, GetValues).
 #[tactic(auto, unfolding(machine_model::specs::Plans::need))]
-pub(crate) fn elements_heard<'a>(
+pub fn elements_heard<'a>(
     alloc: Global,
     sight: Sight<'a>,
     array: u64,

@@ -1,7 +1,8 @@
 //! What the look-ups of `evaluate` and `setVariable` come to by what was replied so far.
 ghost use Rattle.std.specs.Prelude.{◌≡◌, IfOk};
 ghost use Rattle.look_ups.specs.Needs.{need_with as found_with};
-ghost use Rattle.look_ups.specs.Shown.{value_said, write_said};
+ghost use Rattle.child_pages.specs.Shown.{write_said};
+ghost use Rattle.expression_values.specs.Shown.{value_said};
 ghost use Rattle.machine_model.specs.Expressions.{value_plan};
 ghost use Rattle.machine_model.specs.Plans.{need};
 ghost use Rattle.machine_model.specs.Writing.{object_size, write_plan};
@@ -47,7 +48,7 @@ pub(crate) fn value_need(
         asked,
     };
     let types = state.options.shows_types;
-    Ok(value_found(look_ups::value_need(alloc, sight, types, frame, expression)?))
+    Ok(value_found(expression_values::value_need(alloc, sight, types, frame, expression)?))
 }
 
 fn write_found(found: look_ups::Need<Result<(Write, Seen), Failure>>) -> Need
@@ -89,5 +90,5 @@ pub(crate) fn write_need(
     };
     let types = state.options.shows_types;
     let size = object_size(state);
-    Ok(write_found(look_ups::write_need(alloc, sight, types, size, thing, name, text)?))
+    Ok(write_found(child_pages::write_need(alloc, sight, types, size, thing, name, text)?))
 }

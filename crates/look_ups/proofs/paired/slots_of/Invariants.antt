@@ -1,6 +1,0 @@
-use Rattle.std.proofs.Common.{◌≡◌, ◌++◌, drop}
-use Rattle.machine_model.specs.Variables.{slots_of}
-use Rattle.look_ups.proofs.paired.slots_of.Given as goal
-
-abbrev pub invariant-loop-child : goal.invariant-loop-child
-invariant-loop-child l = l.slots ++ slots_of (drop l.child-index l.children) ≡ slots_of l.children

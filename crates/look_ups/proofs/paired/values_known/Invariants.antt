@@ -1,6 +1,0 @@
-use Rattle.std.proofs.Common.{◌≡◌, ◌++◌, drop}
-use Rattle.machine_model.specs.Variables.{values_known}
-use Rattle.look_ups.proofs.paired.values_known.Given as goal
-
-abbrev pub invariant-loop-child : goal.invariant-loop-child
-invariant-loop-child l = l.values ++ values_known (drop l.child-index l.children) ≡ values_known l.children
