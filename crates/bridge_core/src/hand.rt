@@ -15,7 +15,8 @@ use jdwp_commands::{Question, Replied};
 use machine_model::TargetCommand;
 use std::alloc::Global;
 use std::collections::VecDeque;
-use talk_plans::{Next, State, Talk};
+use talk_plans::{Next, Talk};
+use talk_state::State;
 use wire_core::NoMemory;
 
 /// The item in hand is given up; its commands without a reply stand behind those that were left so.

@@ -27,7 +27,8 @@ use session_model::Ending;
 use std::alloc::Global;
 use std::collections::VecDeque;
 use std::marker::Model;
-use talk_plans::{Next, State, Talk};
+use talk_plans::{Next, Talk};
+use talk_state::State;
 use wire_core::NoMemory;
 
 /// The translation machine, which has to be spent by `finish`. Contracts see it as the machine's own state.

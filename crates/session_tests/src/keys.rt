@@ -1,7 +1,7 @@
 use session_model::Limits;
 use std::alloc::Global;
 use std::test::Fail;
-use talk_plans::key_of;
+use talk_state::key_of;
 use wire_core::{List, NoMemory, Text};
 
 // The key of a source, with one folder of sources.

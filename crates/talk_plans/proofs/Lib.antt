@@ -1,9 +1,3 @@
-pub mod AskingLaws
-pub mod ClassLaws
 pub mod DueLaws
-pub mod FrameLaws
-pub mod PlanLaws
 pub mod ReplyLaws
-pub mod StopLaws
 pub mod TalkLaws
-pub mod TakenLaws

@@ -7,16 +7,8 @@ use Rattle.machine_model.specs.Asking.{was_asked}
 use Rattle.machine_model.specs.Due.{Due, Load, clear, due_as, due_by, gated, hand_due, hand_load, lets}
 use Rattle.machine_model.specs.Due.{part_due}
 use Rattle.machine_model.specs.declared.acts.Act.{Act}
-use Rattle.machine_model.specs.declared.parts.Finish.TheVariants.{Done}
-use Rattle.machine_model.specs.declared.parts.Guard.TheVariants.{Handshake}
-use Rattle.machine_model.specs.declared.parts.Guard.TheVariants.{IdSizes}
-use Rattle.machine_model.specs.declared.parts.Event.TheVariants.{Initialized}
-use Rattle.machine_model.specs.declared.parts.Choice.TheVariants.{Leaves}
-use Rattle.machine_model.specs.declared.parts.Body.TheVariants.{Nothing}
 use Rattle.machine_model.specs.declared.parts.Part.{Part}
-use Rattle.machine_model.specs.declared.parts.Note.TheVariants.{Roots}
 use Rattle.machine_model.specs.declared.acts.Sent.{Sent}
-use Rattle.machine_model.specs.declared.parts.Outcome.TheVariants.{Success}
 use Rattle.machine_model.specs.Keys.{same_question}
 use Rattle.machine_model.specs.Replying.{is_waiting, sizes_in}
 use Rattle.machine_model.specs.State.{Hand, Machine, SizesRead, State, is_gone, is_some}
@@ -96,12 +88,3 @@ pub record StaysSized (state : State) (hand : Hand) (later : State) (left : Hand
 -- a reply to the question of the sizes says them
 abbrev pub SaysSizes : Question → Replied → Type 0
 SaysSizes question replied = same_question question questions.IdSizes ≡ true → is_some (sizes_in replied) ≡ true
-
--- what attaches to a target, and what leaves it
-abbrev pub attach_parts : List (List ℕ) → List Part
-attach_parts roots =
-    Part.Notes (Roots roots) ∷ Part.Awaits Handshake ∷ Part.Awaits IdSizes ∷ Part.Updates
-    ∷ Part.Responds (Success Nothing) ∷ Part.Tells Initialized ∷ []
-
-abbrev pub disconnect_parts : Bool → List Part
-disconnect_parts exits = Part.Unfolds (Leaves exits) ∷ Part.Responds (Success Nothing) ∷ Part.Ends Done ∷ []

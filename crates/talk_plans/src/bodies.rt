@@ -6,10 +6,6 @@ ghost use Rattle.machine_model.specs.Telling.{reason_told, response_to, thread_t
 ghost use Rattle.machine_model.specs.declared.parts.Body.TheVariants.{StackFrames};
 ghost use Rattle.machine_model.specs.declared.parts.Event.TheVariants.{Stopped as a_stop};
 
-use crate::breakpoints::breakpoint_told;
-use crate::hits::has_line;
-use crate::news::news_told;
-use crate::state::State;
 use dap_messages::{
     Breakpoint, Event as EventTold, Outcome as OutcomeTold, Request, Response, Shape, StopReason,
     Stopped, Thread, Told,
@@ -22,6 +18,9 @@ use session_facts::{
     BoundIds, ThreadNumbers, frames_told, scope_told, value_told, variables_told, written_told,
 };
 use std::alloc::Global;
+use talk_events::{has_line, news_told};
+use talk_rows::breakpoint_told;
+use talk_state::State;
 use wire_core::{List, NoMemory, Text};
 use wish_sets::{EntryAt, Wishes};
 

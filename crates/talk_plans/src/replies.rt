@@ -11,9 +11,6 @@ ghost use Rattle.talk_plans.specs.Replies.{IsInFlight, alone, doing_replied, sta
 ghost use Rattle.talk_plans.specs.Talking.{AreSized, SaysSizes};
 ghost use Rattle.session_facts.specs.Effects.{IsNext};
 
-use crate::asking::Asking;
-use crate::rows::{gone_parts, has_response};
-use crate::state::State;
 use crate::talk::Talk;
 use dap_messages::Request;
 use jdwp_commands::{Question, Replied};
@@ -21,6 +18,9 @@ use machine_model::{Deed, Doing, Effect, Item, TargetCommand};
 use session_facts::effect_copy;
 use std::alloc::Global;
 use std::collections::VecDeque;
+use talk_look_ups::Asking;
+use talk_rows::{gone_parts, has_response};
+use talk_state::State;
 use wire_core::NoMemory;
 
 impl Talk {

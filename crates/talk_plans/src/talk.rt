@@ -5,18 +5,15 @@ ghost use Rattle.machine_model.specs.Plans.{lacking};
 ghost use Rattle.machine_model.specs.Rows.{parts_of, taken};
 ghost use Rattle.machine_model.specs.State.{Machine, State as AState, in_hand};
 ghost use Rattle.talk_plans.specs.Talking.{AreSized, StaysSized, asks, does, goes_on, holding, step_of, talk_due};
-ghost use Rattle.talk_plans.specs.Planning.{need_of};
+ghost use Rattle.talk_look_ups.specs.Planning.{need_of};
 ghost use Rattle.machine_model.specs.declared.parts.Part.TheVariants as parts;
 ghost use Rattle.machine_model.specs.declared.parts.Guard.TheVariants.{Handshake as handshake, IdSizes as id_sizes};
 ghost use Rattle.talk_plans.specs.declared.next.Next.{Next as ANext};
 
-use crate::asking::Asking;
 use crate::bodies::{event_told, outcome_told, response_to};
-use crate::found::{found_parts, refused_parts};
+use crate::choices::chosen;
 use crate::next::Next;
-use crate::plans::{Need, found_for};
-use crate::rows::{chosen, parts_of};
-use crate::state::State;
+use crate::plans::found_for;
 use dap_messages::Told;
 use jdwp_commands::Question;
 use machine_model::{Deed, Doing, Effect, Guard, Item, Lookup, Outcome, Part, Want};
@@ -24,6 +21,9 @@ use session_facts::{effect_copy, effect_due};
 use std::alloc::Global;
 use std::collections::VecDeque;
 use std::marker::Model;
+use talk_look_ups::{Asking, Need};
+use talk_rows::{found_parts, parts_of, refused_parts};
+use talk_state::State;
 use wire_core::NoMemory;
 
 /// The talk about the item in hand: what is left of it to do, what is to be asked for it and what was, and the last

@@ -6,16 +6,16 @@ ghost use Rattle.expression_values.specs.Shown.{value_said};
 ghost use Rattle.machine_model.specs.Expressions.{value_plan};
 ghost use Rattle.machine_model.specs.Plans.{need};
 ghost use Rattle.machine_model.specs.Writing.{object_size, write_plan};
-ghost use Rattle.talk_plans.specs.Planning.{need_of, sight_in};
+ghost use Rattle.talk_look_ups.specs.Planning.{need_of, sight_in};
 
-use crate::plans::Need;
-use crate::state::State;
 use dap_messages::Failure;
 use field_exprs::Expr;
 use look_ups::{Asked, Sight};
 use machine_model::{Finding, Seen, Write};
 use std::alloc::Global;
 use stop_refs::{FrameThing, Thing};
+use talk_look_ups::Need;
+use talk_state::State;
 use wire_core::{NoMemory, Text};
 
 // So many bytes does an object's id take where the target didn't say it.

@@ -1,0 +1,10 @@
+//! Which events an item brings: stops, and news of breakpoints and threads.
+#![tactic(auto)]
+
+mod hits;
+mod news;
+mod stops;
+
+pub use hits::has_line;
+pub use news::{news_told, told_news};
+pub use stops::decided;

@@ -1,0 +1,4 @@
+pub mod AskingLaws
+pub mod ClassLaws
+pub mod FrameLaws
+pub mod PlanLaws

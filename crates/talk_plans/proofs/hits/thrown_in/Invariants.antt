@@ -1,8 +1,0 @@
-use Rattle.std.proofs.Common.{◌≡◌, ◌++◌, drop}
-use Rattle.std.specs.List.{flat_map}
-use Rattle.machine_model.specs.Stops.{thrown_by}
-use Rattle.talk_plans.proofs.hits.thrown_in.Given as goal
-
-abbrev pub invariant-loop-event : goal.invariant-loop-event
-invariant-loop-event l =
-    l.thrown ++ flat_map (thrown_by l.wishes) (drop l.event-index l.events) ≡ flat_map (thrown_by l.wishes) l.events

@@ -1,0 +1,116 @@
+//! What an item writes down.
+ghost use Rattle.std.specs.Prelude.{◌≡◌, ◌++◌, OnOk};
+ghost use Rattle.machine_model.specs.Rows.{noted};
+ghost use Rattle.machine_model.specs.declared.parts.Note.TheVariants.{Functions, Lines};
+ghost use Rattle.wish_sets.specs.Wanted.{with_step};
+ghost use Rattle.wish_sets.specs.Wishes.{rewished};
+
+use crate::state::State;
+use machine_model::{Note, Thrown};
+use std::alloc::Global;
+use wire_core::{List, NoMemory, Text};
+use wish_sets::{FunctionEntry, LineEntry, StepWish, Wishes};
+
+impl State {
+    /// Something is written down: what the client asked for, what breakpoints are bound by, or where the session stands
+    /// with the target's entry. `NoMemory` comes where memory is refused, or where the ids of breakpoints have no room.
+    pub fn note(&mut self, alloc: Global, note: Note) -> Result<(), NoMemory>
+        ensures { OnOk result (self.new ≡ noted note self.old) }
+    {
+        match note {
+            Note::Options(options) => {
+                self.options = options;
+                Ok(())
+            }
+            Note::Roots(roots) => {
+                self.roots = roots;
+                Ok(())
+            }
+            Note::Lines { key, path, entries } => self.list_lines(alloc, key, path, entries),
+            Note::Functions(entries) => self.list_functions(alloc, entries),
+            Note::Exceptions { caught, uncaught } => {
+                self.left = None;
+                self.wishes.set_exceptions(caught, uncaught);
+                Ok(())
+            }
+            Note::Step(step) => {
+                self.left = None;
+                want_step(&mut self.wishes, step);
+                Ok(())
+            }
+            Note::Thrown(thrown) => add_thrown(&mut self.thrown, thrown.as_slice()),
+            Note::Classes(those) => {
+                self.left = None;
+                self.wishes
+                    .classes_known(alloc, &self.classes, those.as_slice())
+            }
+            Note::EntryHeld => {
+                self.entry = true;
+                Ok(())
+            }
+            Note::Configured => {
+                self.configured = true;
+                Ok(())
+            }
+        }
+    }
+
+    // The breakpoints of a source are listed under a path, each under an id of its own; without a key none is kept.
+    fn list_lines(
+        &mut self,
+        alloc: Global,
+        key: Option<Text>,
+        path: Text,
+        entries: List<LineEntry>,
+    ) -> Result<(), NoMemory>
+        ensures { OnOk result (self.new ≡ noted (Lines key path entries) self.old) }
+    {
+        let Some(next) = self.next_entry.checked_add(entries.len() as u64) else {
+            return Err(NoMemory);
+        };
+        if let Some(key) = key {
+            self.left = None;
+            self.paths.put(alloc, &key, path)?;
+            self.wishes.set_lines(alloc, key, entries)?;
+        }
+        self.next_entry = next;
+        Ok(())
+    }
+
+    // The functions to stop in are listed, each under an id of its own.
+    fn list_functions(
+        &mut self,
+        alloc: Global,
+        entries: List<FunctionEntry>,
+    ) -> Result<(), NoMemory>
+        ensures { OnOk result (self.new ≡ noted (Functions entries) self.old) }
+    {
+        let Some(next) = self.next_entry.checked_add(entries.len() as u64) else {
+            return Err(NoMemory);
+        };
+        self.left = None;
+        self.wishes.set_functions(alloc, entries)?;
+        self.next_entry = next;
+        Ok(())
+    }
+}
+
+// A step is in flight, or none is (DAP specification, Next, StepIn and StepOut requests).
+fn want_step(wishes: &mut Wishes, step: Option<StepWish>)
+    ensures { wishes.new ≡ rewished (with_step step wishes.old.wanted) wishes.old }
+{
+    match step {
+        None => wishes.clear_step(),
+        Some(step) => wishes.set_step(step.thread, step.depth),
+    }
+}
+
+// What was thrown is written down, behind what was before (DAP specification, ExceptionInfo request).
+fn add_thrown(thrown: &mut List<Thrown>, more: &[Thrown]) -> Result<(), NoMemory>
+    ensures { OnOk result (thrown.new ≡ thrown.old ++ more.now) }
+{
+    for one in more {
+        thrown.push(*one)?;
+    }
+    Ok(())
+}
