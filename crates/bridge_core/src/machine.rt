@@ -32,7 +32,6 @@ use talk_state::State;
 use wire_core::NoMemory;
 
 /// The translation machine, which has to be spent by `finish`. Contracts see it as the machine's own state.
-#[derive(Debug)]
 pub(crate) struct Machine {
     pub(crate) state: State,
     pub(crate) waiting: VecDeque<Item>,

@@ -15,7 +15,7 @@ use std::marker::Model;
 use wire_core::{Blob, NoMemory, Side};
 
 /// A message that has to go out: the side that gets it, and its bytes.
-#[derive(Debug, Drop)]
+#[derive(Drop)]
 pub struct Out {
     pub side: Side,
     pub bytes: Blob,

@@ -18,14 +18,14 @@ use wire_core::NoMemory;
 
 /// What is said after an ending: something is told to the client, or the target is left to run on (JDWP, VirtualMachine
 /// command set, Dispose).
-#[derive(Debug, Drop)]
+#[derive(Drop)]
 pub(crate) enum Word {
     Tells(Told),
     Disposes,
 }
 
 /// The last words that are left to say, in order. Contracts see them as the definitions have them.
-#[derive(Debug, Drop)]
+#[derive(Drop)]
 pub(crate) struct Words {
     left: VecDeque<Word>,
 }

@@ -7,7 +7,7 @@ use std::marker::Model;
 use wire_core::Text;
 
 /// Where a child's value stands: it is known; or in a slot, in a field or at an index.
-#[derive(Clone, Copy, Debug)]
+#[derive(Clone, Copy)]
 pub(crate) enum Place {
     Known(Value),
     Slot(Slot),
@@ -16,7 +16,7 @@ pub(crate) enum Place {
 }
 
 /// A child of a container, before its value is known. Contracts see it as the definitions do.
-#[derive(Debug, Drop)]
+#[derive(Drop)]
 pub(crate) struct Child {
     pub(crate) name: Text,
     pub(crate) declared: Declared,

@@ -17,7 +17,7 @@ use std::marker::Model;
 use wire_core::{NoMemory, Text};
 
 /// A class with its fields.
-#[derive(Debug, Drop)]
+#[derive(Drop)]
 pub(crate) struct ClassFields<'a> {
     pub(crate) class: ClassId,
     pub(crate) fields: &'a [Field],
@@ -33,7 +33,7 @@ impl<'a> Model for ClassFields<'a> {
 }
 
 /// A field, its class, and whether its name was met before.
-#[derive(Debug, Drop)]
+#[derive(Drop)]
 pub(crate) struct FieldOf<'a> {
     pub(crate) class: ClassId,
     pub(crate) is_met: bool,
@@ -49,7 +49,7 @@ impl<'a> Model for FieldOf<'a> {
 }
 
 // A field's name as it is shown. Contracts see its bytes.
-#[derive(Debug, Drop)]
+#[derive(Drop)]
 struct Name {
     text: Text,
 }

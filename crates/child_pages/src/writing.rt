@@ -23,7 +23,7 @@ use wire_core::{NoMemory, Text};
 pub(crate) type Written = Result<(Write, Seen), Failure>;
 
 /// How a value is to be written: whether its type is shown, how many bytes an object's id takes, and its text.
-#[derive(Clone, Copy, Debug)]
+#[derive(Clone, Copy)]
 pub(crate) struct Writing<'a> {
     pub(crate) types: bool,
     pub(crate) size: u32,

@@ -13,7 +13,7 @@ use wire_core::{List, NoMemory, Text};
 const MAX_INT: u64 = (1 << 31) - 1;
 
 /// An argument that can break its rule, or the member that holds them all.
-#[derive(Clone, Copy, Debug, Drop, PartialEq, Eq)]
+#[derive(Clone, Copy, Drop, PartialEq, Eq)]
 pub(crate) enum Argument {
     Arguments,
     AdapterId,
@@ -71,7 +71,7 @@ impl Argument {
 }
 
 /// Why arguments were not read.
-#[derive(Clone, Copy, Debug, Drop, PartialEq, Eq)]
+#[derive(Clone, Copy, Drop, PartialEq, Eq)]
 pub(crate) enum Refused {
     NoMemory,
     Broken(Argument),

@@ -22,7 +22,7 @@ use std::alloc::Global;
 use wire_core::{NoMemory, Text};
 
 /// The row of a command's name, before its arguments are looked at.
-#[derive(Clone, Copy, Debug, Drop, PartialEq, Eq)]
+#[derive(Clone, Copy, Drop)]
 pub(crate) enum Row {
     Initialize,
     Attach,
@@ -90,7 +90,7 @@ pub(crate) fn command_of(alloc: Global, name: &str, request: &Value) -> Result<C
 fn row_command(alloc: Global, row: Row, request: &Value) -> Result<Command, Refused>
     ensures { IsRead result (row_command row (view request.now)) }
 {
-    if row == Row::Unsupported {
+    if matches!(row, Row::Unsupported) {
         return Ok(Command::Unsupported);
     }
     let missing = Value::Null;

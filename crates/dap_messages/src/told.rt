@@ -1,7 +1,7 @@
 use wire_core::{List, Text};
 
 /// A message that the adapter tells its client. (DAP specification, Base Protocol, ProtocolMessage)
-#[derive(Debug, Drop)]
+#[derive(Drop)]
 pub enum Told {
     Response(Response),
     Event(Event),
@@ -9,7 +9,7 @@ pub enum Told {
 
 /// The response to a request: the request's sequence number and command, and what came of it.
 /// (DAP specification, Base Protocol, Response)
-#[derive(Debug, Drop)]
+#[derive(Drop)]
 pub struct Response {
     pub request_seq: u64,
     pub command: Text,
@@ -17,14 +17,14 @@ pub struct Response {
 }
 
 /// What came of a request: a body, or a failure. (DAP specification, Base Protocol, Response and ErrorResponse)
-#[derive(Debug, Drop)]
+#[derive(Drop)]
 pub enum Outcome {
     Success(Shape),
     Failure(Failure),
 }
 
 /// The body of a response that succeeds, a variant for each form of body.
-#[derive(Debug, Drop)]
+#[derive(Drop)]
 pub enum Shape {
     /// No body.
     Nothing,
@@ -61,7 +61,7 @@ pub enum Shape {
 }
 
 /// When a thread stops at an exception. (DAP specification, Types, ExceptionBreakMode)
-#[derive(Clone, Copy, Debug, Drop, PartialEq, Eq)]
+#[derive(Clone, Copy, Drop, PartialEq, Eq)]
 pub enum BreakMode {
     Always,
     /// Nothing catches it.
@@ -69,14 +69,14 @@ pub enum BreakMode {
 }
 
 /// A thread of the target: the number that the client knows it by, and its name. (DAP specification, Types, Thread)
-#[derive(Debug, Drop)]
+#[derive(Drop)]
 pub struct Thread {
     pub id: u64,
     pub name: Text,
 }
 
 /// A source: its name and its path. (DAP specification, Types, Source)
-#[derive(Debug, Drop)]
+#[derive(Drop)]
 pub struct Source {
     pub name: Text,
     pub path: Text,
@@ -84,7 +84,7 @@ pub struct Source {
 
 /// A frame of a thread's stack: the number that the client knows it by, its name, its line and column in the client's
 /// counting, and its source, where one is known. (DAP specification, Types, StackFrame)
-#[derive(Debug, Drop)]
+#[derive(Drop)]
 pub struct StackFrame {
     pub id: u32,
     pub name: Text,
@@ -96,7 +96,7 @@ pub struct StackFrame {
 /// A variable: its name, its value in words, its type in words where that is shown, how many children with an index it
 /// has where it has such ones, and the reference of its children, which is 0 where it has none.
 /// (DAP specification, Types, Variable)
-#[derive(Debug, Drop)]
+#[derive(Drop)]
 pub struct Variable {
     pub name: Text,
     pub value: Text,
@@ -107,7 +107,7 @@ pub struct Variable {
 
 /// What a variable was set to: its new value in words, and its type in words where that is shown. It has no children.
 /// (DAP specification, SetVariable request, `value` and `type`)
-#[derive(Debug, Drop)]
+#[derive(Drop)]
 pub struct Written {
     pub value: Text,
     pub kind: Option<Text>,
@@ -116,7 +116,7 @@ pub struct Written {
 /// What an expression stands for: its value in words, its type in words where that is shown, how many children with an
 /// index it has where it has such ones, and the reference of its children, which is 0 where it has none.
 /// (DAP specification, Evaluate request, `result`, `type`, `indexedVariables` and `variablesReference`)
-#[derive(Debug, Drop)]
+#[derive(Drop)]
 pub struct Evaluated {
     pub result: Text,
     pub kind: Option<Text>,
@@ -126,7 +126,7 @@ pub struct Evaluated {
 
 /// A breakpoint: the number that the client knows it by, its line in the client's counting where it is one of a source, and
 /// how it stands. (DAP specification, Types, Breakpoint)
-#[derive(Clone, Copy, Debug, Drop, PartialEq, Eq)]
+#[derive(Clone, Copy, Drop, PartialEq, Eq)]
 pub struct Breakpoint {
     pub id: u64,
     pub line: Option<u32>,
@@ -135,7 +135,7 @@ pub struct Breakpoint {
 
 /// How a breakpoint stands: the target stops at it, or why it doesn't.
 /// (DAP specification, Types, Breakpoint, `verified` and `message`)
-#[derive(Clone, Copy, Debug, Drop, PartialEq, Eq)]
+#[derive(Clone, Copy, Drop, PartialEq, Eq)]
 pub enum BreakpointStatus {
     /// The target stops there.
     Verified,
@@ -151,14 +151,14 @@ pub enum BreakpointStatus {
 
 /// Why a request failed: its code, which decides the message, and what the message is followed by. A code that none of
 /// the functions below gives has an empty message. (DAP specification, Types, Message)
-#[derive(Debug, Drop)]
+#[derive(Drop)]
 pub struct Failure {
     pub code: u8,
     pub detail: Detail,
 }
 
 /// What follows the message of a failure, behind a space: nothing, a number in decimal, or a name.
-#[derive(Debug, Drop)]
+#[derive(Drop)]
 pub enum Detail {
     Plain,
     Number(u64),
@@ -167,7 +167,7 @@ pub enum Detail {
 
 /// The start or the end of a thread: whether it started, and the number that the client knows it by. (DAP specification,
 /// Events, Thread, `reason` and `threadId`)
-#[derive(Clone, Copy, Debug, Drop, PartialEq, Eq)]
+#[derive(Clone, Copy, Drop, PartialEq, Eq)]
 pub struct ThreadChange {
     pub started: bool,
     pub id: u64,
@@ -175,14 +175,14 @@ pub struct ThreadChange {
 
 /// The target stands still: why, and the number of the thread that the reason speaks of.
 /// (DAP specification, Events, Stopped)
-#[derive(Debug, Drop)]
+#[derive(Drop)]
 pub struct Stopped {
     pub reason: StopReason,
     pub thread: u64,
 }
 
 /// Why the target stands still. (DAP specification, Events, Stopped, `reason`, `hitBreakpointIds` and `text`)
-#[derive(Debug, Drop)]
+#[derive(Drop)]
 pub enum StopReason {
     /// A breakpoint of a source was hit; these breakpoints stand there, by their ids.
     Breakpoint(List<u64>),
@@ -197,7 +197,7 @@ pub enum StopReason {
 }
 
 /// An event that the adapter tells without being asked. (DAP specification, Base Protocol, Event)
-#[derive(Debug, Drop)]
+#[derive(Drop)]
 pub enum Event {
     /// The adapter takes breakpoints now. (DAP specification, Events, Initialized)
     Initialized,

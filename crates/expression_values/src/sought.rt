@@ -11,7 +11,7 @@ use look_ups::{Declared, Need};
 use std::marker::Model;
 
 /// A value, and the signature of the place that it stands in. Contracts see it as the definitions do.
-#[derive(Debug, Drop)]
+#[derive(Drop)]
 pub(crate) struct Valued {
     pub(crate) value: Value,
     pub(crate) declared: Declared,

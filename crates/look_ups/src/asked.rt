@@ -20,7 +20,7 @@ use wire_core::NoMemory;
 
 /// Why a question was asked: nothing can stand in for its answer; an error is no answer; or it asks for a fact of a
 /// class.
-#[derive(Clone, Copy, Debug, PartialEq, Eq)]
+#[derive(Clone, Copy, PartialEq, Eq)]
 pub enum Reason {
     Must,
     May,
@@ -28,14 +28,14 @@ pub enum Reason {
 }
 
 /// Why a question was asked, and its reply once that is there.
-#[derive(Debug, Drop)]
+#[derive(Drop)]
 struct Tried {
     reason: Reason,
     reply: Option<Replied>,
 }
 
 /// What was asked for the item in hand, in order of sending. Contracts see the wants with their replies.
-#[derive(Debug, Drop)]
+#[derive(Drop)]
 pub struct Asked {
     entries: IndexMap<QuestionKey, Tried>,
 }

@@ -8,7 +8,7 @@ use std::marker::Model;
 use wire_core::NoMemory;
 
 /// The ids of the classes that were met, each once, in their order. Contracts see that list.
-#[derive(Debug, Drop)]
+#[derive(Drop)]
 pub struct MetClasses {
     classes: IndexSet<u64>,
 }

@@ -9,7 +9,7 @@ use wire_core::{List, NoMemory};
 
 /// What a look-up comes to: it has found something; the target refused what it can't do without, by the reply at this
 /// place in the order of sending; or it lacks the answers to these.
-#[derive(Debug, Drop)]
+#[derive(Drop)]
 pub enum Need<T> {
     Has(T),
     Fails { place: usize, code: u16 },

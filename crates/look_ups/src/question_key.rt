@@ -14,7 +14,7 @@ use std::marker::Model;
 use wire_core::{List, NoMemory};
 
 /// A question with its key, by which it is found. Contracts see the question.
-#[derive(Debug, Drop)]
+#[derive(Drop)]
 pub struct QuestionKey {
     question: Question,
     key: List<u64>,

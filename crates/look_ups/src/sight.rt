@@ -15,7 +15,7 @@ use std::collections::VecDeque;
 use wire_core::NoMemory;
 
 /// What a look-up is read by: the facts of classes that were learnt, and what was asked for the item in hand.
-#[derive(Clone, Copy, Debug)]
+#[derive(Clone, Copy)]
 pub struct Sight<'a> {
     pub classes: &'a Classes,
     pub asked: &'a Asked,

@@ -6,7 +6,7 @@ use jdwp_commands::{Question, Replied};
 use wish_sets::Wish;
 
 /// A command that changes the target, and why it is sent (JDWP, Detailed Command Information).
-#[derive(Debug, Drop)]
+#[derive(Drop)]
 pub enum Effect {
     /// An item does so.
     Does(Deed),
@@ -17,14 +17,14 @@ pub enum Effect {
 }
 
 /// A command for the target.
-#[derive(Debug, Drop)]
+#[derive(Drop)]
 pub enum TargetCommand {
     Question(Question),
     Effect(Effect),
 }
 
 /// Why something is asked of the target.
-#[derive(Debug, Drop)]
+#[derive(Drop)]
 pub enum Want {
     /// Nothing can stand in for the answer: an error fails what wants it.
     Must(Question),
@@ -35,21 +35,21 @@ pub enum Want {
 }
 
 /// What was asked for the item in hand, and its reply once that is there.
-#[derive(Debug, Drop)]
+#[derive(Drop)]
 pub struct Sent {
     pub want: Want,
     pub reply: Option<Replied>,
 }
 
 /// The last effect that was sent for the item in hand, and its reply once that is there.
-#[derive(Debug, Drop)]
+#[derive(Drop)]
 pub struct Doing {
     pub effect: Effect,
     pub reply: Option<Replied>,
 }
 
 /// What is done next.
-#[derive(Debug, Drop)]
+#[derive(Drop)]
 pub enum Act {
     /// Nothing, until something comes.
     Waits,

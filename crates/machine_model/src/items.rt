@@ -5,7 +5,7 @@ use jdwp_events::Composite;
 use wire_core::Blob;
 
 /// Where a session stands with its target: nothing is asked of it yet; it is attached; or it is gone.
-#[derive(Clone, Copy, Debug, PartialEq, Eq)]
+#[derive(Clone, Copy, PartialEq, Eq)]
 pub enum Phase {
     Fresh,
     Attached,
@@ -14,7 +14,7 @@ pub enum Phase {
 
 /// What waits for its turn: a request of the client; what happened in the target at one time; or the target's end (DAP
 /// specification, Base Protocol, Request; JDWP, Event command set, Composite).
-#[derive(Debug, Drop)]
+#[derive(Drop)]
 pub enum Item {
     Request(Request),
     /// Its packet stands at this offset, in bytes, in the target's stream.

@@ -9,7 +9,7 @@ use wire_core::{Blob, List, Text};
 use wish_sets::{FunctionEntry, LineEntry, StepWish, VerifiedEntry};
 
 /// A thread, and the name that the target gave it (JDWP, ThreadReference command set, Name).
-#[derive(Debug, Drop)]
+#[derive(Drop)]
 pub struct NamedThread {
     pub thread: ThreadId,
     pub name: Blob,
@@ -18,7 +18,7 @@ pub struct NamedThread {
 /// A breakpoint that the client listed: the id that it got, its line as the client counts lines where it is one of a source,
 /// and whether it is plain, without a condition, a count of hits and a message to log (DAP specification, Types,
 /// SourceBreakpoint, FunctionBreakpoint and Breakpoint).
-#[derive(Clone, Copy, Debug, PartialEq, Eq)]
+#[derive(Clone, Copy, PartialEq, Eq)]
 pub struct ListedBreakpoint {
     pub id: u64,
     pub line: Option<u32>,
@@ -27,14 +27,14 @@ pub struct ListedBreakpoint {
 
 /// Where a frame stands: in this source, at this line as the target counts lines (DAP specification, Types, StackFrame,
 /// source and line).
-#[derive(Debug, Drop)]
+#[derive(Drop)]
 pub struct Spot {
     pub source: Source,
     pub line: i32,
 }
 
 /// A frame, the name of its class and method, and where it stands, if that is known (DAP specification, Types, StackFrame).
-#[derive(Debug, Drop)]
+#[derive(Drop)]
 pub struct ShownFrame {
     pub frame: FrameThing,
     pub name: Text,
@@ -43,7 +43,7 @@ pub struct ShownFrame {
 
 /// A value as it is shown: its text, its type where the client asked for types, its length where it is an array, and the
 /// container that it is, if it has children (DAP specification, Types, Variable).
-#[derive(Debug, Drop)]
+#[derive(Drop)]
 pub struct Seen {
     pub text: Text,
     pub kind: Option<Text>,
@@ -52,14 +52,14 @@ pub struct Seen {
 }
 
 /// A child of a container, by its name, and its value (DAP specification, Types, Variable).
-#[derive(Debug, Drop)]
+#[derive(Drop)]
 pub struct ShownVariable {
     pub name: Text,
     pub seen: Seen,
 }
 
 /// What a response that succeeds shows, by the target's ids; its numbers are given when it is told.
-#[derive(Debug, Drop)]
+#[derive(Drop)]
 pub enum Body {
     Nothing,
     Capabilities,
@@ -93,14 +93,14 @@ pub enum Body {
 }
 
 /// What comes of a request (DAP specification, Base Protocol, Response and ErrorResponse).
-#[derive(Debug, Drop)]
+#[derive(Drop)]
 pub enum Outcome {
     Success(Body),
     Failure(Failure),
 }
 
 /// What has changed in the target (DAP specification, Events, Breakpoint and Thread).
-#[derive(Clone, Copy, Debug, PartialEq, Eq)]
+#[derive(Clone, Copy, PartialEq, Eq)]
 pub enum News {
     /// A breakpoint is verified, which the client doesn't know yet.
     Verified(VerifiedEntry),
@@ -110,7 +110,7 @@ pub enum News {
 
 /// Why a thread stopped, as the target tells it: it came to a breakpoint at this place, it threw this object, or its step
 /// has ended (JDWP, Event command set, Composite, Breakpoint, Exception and SingleStep).
-#[derive(Clone, Copy, Debug, PartialEq, Eq)]
+#[derive(Clone, Copy, PartialEq, Eq)]
 pub enum HaltCause {
     Breakpoint(Location),
     Exception(ObjectId),
@@ -118,14 +118,14 @@ pub enum HaltCause {
 }
 
 /// A thread that stopped under an event request that is installed, and why.
-#[derive(Clone, Copy, Debug, PartialEq, Eq)]
+#[derive(Clone, Copy, PartialEq, Eq)]
 pub struct Halt {
     pub cause: HaltCause,
     pub thread: ThreadId,
 }
 
 /// What a thread threw in a stop, and whether something catches it (JDWP, Event command set, Composite, Exception).
-#[derive(Clone, Copy, Debug, PartialEq, Eq)]
+#[derive(Clone, Copy, PartialEq, Eq)]
 pub struct Thrown {
     pub thread: ThreadId,
     pub object: ObjectId,
@@ -134,7 +134,7 @@ pub struct Thrown {
 
 /// Why the target stands still: a breakpoint was hit at this place; an exception was thrown, with the name of its type where
 /// that is known; a step has ended; or the client asked for it (DAP specification, Events, Stopped, reason and text).
-#[derive(Debug, Drop)]
+#[derive(Drop)]
 pub enum StopCause {
     Hit(Location),
     Exception(Option<Text>),
@@ -143,14 +143,14 @@ pub enum StopCause {
 }
 
 /// The target stands still: why, and the thread that it is told of (DAP specification, Events, Stopped).
-#[derive(Debug, Drop)]
+#[derive(Drop)]
 pub struct Stopping {
     pub cause: StopCause,
     pub thread: ThreadId,
 }
 
 /// What the client is told without asking, by the target's ids (DAP specification, Events).
-#[derive(Debug, Drop)]
+#[derive(Drop)]
 pub enum Event {
     Initialized,
     News(News),
@@ -160,7 +160,7 @@ pub enum Event {
 
 /// A suspension of the whole target, by what it is held for: for the composite in hand, which brought it; for the entry
 /// of a target that was started suspended; or for the stop in hand (JDWP, Constants, SuspendPolicy).
-#[derive(Clone, Copy, Debug, PartialEq, Eq)]
+#[derive(Clone, Copy, PartialEq, Eq)]
 pub enum Suspension {
     Composite,
     Entry,
@@ -169,7 +169,7 @@ pub enum Suspension {
 
 /// Where a value stands: in a slot of a frame, in a field of an object, or in an array, counted from 0 (JDWP, StackFrame,
 /// ObjectReference and ArrayReference command sets, SetValues).
-#[derive(Clone, Copy, Debug, PartialEq, Eq)]
+#[derive(Clone, Copy, PartialEq, Eq)]
 pub enum Store {
     Slot {
         thread: ThreadId,
@@ -187,7 +187,7 @@ pub enum Store {
 }
 
 /// A value that is written, where to, and how many bytes an object's id takes.
-#[derive(Clone, Copy, Debug, PartialEq, Eq)]
+#[derive(Clone, Copy, PartialEq, Eq)]
 pub struct Write {
     pub store: Store,
     pub value: Value,
@@ -196,7 +196,7 @@ pub struct Write {
 
 /// What an item does to the target, but for event requests (JDWP, VirtualMachine command set; JDWP, StackFrame,
 /// ObjectReference and ArrayReference command sets, SetValues).
-#[derive(Clone, Copy, Debug, PartialEq, Eq)]
+#[derive(Clone, Copy, PartialEq, Eq)]
 pub enum Deed {
     /// The whole target is suspended once more, for a stop.
     Suspend,
@@ -209,7 +209,7 @@ pub enum Deed {
 }
 
 /// What is looked up, and for what.
-#[derive(Debug, Drop)]
+#[derive(Drop)]
 pub enum Lookup {
     /// All threads and their names, for the response to `threads` (DAP specification, Threads request).
     Threads,
@@ -254,7 +254,7 @@ pub enum Lookup {
 }
 
 /// What a look-up finds.
-#[derive(Debug, Drop)]
+#[derive(Drop)]
 pub enum Finding {
     Threads(List<NamedThread>),
     /// Frames of a thread, and how many it has in all.
@@ -285,7 +285,7 @@ pub enum Finding {
 }
 
 /// What is waited for.
-#[derive(Clone, Copy, Debug, PartialEq, Eq)]
+#[derive(Clone, Copy, PartialEq, Eq)]
 pub enum Guard {
     /// Both sides of the handshake (JDWP, JDWP Start Up).
     Handshake,
@@ -294,7 +294,7 @@ pub enum Guard {
 }
 
 /// What an item writes down: what the client asked for, or what breakpoints are bound by.
-#[derive(Debug, Drop)]
+#[derive(Drop)]
 pub enum Note {
     /// How the client wants to be served (DAP specification, Initialize request).
     Options(ClientOptions),
@@ -329,7 +329,7 @@ pub enum Note {
 }
 
 /// What is decided when its turn comes.
-#[derive(Debug, Drop)]
+#[derive(Drop)]
 pub enum Choice {
     /// The client is told of each breakpoint that is verified now and wasn't told to be, of those with an id below this
     /// one, and then of each thread whose start or end the item tells (DAP specification, Events, Breakpoint and Thread).
@@ -348,7 +348,7 @@ pub enum Choice {
 }
 
 /// How an item ends the session.
-#[derive(Clone, Copy, Debug, PartialEq, Eq)]
+#[derive(Clone, Copy, PartialEq, Eq)]
 pub enum Finish {
     /// `disconnect` was answered.
     Done,
@@ -358,7 +358,7 @@ pub enum Finish {
 }
 
 /// One part of what an item does. Each is done, and the tail of the list is left.
-#[derive(Debug, Drop)]
+#[derive(Drop)]
 pub enum Part {
     /// The response to the request.
     Responds(Outcome),

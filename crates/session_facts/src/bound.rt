@@ -9,7 +9,7 @@ use std::marker::Model;
 use wire_core::NoMemory;
 
 /// The ids of the breakpoints that were told to be verified, in the order of the telling.
-#[derive(Debug, Drop)]
+#[derive(Drop)]
 pub struct BoundIds {
     ids: IndexSet<u64>,
 }

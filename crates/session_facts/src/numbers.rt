@@ -16,7 +16,6 @@ const MOST_STOPS: u64 = 9223372036854775807;
 
 /// The numbers by which the client names what it was told of in stops: they are past while the target runs, and those
 /// of a stop are good in it alone. A stop has to be spent, so this can't be dropped either.
-#[derive(Debug)]
 pub enum Numbers {
     Running(Running),
     Stopped(Stop),

@@ -22,7 +22,7 @@ use wish_sets::Wishes;
 
 /// How a class stands: it is passed over, whatever is asked; or it is found, and nothing is lacking of it; or something
 /// may be lacking.
-#[derive(Clone, Copy, Debug, PartialEq, Eq)]
+#[derive(Clone, Copy, PartialEq, Eq)]
 pub enum Standing {
     Passed,
     Settled,
@@ -30,7 +30,7 @@ pub enum Standing {
 }
 
 /// The classes that may lack something, and those that may be found, in the order in which they were first listed.
-#[derive(Debug, Drop)]
+#[derive(Drop)]
 pub struct OpenClasses {
     pub lacking: List<ClassId>,
     pub found: List<ClassId>,

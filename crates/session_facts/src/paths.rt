@@ -13,7 +13,7 @@ use wish_sets::{key_file, key_package};
 
 /// The path under which the client listed breakpoints of a source last, by the key of the source, in the order in which
 /// the keys came.
-#[derive(Debug, Drop)]
+#[derive(Drop)]
 pub struct Paths {
     listed: Vec<(Text, Text)>,
 }

@@ -6,7 +6,7 @@ ghost use Rattle.session_facts.specs.Sizes.{sizes_seen};
 use jdwp_commands::{Answer, Replied};
 
 /// How many bytes an id of each kind takes, as the target said (JDWP, VirtualMachine command set, IDSizes).
-#[derive(Clone, Copy, Debug)]
+#[derive(Clone, Copy)]
 pub struct SizesRead {
     pub field: u32,
     pub method: u32,

@@ -10,7 +10,7 @@ use std::marker::Model;
 use wire_core::NoMemory;
 
 /// The threads that were told, in the order of their numbers, which begin at 1.
-#[derive(Debug, Drop)]
+#[derive(Drop)]
 pub struct ThreadNumbers {
     threads: IndexSet<ThreadId>,
 }

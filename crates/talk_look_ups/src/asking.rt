@@ -20,7 +20,7 @@ use std::marker::Model;
 use wire_core::NoMemory;
 
 /// What is to be asked for the item in hand, each question once and none that was asked, and what was asked for it.
-#[derive(Debug, Drop)]
+#[derive(Drop)]
 pub struct Asking {
     queue: VecDeque<Want>,
     asked: Asked,

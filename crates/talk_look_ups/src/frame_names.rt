@@ -18,7 +18,7 @@ use wire_core::{Blob, NoMemory, Text};
 
 /// What was heard of a class and of one of its methods; what wasn't is absent (JDWP, ReferenceType command set,
 /// Signature, SourceFile and Methods; JDWP, Method command set, LineTable).
-#[derive(Clone, Copy, Debug)]
+#[derive(Clone, Copy)]
 pub(crate) struct ClassHeard<'a> {
     pub(crate) signature: &'a [u8],
     pub(crate) source: Option<&'a Blob>,

@@ -7,7 +7,7 @@ use machine_model::{Finding, Want};
 use std::collections::VecDeque;
 
 /// What a look-up comes to.
-#[derive(Debug, Drop)]
+#[derive(Drop)]
 pub enum Need {
     /// It has found something.
     Has(Finding),

@@ -5,7 +5,7 @@ use jdwp_commands::Question;
 use machine_model::{Effect, Finish};
 
 /// What a talk about an item has next.
-#[derive(Debug, Drop)]
+#[derive(Drop)]
 pub enum Next {
     /// Nothing, until a reply comes, or there is room for a question.
     Wait,

@@ -28,7 +28,7 @@ use wire_core::NoMemory;
 
 /// The talk about the item in hand: what is left of it to do, what is to be asked for it and what was, and the last
 /// effect that was sent for it.
-#[derive(Debug, Drop)]
+#[derive(Drop)]
 pub struct Talk {
     pub(crate) item: Item,
     pub(crate) parts: VecDeque<Part>,

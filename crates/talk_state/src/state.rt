@@ -26,7 +26,6 @@ use wire_core::{List, NoMemory, Text};
 use wish_sets::Wishes;
 
 /// What a session knows. It has to be spent by `finish`.
-#[derive(Debug)]
 pub struct State {
     /// How the client wants to be served (DAP specification, Initialize request).
     pub options: ClientOptions,

@@ -7,7 +7,7 @@ use crate::slot::Slot;
 
 /// A place before which no slot has to be cleared, with how many of those before it are installed; and a place before
 /// which no slot has to be set, with how many of those before it are wished.
-#[derive(Clone, Copy, Debug)]
+#[derive(Clone, Copy)]
 pub(crate) struct Cursor {
     pub(crate) late: usize,
     pub(crate) installed: u32,

@@ -4,7 +4,7 @@ use wire_core::Text;
 
 /// A breakpoint of a source, at a line that is counted from 1; one that isn't plain is never bound (DAP specification,
 /// SourceBreakpoint).
-#[derive(Clone, Copy, Debug, PartialEq, Eq)]
+#[derive(Clone, Copy, PartialEq, Eq)]
 pub struct LineEntry {
     pub id: u64,
     pub line: i32,
@@ -13,7 +13,7 @@ pub struct LineEntry {
 
 /// A function to stop in, by the name of its class, a dot and the name of a method; one that isn't plain is never bound
 /// (DAP specification, FunctionBreakpoint).
-#[derive(Debug, Drop)]
+#[derive(Drop)]
 pub struct FunctionEntry {
     pub id: u64,
     pub name: Text,
@@ -22,7 +22,7 @@ pub struct FunctionEntry {
 
 /// How an entry stands: one of its locations is installed, else one of them was refused, else neither (DAP
 /// specification, Breakpoint, verified).
-#[derive(Clone, Copy, Debug, PartialEq, Eq)]
+#[derive(Clone, Copy, PartialEq, Eq)]
 pub enum EntryState {
     Verified,
     Refused,
@@ -31,14 +31,14 @@ pub enum EntryState {
 
 /// An entry that is verified: its id, and its line where it is a breakpoint of a source (DAP specification, Types,
 /// Breakpoint, verified).
-#[derive(Clone, Copy, Debug, PartialEq, Eq)]
+#[derive(Clone, Copy, PartialEq, Eq)]
 pub struct VerifiedEntry {
     pub id: u64,
     pub line: Option<i32>,
 }
 
 /// An entry that has a location: its id, and whether it is one of a source's lines and not a function.
-#[derive(Clone, Copy, Debug, PartialEq, Eq)]
+#[derive(Clone, Copy, PartialEq, Eq)]
 pub struct EntryAt {
     pub id: u64,
     pub line: bool,

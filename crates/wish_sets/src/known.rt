@@ -17,7 +17,7 @@ use std::mem;
 use wire_core::NoMemory;
 
 /// What a class replaced as it was made known: what was known of it, nothing where it was new.
-#[derive(Debug, Drop)]
+#[derive(Drop)]
 pub(crate) struct Replaced {
     pub(crate) class: ClassId,
     pub(crate) facts: Option<KnownClass>,

@@ -15,7 +15,7 @@ use std::alloc::Global;
 
 /// The places of slots that were installed, by the kinds and the ids of their requests, with room for the others. It
 /// says nothing where it isn't whole: memory was refused, or two requests had one kind and one id.
-#[derive(Debug, Drop)]
+#[derive(Drop)]
 pub(crate) struct Owners {
     pub(crate) places: IndexMap<u64, usize>,
     pub(crate) whole: bool,

@@ -17,7 +17,7 @@ use std::alloc::Global;
 use wire_core::{List, NoMemory, Text};
 
 /// An entry that has a location: its id, whether it is one of a source's lines, and the location.
-#[derive(Clone, Copy, Debug)]
+#[derive(Clone, Copy)]
 pub(crate) struct Place {
     pub(crate) id: u64,
     pub(crate) line: bool,

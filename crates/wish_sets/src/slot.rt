@@ -12,7 +12,7 @@ use crate::wish::Wish;
 
 /// A wish that is wished, installed, or may be: whether it is wished, the id of its request where it is installed, and
 /// whether it was refused.
-#[derive(Debug, Drop)]
+#[derive(Drop)]
 pub(crate) struct Slot {
     pub(crate) wish: Wish,
     pub(crate) wished: bool,

@@ -13,7 +13,7 @@ use std::alloc::Global;
 use wire_core::{List, Text};
 
 /// What the client listed last, the step in flight, and the classes as they were last made known.
-#[derive(Debug, Drop)]
+#[derive(Drop)]
 pub(crate) struct Wants {
     pub(crate) lists: Vec<(Text, List<LineEntry>)>,
     pub(crate) functions: List<FunctionEntry>,

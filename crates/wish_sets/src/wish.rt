@@ -18,7 +18,7 @@ use wire_core::{Blob, List, NoMemory, Text};
 const LINE: i32 = 1;
 
 /// How far a step goes (JDWP, Constants, StepDepth).
-#[derive(Clone, Copy, Debug, PartialEq, Eq)]
+#[derive(Clone, Copy, PartialEq, Eq)]
 pub enum Depth {
     Into,
     Over,
@@ -26,7 +26,7 @@ pub enum Depth {
 }
 
 /// A step that is in flight: the thread that steps, and how far it goes (JDWP, EventRequest command set, Set, Step).
-#[derive(Clone, Copy, Debug, PartialEq, Eq)]
+#[derive(Clone, Copy, PartialEq, Eq)]
 pub struct StepWish {
     pub thread: ThreadId,
     pub depth: Depth,
@@ -35,7 +35,7 @@ pub struct StepWish {
 /// An event request that is wished of the target: the starts of threads, their ends, the classes of a package as they
 /// are prepared, a breakpoint at a location, exceptions, or a step. A package has `.` between its parts, and is empty
 /// where it is the default package (JDWP, EventRequest command set, Set).
-#[derive(Debug, Drop)]
+#[derive(Drop)]
 pub enum Wish {
     ThreadStart,
     ThreadDeath,

@@ -38,7 +38,7 @@ use wire_core::{List, NoMemory, Text};
 /// Clear).
 ///
 /// Contracts see what is wanted, what is installed and what was refused.
-#[derive(Debug, Drop)]
+#[derive(Drop)]
 pub struct Wishes {
     wants: Wants,
     bound: Bound,
