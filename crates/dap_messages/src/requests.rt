@@ -10,7 +10,7 @@ pub enum Incoming {
 
 /// Why a body was not read: memory was refused; it is no JSON in UTF-8; or the JSON is no message of the base protocol.
 /// (DAP specification, Base Protocol, ProtocolMessage)
-#[derive(Clone, Copy, Drop, PartialEq, Eq)]
+#[derive(Clone, Copy, Debug, Drop, PartialEq, Eq)]
 pub enum ReadFault {
     NoMemory,
     NotJson,

@@ -23,7 +23,7 @@ pub(crate) enum Act<'a> {
 
 /// The next change, by its place and the kind of its wish. A request that is cleared has its id, a breakpoint its
 /// index in the method.
-#[derive(Clone, Copy, PartialEq, Eq)]
+#[derive(Clone, Copy, Debug, PartialEq, Eq)]
 pub(crate) enum Next {
     Nothing,
     Set(u32, EventKind, u64),
