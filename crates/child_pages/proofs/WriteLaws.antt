@@ -1,6 +1,6 @@
 -- Names that are digits between brackets.
-use Rattle.std.proofs.Common.{◌≡◌, ◌≢◌, ◌&&◌, ◌++◌, ◌-◌, ◌∷◌, ◌<◌, ℕ, Bool, true, false, List, [], refl, sym, ap, ◌∙◌, arith}
-use Rattle.std.proofs.Common.{Option, Some, bytes_eq, codes, drop, length, nat_lt, rules, take, ◌==◌}
+use Rattle.std.proofs.Common.{◌≡◌, ◌≢◌, ◌&&◌, ◌++◌, ◌-◌, ◌∷◌, ℕ, Bool, true, false, List, [], refl, ap, ◌∙◌, arith}
+use Rattle.std.proofs.Common.{Option, Some, bytes_eq, codes, length, nat_lt, rules, take, ◌==◌}
 use Rattle.std.proofs.Math.Seq.{take-append_seam}
 use Rattle.std.proofs.lemmas.List.{length-append}
 use Rattle.std.proofs.lemmas.Slice.Eq.{bytes_eq-Decides}

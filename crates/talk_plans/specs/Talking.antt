@@ -1,5 +1,5 @@
 -- A talk: the item in hand, and what is known, apart from the machine that they stand in.
-use Rattle.std.specs.Prelude.{ℕ, ◌≡◌, ◌∷◌, ◌||◌, not, Bool, true, false, cond, List, [], Option, None, Some}
+use Rattle.std.specs.Prelude.{◌≡◌, ◌∷◌, ◌||◌, not, Bool, true, false, cond, List, Option, None, Some}
 use Rattle.jdwp_commands.specs.declared.asked.Replied.{Replied}
 use Rattle.jdwp_commands.specs.declared.question.Question.{Question}
 use Rattle.jdwp_commands.specs.declared.question.Question.TheVariants as questions

@@ -1,4 +1,4 @@
-use Rattle.std.proofs.Common.{◌-◌, ◌++◌, ◌∷◌, [], arith, ap, sym, ◌∙◌}
+use Rattle.std.proofs.Common.{◌-◌, arith, ap, sym, ◌∙◌}
 use Rattle.machine_model.specs.Children.{chain}
 use Rattle.machine_model.specs.Plans.{need}
 use Rattle.look_ups.specs.Needs.{seen_by}

@@ -1,7 +1,7 @@
 use Rattle.std.proofs.Common.{◌≡◌, ap, sym, subst, ◌∙◌, true, bytes_eq, IfOk}
 use Rattle.machine_model.specs.Children.{index_name, of_index}
 use Rattle.machine_model.specs.Plans.{need}
-use Rattle.machine_model.specs.Writing.{child_written, element_by, element_store}
+use Rattle.machine_model.specs.Writing.{element_by, element_store}
 use Rattle.look_ups.specs.Needs.{need_with, seen_by}
 use Rattle.look_ups.specs.Shown.{declared_of}
 use Rattle.child_pages.specs.Shown.{place_of, write_said, writing_of}
