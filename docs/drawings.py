@@ -26,7 +26,7 @@ ROWS = [
     [(0.8, MODEL, "machine_model", "what a session does, and its laws"),
      (0.6, MODEL, "joint_model", "beside an obeying target"), (0.45, PROVED, "script_text", "texts of logs")],
     [(0.37, PROVED, "dap_messages", "requests, responses"), (0.36, PROVED, "pending_table", "pending commands"),
-     (0.37, PROVED, "jdwp_commands", "commands, answers"), (0.32, PROVED, "wish_sets", "event requests"),
+     (0.43, PROVED, "jdwp_commands", "commands, answers"), (0.3, PROVED, "wish_sets", "event requests"),
      (0.28, PROVED, "stop_refs", "numbers told"), (0.3, PROVED, "value_views", "texts of values")],
     [(0.42, PROVED, "dap_frames", "frames in any cutting"), (0.36, PROVED, "jdwp_packets", "packets"),
      (0.34, PROVED, "jdwp_events", "events"), (0.32, PROVED, "jdwp_values", "ids, values"),
