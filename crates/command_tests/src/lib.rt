@@ -3,6 +3,12 @@
 #![tactic(auto)]
 
 #[cfg(test)]
-mod script_tests;
+mod lines;
 #[cfg(test)]
-mod tests;
+mod replays;
+#[cfg(test)]
+mod runs;
+#[cfg(test)]
+mod scripts;
+#[cfg(test)]
+mod sessions;

@@ -1,13 +1,8 @@
 //! Scripts that are played.
-ghost use Rattle.std.specs.Prelude.{◌≡◌, [], IfOk};
-ghost use Rattle.wire_core.specs.MemoryFiles.{store_of};
-
-use bridge_runs::bridge_main;
+use crate::runs::{USAGE, file_of, ran};
 use std::alloc::Global;
 use std::test::Fail;
-use wire_core::{Blob, List, MemoryFiles, MemoryOutput, MemoryWires, NoMemory, Text, Word};
-
-const USAGE: &str = "usage: bridge serve --listen A --target B, script FILE, replay LOG\n";
+use wire_core::{Blob, MemoryWires, NoMemory};
 
 // The script of a client that disconnects at once, with and without its last line.
 const SCRIPT: &str = concat!(
@@ -33,38 +28,21 @@ const LOG: &str = concat!(
     "[\"end\"]\n",
 );
 
-// A file of this name with these bytes, and no other.
-fn file_of(alloc: Global, bytes: &str) -> Result<MemoryFiles, NoMemory>
-    ensures { IfOk result (λ files. (store_of files).asked ≡ []) }
-{
-    let mut files = List::new(alloc);
-    let bytes = Blob::from_slice(alloc, bytes.as_bytes())?;
-    files.push((Text::from_str(alloc, "it")?, bytes))?;
-    Ok(MemoryFiles::new(alloc, files, false))
-}
-
-fn words_of(alloc: Global, texts: &[&str]) -> Result<List<Word>, NoMemory> {
-    let mut words = List::new(alloc);
-    for text in texts {
-        words.push(Text::from_str(alloc, text)?)?;
-    }
-    Ok(words)
-}
-
 // Whether a run on these words, where the file `it` has these bytes, ends with this status and prints just this.
 fn ends(
     alloc: Global,
-    texts: &[&str],
+    words: &[&str],
     bytes: &str,
     status: u8,
     text: &str,
 ) -> Result<bool, NoMemory> {
-    let words = words_of(alloc, texts)?;
-    let mut files = file_of(alloc, bytes)?;
+    let bytes = Blob::from_slice(alloc, bytes.as_bytes())?;
+    let mut files = file_of(alloc, "it", bytes)?;
     let mut wires = MemoryWires::closed(alloc);
-    let mut out = MemoryOutput::new(alloc, List::new(alloc));
-    let ended = bridge_main(alloc, words.as_slice(), &mut wires, &mut files, &mut out);
-    Ok(ended == status && out.bytes().as_slice() == text.as_bytes())
+    let ran = ran(alloc, words, &mut wires, &mut files, false, text);
+    drop(files);
+    drop(wires);
+    Ok(ran? == (status, true))
 }
 
 #[test]
