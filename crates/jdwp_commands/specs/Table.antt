@@ -3,14 +3,17 @@
 use Rattle.std.specs.Prelude.{ℕ, List, [], ◌∷◌}
 use Rattle.jdwp_values.specs.declared.limit.Limit.{Limit}
 use Rattle.jdwp_values.specs.declared.limit.Limit.TheVariants.{Any, Exactly}
-use Rattle.jdwp_values.specs.Parts.{int, long, number, object, thread, class, method, field, frame, type_tag, count, text}
+use Rattle.jdwp_values.specs.Parts.{int, long, number, object, thread, class, method, field}
+use Rattle.jdwp_values.specs.Parts.{frame, type_tag, count, text}
 use Rattle.jdwp_values.specs.Parts.{value, reference, tail}
 use Rattle.jdwp_commands.specs.declared.kind.EffectKind.{EffectKind}
 use Rattle.jdwp_commands.specs.declared.kind.EffectKind.TheVariants as effects
 use Rattle.jdwp_commands.specs.declared.kind.QuestionKind.{QuestionKind}
 use Rattle.jdwp_commands.specs.declared.kind.QuestionKind.TheVariants as questions
-use Rattle.jdwp_commands.specs.Items.{Item, part, many, region, event_kind, policy, field_ids, modifiers, slots, threads}
-use Rattle.jdwp_commands.specs.Items.{values, methods, fields, lines, variables, class_statuses, loaded_classes, frames}
+use Rattle.jdwp_commands.specs.Items.{Item, part, many, region, event_kind, policy}
+use Rattle.jdwp_commands.specs.Items.{field_ids, modifiers, slots, threads}
+use Rattle.jdwp_commands.specs.Items.{values, methods, fields, lines, variables}
+use Rattle.jdwp_commands.specs.Items.{class_statuses, loaded_classes, frames}
 
 -- a command: its numbers, its body, and the body of its answer, where the command may limit how many items that has
 pub record Row : Type 0 where
@@ -39,13 +42,16 @@ question_table questions.LineTable =
 question_table questions.VariableTable =
     numbered 6 2 (part class ∷ part method ∷ []) (λ limit. part int ∷ many Any variables ∷ [])
 question_table questions.ObjectType = numbered 9 1 (part object ∷ []) (λ limit. part type_tag ∷ part class ∷ [])
-question_table questions.GetFields = numbered 9 2 (part object ∷ many Any field_ids ∷ []) (λ limit. many limit values ∷ [])
+question_table questions.GetFields =
+    numbered 9 2 (part object ∷ many Any field_ids ∷ []) (λ limit. many limit values ∷ [])
 question_table questions.StringValue = numbered 10 1 (part object ∷ []) (λ limit. part text ∷ [])
 question_table questions.ThreadName = numbered 11 1 (part thread ∷ []) (λ limit. part text ∷ [])
-question_table questions.Frames = numbered 11 6 (part thread ∷ part int ∷ part int ∷ []) (λ limit. many limit frames ∷ [])
+question_table questions.Frames =
+    numbered 11 6 (part thread ∷ part int ∷ part int ∷ []) (λ limit. many limit frames ∷ [])
 question_table questions.FrameCount = numbered 11 7 (part thread ∷ []) (λ limit. part (count Any) ∷ [])
 question_table questions.ArrayLength = numbered 13 1 (part object ∷ []) (λ limit. part (count Any) ∷ [])
-question_table questions.GetElements = numbered 13 2 (part object ∷ part int ∷ part int ∷ []) (λ limit. region limit ∷ [])
+question_table questions.GetElements =
+    numbered 13 2 (part object ∷ part int ∷ part int ∷ []) (λ limit. region limit ∷ [])
 question_table questions.GetSlots =
     numbered 16 1 (part thread ∷ part frame ∷ many Any slots ∷ []) (λ limit. many limit values ∷ [])
 question_table questions.ThisObject = numbered 16 3 (part thread ∷ part frame ∷ []) (λ limit. part reference ∷ [])
