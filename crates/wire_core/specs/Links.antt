@@ -1,5 +1,5 @@
 -- Links that count: what each call makes of a side's counts, exactly.
-use Rattle.std.specs.Prelude.{ℕ, ◌≡◌, ◌+◌, ◌<◌, ◌≤◌, ◌==◌, Bool, true, false, if◌then◌else◌, List, Option}
+use Rattle.std.specs.Prelude.{ℕ, ◌≡◌, ◌+◌, ◌<◌, ◌≤◌, Bool, true, false, if◌then◌else◌, List, Option}
 use Rattle.wire_core.specs.declared.outside.Side.{Side}
 use Rattle.wire_core.specs.declared.outside.Side.TheVariants.{Client, Target}
 use Rattle.wire_core.specs.declared.outside.Happening.{Happening}
@@ -7,11 +7,8 @@ use Rattle.wire_core.specs.declared.outside.Happening.TheVariants.{Bytes, Shut, 
 use Rattle.wire_core.specs.declared.outside.Entry.{Entry}
 use Rattle.wire_core.specs.declared.links.Link.{Link as Counter}
 use Rattle.wire_core.specs.declared.links.Links.{Links}
-use Rattle.wire_core.specs.Outside.{Link, Outside, last_count}
-
--- one more, or the last value
-abbrev pub raised : ℕ → ℕ
-raised n = if n == last_count then last_count else n + 1
+use Rattle.wire_core.specs.Outside.{Link, Outside}
+pub use Rattle.wire_core.specs.Outside.{raised}
 
 -- a link of which nothing was asked yet
 abbrev pub fresh_link : Bool → Link
@@ -60,14 +57,14 @@ IsWithin room (Shut side) = Unit {0}
 IsWithin room (Failed side) = Unit {0}
 IsWithin room Quiet = Unit {0}
 
--- nothing but the log may have changed
+-- nothing but the log and the count of waits may have changed
 pub record Keeps (old new : Outside) : Type 0 where
   pub client : new.client ≡ old.client
   pub target : new.target ≡ old.target
   pub open_faults : new.open_faults ≡ old.open_faults
   pub asked : new.asked ≡ old.asked
 
--- a happening changed the counts and the side that it names, and nothing else but the log
+-- a happening changed the counts and the side that it names, and nothing else but the log and the count of waits
 pub record Counts (old new : Outside) (happening : Happening) : Type 0 where
   pub client : new.client ≡ link_after Client happening old.client
   pub target : new.target ≡ link_after Target happening old.target
@@ -78,11 +75,12 @@ pub record Counts (old new : Outside) (happening : Happening) : Type 0 where
 abbrev pub told : Counter → Link
 told c = record { faults = c.faults; empties = c.empties; is_open = c.is_open }
 
--- what links that count tell, beside a log, the faults of opening them, and the names that were asked for
-abbrev pub outside_with : Option (List Entry) → Links → ℕ → List (List ℕ) → Outside
-outside_with log links open_faults asked =
+-- what links that count tell, beside a log, the waits, the faults of opening them, and the names that were asked for
+abbrev pub outside_with : Option (List Entry) → ℕ → Links → ℕ → List (List ℕ) → Outside
+outside_with log waits links open_faults asked =
     record {
       log = log;
+      waits = waits;
       client = told links.client;
       target = told links.target;
       open_faults = open_faults;

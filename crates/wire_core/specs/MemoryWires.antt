@@ -20,7 +20,7 @@ use Rattle.wire_core.specs.Script.{steps_from, due, comes, behind, kept_of}
 
 -- what the wires tell of themselves, their log among it
 abbrev pub outside_of : MemoryWires → Outside
-outside_of w = outside_with (Some (entries w.log)) w.links w.open_faults (names_of w.asked)
+outside_of w = outside_with (Some (entries w.log)) w.waits w.links w.open_faults (names_of w.asked)
 
 -- the steps that are still to be given
 abbrev pub steps_of : MemoryWires → List Step
@@ -41,6 +41,7 @@ is_refused w = w.refused
 -- wires of which nothing was asked yet: nothing is logged or counted
 pub record IsNew (w : MemoryWires) (given : List Step) (cuts : List Cut) (is_open : Bool) : Type 0 where
   pub log : (outside_of w).log ≡ Some []
+  pub waits : (outside_of w).waits ≡ 0
   pub links : IsFresh w.links is_open
   pub open_faults : (outside_of w).open_faults ≡ 0
   pub asked : (outside_of w).asked ≡ []

@@ -1,6 +1,6 @@
 -- The outside of a session: what its two byte streams tell of themselves, and what one call changes.
-use Rattle.std.specs.Prelude.{ℕ, ◌≡◌, ◌<◌, ◌≤◌, Bool, true, false, ◌⊎◌, List, [], ◌∷◌, ◌++◌, length, take, Option}
-use Rattle.std.specs.Prelude.{option_map}
+use Rattle.std.specs.Prelude.{ℕ, ◌≡◌, ◌<◌, ◌≤◌, ◌+◌, ◌==◌, Bool, true, false, if◌then◌else◌, ◌⊎◌, List, [], ◌∷◌, ◌++◌}
+use Rattle.std.specs.Prelude.{length, take, Option, option_map}
 use Rattle.wire_core.specs.declared.outside.Side.{Side}
 use Rattle.wire_core.specs.declared.outside.Side.TheVariants.{Client, Target}
 use Rattle.wire_core.specs.declared.outside.Happening.{Happening}
@@ -15,9 +15,11 @@ pub record Link : Type 0 where
   pub empties : ℕ
   pub is_open : Bool
 
--- what both links tell: the log, where one is kept, the faults of opening them, and the names that were asked for
+-- what both links tell: the log, where one is kept, how often they were waited for, the faults of opening them, and the
+-- names that were asked for
 pub record Outside : Type 0 where
   pub log : Option (List Entry)
+  pub waits : ℕ
   pub client : Link
   pub target : Link
   pub open_faults : ℕ
@@ -45,6 +47,10 @@ HasOpen o = IsOpen Client o ⊎ IsOpen Target o
 abbrev pub last_count : ℕ
 last_count = 18446744073709551615
 
+-- one more, or the last value
+abbrev pub raised : ℕ → ℕ
+raised n = if n == last_count then last_count else n + 1
+
 -- a count rose in a call; one that stands at its last value can't rise
 abbrev pub Rose : ℕ → ℕ → Type 0
 Rose old new = (old < new) ⊎ (new ≡ last_count)
@@ -61,9 +67,14 @@ pub record Counts (old new : Outside) : Type 0 where
   pub target_empties : old.target.empties ≤ new.target.empties
   pub open_faults : old.open_faults ≤ new.open_faults
 
+-- nothing was waited for
+abbrev pub SameWaits : Outside → Outside → Type 0
+SameWaits old new = new.waits ≡ old.waits
+
 -- both links opened, under the names asked for; nothing is logged
 pub record Connects (old new : Outside) (listen target : List ℕ) : Type 0 where
   pub log : Adds old new []
+  pub waits : SameWaits old new
   pub counts : Counts old new
   pub asked : new.asked ≡ listen ∷ target ∷ []
   pub client_open : IsOpen Client new
@@ -72,6 +83,7 @@ pub record Connects (old new : Outside) (listen target : List ℕ) : Type 0 wher
 -- a link was not opened, and the count of such faults rose
 pub record FailsToConnect (old new : Outside) (listen target : List ℕ) : Type 0 where
   pub log : Adds old new []
+  pub waits : SameWaits old new
   pub counts : Counts old new
   pub asked : new.asked ≡ listen ∷ target ∷ []
   pub rose : Rose old.open_faults new.open_faults
@@ -109,9 +121,10 @@ entry_of buffer (ends side) = Shut side
 entry_of buffer (fails side) = Failed side
 entry_of buffer nothing = Quiet
 
--- a call that waits heard this happening, and logged it
+-- a call that waits heard this happening, logged it, and counted the wait
 pub record Hears (old new : Outside) (buffer : List ℕ) (happening : Happening) : Type 0 where
   pub log : Adds old new (entry_of buffer happening ∷ [])
+  pub waits : new.waits ≡ raised old.waits
   pub counts : Counts old new
   pub asked : new.asked ≡ old.asked
   pub happens : Happens old new buffer happening
@@ -119,6 +132,7 @@ pub record Hears (old new : Outside) (buffer : List ℕ) (happening : Happening)
 -- all bytes were sent to the side
 pub record Sends (old new : Outside) (side : Side) (bytes : List ℕ) : Type 0 where
   pub log : Adds old new (Out side bytes ∷ [])
+  pub waits : SameWaits old new
   pub counts : Counts old new
   pub asked : new.asked ≡ old.asked
   pub stays : StaysOpen old new
@@ -133,6 +147,7 @@ pub record FailsToSend (old new : Outside) (side : Side) (bytes : List ℕ) : Ty
   pub kept : ℕ
   pub proper : kept < length bytes
   pub log : Adds old new (broken_send side (take kept bytes))
+  pub waits : SameWaits old new
   pub counts : Counts old new
   pub asked : new.asked ≡ old.asked
   pub closes : Closes side old new

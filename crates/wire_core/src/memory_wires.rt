@@ -4,7 +4,7 @@ ghost use Rattle.wire_core.specs.declared.outside.Side.TheVariants.{Client, Targ
 ghost use Rattle.wire_core.specs.declared.outside.Happening.TheVariants.{Failed as fails};
 ghost use Rattle.wire_core.specs.declared.outside.Entry.TheVariants.{Out, Failed};
 ghost use Rattle.wire_core.specs.Outside.{other_side, entry_of, Adds, IsOpen, HasOpen, Connects, FailsToConnect, Hears};
-ghost use Rattle.wire_core.specs.Outside.{Sends, FailsToSend};
+ghost use Rattle.wire_core.specs.Outside.{SameWaits, Sends, FailsToSend};
 ghost use Rattle.wire_core.specs.Links.{raised, is_open_in, open_count, Counts, IsWithin};
 ghost use Rattle.wire_core.specs.SendCounts.{count_to};
 ghost use Rattle.wire_core.specs.Entries.{HasCopy};
@@ -34,6 +34,7 @@ struct SendCounts {
 pub struct MemoryWires {
     alloc: Global,
     log: Log,
+    waits: u64,
     links: Links,
     open_faults: u64,
     asked: Option<Names>,
@@ -92,6 +93,7 @@ impl MemoryWires {
         Ok(MemoryWires {
             alloc,
             log,
+            waits: 0,
             links: Links::new(true),
             open_faults: 0,
             asked: None,
@@ -113,6 +115,7 @@ impl MemoryWires {
         MemoryWires {
             alloc,
             log: Log::new(alloc),
+            waits: 0,
             links: Links::new(false),
             open_faults: 0,
             asked: None,
@@ -150,6 +153,7 @@ impl MemoryWires {
         ensures sends { self.new.sends ≡ self.old.sends }
         ensures failing { failing_of self.new ≡ failing_of self.old }
         ensures refused { is_refused self.new ≡ is_refused self.old }
+        ensures waits { SameWaits (outside_of self.old) (outside_of self.new) }
     {
         self.log.add_reserved(Entry::Failed(side));
         self.links = self.links.after(Happening::Failed(side));
@@ -161,6 +165,7 @@ impl MemoryWires {
         ensures refuses { Refuses self.old self.new side }
         ensures sends { self.new.sends ≡ self.old.sends }
         ensures failing { failing_of self.new ≡ failing_of self.old }
+        ensures waits { SameWaits (outside_of self.old) (outside_of self.new) }
     {
         self.fail(side);
         self.refused = true;
@@ -173,6 +178,7 @@ impl MemoryWires {
         ensures err { OnErr result (Refuses self.old self.new side) }
         ensures sends { self.new.sends ≡ self.old.sends }
         ensures failing { failing_of self.new ≡ failing_of self.old }
+        ensures waits { SameWaits (outside_of self.old) (outside_of self.new) }
     {
         match log_send(
             self.alloc,
@@ -195,6 +201,7 @@ impl MemoryWires {
         ensures part { BreaksSend self.old self.new side bytes.now ⊎ RefusesBytes self.old self.new side bytes.now }
         ensures sends { self.new.sends ≡ self.old.sends }
         ensures failing { failing_of self.new ≡ failing_of self.old }
+        ensures waits { SameWaits (outside_of self.old) (outside_of self.new) }
     {
         if bytes.is_empty() {
             self.fail(side);
@@ -281,6 +288,7 @@ impl Wires for MemoryWires {
         ensures comes { NextInMemory self.old self.new buffer.new result }
         ensures sends { KeepsSends self.old self.new }
     {
+        self.waits = raise(self.waits);
         let given = give(self.steps.as_slice(), self.place, self.links, buffer);
         let links = self.links.after(given.happening);
         let kept = links.open_count();

@@ -53,8 +53,8 @@ pub struct OpenFailed;
 pub struct SendFailed;
 
 /// The two byte streams that a session runs over. What a value tells of itself is its `outside`: the log, where it
-/// keeps one, the counts of faults and of empty reads, which never fall, the sides that are open, and the names that
-/// it was asked to open.
+/// keeps one, the counts of waits, of faults and of empty reads, which never fall, the sides that are open, and the names
+/// that it was asked to open.
 pub trait Wires {
     ghost outside: { Self → Outside };
 
