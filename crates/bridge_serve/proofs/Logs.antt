@@ -1,12 +1,12 @@
 -- How logs grow, and how the words on counts go on from call to call.
-use Rattle.std.proofs.Common.{◌≡◌, ℕ, ◌+◌, ◌≤◌, refl, sym, ap, ◌∙◌, arith, Bool, true, false, List, [], ◌++◌}
+use Rattle.std.proofs.Common.{◌≡◌, ℕ, ◌+◌, ◌≤◌, refl, sym, ap, subst, ◌∙◌, arith, Bool, true, false, List, [], ◌++◌}
 use Rattle.std.proofs.Common.{append_assoc, append-nil, Option, None, Some, inl, inr}
 use Rattle.std.proofs.lemmas.Bool.{cases_lt}
 use Rattle.std.specs.Option.{option_map}
 use Rattle.bridge_serve.specs.Following.{Waits}
 use Rattle.bridge_serve.specs.Names.{Client, Ending, Entry, Side, Target}
 use Rattle.bridge_serve.specs.Serving.{Blames, Keeps, RoseBy, WasQuiet}
-use Rattle.wire_core.specs.Outside.{Adds, Closes, Counts, Hears, Outside, Rose, StaysOpen}
+use Rattle.wire_core.specs.Outside.{Adds, Closes, Counts, Hears, Outside, Rose, SameWaits, StaysOpen, raised}
 use Rattle.wire_core.specs.declared.outside.Happening.{Happening}
 use Rattle.wire_core.specs.declared.outside.Happening.TheVariants as happenings
 
@@ -35,34 +35,49 @@ counts_same o = record {
   open_faults = omega arith;
 }
 
-pub keeps_same : (o : Outside) → Keeps o o
+pub keeps_same : (o : Outside) → Keeps 0 o o
 keeps_same o = record {
   counts = counts_same o;
+  waits = omega arith;
   asked = refl;
   client_closed = λ closed. closed;
   target_closed = λ closed. closed;
 }
 
+-- a call that doesn't wait makes no wait, and one that waits makes one
+pub no_wait : {old new : Outside} → SameWaits old new → new.waits ≤ old.waits + 0
+no_wait same = omega (arith, same)
+
+raised_once : (n : ℕ) → raised n ≤ n + 1
+raised_once n = grind arith
+
+one_wait : {old new : Outside} → new.waits ≡ raised old.waits → new.waits ≤ old.waits + 1
+one_wait {old} is = subst (λ (n : ℕ). n ≤ old.waits + 1) (sym is) (raised_once old.waits)
+
 -- both sides stay open or closed
-pub keeps_open : {old new : Outside} → Counts old new → new.asked ≡ old.asked → StaysOpen old new → Keeps old new
-keeps_open counts asked stays = record {
+pub keeps_open : {n : ℕ} {old new : Outside} → Counts old new → new.waits ≤ old.waits + n → new.asked ≡ old.asked
+    → StaysOpen old new → Keeps n old new
+keeps_open counts waits asked stays = record {
   counts = counts;
+  waits = waits;
   asked = asked;
   client_closed = λ closed. stays.client ∙ closed;
   target_closed = λ closed. stays.target ∙ closed;
 }
 
 -- a side is closed, and the other stays as it is
-pub keeps_other : {old new : Outside} (side : Side) → Counts old new → new.asked ≡ old.asked → Closes side old new
-    → Keeps old new
-keeps_other Client counts asked closes = record {
+pub keeps_other : {n : ℕ} {old new : Outside} (side : Side) → Counts old new → new.waits ≤ old.waits + n
+    → new.asked ≡ old.asked → Closes side old new → Keeps n old new
+keeps_other Client counts waits asked closes = record {
   counts = counts;
+  waits = waits;
   asked = asked;
   client_closed = λ closed. closes.closed;
   target_closed = λ closed. closes.other ∙ closed;
 }
-keeps_other Target counts asked closes = record {
+keeps_other Target counts waits asked closes = record {
   counts = counts;
+  waits = waits;
   asked = asked;
   client_closed = λ closed. closes.other ∙ closed;
   target_closed = λ closed. closes.closed;
@@ -70,14 +85,18 @@ keeps_other Target counts asked closes = record {
 
 -- whatever came
 pub keeps_heard : (old new : Outside) (buffer : List ℕ) (happening : Happening) → Hears old new buffer happening
-    → Keeps old new
-keeps_heard old new buffer (happenings.Bytes side n) came = keeps_open came.counts came.asked came.happens.3
-keeps_heard old new buffer (happenings.Shut side) came = keeps_other side came.counts came.asked came.happens
-keeps_heard old new buffer (happenings.Failed side) came = keeps_other side came.counts came.asked came.happens.0
-keeps_heard old new buffer happenings.Quiet came = keeps_open came.counts came.asked came.happens.0
+    → Keeps 1 old new
+keeps_heard old new buffer (happenings.Bytes side n) came =
+    keeps_open came.counts (one_wait came.waits) came.asked came.happens.3
+keeps_heard old new buffer (happenings.Shut side) came =
+    keeps_other side came.counts (one_wait came.waits) came.asked came.happens
+keeps_heard old new buffer (happenings.Failed side) came =
+    keeps_other side came.counts (one_wait came.waits) came.asked came.happens.0
+keeps_heard old new buffer happenings.Quiet came =
+    keeps_open came.counts (one_wait came.waits) came.asked came.happens.0
 
 -- two calls, one after the other
-pub keeps_on : {a b c : Outside} → Keeps a b → Keeps b c → Keeps a c
+pub keeps_on : {n m : ℕ} {a b c : Outside} → Keeps n a b → Keeps m b c → Keeps (n + m) a c
 keeps_on h k =
     let p = h.counts in
     let q = k.counts in
@@ -89,17 +108,28 @@ keeps_on h k =
         target_empties = omega (arith, p.target_empties, q.target_empties);
         open_faults = omega (arith, p.open_faults, q.open_faults);
       };
+      waits = (let first = h.waits in let then_on = k.waits in omega (arith, first, then_on));
       asked = k.asked ∙ h.asked;
       client_closed = λ closed. k.client_closed (h.client_closed closed);
       target_closed = λ closed. k.target_closed (h.target_closed closed);
     }
+
+-- and no more waits than may be
+pub keeps_within : {n m : ℕ} {a b : Outside} → n ≤ m → Keeps n a b → Keeps m a b
+keeps_within less k = record {
+  counts = k.counts;
+  waits = (let most = k.waits in omega (arith, less, most));
+  asked = k.asked;
+  client_closed = k.client_closed;
+  target_closed = k.target_closed;
+}
 
 -- a count that rose in a later call rose in all
 rose_on : {a b : ℕ} (c : ℕ) → a ≤ b → Rose b c → Rose a c
 rose_on c h (inl k) = inl (omega (arith, h, k))
 rose_on c h (inr k) = inr k
 
-pub blames_on : {a b : Outside} (c : Outside) (ending : Ending) → Keeps a b → Blames b c ending → Blames a c ending
+pub blames_on : {n : ℕ} {a b : Outside} (c : Outside) (ending : Ending) → Keeps n a b → Blames b c ending → Blames a c ending
 blames_on c ending h k = record {
   client = λ is_link. rose_on _ h.counts.client_faults (k.client is_link);
   target = λ is_link. rose_on _ h.counts.target_faults (k.target is_link);
@@ -114,7 +144,8 @@ rose_then h (inl k) less = inl (omega (arith, h, k, less))
 rose_then {a} {b} {c} h (inr k) less =
     elim (cases_lt b c) [ inl more ↦ inl (omega (arith, h, more)) | inr most ↦ inr (omega (arith, k, less, most)) ]
 
-pub blames_then : {a b c : Outside} (ending : Ending) → Keeps a b → Blames a b ending → Keeps b c → Blames a c ending
+pub blames_then : {n m : ℕ} {a b c : Outside} (ending : Ending) → Keeps n a b → Blames a b ending → Keeps m b c
+    → Blames a c ending
 blames_then ending h blames k = record {
   client = λ is_link. rose_then h.counts.client_faults (blames.client is_link) k.counts.client_faults;
   target = λ is_link. rose_then h.counts.target_faults (blames.target is_link) k.counts.target_faults;
@@ -145,13 +176,14 @@ rose_by_more n a b c (inr h) (inr k) = inr (omega (arith, k))
 pub quiet_none : (o : Outside) → WasQuiet 0 o o
 quiet_none o = record { client = λ is_open. inl (omega arith); target = λ is_open. inl (omega arith) }
 
-pub quiet_then : {n : ℕ} {a b c : Outside} → WasQuiet n a b → Keeps b c → WasQuiet n a c
+pub quiet_then : {n k : ℕ} {a b c : Outside} → WasQuiet n a b → Keeps k b c → WasQuiet n a c
 quiet_then h k = record {
   client = λ is_open. rose_by_then _ _ _ _ (h.client (was_open k.client_closed is_open)) k.counts.client_empties;
   target = λ is_open. rose_by_then _ _ _ _ (h.target (was_open k.target_closed is_open)) k.counts.target_empties;
 }
 
-pub quiet_on : {n m : ℕ} {a b c : Outside} → Keeps a b → WasQuiet n a b → Keeps b c → Waits b c n m → WasQuiet m a c
+pub quiet_on : {n m i j : ℕ} {a b c : Outside} → Keeps i a b → WasQuiet n a b → Keeps j b c → Waits b c n m
+    → WasQuiet m a c
 quiet_on h was k Waits.came =
     let p = h.counts in
     let q = k.counts in

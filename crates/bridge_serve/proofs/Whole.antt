@@ -8,8 +8,8 @@ use Rattle.bridge_serve.specs.Following.{Says, Served, Speakable, Stops, lacks_m
 use Rattle.bridge_serve.specs.Names.{Client, Ending, Idle, Limits, NoMemory, Spent, Target}
 use Rattle.bridge_serve.specs.Serving.{Blames, Idles, Keeps, WasQuiet}
 use Rattle.bridge_serve.proofs.LastWords.{words_here}
-use Rattle.bridge_serve.proofs.Logs.{adds_none, blames_on, blames_then, keeps_on, keeps_same, quiet_none, quiet_on}
-use Rattle.bridge_serve.proofs.Logs.{quiet_then}
+use Rattle.bridge_serve.proofs.Logs.{adds_none, blames_on, blames_then, keeps_on, keeps_same, keeps_within, quiet_none}
+use Rattle.bridge_serve.proofs.Logs.{quiet_on, quiet_then}
 use Rattle.bridge_serve.proofs.Moves.{no_link, stopped_here}
 use Rattle.dap_frames.proofs.Fronts.{front-reads}
 use Rattle.machine_model.specs.Due.{due, load_of, wanted}
@@ -55,7 +55,7 @@ pub record IsOnTurn (limits : Limits) (begin now : Outside) (turns : ℕ) (core 
   pub may_take : MayTake now core unheard
   pub waits : IsWaiting limits (session_in core unheard)
   pub same_limit : core.limit ≡ limits.waiting
-  pub keeps : Keeps begin now
+  pub keeps : Keeps turns begin now
   pub quiet : WasQuiet unheard.quiets begin now
 
 pub first_turn : (limits : Limits) (o : Outside) → IsOpen Client o → IsOpen Target o
@@ -73,32 +73,32 @@ module _ (limits : Limits) (begin old : Outside) (turns : ℕ) (core : CoreState
     (now : IsOnTurn limits begin old turns core unheard) where
   -- what came ended it
   pub hears_last : (new : Outside) (ending : Ending) → turns < limits.turns
-      → HearsEnd limits old new core unheard ending → Keeps old new → Ran limits begin new core ending
+      → HearsEnd limits old new core unheard ending → Keeps 1 old new → Ran limits begin new core ending
   hears_last new ending more hears keeps = record {
     turns = turns + 1;
     has_ended = hears.stopped turns more begin now.follows;
-    keeps = keeps_on now.keeps keeps;
+    keeps = keeps_within (omega (arith, more)) (keeps_on now.keeps keeps);
     blames = blames_on new ending now.keeps hears.blames;
     idles = λ is. absurd (hears.awake is);
   }
 
   -- it ended while what came was handled
   pub handles_last : (middle new : Outside) (core' : CoreState) (unheard' : Unheard) (ending : Ending)
-      → turns < limits.turns → Hears limits old middle core unheard unheard' → Keeps old middle
+      → turns < limits.turns → Hears limits old middle core unheard unheard' → Keeps 1 old middle
       → Stops middle new core core' unheard' ending → Ran limits begin new core' ending
   handles_last middle new core' unheard' ending more hears keeps stops =
       let kept = keeps_on now.keeps keeps in
       record {
         turns = turns + 1;
         has_ended = stops.stopped limits (turns + 1) now.same_limit begin (hears.leads turns more begin now.follows);
-        keeps = keeps_on kept stops.keeps;
+        keeps = keeps_within (omega (arith, more)) (keeps_on kept stops.keeps);
         blames = blames_on new ending kept stops.blames;
         idles = λ is. absurd (stops.awake is);
       }
 
   -- a whole turn
   pub turns_on : (middle new : Outside) (core' : CoreState) (unheard' unheard'' : Unheard) → turns < limits.turns
-      → Hears limits old middle core unheard unheard' → Keeps old middle
+      → Hears limits old middle core unheard unheard' → Keeps 1 old middle
       → GoesOn middle new core core' unheard' unheard'' → IsWaiting limits (session_in core' unheard'')
       → IsOnTurn limits begin new (turns + 1) core' unheard''
   turns_on middle new core' unheard' unheard'' more hears keeps on waits = record {
@@ -112,14 +112,14 @@ module _ (limits : Limits) (begin old : Outside) (turns : ℕ) (core : CoreState
   }
 
   -- it ends where it waits
-  ends_here : (ending : Ending) → Cause limits turns (session_in core unheard) ending [] 0 → Blames old old ending
-      → Idles limits begin old ending → Ran limits begin old core ending
-  ends_here ending cause blames idles = record {
+  ends_here : (ending : Ending) → turns ≤ limits.turns → Cause limits turns (session_in core unheard) ending [] 0
+      → Blames old old ending → Idles limits begin old ending → Ran limits begin old core ending
+  ends_here ending most cause blames idles = record {
     turns = turns;
     has_ended = stopped_here limits old turns (session_in core unheard) core ending cause
         (words_here old core (session_in core unheard) ending now.may_take.unspoken now.may_take.client
         (λ near. now.may_take.target near now.waits.not_ended) refl refl refl) begin now.follows;
-    keeps = now.keeps;
+    keeps = keeps_within most now.keeps;
     blames = blames_on old ending now.keeps blames;
     idles = idles;
   }
@@ -129,7 +129,7 @@ module _ (limits : Limits) (begin old : Outside) (turns : ℕ) (core : CoreState
       → Ran limits begin old core Idle
   is_idle more most least =
       let all : unheard.quiets ≡ limits.quiet = omega (arith, most, least) in
-      ends_here Idle (Cause.idle now.waits more all) (record {
+      ends_here Idle (omega (arith, more)) (Cause.idle now.waits more all) (record {
         client = λ is_link. cc;
         target = λ is_link. cc;
         client_lost = λ is_link. cc;
@@ -139,7 +139,8 @@ module _ (limits : Limits) (begin old : Outside) (turns : ℕ) (core : CoreState
 
   -- all turns are taken
   pub is_spent : turns ≡ limits.turns → Ran limits begin old core Spent
-  is_spent all = ends_here Spent (Cause.spent now.waits all) (no_link old Spent tt) (λ is. cc)
+  is_spent all =
+      ends_here Spent (omega (arith, all)) (Cause.spent now.waits all) (no_link old Spent tt) (λ is. cc)
 
   -- what was heard so far may be followed by more
   pub may_hear : unheard.quiets < limits.quiet → MayHear limits old core unheard
@@ -150,7 +151,7 @@ pub runs_short : (limits : Limits) (o : Outside) (core : CoreState) → Ran limi
 runs_short limits o core = record {
   turns = 0;
   has_ended = HasEnded.forgets (begins limits o);
-  keeps = keeps_same o;
+  keeps = keeps_within (omega arith) (keeps_same o);
   blames = no_link o NoMemory tt;
   idles = λ is. cc;
 }
@@ -177,13 +178,13 @@ pub served : (limits : Limits) (old middle new : Outside) (core : CoreState) (en
     → Ran limits old middle core ending → Says middle new core ending result → Served old new limits result
 served limits old middle new core ending result ran (Says.all silent) = record {
   session = session_so limits old new ran.turns ending (silent.leads limits old ran.turns ran.has_ended);
-  keeps = keeps_on ran.keeps silent.keeps;
+  keeps = keeps_within (omega arith) (keeps_on ran.keeps silent.keeps);
   blames = blames_then ending ran.keeps ran.blames silent.keeps;
   idles = λ is. quiet_then (ran.idles is) silent.keeps;
 }
 served limits old middle new core ending result ran (Says.no_memory silent) = record {
   session = session_so limits old new ran.turns NoMemory (silent.leads limits old ran.turns ran.has_ended);
-  keeps = keeps_on ran.keeps silent.keeps;
+  keeps = keeps_within (omega arith) (keeps_on ran.keeps silent.keeps);
   blames = record {
     client = λ is_link. cc;
     target = λ is_link. cc;
@@ -204,7 +205,7 @@ served_nothing limits o = record {
     log = adds_none o.log;
     left = IsLeft.no_memory Going.begins;
   };
-  keeps = keeps_same o;
+  keeps = keeps_within (omega arith) (keeps_same o);
   blames = no_link o NoMemory tt;
   idles = λ is. cc;
 }

@@ -7,7 +7,7 @@ use Rattle.bridge_serve.specs.Following.{FallsSilent, HasEnded, HasWords, IsCoun
 use Rattle.bridge_serve.specs.Following.{lacks_memory, nothing_heard}
 use Rattle.bridge_serve.specs.Names.{Client, Ending, Entry, Limits, NoMemory, Out, Side, Target}
 use Rattle.bridge_serve.proofs.LastWords.{each_map, same_bytes, word_some_bytes}
-use Rattle.bridge_serve.proofs.Logs.{adds_more, keeps_on, keeps_open, keeps_other, keeps_same}
+use Rattle.bridge_serve.proofs.Logs.{adds_more, keeps_on, keeps_open, keeps_other, keeps_same, no_wait}
 use Rattle.machine_model.specs.Runs.{Message}
 use Rattle.session_model.proofs.EndedRules.{breaks_off, says_next}
 use Rattle.session_model.specs.LastWords.{LastWord, last_word_said, word_bytes, word_side}
@@ -108,7 +108,7 @@ module _ {ending : Ending} {core core' : CoreState} {side : Side} {bytes : List 
       → sends old new side bytes → SaysOne old new core core' ending
   says_one old new caused speakable sent = record {
     leads = λ limits begin turns h. said_at limits begin old new turns ending refl caused sent h;
-    keeps = keeps_open sent.counts sent.asked sent.stays;
+    keeps = keeps_open sent.counts (no_wait sent.waits) sent.asked sent.stays;
     speakable = speakable_on old new sent.stays speakable;
   }
 
@@ -148,7 +148,7 @@ module _ {ending : Ending} {core core' : CoreState} {side : Side} {bytes : List 
       → FallsSilent old new core ending ending
   falls_silent old new caused failed = record {
     leads = λ limits begin turns h. broken_at limits begin old new turns ending refl caused failed h;
-    keeps = keeps_other side failed.counts failed.asked failed.closes;
+    keeps = keeps_other side failed.counts (no_wait failed.waits) failed.asked failed.closes;
   }
 
 -- all were said

@@ -147,7 +147,7 @@ module _ (limits : Limits) where
   pub record Ran (old new : Outside) (core : CoreState) (ending : Ending) : Type 0 where
     pub turns : ℕ
     pub has_ended : HasEnded old new turns core ending
-    pub keeps : Keeps old new
+    pub keeps : Keeps limits.turns old new
     pub blames : Blames old new ending
     pub idles : Idles limits old new ending
 
@@ -157,7 +157,7 @@ module _ (limits : Limits) where
 pub record GoesOn (old new : Outside) (core core' : CoreState) (unheard unheard' : Unheard) : Type 0 where
   pub leads : (limits : Limits) (turns : ℕ) → core.limit ≡ limits.waiting
       → Leads limits old turns (session_in core unheard) new turns (session_in core' unheard')
-  pub keeps : Keeps old new
+  pub keeps : Keeps 0 old new
   pub may_take : MayTake new core' unheard'
   pub same_limit : core'.limit ≡ core.limit
   pub same_ends : SameEnds unheard unheard'
@@ -166,7 +166,7 @@ pub record GoesOn (old new : Outside) (core core' : CoreState) (unheard unheard'
 pub record Stops (old new : Outside) (core core' : CoreState) (unheard : Unheard) (ending : Ending) : Type 0 where
   pub stopped : (limits : Limits) (turns : ℕ) → core.limit ≡ limits.waiting
       → Stopped limits old turns (session_in core unheard) new turns core' ending
-  pub keeps : Keeps old new
+  pub keeps : Keeps 0 old new
   pub blames : Blames old new ending
   pub awake : ending ≡ Idle → ⊥
 
@@ -200,7 +200,7 @@ pub record HearsEnd (limits : Limits) (old new : Outside) (core : CoreState) (un
 pub record CoreGoesOn (old new : Outside) (core core' : CoreState) : Type 0 where
   pub leads : (limits : Limits) (unheard : Unheard) (turns : ℕ) → core.limit ≡ limits.waiting
       → Leads limits old turns (session_in core unheard) new turns (session_in core' unheard)
-  pub keeps : Keeps old new
+  pub keeps : Keeps 0 old new
   pub may_tell : MayTell new core'
   pub same_greeted : core'.machine.state.greeting_heard ≡ core.machine.state.greeting_heard
   pub same_limit : core'.limit ≡ core.limit
@@ -209,7 +209,7 @@ pub record CoreGoesOn (old new : Outside) (core core' : CoreState) : Type 0 wher
 pub record CoreStops (old new : Outside) (core core' : CoreState) (ending : Ending) : Type 0 where
   pub stopped : (limits : Limits) (unheard : Unheard) (turns : ℕ) → core.limit ≡ limits.waiting
       → Stopped limits old turns (session_in core unheard) new turns core' ending
-  pub keeps : Keeps old new
+  pub keeps : Keeps 0 old new
   pub blames : Blames old new ending
   pub awake : ending ≡ Idle → ⊥
 
@@ -231,14 +231,14 @@ pub data HandlesLast (hears : CoreState → Type 0) (refuses : CoreState → End
 pub record SaysOne (old new : Outside) (core core' : CoreState) (ending : Ending) : Type 0 where
   pub leads : (limits : Limits) (begin : Outside) (turns : ℕ) → HasEnded limits begin old turns core ending
       → HasEnded limits begin new turns core' ending
-  pub keeps : Keeps old new
+  pub keeps : Keeps 0 old new
   pub speakable : Speakable new (words_left ending core')
 
 -- all were said, up to the first that can't be, or memory ran out
 pub record FallsSilent (old new : Outside) (core : CoreState) (ending result : Ending) : Type 0 where
   pub leads : (limits : Limits) (begin : Outside) (turns : ℕ) → HasEnded limits begin old turns core ending
       → IsOver limits begin new turns result
-  pub keeps : Keeps old new
+  pub keeps : Keeps 0 old new
 
 -- the ending stays, but for want of memory
 pub data Says (old new : Outside) (core : CoreState) (ending : Ending) : Ending → Type 0 where
@@ -248,6 +248,6 @@ pub data Says (old new : Outside) (core : CoreState) (ending : Ending) : Ending 
 -- a call served a session within these limits, and it ended so
 pub record Served (old new : Outside) (limits : Limits) (ending : Ending) : Type 0 where
   pub session : IsSession old new limits ending
-  pub keeps : Keeps old new
+  pub keeps : Keeps limits.turns old new
   pub blames : Blames old new ending
   pub idles : Idles limits old new ending

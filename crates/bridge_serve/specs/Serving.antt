@@ -7,10 +7,11 @@ use Rattle.wire_core.specs.Outside.{Counts, IsOpen, Outside, Rose, last_count, l
 abbrev pub IsClosed : Side → Outside → Type 0
 IsClosed side o = (link_of side o).is_open ≡ false
 
--- No count fell, no other name was asked for, and a side that was closed is closed. The last says something only of the
--- calls inside a session, since both sides are open where it begins.
-pub record Keeps (old new : Outside) : Type 0 where
+-- No count fell, at most so many waits were made, no other name was asked for, and a side that was closed is closed. The
+-- last says something only of the calls inside a session, since both sides are open where it begins.
+pub record Keeps (most : ℕ) (old new : Outside) : Type 0 where
   pub counts : Counts old new
+  pub waits : new.waits ≤ old.waits + most
   pub asked : new.asked ≡ old.asked
   pub client_closed : IsClosed Client old → IsClosed Client new
   pub target_closed : IsClosed Target old → IsClosed Target new

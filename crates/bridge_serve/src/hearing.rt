@@ -28,7 +28,7 @@ pub(crate) fn hear<W: Wires>(
     ensures client_grows { OnOk result (client_end inputs.new ≤ client_end inputs.old + 65536) }
     ensures target_grows { OnOk result (target_end inputs.new ≤ target_end inputs.old + 65536) }
     ensures quiets { inputs.new.quiets ≤ inputs.old.quiets + 1 }
-    ensures keeps { Keeps (W.outside wires.old) (W.outside wires.new) }
+    ensures keeps { Keeps 1 (W.outside wires.old) (W.outside wires.new) }
     ensures err { IfErr result
         (λ ending. (limits : Limits) (core : CoreState) → MayHear limits (W.outside wires.old) core inputs.old
         → HearsEnd limits (W.outside wires.old) (W.outside wires.new) core inputs.old ending) }

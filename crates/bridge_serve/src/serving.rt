@@ -28,9 +28,10 @@ pub fn serve<W: Wires>(alloc: Global, limits: &Limits, wires: &mut W) -> Ending
     // What this call did to the wires is a session of the bridge that ended so.
     ensures session { IsSession (W.outside wires.old) (W.outside wires.new) limits.now result }
 
-    // No count fell. A link is blamed only where the count of its faults rose and it is closed, as a client is that has
-    // left. At `Idle` each side that is still open was asked in vain as often, over the whole call, as the limit says.
-    ensures keeps { Keeps (W.outside wires.old) (W.outside wires.new) }
+    // No count fell, and at most as many waits were made as the limit on turns says. A link is blamed only where the
+    // count of its faults rose and it is closed, as a client is that has left. At `Idle` each side that is still open was
+    // asked in vain as often, over the whole call, as the limit says.
+    ensures keeps { Keeps limits.now.turns (W.outside wires.old) (W.outside wires.new) }
     ensures blames { Blames (W.outside wires.old) (W.outside wires.new) result }
     ensures idles { Idles limits.now (W.outside wires.old) (W.outside wires.new) result }
 {

@@ -7,11 +7,12 @@ use Rattle.script_wires.specs.declared.journal.Journal.{Journal}
 
 -- all of it, the log among it
 abbrev pub outside_in : Journal → Outside
-outside_in j = outside_with (Some j.entries.items) j.links j.open_faults (names_of j.asked)
+outside_in j = outside_with (Some j.entries.items) j.waits j.links j.open_faults (names_of j.asked)
 
 -- nothing was logged, counted or asked for, and both sides are open
 pub record IsNewJournal (j : Journal) : Type 0 where
   pub log : (outside_in j).log ≡ Some []
+  pub waits : (outside_in j).waits ≡ 0
   pub client : (outside_in j).client ≡ fresh_link true
   pub target : (outside_in j).target ≡ fresh_link true
   pub open_faults : (outside_in j).open_faults ≡ 0

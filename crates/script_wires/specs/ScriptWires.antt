@@ -36,6 +36,7 @@ is_refused w = w.refused
 -- wires of which nothing was asked yet: both sides are open, and the session stands at the beginning of the script
 pub record IsNew (script : Script) (w : ScriptWires) : Type 0 where
   pub log : (outside_of w).log ≡ Some []
+  pub waits : (outside_of w).waits ≡ 0
   pub client : (outside_of w).client ≡ fresh_link true
   pub target : (outside_of w).target ≡ fresh_link true
   pub open_faults : (outside_of w).open_faults ≡ 0

@@ -4,7 +4,7 @@ ghost use Rattle.std.specs.Prelude.{◌↔◌};
 ghost use Rattle.wire_core.specs.declared.outside.Side.TheVariants.{Client, Target};
 ghost use Rattle.wire_core.specs.declared.outside.Happening.TheVariants.{Failed as fails};
 ghost use Rattle.wire_core.specs.declared.outside.Entry.TheVariants.{Out, Failed};
-ghost use Rattle.wire_core.specs.Outside.{entry_of, Adds, IsOpen, Connects, FailsToConnect};
+ghost use Rattle.wire_core.specs.Outside.{entry_of, Adds, IsOpen, Connects, FailsToConnect, SameWaits};
 ghost use Rattle.wire_core.specs.Links.{is_open_in, open_count, Counts, Keeps, IsWithin};
 ghost use Rattle.script_wires.specs.Rooms.{HasRoom, HasRoomLeft};
 
@@ -16,6 +16,7 @@ use wire_core::{Blob, Entry, Happening, Links, Names, NoMemory, OpenFailed, Side
 #[derive(Debug, Drop)]
 pub(crate) struct Journal {
     entries: Vec<Entry>,
+    pub(crate) waits: u64,
     links: Links,
     open_faults: u64,
     asked: Option<Names>,
@@ -107,6 +108,7 @@ impl Journal {
         entries.reserve(2)?;
         Ok(Journal {
             entries,
+            waits: 0,
             links: Links::new(true),
             open_faults: 0,
             asked: None,
@@ -150,6 +152,7 @@ impl Journal {
         requires { is_open_in self.old.links side ≡ true }
         ensures log { Adds (outside_in self.old) (outside_in self.new) (Failed side ∷ []) }
         ensures links { Counts (outside_in self.old) (outside_in self.new) (fails side) }
+        ensures waits { SameWaits (outside_in self.old) (outside_in self.new) }
     {
         add_reserved(&mut self.entries, Entry::Failed(side));
         self.links = self.links.after(Happening::Failed(side));
@@ -166,6 +169,7 @@ impl Journal {
         ensures log { OnOk result (Adds (outside_in self.old) (outside_in self.new)
             (entry_of buffer.now happening ∷ [])) }
         ensures links { OnOk result (Counts (outside_in self.old) (outside_in self.new) happening) }
+        ensures waits { SameWaits (outside_in self.old) (outside_in self.new) }
         ensures same { OnErr result (outside_in self.new ≡ outside_in self.old) }
         ensures kept { OnErr result (self.new.links ≡ self.old.links) }
     {
@@ -180,6 +184,7 @@ impl Journal {
     pub(crate) fn send(&mut self, alloc: Global, side: Side, bytes: &[u8]) -> Result<(), NoMemory>
         ensures log { OnOk result (Adds (outside_in self.old) (outside_in self.new) (Out side bytes.now ∷ [])) }
         ensures links { OnOk result (Keeps (outside_in self.old) (outside_in self.new)) }
+        ensures waits { SameWaits (outside_in self.old) (outside_in self.new) }
         ensures same { OnErr result (outside_in self.new ≡ outside_in self.old) }
         ensures kept { self.new.links ≡ self.old.links }
     {

@@ -1,14 +1,15 @@
 //! Wires that join a bridge to a scripted target.
 ghost use Rattle.std.specs.Prelude.{◌≡◌, ◌<◌, true, [], length, IfOk, IsOk, OnOk, OnErr, Some, ◌↔◌};
 ghost use Rattle.wire_core.specs.declared.outside.Side.TheVariants.{Client, Target};
-ghost use Rattle.wire_core.specs.Outside.{IsOpen, HasOpen, Connects, FailsToConnect, Hears, Sends, FailsToSend};
+ghost use Rattle.wire_core.specs.Outside.{IsOpen, HasOpen, Connects, FailsToConnect, Hears, SameWaits, Sends};
+ghost use Rattle.wire_core.specs.Outside.{FailsToSend};
 ghost use Rattle.wire_core.specs.Links.{is_open_in, first_open, IsPossible};
 
 use crate::journal::Journal;
 use crate::play::Play;
 use script_rows::Script;
 use std::alloc::Global;
-use wire_core::{Entry, Happening, NoMemory, OpenFailed, SendFailed, Side, Text, Wires};
+use wire_core::{Entry, Happening, NoMemory, OpenFailed, SendFailed, Side, Text, Wires, raise};
 
 /// Wires that join a bridge to a scripted target: what comes is what a script's schedule gives, and what is sent to the
 /// target is fed to it. They keep a log of all that came and went. When the schedule is used up, each side that is
@@ -57,7 +58,8 @@ impl ScriptWires {
     // Fails a side, for want of memory.
     fn refuse(&mut self, side: Side)
         requires { is_open_in (links_of self.old) side ≡ true }
-        ensures { Refuses self.old self.new side }
+        ensures refuses { Refuses self.old self.new side }
+        ensures waits { SameWaits (outside_of self.old) (outside_of self.new) }
     {
         self.journal.fail(side);
         self.refused = true;
@@ -69,6 +71,7 @@ impl ScriptWires {
         requires some_open { is_open_in (links_of self.old) (first_open (links_of self.old)) ≡ true }
         ensures ok { IfOk result (GivesNext self.old self.new buffer.new) }
         ensures possible { IfOk result (IsPossible (links_of self.old) 65536) }
+        ensures waits { SameWaits (outside_of self.old) (outside_of self.new) }
         ensures err { OnErr result (outside_of self.new ≡ outside_of self.old) }
         ensures kept { OnErr result (links_of self.new ≡ links_of self.old) }
     {
@@ -81,6 +84,7 @@ impl ScriptWires {
     // The target gets what is sent to it, and all is logged; where memory is refused, nothing is logged.
     fn pass_on(&mut self, side: Side, bytes: &[u8]) -> Result<(), NoMemory>
         ensures ok { OnOk result (SendsAll self.old self.new side bytes.now) }
+        ensures waits { SameWaits (outside_of self.old) (outside_of self.new) }
         ensures err { OnErr result (outside_of self.new ≡ outside_of self.old) }
         ensures kept { OnErr result (links_of self.new ≡ links_of self.old) }
     {
@@ -113,6 +117,7 @@ impl Wires for ScriptWires {
         ensures hears { Hears (outside_of self.old) (outside_of self.new) buffer.new result }
         ensures comes { NextOfScript self.old self.new buffer.new result }
     {
+        self.journal.waits = raise(self.journal.waits);
         match self.hear(buffer) {
             Ok(happening) => happening,
             Err(NoMemory) => {

@@ -5,7 +5,7 @@ use Rattle.wire_core.specs.declared.outside.Side.{Side}
 use Rattle.wire_core.specs.declared.outside.Side.TheVariants.{Client, Target}
 use Rattle.wire_core.specs.declared.outside.Happening.{Happening}
 use Rattle.wire_core.specs.declared.outside.Happening.TheVariants.{Bytes as came, Shut, Failed, Quiet}
-use Rattle.wire_core.specs.Outside.{Link, Outside, WasEmpty, other_side}
+use Rattle.wire_core.specs.Outside.{Link, Outside, SameWaits, WasEmpty, other_side}
 use Rattle.wire_edge.specs.declared.streams.Polled.{Polled}
 use Rattle.wire_edge.specs.declared.streams.Polled.TheVariants.{Bytes, Ended, Broken, Nothing}
 
@@ -40,6 +40,7 @@ pub record KeepsLink (old new : Link) : Type 0 where
 pub record Asks (old new : Outside) : Type 0 where
   pub client : KeepsLink old.client new.client
   pub target : KeepsLink old.target new.target
+  pub waits : SameWaits old new
   pub open_faults : new.open_faults ≡ old.open_faults
   pub asked : new.asked ≡ old.asked
 

@@ -50,6 +50,7 @@ pub struct TcpWires<R: Net> {
 /// What the wires tell of themselves.
 #[derive(Drop)]
 struct Tally {
+    waits: u64,
     links: Links,
     open_faults: u64,
     asked: Option<Names>,
@@ -58,6 +59,7 @@ struct Tally {
 impl<R: Net + Clock + Alloc + Drop> TcpWires<R> {
     /// Wires that are closed until `connect` opens them.
     pub fn new(rt: R) -> TcpWires<R>
+        ensures waits { (told_by result.tally).waits ≡ 0 }
         ensures links { IsFresh result.tally.links false }
         ensures open_faults { result.tally.open_faults ≡ 0 }
         ensures asked { (told_by result.tally).asked ≡ [] }
@@ -65,6 +67,7 @@ impl<R: Net + Clock + Alloc + Drop> TcpWires<R> {
         TcpWires {
             rt,
             tally: Tally {
+                waits: 0,
                 links: Links::new(false),
                 open_faults: 0,
                 asked: None,
@@ -342,6 +345,7 @@ impl<R: Net + Clock + Alloc + Drop> Wires for TcpWires<R> {
         ensures turn { GivesTurn self.new.turn result }
         ensures in_turn { InTurn self.old.turn (told_by self.old.tally) (told_by self.new.tally) result }
     {
+        self.tally.waits = raise(self.tally.waits);
         let happening = self.wait(buffer);
         if happening != Happening::Quiet {
             self.tally.links = self.tally.links.after(happening);

@@ -8,6 +8,7 @@ returns c =
     let fresh : IsNewJournal c.in_ok-journal.journal = c.in_ok-journal.ensures in
     record {
       log = fresh.log;
+      waits = fresh.waits;
       client = fresh.client;
       target = fresh.target;
       open_faults = fresh.open_faults;
