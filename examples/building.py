@@ -3,9 +3,14 @@
 Each trouble is said in one line, and ends the script with status 2.
 """
 import os
+import sys
+
+NAME = os.path.basename(sys.argv[0])
+if sys.version_info < (3, 8):
+    sys.exit("%s: Python 3.8 or later is needed, and this is %d.%d" % (NAME, *sys.version_info[:2]))
+
 import shutil
 import subprocess
-import sys
 import time
 from concurrent.futures import FIRST_COMPLETED, ThreadPoolExecutor, wait
 
@@ -19,12 +24,16 @@ PATIENCE = 60
 
 def stop(text):
     """Ends the script with one line."""
-    print("%s: %s" % (os.path.basename(sys.argv[0]), text), file=sys.stderr)
+    print("%s: %s" % (NAME, text), file=sys.stderr)
     sys.exit(2)
 
 
 def plainly(main):
-    """Runs a script to its end. What stops it from the outside is said in one line."""
+    """Runs a script to its end, or prints what stands at its front where its first word asks for help. What stops it
+    from the outside is said in one line."""
+    if sys.argv[1:2] in (["-h"], ["--help"]):
+        print(sys.modules["__main__"].__doc__.strip())
+        sys.exit(0)
     try:
         sys.exit(main())
     except KeyboardInterrupt:
@@ -68,7 +77,7 @@ def built():
 
 
 def prove_all(uses, lanes, log):
-    """Proves the crates side by side, each behind those that it uses, and first those that most of the work waits for."""
+    """Proves the crates side by side, each behind those that it uses, and first those that most work waits for."""
     left, proved, running = sorted(uses, key=work_behind(uses), reverse=True), set(), {}
     with ThreadPoolExecutor(lanes) as pool:
         while left or running:

@@ -17,9 +17,6 @@ import signal
 import subprocess
 import sys
 
-if sys.version_info < (3, 8):
-    sys.exit("first_session.py: Python 3.8 or later is needed, and this is %d.%d" % sys.version_info[:2])
-
 from building import PATIENCE, PROGRAM, TOP, plainly, program_of
 from java_machine import lacking
 from over_tcp import CAPABILITIES, Client, dial

@@ -30,9 +30,9 @@ import tempfile
 import threading
 import time
 
-from building import PATIENCE, USAGE
+from building import PATIENCE, USAGE, plainly, program_of
 from many_threads import ATTACH, HANDSHAKE, receive, reply
-from over_tcp import INITIALIZED, DISCONNECTED, Bridge, Client, built, dial, request, unsupported
+from over_tcp import INITIALIZED, DISCONNECTED, Bridge, Client, dial, request, unsupported
 
 TERMINATED = b'{"event":"terminated","seq":2,"type":"event"}'
 DISPOSE = struct.pack(">IIBBB", 11, 4, 0, 1, 6)
@@ -242,7 +242,7 @@ def in_the_background(program):
         lead(program)
     heard = b""
     try:
-        while piece := os.read(terminal, 1000):
+        for piece in iter(lambda: os.read(terminal, 1000), b""):
             heard += piece
     except OSError:
         pass
@@ -280,7 +280,7 @@ def over_links(case, program):
 
 
 def main():
-    program = sys.argv[1] if len(sys.argv) > 1 else built()
+    program = program_of(sys.argv[1:])
     broken = 0
     runs = [(case, over_links, (case, program)) for case in LINKS] + [(case, case, (program,)) for case in ALONE]
     for case, run, given in runs:
@@ -295,4 +295,4 @@ def main():
 
 
 if __name__ == "__main__":
-    sys.exit(main())
+    plainly(main)

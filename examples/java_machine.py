@@ -83,7 +83,8 @@ class JavaProgram:
         self.process.wait()
 
     def wait_until_up(self):
-        """Reads its first line. From there on it listens for a debugger, and runs no thread more but where it is told."""
+        """Reads its first line. From there on it listens for a debugger, and runs no more threads but where it is
+        told."""
         if self.process.stdout.readline() != UP:
             raise EOFError("the Java program isn't up: %s" % self.errors())
 

@@ -267,7 +267,7 @@ def a_thousand_hits(java, bridge, session):
     number = hit(session, [1])
     hits = 1
     go_on(session, number)
-    while (event := session.event()) != TERMINATED:
+    for event in iter(session.event, TERMINATED):
         has_to_be("the stop behind %d others" % hits, event, stopped(number, [1]))
         hits += 1
         go_on(session, number)
@@ -367,7 +367,7 @@ def as_printed(java, session, told):
 def printed_of_things(java):
     """Numbers of things, and of each the lines of its children, as stops/Shown.java prints them."""
     things = []
-    while line := java.process.stdout.readline().decode().rstrip("\n"):
+    for line in iter(lambda: java.process.stdout.readline().decode().rstrip("\n"), ""):
         if line.startswith("> "):
             things.append((int(line[2:]), []))
         else:

@@ -19,7 +19,7 @@ import time
 
 from building import plainly, program_of
 from many_threads import HANDSHAKE, IN_FLIGHT, PIECE, SIZES, cut, receive
-from over_tcp import Bridge, request
+from over_tcp import Bridge, pieces, request
 from round_trips import processor_seconds
 
 PACKAGES = 10
@@ -86,7 +86,7 @@ def serve_target(stream, log, fixed, lines):
     try:
         stream.sendall(receive(stream, len(HANDSHAKE)))
         pending = b""
-        while piece := stream.recv(PIECE):
+        for piece in pieces(stream):
             packets, pending = cut(pending + piece)
             replies = b""
             for packet in packets:

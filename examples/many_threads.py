@@ -15,7 +15,7 @@ import sys
 import time
 
 from building import plainly, program_of
-from over_tcp import Bridge, request
+from over_tcp import Bridge, pieces, request
 from round_trips import processor_seconds
 
 COUNTS = (100, 1000, 5000, 40000)
@@ -77,7 +77,7 @@ def serve_target(stream, count):
     try:
         stream.sendall(receive(stream, len(HANDSHAKE)))
         pending = b""
-        while piece := stream.recv(PIECE):
+        for piece in pieces(stream):
             packets, pending = cut(pending + piece)
             if packets:
                 stream.sendall(b"".join(reply(packet, count) for packet in packets))

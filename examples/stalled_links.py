@@ -1,5 +1,5 @@
 #!/usr/bin/env python3
-"""Measures what the program takes of a core, and how its memory grows, while a peer stalls: each case is kept or broken.
+"""Measures what the program takes of a core, and how its memory grows, while a peer stalls: a case is kept or broken.
 
 - A client that sends requests as long as they are taken, and never reads.
 - A target that neither reads nor answers, while the client asks for threads again and again.
