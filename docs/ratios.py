@@ -10,7 +10,7 @@ import os
 import sys
 from xml.sax.saxutils import escape
 
-from drawings import WIDTH, write
+from drawings import write
 
 DOCUMENT = os.path.join(os.path.dirname(os.path.abspath(__file__)), "PERFORMANCE.md")
 

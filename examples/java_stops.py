@@ -42,7 +42,6 @@ import signal
 import subprocess
 import sys
 import tempfile
-import time
 
 from building import plainly, program_of
 from java_machine import DEBUGGER, EXAMPLES, JavaProgram, compiled, hits_by_jdi, lacking

@@ -8,7 +8,6 @@ comes.
 
 usage: examples/round_trips.py [PROGRAM]
 """
-import os
 import random
 import socket
 import sys
