@@ -21,7 +21,7 @@ SECTIONS = [
     ("Round trips", "{0}", {"bridge, after 20 ms": 3}),
     ("Many threads", "{0} threads", {"5,000 threads": 1.3}),
     ("Stops", "{0} hits, each held for {1}", {}),
-    ("Reading a stop", "{0}", {"a stop, one request after another": 1.2, "a stop, in one piece": 1}),
+    ("Reading a stop", "{0}", {"a stop, one by one": 1.2, "a stop, in one piece": 1}),
     ("Replaying", "a log of {0} entries", {None: 3}),
     ("Breakpoints over many classes", "{0} classes of {1} methods, {2} others, {3} files", {None: 3}),
 ]
