@@ -20,7 +20,6 @@ usage: bench/reads.py [PROGRAM]
 import json
 import os
 import re
-import signal
 import socket
 import statistics
 import subprocess
@@ -245,19 +244,15 @@ def weigh_numbers(program, classes, line):
 
 
 def main():
-    signal.signal(signal.SIGTERM, lambda *_: sys.exit(130))
     why = lacking("java", "javac")
     if why:
         stop(why)
     program, line = program_of(sys.argv[1:]), line_of(SOURCE, "onSpinWait()")
-    try:
-        with tempfile.TemporaryDirectory() as folder:
-            classes = compiled(folder, os.path.join(EXAMPLES, SOURCE), DEBUGGER, READER)
-            compare_stops(program, classes, line)
-            compare_elements(program, classes, line)
-            weigh_numbers(program, classes, line)
-    except (ValueError, LookupError) as trouble:
-        stop(str(trouble))
+    with tempfile.TemporaryDirectory() as folder:
+        classes = compiled(folder, os.path.join(EXAMPLES, SOURCE), DEBUGGER, READER)
+        compare_stops(program, classes, line)
+        compare_elements(program, classes, line)
+        weigh_numbers(program, classes, line)
     return 0
 
 

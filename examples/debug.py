@@ -20,10 +20,8 @@ import contextlib
 import json
 import os
 import re
-import signal
 import socket
 import subprocess
-import sys
 import tempfile
 import time
 
@@ -192,7 +190,6 @@ def run(chosen, folder, running):
 
 def main():
     chosen = options()
-    signal.signal(signal.SIGTERM, lambda *_: sys.exit(130))
     with tempfile.TemporaryDirectory() as folder, contextlib.ExitStack() as running:
         return run(chosen, folder, running)
 

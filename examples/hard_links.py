@@ -29,8 +29,9 @@ import sys
 import tempfile
 import threading
 import time
+from functools import partial
 
-from building import PATIENCE, USAGE, plainly, program_of
+from building import PATIENCE, USAGE, plainly, program_of, tried
 from many_threads import ATTACH, HANDSHAKE, receive, reply
 from over_tcp import INITIALIZED, DISCONNECTED, Bridge, Client, dial, request, unsupported
 
@@ -281,17 +282,8 @@ def over_links(case, program):
 
 def main():
     program = program_of(sys.argv[1:])
-    broken = 0
     runs = [(case, over_links, (case, program)) for case in LINKS] + [(case, case, (program,)) for case in ALONE]
-    for case, run, given in runs:
-        try:
-            kept = run(*given)
-        except (OSError, EOFError, subprocess.SubprocessError) as trouble:
-            print(trouble)
-            kept = False
-        print(case.__name__, "kept" if kept else "BROKEN")
-        broken += not kept
-    return 1 if broken else 0
+    return tried((case.__name__, partial(run, *given)) for case, run, given in runs)
 
 
 if __name__ == "__main__":
