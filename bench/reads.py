@@ -7,8 +7,8 @@ same. Printed are milliseconds, the median of each run and of these, the ratio, 
 
 - a stop: all threads, fourteen frames, and the variables of the upper one, at 1,000 hits. The client asks `threads`,
   `stackTrace`, `scopes` and `variables`, each once the one before is answered; and once more all in one piece, since it
-  can tell the numbers ahead. And a whole cycle of the same hits: from where one is resumed to the end of the read at the
-  next one.
+  can tell the numbers ahead. And a whole cycle of the same hits: from where one is resumed to the end of the read at
+  the next one.
 - 100, 1,000 and 10,000 elements of an array, of five kinds in turn: objects, strings, arrays, numbers as objects, null.
   Other elements are read before, so that all is warm.
 
@@ -20,7 +20,6 @@ usage: bench/reads.py [PROGRAM]
 import json
 import os
 import re
-import signal
 import socket
 import statistics
 import subprocess
@@ -96,7 +95,7 @@ def by_jdi(classes, line, words, numbers=()):
     found = READ.fullmatch(said.stdout.decode())
     if not found:
         raise ValueError("the debugger by the Java Debug Interface says %r" % said.stdout)
-    return int(found[1]), *([float(word) for word in found[place].split()] for place in (2, 3))
+    return (int(found[1]), *([float(word) for word in found[place].split()] for place in (2, 3)))
 
 
 def by_bridge(program, classes, line, words, read):
@@ -245,19 +244,15 @@ def weigh_numbers(program, classes, line):
 
 
 def main():
-    signal.signal(signal.SIGTERM, lambda *_: sys.exit(130))
     why = lacking("java", "javac")
     if why:
         stop(why)
     program, line = program_of(sys.argv[1:]), line_of(SOURCE, "onSpinWait()")
-    try:
-        with tempfile.TemporaryDirectory() as folder:
-            classes = compiled(folder, os.path.join(EXAMPLES, SOURCE), DEBUGGER, READER)
-            compare_stops(program, classes, line)
-            compare_elements(program, classes, line)
-            weigh_numbers(program, classes, line)
-    except (ValueError, LookupError) as trouble:
-        stop(str(trouble))
+    with tempfile.TemporaryDirectory() as folder:
+        classes = compiled(folder, os.path.join(EXAMPLES, SOURCE), DEBUGGER, READER)
+        compare_stops(program, classes, line)
+        compare_elements(program, classes, line)
+        weigh_numbers(program, classes, line)
     return 0
 
 

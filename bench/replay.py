@@ -1,5 +1,5 @@
 #!/usr/bin/env python3
-"""Measures `replay` over a long session log, beside a plain loop that reads the same lines as JSON and writes them again.
+"""Measures `replay` over a long session log, beside a plain loop that reads the same lines as JSON and writes them.
 
 The log is of a client that attaches and then asks for the threads again and again, of a target with one thread: the
 program makes it itself from what came in, and both get the whole. They run in turn, five times each, over logs of

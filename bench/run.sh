@@ -1,13 +1,18 @@
 #!/bin/sh
-# Cuts 256 MiB of frames of 200 bytes and of packets of 60, in pieces of 65,536 and of 7 bytes, and reads a million small
-# requests: the bridge and a plain Rust loop over the same bytes in turn, five runs each. Printed is the least processor
-# time of each, in nanoseconds a byte, and their ratio. With COMMIT the bridge runs with the frames' cutter of that commit
-# too, in the same turns, to tell what a change of the cutter costs.
+# Cuts 256 MiB of frames of 200 bytes and of packets of 60, in pieces of 65,536 and of 7 bytes, and reads a million
+# small requests: the bridge and a plain Rust loop over the same bytes in turn, five runs each. Printed is the least
+# processor time of each, in nanoseconds a byte, and their ratio. With COMMIT the bridge runs with the frames' cutter of
+# that commit too, in the same turns, to tell what a change of the cutter costs.
 #
 # usage: bench/run.sh [COMMIT]
 set -e
+stop() { echo "run.sh: $1" >&2; exit 2; }
+for tool in rustc rt python3 git; do
+    command -v "$tool" >/dev/null || stop "there is no $tool in the path"
+done
 here=$(cd "$(dirname "$0")" && pwd)
 top=$(dirname "$here")
+[ -z "$1" ] || git -C "$top" rev-parse -q --verify "$1^{commit}" >/dev/null || stop "there is no commit $1"
 work=$(mktemp -d)
 trap 'rm -rf "$work"' EXIT
 rustc -O -o "$work/streams" "$here/streams.rs"

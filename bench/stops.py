@@ -10,7 +10,6 @@ that the bridge takes for a hit, and the ratio.
 usage: bench/stops.py [PROGRAM]
 """
 import os
-import signal
 import socket
 import statistics
 import subprocess
@@ -99,16 +98,12 @@ def show(hits, hold, runs):
 
 
 def main():
-    signal.signal(signal.SIGTERM, lambda *_: sys.exit(130))
     why = lacking("java", "javac")
     if why:
         stop(why)
     program, line = program_of(sys.argv[1:]), line_of(SOURCE, "sum +=")
-    try:
-        for hits, hold in CASES:
-            show(hits, hold, measured(program, line, hits, hold))
-    except (ValueError, LookupError) as trouble:
-        stop(str(trouble))
+    for hits, hold in CASES:
+        show(hits, hold, measured(program, line, hits, hold))
     return 0
 
 

@@ -1,36 +1,46 @@
 #!/usr/bin/env python3
 """Draws the documents' pictures, layers.svg, session.svg and stop.svg, from the tables ROWS, SESSION and STOP.
 
+The layers have all crates of crates.txt but those for tests and for measuring. Where one is missing, or stands beside
+or below a crate that it uses, this says so in one line, and draws nothing.
+
 usage: docs/drawings.py
 """
 import os
+import sys
 from xml.sax.saxutils import escape
 
 WIDTH, HEIGHT, GAP = 1060, 46, 10
 LEFT, RIGHT = 150, 910
 PROVED, MODEL, EDGE, OUTSIDE = "#dceafa", "#e3f1dc", "#fbe3c8", "#ffffff"
 
-# A row is a list of boxes, each the share of the row's width, its colour, its name, and what it does.
+# A row is a list of boxes, each the share of the row's width, its colour, its name, and what it does. Each crate stands
+# on crates in the rows below its own.
 ROWS = [
     [(1, PROVED, "bridge_cmd", "the program, over what the edge gives")],
-    [(1, PROVED, "bridge_runs", "a run of the program: words in, a line and a status out")],
-    [(1, PROVED, "bridge_serve", "a session over wires")],
-    [(1, PROVED, "bridge_core", "a session over whole messages")],
-    [(0.6, PROVED, "talk_plans", "what is done for a request"), (0.5, PROVED, "talk_rows", "the parts of a request"),
-     (0.5, PROVED, "talk_events", "stops and news"), (0.6, PROVED, "talk_look_ups", "threads, frames, classes")],
-    [(0.5, PROVED, "look_ups", "what is asked and heard"), (0.44, PROVED, "child_pages", "pages of children"),
-     (0.56, PROVED, "expression_values", "what expressions are"), (0.5, PROVED, "talk_state", "what is known")],
-    [(0.6, PROVED, "session_facts", "the parts of what is known"),
-     (0.85, MODEL, "session_model", "which bytes are a session, and its laws"),
-     (0.7, PROVED, "scripts", "texts, worlds, targets, wires")],
-    [(0.8, MODEL, "machine_model", "what a session does, and its laws"),
-     (0.6, MODEL, "joint_model", "beside an obeying target"), (0.45, PROVED, "script_text", "texts of logs")],
-    [(0.37, PROVED, "dap_messages", "requests, responses"), (0.36, PROVED, "pending_table", "pending commands"),
-     (0.43, PROVED, "jdwp_commands", "commands, answers"), (0.3, PROVED, "wish_sets", "event requests"),
-     (0.28, PROVED, "stop_refs", "numbers told"), (0.3, PROVED, "value_views", "texts of values")],
-    [(0.42, PROVED, "dap_frames", "frames in any cutting"), (0.36, PROVED, "jdwp_packets", "packets"),
-     (0.34, PROVED, "jdwp_events", "events"), (0.32, PROVED, "jdwp_values", "ids, values"),
-     (0.34, PROVED, "class_tables", "facts of classes"), (0.34, PROVED, "field_exprs", "expressions")],
+    [(0.7, PROVED, "bridge_runs", "a run of the program: words in, a line and a status out"),
+     (0.3, MODEL, "scripted_joints", "a scripted target obeys JDWP")],
+    [(0.5, PROVED, "bridge_serve", "a session over wires"), (0.25, PROVED, "script_files", "texts of scripts"),
+     (0.25, PROVED, "script_wires", "wires over a script")],
+    [(0.5, PROVED, "bridge_core", "a session over whole messages"),
+     (0.25, PROVED, "target_scripts", "scripts, row by row"), (0.25, PROVED, "target_server", "a scripted target")],
+    [(0.5, PROVED, "talk_plans", "what is done for a request"), (0.25, PROVED, "script_rows", "lines of scripts"),
+     (0.25, PROVED, "script_worlds", "worlds of scripts")],
+    [(1, PROVED, "talk_rows", "the parts of a request"), (1, PROVED, "talk_events", "stops and news"),
+     (1, PROVED, "talk_look_ups", "threads, frames, classes")],
+    [(1, PROVED, "talk_state", "what is known"), (1, PROVED, "child_pages", "pages of children"),
+     (1, PROVED, "expression_values", "what expressions stand for")],
+    [(1, PROVED, "session_facts", "the parts of what is known"), (1, PROVED, "look_ups", "what is asked and heard"),
+     (1.1, MODEL, "session_model", "which bytes are a session"), (1, MODEL, "joint_model", "beside an obeying target")],
+    [(1.1, MODEL, "machine_model", "what a session does, and its laws"),
+     (1, PROVED, "world_model", "the world of a target"), (1, PROVED, "pending_table", "pending commands")],
+    [(1, PROVED, "jdwp_commands", "commands, and their answers"), (1, PROVED, "wish_sets", "event requests"),
+     (1, PROVED, "suspend_ledger", "suspensions")],
+    [(1, PROVED, "jdwp_events", "events, and modifiers"), (1, PROVED, "class_tables", "facts of classes"),
+     (1, PROVED, "stop_refs", "numbers of a stop"), (1, PROVED, "value_views", "texts of values")],
+    [(0.9, PROVED, "dap_frames", "frames"), (1.1, PROVED, "dap_messages", "messages"),
+     (1.1, PROVED, "jdwp_packets", "packets"), (1, PROVED, "jdwp_values", "ids, values"),
+     (0.9, PROVED, "field_exprs", "expressions"), (0.9, PROVED, "script_text", "texts of logs")],
     [(1, PROVED, "wire_core", "texts, lists, the outside as traits")],
     [(1, EDGE, "wire_edge", "TCP, disk, standard output: what the system did is trusted")],
 ]
@@ -66,6 +76,22 @@ STOP = [
     (">", "continue thread 2"), (">>", "Resume"), ("<<", "done"), ("<", "success: all threads run on"),
 ]
 STEP = 24
+HERE = os.path.dirname(os.path.abspath(__file__))
+
+
+def misplaced():
+    """Why the layers aren't those of crates.txt, in words; None where they are."""
+    with open(os.path.join(os.path.dirname(HERE), "crates.txt"), encoding="utf-8") as file:
+        listed = dict(line.split(":", 1) for line in file if ":" in line and not line.startswith("#"))
+    rows = {name: at for at, row in enumerate(reversed(ROWS)) for _, _, name, _ in row}
+    # The edge is drawn below what it stands on: it is where the bytes come from.
+    rows["wire_edge"] = rows["wire_core"] + 1
+    due = {name for name in listed if not name.endswith(("_tests", "_bench"))}
+    if due != set(rows):
+        return "not in both crates.txt and ROWS: %s" % ", ".join(sorted(due ^ set(rows)))
+    wrong = ["%s on %s" % (name, used) for name in rows for used in listed[name].split()
+             if rows.get(used, -1) >= rows[name]]
+    return "not above what it stands on: %s" % wrong[0] if wrong else None
 
 
 def box(x, y, width, height, colour, name, what=""):
@@ -114,8 +140,8 @@ def exchange(messages):
     rows = []
     for x in (editor, bridge, java):
         rows.append('<line x1="%g" y1="50" x2="%g" y2="%g" stroke="#99a"/>' % (x, x, bottom))
-    rows += box(editor - 60, 10, 120, 40, OUTSIDE, "editor") + box(bridge - 60, 10, 120, 40, PROVED, "bridge")
-    rows += box(java - 60, 10, 120, 40, OUTSIDE, "Java machine")
+    for x, colour, name in ((editor, OUTSIDE, "editor"), (bridge, PROVED, "bridge"), (java, OUTSIDE, "Java machine")):
+        rows += box(x - 70, 10, 140, 40, colour, name)
     for at, (way, text) in enumerate(messages):
         start, to = ways[way]
         inset = 3 if start < to else -3
@@ -131,12 +157,13 @@ def write(name, drawing):
     marker = ('<defs><marker id="head" markerWidth="9" markerHeight="8" refX="7" refY="4" orient="auto-start-reverse">'
               '<path d="M0,0 L8,4 L0,8 z" fill="#445"/></marker></defs>')
     ground = '<rect width="%d" height="%d" fill="#fff"/>' % (WIDTH, height)
-    path = os.path.join(os.path.dirname(os.path.abspath(__file__)), name)
-    with open(path, "w", encoding="utf-8") as file:
+    with open(os.path.join(HERE, name), "w", encoding="utf-8") as file:
         file.write("\n".join([head, style, marker, ground, *rows, "</svg>"]) + "\n")
 
 
 if __name__ == "__main__":
+    if misplaced():
+        sys.exit("drawings.py: %s" % misplaced())
     write("layers.svg", layers())
     write("session.svg", exchange(SESSION))
     write("stop.svg", exchange(STOP))

@@ -7,9 +7,10 @@ usage: docs/ratios.py
 """
 import math
 import os
+import sys
 from xml.sax.saxutils import escape
 
-from drawings import WIDTH, write
+from drawings import write
 
 DOCUMENT = os.path.join(os.path.dirname(os.path.abspath(__file__)), "PERFORMANCE.md")
 
@@ -19,30 +20,34 @@ SECTIONS = [
      {"frames in pieces of 65,536": 2, "packets in pieces of 65,536": 2}),
     ("Round trips", "{0}", {"bridge, after 20 ms": 3}),
     ("Many threads", "{0} threads", {"5,000 threads": 1.3}),
-    ("Breakpoints over many classes", "{0} classes of {1} methods, {2} others, {3} files", {None: 3}),
     ("Stops", "{0} hits, each held for {1}", {}),
-    ("Reading a stop", "{0}", {}),
+    ("Reading a stop", "{0}", {"a stop, one by one": 1.2, "a stop, in one piece": 1}),
+    ("Replaying", "a log of {0} entries", {None: 3}),
+    ("Breakpoints over many classes", "{0} classes of {1} methods, {2} others, {3} files", {None: 3}),
 ]
 TICKS = [0.125, 0.25, 0.5, 1, 2, 4, 8]
-LEFT, RIGHT, TOP, STEP = 420, 960, 56, 22
+LEFT, RIGHT, TOP, STEP = 400, 880, 56, 22
 DOT, GOAL, LINE, GRID = "#2b6cb0", "#c05621", "#445", "#d5d9e0"
 
 
 def tables():
-    """The rows of the table of each section, by its heading; a row is the list of its cells."""
-    found, heading = {}, ""
+    """The tables of each section, by its heading; a table is a list of rows, and a row the list of its cells."""
+    found, heading, is_within = {}, "", False
     with open(DOCUMENT, encoding="utf-8") as file:
         for line in file:
             if line.startswith("## "):
                 heading = line[3:].strip()
+                found[heading] = []
             elif line.startswith("|") and not line.startswith("|-"):
-                found.setdefault(heading, []).append([cell.strip() for cell in line.strip().strip("|").split("|")])
+                found[heading] += [] if is_within else [[]]
+                found[heading][-1].append([cell.strip() for cell in line.strip().strip("|").split("|")])
+            is_within = line.startswith("|")
     return found
 
 
-def ratios(rows, form):
+def ratios(table, form):
     """What each row is called, and its ratios as they are written; rows without one are left out."""
-    head, *rest = rows
+    head, *rest = table
     column = head.index("Ratio")
     return [(form.format(*cells), cells[column]) for cells in rest if cells[column]]
 
@@ -85,8 +90,9 @@ def section(y, heading, rows, goals):
 def plot():
     found, drawn, y = tables(), [], TOP + 20
     for heading, form, goals in SECTIONS:
-        rows, y = section(y, heading, ratios(found[heading], form), goals)
-        drawn += rows
+        rows = [row for table in found[heading] for row in ratios(table, form)]
+        lines, y = section(y, heading, rows, goals)
+        drawn += lines
     bottom = y - STEP
     grid = [upright(across(tick), TOP, bottom, LINE if tick == 1 else GRID) for tick in TICKS]
     grid += [text(across(tick), at, "%g" % tick) for tick in TICKS for at in (TOP - 8, bottom + 18)]
@@ -96,4 +102,7 @@ def plot():
 
 
 if __name__ == "__main__":
+    lacking = [heading for heading, *_ in SECTIONS if not tables().get(heading)]
+    if lacking:
+        sys.exit("ratios.py: PERFORMANCE.md has no table under: %s" % ", ".join(lacking))
     write("ratios.svg", plot())

@@ -1,9 +1,9 @@
 ;;; batch-session.el --- A session of dap-mode with the bridge, in batch -*- lexical-binding: t -*-
 
 ;;; Commentary:
-;; Attaches to the bridge that listens on BRIDGE_PORT, with breakpoints in examples/shop/Orders.java, which waits for its
-;; debugger.  Stops there, steps, shows variables and evaluates, sets a variable and a field, and goes on to the end.
-;; Prints what dap-mode knows of each.  `examples/emacs.py' runs this.
+;; Attaches to the bridge that listens on BRIDGE_PORT, with breakpoints in examples/shop/Orders.java, which waits for
+;; its debugger.  Stops there, steps, shows variables and evaluates, sets a variable and a field, and goes on to the
+;; end.  Prints what dap-mode knows of each.  `examples/emacs.py' runs this.
 
 ;;; Code:
 (setq debug-on-error nil

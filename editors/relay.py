@@ -2,7 +2,8 @@
 """Lets an editor that spawns its debug adapter speak with the bridge over standard input and output.
 
 Starts the program on a free port of this machine, connects to it, and hands bytes on in both directions. The line that
-the program prints goes to the standard error. The status is that of the program; 2 where it can't be started.
+the program prints goes to the standard error. The status is that of the program; 2 where it can't be started, 1 where
+the editor goes away without a byte.
 
 usage: editors/relay.py --target HOST:PORT [--program PROGRAM]
 
@@ -11,6 +12,7 @@ usage: editors/relay.py --target HOST:PORT [--program PROGRAM]
 """
 import argparse
 import os
+import signal
 import socket
 import subprocess
 import sys
@@ -19,6 +21,8 @@ import time
 
 TOP = os.path.dirname(os.path.dirname(os.path.abspath(__file__)))
 PROGRAM = os.path.join(TOP, "crates", "bridge_cmd", "out", "bridge_cmd")
+# How long the program may take to end behind its session, in seconds.
+LEAVE = 5
 
 
 def stop(text):
@@ -28,6 +32,7 @@ def stop(text):
 
 def options():
     words = argparse.ArgumentParser(usage="relay.py --target HOST:PORT [--program PROGRAM]")
+    words.error = stop
     words.add_argument("--target", required=True)
     words.add_argument("--program", default=PROGRAM)
     return words.parse_args()
@@ -54,7 +59,7 @@ def connected(bridge, port):
 def to_bridge(link):
     """Hands on what the editor says, up to its end."""
     try:
-        while piece := os.read(0, 65536):
+        for piece in iter(lambda: os.read(0, 65536), b""):
             link.sendall(piece)
         link.shutdown(socket.SHUT_WR)
     except OSError:
@@ -64,7 +69,7 @@ def to_bridge(link):
 def to_editor(link):
     """Hands on what the program says, up to its end, or until the editor reads no more."""
     try:
-        while piece := link.recv(65536):
+        for piece in iter(lambda: link.recv(65536), b""):
             while piece:
                 piece = piece[os.write(1, piece) :]
     except OSError:
@@ -72,7 +77,18 @@ def to_editor(link):
     link.close()
 
 
+def status_of(bridge):
+    """The status of the program. One that heard no byte of the editor would wait for another, and isn't waited for."""
+    try:
+        return bridge.wait(LEAVE)
+    except subprocess.TimeoutExpired:
+        return 1
+
+
 def main():
+    # Whatever ends this script, the program ends with it.
+    for number in (signal.SIGINT, signal.SIGTERM):
+        signal.signal(number, lambda number, _: sys.exit(128 + number))
     chosen = options()
     port = free_port()
     words = [chosen.program, "serve", "--listen", "127.0.0.1:%d" % port, "--target", chosen.target]
@@ -82,10 +98,12 @@ def main():
         stop("%s can't be started (%s); README.md says how it is built" % (chosen.program, trouble.strerror))
     try:
         link = connected(bridge, port)
-        if link:
-            threading.Thread(target=to_bridge, args=(link,), daemon=True).start()
-            to_editor(link)
-        return bridge.wait()
+        if not link:
+            print("relay.py: %s ended before it listened for the editor" % chosen.program, file=sys.stderr)
+            return bridge.returncode or 1
+        threading.Thread(target=to_bridge, args=(link,), daemon=True).start()
+        to_editor(link)
+        return status_of(bridge)
     finally:
         if bridge.poll() is None:
             bridge.kill()

@@ -17,7 +17,7 @@ import threading
 
 from building import PATIENCE, TOP, plainly, program_of
 from java_machine import DOWN, THREADS, JavaProgram, compiled, lacking, tool
-from over_tcp import Program, dial, request
+from over_tcp import Program, dial, pieces, request
 
 # A line of jdb's `threads`: `(CLASS)ID NAME STATE`, NAME padded with blanks.
 STATES = "unknown|not started|running|sleeping|waiting in a monitor|cond. waiting|zombie"
@@ -43,7 +43,7 @@ class Tap:
         back.join()
 
     def pass_on(self, mark, source, sink):
-        while piece := source.recv(65536):
+        for piece in pieces(source):
             print(mark, piece.decode() if piece == b"JDWP-Handshake" else piece.hex())
             sink.sendall(piece)
         try:

@@ -3,9 +3,15 @@
 Each trouble is said in one line, and ends the script with status 2.
 """
 import os
-import shutil
-import subprocess
 import sys
+
+NAME = os.path.basename(sys.argv[0])
+if sys.version_info < (3, 8):
+    sys.exit("%s: Python 3.8 or later is needed, and this is %d.%d" % (NAME, *sys.version_info[:2]))
+
+import shutil
+import signal
+import subprocess
 import time
 from concurrent.futures import FIRST_COMPLETED, ThreadPoolExecutor, wait
 
@@ -15,22 +21,43 @@ PROGRAM = os.path.join(CRATES, "bridge_cmd", "out", "bridge_cmd")
 LOG = os.path.join(TOP, "build.log")
 USAGE = "usage: bridge serve --listen A --target B, script FILE, replay LOG\n"
 PATIENCE = 60
+# What may go wrong around a script, and in what it compares.
+TROUBLES = (OSError, EOFError, ValueError, LookupError, subprocess.SubprocessError)
 
 
 def stop(text):
     """Ends the script with one line."""
-    print("%s: %s" % (os.path.basename(sys.argv[0]), text), file=sys.stderr)
+    print("%s: %s" % (NAME, text), file=sys.stderr)
     sys.exit(2)
 
 
 def plainly(main):
-    """Runs a script to its end. What stops it from the outside is said in one line."""
+    """Runs a script to its end, or prints what stands at its front where its first word asks for help. What is wrong is
+    said in one line. A signal ends it as Ctrl-C does, and with it what it started."""
+    signal.signal(signal.SIGTERM, lambda *_: sys.exit(130))
+    if sys.argv[1:2] in (["-h"], ["--help"]):
+        print(sys.modules["__main__"].__doc__.strip())
+        sys.exit(0)
     try:
         sys.exit(main())
     except KeyboardInterrupt:
         sys.exit(130)
-    except (OSError, EOFError, subprocess.SubprocessError) as trouble:
+    except TROUBLES as trouble:
         stop(str(trouble) or type(trouble).__name__)
+
+
+def tried(cases):
+    """Tries cases, each a name and a call, and prints of each whether it is kept. Gives the status: 0 where all are."""
+    broken = 0
+    for name, case in cases:
+        try:
+            is_kept = case()
+        except TROUBLES as trouble:
+            print(str(trouble) or type(trouble).__name__)
+            is_kept = False
+        print(name, "kept" if is_kept else "BROKEN", flush=True)
+        broken += not is_kept
+    return 1 if broken else 0
 
 
 def program_of(words):
@@ -68,7 +95,7 @@ def built():
 
 
 def prove_all(uses, lanes, log):
-    """Proves the crates side by side, each behind those that it uses, and first those that most of the work waits for."""
+    """Proves the crates side by side, each behind those that it uses, and first those that most work waits for."""
     left, proved, running = sorted(uses, key=work_behind(uses), reverse=True), set(), {}
     with ThreadPoolExecutor(lanes) as pool:
         while left or running:

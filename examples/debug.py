@@ -1,16 +1,17 @@
 #!/usr/bin/env python3
 """Starts a Java program with the bridge beside it, and says where an editor attaches.
 
-MAIN is a class, looked for in the class path, or a .java file, which is compiled first. The Java program runs with its
-own standard streams, and its words are those behind MAIN. One session is served. Whatever ends this script, Ctrl-C too,
-the Java program and the bridge end with it. Its status is that of the bridge; 2 where nothing was started, 130 after
-Ctrl-C.
+MAIN is a class, looked for in the class path, a .jar file, or a .java file, which is compiled first. The Java program
+runs with its own standard streams, and its words are those behind MAIN. One session is served. Whatever ends this
+script, Ctrl-C too, the Java program and the bridge end with it. Its status is that of the bridge; 2 where nothing was
+started, 130 after Ctrl-C.
 
 usage: examples/debug.py [--suspend] [--port N] [--class-path PATH] [--sources FOLDER] [--program PROGRAM] MAIN [WORD..]
 
   --suspend           the Java program waits before its first line, until the editor has set its breakpoints
   --port N            the port for the editor; without it a free one
-  --class-path PATH   where the classes are; without it the current folder, or where a .java file is compiled to
+  --class-path PATH   where the classes are; without it the current folder, or where a .java file is compiled to. A .jar
+                      file has its own
   --sources FOLDER    a root of sources, once or more; without it the current folder, or the root of a .java file
   --program PROGRAM   a built bridge; without it the one of this repository, which is built where it isn't yet
 """
@@ -19,15 +20,10 @@ import contextlib
 import json
 import os
 import re
-import signal
 import socket
 import subprocess
-import sys
 import tempfile
 import time
-
-if sys.version_info < (3, 8):
-    sys.exit("debug.py: Python 3.8 or later is needed, and this is %d.%d" % sys.version_info[:2])
 
 from building import PATIENCE, PROGRAM, plainly, program_of, stop
 from java_machine import AGENT, tool
@@ -43,16 +39,22 @@ PACKAGE = re.compile(r"^\s*package\s+([\w.]+)\s*;", re.MULTILINE)
 
 
 def options():
-    words = argparse.ArgumentParser(description=__doc__, formatter_class=argparse.RawDescriptionHelpFormatter,
-                                    usage=argparse.SUPPRESS)
-    words.add_argument("--suspend", action="store_true", help=argparse.SUPPRESS)
-    words.add_argument("--port", type=int, help=argparse.SUPPRESS)
-    words.add_argument("--class-path", help=argparse.SUPPRESS)
-    words.add_argument("--sources", action="append", help=argparse.SUPPRESS)
-    words.add_argument("--program", help=argparse.SUPPRESS)
-    words.add_argument("main", metavar="MAIN", help=argparse.SUPPRESS)
-    words.add_argument("words", nargs=argparse.REMAINDER, help=argparse.SUPPRESS)
+    words = argparse.ArgumentParser(add_help=False)
+    words.error = lambda text: stop("%s; with -h it says which words it takes" % text)
+    words.add_argument("--suspend", action="store_true")
+    words.add_argument("--port", type=port_number)
+    words.add_argument("--class-path")
+    words.add_argument("--sources", action="append")
+    words.add_argument("--program")
+    words.add_argument("main", metavar="MAIN")
+    words.add_argument("words", nargs=argparse.REMAINDER).required = False
     return words.parse_args()
+
+
+def port_number(word):
+    if not (word.isdecimal() and 0 < int(word) < 65536):
+        raise argparse.ArgumentTypeError("%s is no port from 1 to 65535" % word)
+    return int(word)
 
 
 def jdk_tool(name):
@@ -62,7 +64,7 @@ def jdk_tool(name):
 def read_source(path):
     """The class of a .java file, and the root of its sources: the folder that its package stands in."""
     try:
-        with open(path, encoding="utf-8") as file:
+        with open(path, encoding="utf-8", errors="replace") as file:
             package = PACKAGE.search(file.read())
     except OSError as trouble:
         stop("%s can't be read: %s" % (path, trouble.strerror))
@@ -93,14 +95,18 @@ def end(process):
             process.wait()
 
 
-def is_free(port):
-    with contextlib.suppress(OSError), socket.create_server(("127.0.0.1", port)):
-        return True
-    return False
+def checked_port(port):
+    """A port that can be listened at: the one that is named, or a free one."""
+    try:
+        socket.create_server(("127.0.0.1", port or 0)).close()
+    except OSError as trouble:
+        stop("nothing can listen at port %d: %s" % (port, os.strerror(trouble.errno)))
+    return port or free_port()
 
 
 def started(main, words, class_path, suspend, port):
-    java = [jdk_tool("java"), AGENT % ("y" if suspend else "n", port), "-cp", class_path]
+    java = [jdk_tool("java"), AGENT % ("y" if suspend else "n", port)]
+    java += ["-jar"] if main.endswith(".jar") else ["-cp", class_path]
     return subprocess.Popen([*java, main, *words])
 
 
@@ -163,8 +169,7 @@ def tell_end(java):
 def run(chosen, folder, running):
     """Starts all that is asked for, and gives the bridge's status at its end."""
     main, roots, class_path = chosen.main, chosen.sources, chosen.class_path
-    if chosen.port and not is_free(chosen.port):
-        stop("port %d is taken" % chosen.port)
+    port = checked_port(chosen.port)
     named = chosen.program or (PROGRAM if os.path.isfile(PROGRAM) else None)
     program = program_of([named] if named else [])
     if main.endswith(".java"):
@@ -172,7 +177,7 @@ def run(chosen, folder, running):
         compiled(main, root, folder, class_path)
         main, roots = name, roots or [root]
         class_path = folder + (os.pathsep + class_path if class_path else "")
-    target, port = free_port(), chosen.port or free_port()
+    target = free_port()
     java = started(main, chosen.words, class_path or ".", chosen.suspend, target)
     running.callback(end, java)
     bridge = bridged(program, port, target, java)
@@ -185,7 +190,6 @@ def run(chosen, folder, running):
 
 def main():
     chosen = options()
-    signal.signal(signal.SIGTERM, lambda *_: sys.exit(130))
     with tempfile.TemporaryDirectory() as folder, contextlib.ExitStack() as running:
         return run(chosen, folder, running)
 

@@ -13,14 +13,11 @@ Without a word it takes the program of this repository, and builds it where it i
 """
 import json
 import os
-import signal
 import subprocess
 import sys
+from functools import partial
 
-if sys.version_info < (3, 8):
-    sys.exit("first_session.py: Python 3.8 or later is needed, and this is %d.%d" % sys.version_info[:2])
-
-from building import PATIENCE, PROGRAM, TOP, plainly, program_of
+from building import PATIENCE, PROGRAM, TOP, plainly, program_of, tried
 from java_machine import lacking
 from over_tcp import CAPABILITIES, Client, dial
 from sessions import RUNS_ON, TERMINATED, Session, bound, has_to_be, hit, line_of, scope, stack, stopped, succeeded
@@ -205,24 +202,19 @@ def is_kept(program):
         has_to_be("how both ended", sorted(rows[-2:]), ENDED)
         has_to_be("the status", debug.returncode, 0)
         return True
-    except ValueError as trouble:
-        print(trouble)
-        return False
     finally:
         debug.terminate()
         debug.wait(PATIENCE)
 
 
 def main():
-    signal.signal(signal.SIGTERM, lambda *_: sys.exit(130))
     why = lacking("java", "javac")
     if why:
         print("first session skipped: %s" % why)
         return 0
     # A program that was built here is taken as it is.
-    kept = is_kept(program_of(sys.argv[1:] or [PROGRAM][: os.path.isfile(PROGRAM)]))
-    print("first_session", "kept" if kept else "BROKEN", flush=True)
-    return 0 if kept else 1
+    program = program_of(sys.argv[1:] or [PROGRAM][: os.path.isfile(PROGRAM)])
+    return tried([("first_session", partial(is_kept, program))])
 
 
 if __name__ == "__main__":

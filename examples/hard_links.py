@@ -29,10 +29,11 @@ import sys
 import tempfile
 import threading
 import time
+from functools import partial
 
-from building import PATIENCE, USAGE
+from building import PATIENCE, USAGE, plainly, program_of, tried
 from many_threads import ATTACH, HANDSHAKE, receive, reply
-from over_tcp import INITIALIZED, DISCONNECTED, Bridge, Client, built, dial, request, unsupported
+from over_tcp import INITIALIZED, DISCONNECTED, Bridge, Client, dial, request, unsupported
 
 TERMINATED = b'{"event":"terminated","seq":2,"type":"event"}'
 DISPOSE = struct.pack(">IIBBB", 11, 4, 0, 1, 6)
@@ -242,7 +243,7 @@ def in_the_background(program):
         lead(program)
     heard = b""
     try:
-        while piece := os.read(terminal, 1000):
+        for piece in iter(lambda: os.read(terminal, 1000), b""):
             heard += piece
     except OSError:
         pass
@@ -280,19 +281,10 @@ def over_links(case, program):
 
 
 def main():
-    program = sys.argv[1] if len(sys.argv) > 1 else built()
-    broken = 0
+    program = program_of(sys.argv[1:])
     runs = [(case, over_links, (case, program)) for case in LINKS] + [(case, case, (program,)) for case in ALONE]
-    for case, run, given in runs:
-        try:
-            kept = run(*given)
-        except (OSError, EOFError, subprocess.SubprocessError) as trouble:
-            print(trouble)
-            kept = False
-        print(case.__name__, "kept" if kept else "BROKEN")
-        broken += not kept
-    return 1 if broken else 0
+    return tried((case.__name__, partial(run, *given)) for case, run, given in runs)
 
 
 if __name__ == "__main__":
-    sys.exit(main())
+    plainly(main)

@@ -8,7 +8,7 @@ import threading
 import time
 
 from building import PATIENCE, TOP
-from over_tcp import free_port
+from over_tcp import Program, free_port
 
 EXAMPLES = os.path.join(TOP, "examples")
 AGENT = "-agentlib:jdwp=transport=dt_socket,server=y,quiet=y,suspend=%s,address=127.0.0.1:%d"
@@ -62,7 +62,8 @@ def is_listened_at(port):
 
 
 class JavaProgram:
-    """A program under the agent. It is killed when it took too long, so that no read of its output takes longer."""
+    """A program under the agent. It is killed when it took too long, so that no read of its output takes longer. Where
+    something is wrong meanwhile, its standard error is printed."""
 
     def __init__(self, classes, main="Workers", words=(), suspend=False, longest=PATIENCE):
         self.port = free_port()
@@ -77,13 +78,16 @@ class JavaProgram:
     def __enter__(self):
         return self
 
-    def __exit__(self, *_):
+    def __exit__(self, trouble, *_):
         self.limit.cancel()
         self.process.kill()
         self.process.wait()
+        if trouble and issubclass(trouble, Exception):
+            print("standard error of the Java program:", self.errors())
 
     def wait_until_up(self):
-        """Reads its first line. From there on it listens for a debugger, and runs no thread more but where it is told."""
+        """Reads its first line. From there on it listens for a debugger, and runs no more threads but where it is
+        told."""
         if self.process.stdout.readline() != UP:
             raise EOFError("the Java program isn't up: %s" % self.errors())
 
@@ -124,6 +128,18 @@ class JavaProgram:
     def errors(self):
         """What it printed to its standard error, up to its end. The agent says there which debuggers it dropped."""
         return self.process.stderr.read().decode(errors="replace").strip()
+
+
+def over_java(program, classes, case, suspend=False, main="Workers", *words):
+    """Runs a case with a Java program, and the bridge beside it. It is kept where it raises nothing."""
+    with JavaProgram(classes, main, words, suspend) as java:
+        if suspend:
+            java.wait_until_listening()
+        else:
+            java.wait_until_up()
+        with Program(program, java.port, subprocess.PIPE) as bridge:
+            case(java, bridge)
+    return True
 
 
 def hits_by_jdi(java, main, line, hold=0):

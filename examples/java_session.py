@@ -16,16 +16,16 @@ Where there is no JDK, or none with an agent for JDWP, it says so in one line, a
 usage: examples/java_session.py [PROGRAM]
 """
 import json
-import signal
-import subprocess
 import sys
 import tempfile
 import time
+from functools import partial
 
-from building import PATIENCE, plainly, program_of
-from java_machine import DOWN, THREADS, JavaProgram, compiled, lacking
+from building import plainly, program_of, tried
+from java_machine import DOWN, THREADS, compiled, lacking, over_java
 from many_threads import ATTACH
-from over_tcp import INITIALIZED, Program, event, request, response, thread_event, unsupported
+from over_tcp import INITIALIZED, event, request, response, thread_event, unsupported
+from sessions import has_to_be, says
 
 # Longer than a Java machine waits for the handshake, in seconds.
 LATE = 2.5
@@ -34,20 +34,22 @@ TOLD = [INITIALIZED, response(2, 2, "attach"), event(3, "initialized"), unsuppor
 
 
 def runs_on_behind_disconnect(java, bridge):
-    return all([is_session(bridge), runs_on(java)])
+    session(bridge)
+    runs_on(java)
 
 
 def attached_late(java, bridge):
-    return all([is_session(bridge, late=LATE), runs_on(java)])
+    session(bridge, late=LATE)
+    runs_on(java)
 
 
 def terminated_by_disconnect(java, bridge):
-    held = is_session(bridge, leaving={"terminateDebuggee": True})
-    return all([held, is_due("the Java program", java.end(), (b"", 0))])
+    session(bridge, leaving={"terminateDebuggee": True})
+    has_to_be("the Java program", java.end(), (b"", 0))
 
 
 def a_thread_is_told(java, bridge):
-    """Whether a thread that starts and ends during a session is told, under the next number."""
+    """A thread that starts and ends during a session is told, under the next number."""
     client = bridge.client()
     asked(client, request(1, "initialize", {"adapterID": "jdwp"}))
     asked(client, request(2, "attach", ATTACH), 2)
@@ -58,17 +60,18 @@ def a_thread_is_told(java, bridge):
     told += asked(client, request(4, "disconnect"))
     client.close()
     due = [thread_event(5, "started", number), thread_event(6, "exited", number), response(7, 4, "disconnect")]
-    return all([is_due("the messages", told, due), runs_on(java)])
+    has_to_be("the messages", told, due)
+    runs_on(java)
 
 
 def runs_on(java):
-    """Whether the Java program runs on from where it waits to its end."""
+    """The Java program runs on from where it waits to its end."""
     java.go_on()
-    return is_due("the Java program", java.end(), (DOWN, 0))
+    has_to_be("the Java program", java.end(), (DOWN, 0))
 
 
-def is_session(bridge, late=0, leaving=None):
-    """Whether a client holds a session as is due, and the program ends with it."""
+def session(bridge, late=0, leaving=None):
+    """A client holds a session as is due, and the program ends with it."""
     client = bridge.client()
     told = asked(client, request(1, "initialize", {"adapterID": "jdwp"}))
     time.sleep(late)
@@ -79,15 +82,12 @@ def is_session(bridge, late=0, leaving=None):
     told += asked(client, request(6, "disconnect", leaving))
     behind = client.rest + client.stream.recv(1)
     client.close()
-    said, _ = bridge.process.communicate(timeout=PATIENCE)
-    return all([
-        is_due("the messages", told, TOLD),
-        is_due("the numbers", list(first), list(range(1, len(first) + 1))),
-        is_due("the names", sorted(name for name in first.values() if name in THREADS), sorted(THREADS)),
-        is_due("the threads of the second time", again, first),
-        is_due("what comes behind them", behind, b""),
-        is_due("the program's line and status", (said, bridge.process.returncode), (b"ended 0 done\n", 0)),
-    ])
+    says(bridge, b"ended 0 done\n", 0)
+    has_to_be("the messages", told, TOLD)
+    has_to_be("the numbers", list(first), list(range(1, len(first) + 1)))
+    has_to_be("the names", sorted(name for name in first.values() if name in THREADS), sorted(THREADS))
+    has_to_be("the threads of the second time", again, first)
+    has_to_be("what comes behind them", behind, b"")
 
 
 def asked(client, body, count=1):
@@ -97,50 +97,26 @@ def asked(client, body, count=1):
 
 
 def threads_in(seq, request_seq, body):
-    """The names of the threads by their numbers, as a response lists them; none where it isn't one, byte for byte."""
+    """The names of the threads by their numbers, as a response lists them, byte for byte."""
     listed = json.loads(body).get("body", {}).get("threads", [])
     threads = {thread["id"]: thread["name"] for thread in listed}
     due = [{"id": number, "name": name} for number, name in threads.items()]
-    return threads if is_due("the list", body, response(seq, request_seq, "threads", {"threads": due})) else {}
+    has_to_be("the list", body, response(seq, request_seq, "threads", {"threads": due}))
+    return threads
 
 
-def is_due(what, found, due):
-    """Whether something is as is due. Where it isn't, both are printed."""
-    if found != due:
-        print("%s: %r, and due is %r" % (what, found, due))
-    return found == due
-
-
-def is_kept(case, program, classes):
-    """Whether a case is kept. Where it isn't, what the Java program said to its standard error is printed."""
-    with JavaProgram(classes) as java:
-        try:
-            java.wait_until_up()
-            with Program(program, java.port, subprocess.PIPE) as bridge:
-                kept = case(java, bridge)
-        except (OSError, EOFError, ValueError, LookupError, subprocess.SubprocessError) as trouble:
-            print(trouble)
-            kept = False
-    if not kept:
-        print("standard error of the Java program:", java.errors())
-    return kept
+CASES = (runs_on_behind_disconnect, attached_late, terminated_by_disconnect, a_thread_is_told)
 
 
 def main():
-    signal.signal(signal.SIGTERM, lambda *_: sys.exit(130))
     why = lacking("java", "javac")
     if why:
         print("java session skipped: %s" % why)
         return 0
     program = program_of(sys.argv[1:])
-    broken = 0
     with tempfile.TemporaryDirectory() as folder:
-        classes = compiled(folder)
-        for case in (runs_on_behind_disconnect, attached_late, terminated_by_disconnect, a_thread_is_told):
-            kept = is_kept(case, program, classes)
-            print(case.__name__, "kept" if kept else "BROKEN", flush=True)
-            broken += not kept
-    return 1 if broken else 0
+        run = partial(over_java, program, compiled(folder))
+        return tried((case.__name__, partial(run, case)) for case in CASES)
 
 
 if __name__ == "__main__":

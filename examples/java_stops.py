@@ -38,15 +38,12 @@ usage: examples/java_stops.py [PROGRAM]
 """
 import glob
 import os
-import signal
-import subprocess
 import sys
 import tempfile
-import time
+from functools import partial
 
-from building import plainly, program_of
-from java_machine import DEBUGGER, EXAMPLES, JavaProgram, compiled, hits_by_jdi, lacking
-from over_tcp import Program
+from building import plainly, program_of, tried
+from java_machine import DEBUGGER, EXAMPLES, JavaProgram, compiled, hits_by_jdi, lacking, over_java
 from sessions import RUNS_ON, STALE, TERMINATED, UNKNOWN, WRONG, Session, ask_of, begin, bound, children, ended, failed
 from sessions import go_on, has_to_be, hit, leaves, left, line_of, says, scope, stack, stopped, succeeded
 from step_cases import STEP_CASES
@@ -267,7 +264,7 @@ def a_thousand_hits(java, bridge, session):
     number = hit(session, [1])
     hits = 1
     go_on(session, number)
-    while (event := session.event()) != TERMINATED:
+    for event in iter(session.event, TERMINATED):
         has_to_be("the stop behind %d others" % hits, event, stopped(number, [1]))
         hits += 1
         go_on(session, number)
@@ -367,7 +364,7 @@ def as_printed(java, session, told):
 def printed_of_things(java):
     """Numbers of things, and of each the lines of its children, as stops/Shown.java prints them."""
     things = []
-    while line := java.process.stdout.readline().decode().rstrip("\n"):
+    for line in iter(lambda: java.process.stdout.readline().decode().rstrip("\n"), ""):
         if line.startswith("> "):
             things.append((int(line[2:]), []))
         else:
@@ -431,40 +428,19 @@ CASES = (
 )
 
 
-def is_kept(program, classes, case, suspend, main, *words):
-    """Whether a case is kept. Where it isn't, why is printed, and the standard error of the Java program."""
-    kept = False
-    with JavaProgram(classes, main, words, suspend) as java:
-        try:
-            if suspend:
-                java.wait_until_listening()
-            else:
-                java.wait_until_up()
-            with Program(program, java.port, subprocess.PIPE) as bridge:
-                case(java, bridge, Session(bridge.client()))
-            kept = True
-        except (OSError, EOFError, ValueError, LookupError, subprocess.SubprocessError) as trouble:
-            print(str(trouble) or type(trouble).__name__)
-    if not kept:
-        print("standard error of the Java program:", java.errors())
-    return kept
+def in_a_session(case, java, bridge):
+    case(java, bridge, Session(bridge.client()))
 
 
 def main():
-    signal.signal(signal.SIGTERM, lambda *_: sys.exit(130))
     why = lacking("java", "javac")
     if why:
         print("java stops skipped: %s" % why)
         return 0
     program = program_of(sys.argv[1:])
-    broken = 0
     with tempfile.TemporaryDirectory() as folder:
-        classes = compiled(folder, *SOURCES)
-        for case, *started in CASES:
-            kept = is_kept(program, classes, case, *started)
-            print(case.__name__, "kept" if kept else "BROKEN", flush=True)
-            broken += not kept
-    return 1 if broken else 0
+        run = partial(over_java, program, compiled(folder, *SOURCES))
+        return tried((case.__name__, partial(run, partial(in_a_session, case), *started)) for case, *started in CASES)
 
 
 if __name__ == "__main__":

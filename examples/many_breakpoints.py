@@ -18,16 +18,16 @@ import sys
 import time
 
 from building import plainly, program_of
-from many_threads import HANDSHAKE, IN_FLIGHT, PIECE, SIZES, cut, receive
-from over_tcp import Bridge, request
-from round_trips import processor_seconds
+from many_threads import HANDSHAKE, IN_FLIGHT, PIECE, SIZES, attached_client, cut, receive
+from over_tcp import Bridge, free_port, pieces, request
+from round_trips import pair, processor_seconds
+from sessions import has_to_be
 
 PACKAGES = 10
 LINES = 4
 RUNS = 3
 # classes, their methods, other classes, and files that are listed
 CASES = ((50, 40, 0, 50), (500, 40, 0, 10), (500, 40, 0, 50), (500, 40, 1000, 50), (5000, 40, 0, 50), (500, 400, 0, 50))
-ATTACH = {"sourceRoots": ["/src"]}
 EFFECTS = ((15, 1), (15, 2))
 
 
@@ -86,7 +86,7 @@ def serve_target(stream, log, fixed, lines):
     try:
         stream.sendall(receive(stream, len(HANDSHAKE)))
         pending = b""
-        while piece := stream.recv(PIECE):
+        for piece in pieces(stream):
             packets, pending = cut(pending + piece)
             replies = b""
             for packet in packets:
@@ -142,10 +142,7 @@ def send_wave(stream, first, commands):
 
 def plain_loop(commands, shape):
     """The seconds that the commands take without a bridge."""
-    listener = socket.create_server(("127.0.0.1", 0))
-    near = socket.create_connection(listener.getsockname())
-    far, _ = listener.accept()
-    near.setsockopt(socket.IPPROTO_TCP, socket.TCP_NODELAY, 1)
+    near, far = pair(free_port())
     target = target_of(far, multiprocessing.get_context("fork").Queue(), shape)
     near.sendall(HANDSHAKE)
     receive(near, len(HANDSHAKE))
@@ -172,20 +169,16 @@ def bridged(program, files, shape):
     log = multiprocessing.get_context("fork").Queue()
     with Bridge(program) as bridge:
         target_of(bridge.target, log, shape)
-        client = bridge.client()
-        for seq, (command, arguments) in enumerate([("initialize", {"adapterID": "jdwp"}), ("attach", ATTACH)]):
-            client.send(request(seq + 1, command, arguments))
-            client.receive()
-        client.receive()
+        client = attached_client(bridge)
         before, start = processor_seconds(bridge.process.pid), time.monotonic()
         for number in range(1, files + 1):
             client.send(request(2 + number, "setBreakpoints", list_of(number)))
             told = json.loads(client.receive())["body"]["breakpoints"]
-            assert len(told) == LINES and all(one["verified"] for one in told), told
+            has_to_be("what is verified", [one["verified"] for one in told], LINES * [True])
         took, spent = time.monotonic() - start, processor_seconds(bridge.process.pid) - before
         client.send(request(3 + files, "disconnect"))
         client.receive()
-        assert bridge.status() == 0
+        has_to_be("the status", bridge.status(), 0)
     commands = log.get()
     return took, spent, [one for one in commands[3:] if one[0] != (1, 6)]
 

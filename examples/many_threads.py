@@ -15,8 +15,9 @@ import sys
 import time
 
 from building import plainly, program_of
-from over_tcp import Bridge, request
-from round_trips import processor_seconds
+from over_tcp import Bridge, event, free_port, pieces, request
+from round_trips import pair, processor_seconds
+from sessions import has_to_be
 
 COUNTS = (100, 1000, 5000, 40000)
 IN_FLIGHT = 16
@@ -77,7 +78,7 @@ def serve_target(stream, count):
     try:
         stream.sendall(receive(stream, len(HANDSHAKE)))
         pending = b""
-        while piece := stream.recv(PIECE):
+        for piece in pieces(stream):
             packets, pending = cut(pending + piece)
             if packets:
                 stream.sendall(b"".join(reply(packet, count) for packet in packets))
@@ -119,10 +120,7 @@ def ask_names(stream, threads):
 
 def plain_loop(count):
     """The seconds that the questions take without a bridge."""
-    listener = socket.create_server(("127.0.0.1", 0))
-    near = socket.create_connection(listener.getsockname())
-    far, _ = listener.accept()
-    near.setsockopt(socket.IPPROTO_TCP, socket.TCP_NODELAY, 1)
+    near, far = pair(free_port())
     target = target_of(far, count)
     near.sendall(HANDSHAKE)
     receive(near, len(HANDSHAKE))
@@ -134,27 +132,33 @@ def plain_loop(count):
     took = time.monotonic() - start
     near.close()
     target.terminate()
-    assert len(names) == count
+    has_to_be("the number of names", len(names), count)
     return took
+
+
+def attached_client(bridge):
+    """A client that has attached: its first two requests are answered."""
+    client = bridge.client()
+    for seq, (command, arguments) in enumerate([("initialize", {"adapterID": "jdwp"}), ("attach", ATTACH)], 1):
+        client.send(request(seq, command, arguments))
+        client.receive()
+    has_to_be("the event behind them", client.receive(), event(3, "initialized"))
+    return client
 
 
 def bridged(program, count):
     """The seconds that `threads` takes, and the processor time of the bridge for it."""
     with Bridge(program) as bridge:
         target = target_of(bridge.target, count)
-        client = bridge.client()
-        for seq, (command, arguments) in enumerate([("initialize", {"adapterID": "jdwp"}), ("attach", ATTACH)]):
-            client.send(request(seq + 1, command, arguments))
-            client.receive()
-        client.receive()
+        client = attached_client(bridge)
         before, start = processor_seconds(bridge.process.pid), time.monotonic()
         client.send(request(3, "threads"))
         body = client.receive()
         took, spent = time.monotonic() - start, processor_seconds(bridge.process.pid) - before
-        assert len(json.loads(body)["body"]["threads"]) == count
+        has_to_be("the number of threads", len(json.loads(body)["body"]["threads"]), count)
         client.send(request(4, "disconnect"))
         client.receive()
-        assert bridge.status() == 0
+        has_to_be("the status", bridge.status(), 0)
         target.terminate()
     return took, spent
 

@@ -4,7 +4,7 @@ import socket
 import subprocess
 import time
 
-from building import PATIENCE, built
+from building import PATIENCE
 
 CAPABILITIES = {
     "exceptionBreakpointFilters": [
@@ -75,6 +75,11 @@ def dial(port, process=None):
             if time.monotonic() > end or process and process.poll() is not None:
                 raise
             time.sleep(0.02)
+
+
+def pieces(stream):
+    """What a link brings, piece by piece, up to its end."""
+    return iter(lambda: stream.recv(65536), b"")
 
 
 def framed(body):
@@ -160,7 +165,4 @@ class Bridge(Program):
 
     def heard_by_target(self):
         """All bytes that the target was sent on its link, up to the link's end."""
-        heard = b""
-        while piece := self.target.recv(65536):
-            heard += piece
-        return heard
+        return b"".join(pieces(self.target))

@@ -8,7 +8,6 @@ comes.
 
 usage: examples/round_trips.py [PROGRAM]
 """
-import os
 import random
 import socket
 import sys
@@ -16,7 +15,7 @@ import threading
 import time
 
 from building import plainly, program_of
-from over_tcp import Bridge, Client, dial, free_port, request
+from over_tcp import Bridge, Client, dial, free_port, pieces, request
 
 # how many requests follow so many seconds of silence
 ROUNDS = (("busy", 0, 2000), ("after 20 ms", 0.02, 300), ("after a second", 1, 20))
@@ -46,7 +45,7 @@ def echo(stream):
 
 def relay(stream, other):
     """Hands on what a stream gives."""
-    while piece := stream.recv(65536):
+    for piece in pieces(stream):
         other.sendall(piece)
 
 

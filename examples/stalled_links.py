@@ -1,5 +1,5 @@
 #!/usr/bin/env python3
-"""Measures what the program takes of a core, and how its memory grows, while a peer stalls: each case is kept or broken.
+"""Measures what the program takes of a core, and how its memory grows, while a peer stalls: a case is kept or broken.
 
 - A client that sends requests as long as they are taken, and never reads.
 - A target that neither reads nor answers, while the client asks for threads again and again.
@@ -13,8 +13,9 @@ usage: examples/stalled_links.py [PROGRAM]
 import sys
 import threading
 import time
+from functools import partial
 
-from building import plainly, program_of
+from building import plainly, program_of, tried
 from hard_links import attached
 from many_threads import ATTACH
 from over_tcp import Bridge, request
@@ -78,7 +79,6 @@ def stall(case, program):
         kept = any(is_calm(pid) for _ in range(TRIES)) and load.is_alive()
         is_over.set()
         load.join(1)
-    print(case.__name__, "kept" if kept else "BROKEN")
     return kept
 
 
@@ -93,8 +93,8 @@ def is_calm(pid):
 
 def main():
     program = program_of(sys.argv[1:])
-    kept = [stall(case, program) for case in (never_reads, silent_target, full_target, byte_by_byte)]
-    return 0 if all(kept) else 1
+    cases = never_reads, silent_target, full_target, byte_by_byte
+    return tried((case.__name__, partial(stall, case, program)) for case in cases)
 
 
 if __name__ == "__main__":

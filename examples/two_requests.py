@@ -8,9 +8,6 @@ usage: examples/two_requests.py [PROGRAM]
 """
 import sys
 
-if sys.version_info < (3, 8):
-    sys.exit("two_requests.py: Python 3.8 or later is needed, and this is %d.%d" % sys.version_info[:2])
-
 from building import plainly, program_of
 from over_tcp import INITIALIZED, DISCONNECTED, Bridge, request
 
