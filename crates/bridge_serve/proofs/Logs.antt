@@ -45,14 +45,14 @@ keeps_same o = record {
 }
 
 -- a call that doesn't wait makes no wait, and one that waits makes one
-pub no_wait : {old new : Outside} → SameWaits old new → new.waits ≤ old.waits + 0
-no_wait same = omega (arith, same)
+pub no_wait : (old new : Outside) → SameWaits old new → new.waits ≤ old.waits + 0
+no_wait old new same = omega (arith, same)
 
 raised_once : (n : ℕ) → raised n ≤ n + 1
 raised_once n = grind arith
 
-one_wait : {old new : Outside} → new.waits ≡ raised old.waits → new.waits ≤ old.waits + 1
-one_wait {old} is = subst (λ (n : ℕ). n ≤ old.waits + 1) (sym is) (raised_once old.waits)
+one_wait : (old new : Outside) → new.waits ≡ raised old.waits → new.waits ≤ old.waits + 1
+one_wait old new is = subst (λ (n : ℕ). n ≤ old.waits + 1) (sym is) (raised_once old.waits)
 
 -- both sides stay open or closed
 pub keeps_open : {n : ℕ} {old new : Outside} → Counts old new → new.waits ≤ old.waits + n → new.asked ≡ old.asked
@@ -87,13 +87,13 @@ keeps_other Target counts waits asked closes = record {
 pub keeps_heard : (old new : Outside) (buffer : List ℕ) (happening : Happening) → Hears old new buffer happening
     → Keeps 1 old new
 keeps_heard old new buffer (happenings.Bytes side n) came =
-    keeps_open came.counts (one_wait came.waits) came.asked came.happens.3
+    keeps_open came.counts (one_wait old new came.waits) came.asked came.happens.3
 keeps_heard old new buffer (happenings.Shut side) came =
-    keeps_other side came.counts (one_wait came.waits) came.asked came.happens
+    keeps_other side came.counts (one_wait old new came.waits) came.asked came.happens
 keeps_heard old new buffer (happenings.Failed side) came =
-    keeps_other side came.counts (one_wait came.waits) came.asked came.happens.0
+    keeps_other side came.counts (one_wait old new came.waits) came.asked came.happens.0
 keeps_heard old new buffer happenings.Quiet came =
-    keeps_open came.counts (one_wait came.waits) came.asked came.happens.0
+    keeps_open came.counts (one_wait old new came.waits) came.asked came.happens.0
 
 -- two calls, one after the other
 pub keeps_on : {n m : ℕ} {a b c : Outside} → Keeps n a b → Keeps m b c → Keeps (n + m) a c
