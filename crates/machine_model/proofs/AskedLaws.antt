@@ -49,8 +49,7 @@ unheard place (sent ∷ asked) question is = by_test (asks_for sent question) se
         || not (asks || was_asked question asked)) ≡ true
     by_test true None is rest = refl
     by_test true (Some replied) is rest = cc
-    by_test false None is rest = rest is
-    by_test false (Some replied) is rest = rest is
+    by_test false _ is rest = rest is
 
 new_or : (waits new : Bool) → (waits || new) ≡ true → cond (waits || new) true false ≡ true
 new_or waits new is = grind (arith, is)
@@ -82,8 +81,7 @@ lacks_due sight (Want.Fact question) =
         → all_due sight.asked (lacking (fact_heard question known found)) ≡ true
     by_known None None is = new_or (is_waiting question sight.asked) (not (was_asked question sight.asked))
         (unheard 0 sight.asked question is)
-    by_known None (Some found) is = refl
-    by_known (Some answer) found is = refl
+    by_known _ _ is = refl
 
 after_due : {A B : Type 0} (asked : List Sent) (n : Need A) (go : A → Need B) → all_due asked (lacking n) ≡ true
     → ((a : A) → all_due asked (lacking (go a)) ≡ true) → all_due asked (lacking (after n go)) ≡ true
@@ -93,15 +91,10 @@ after_due asked (lacks want others) go h rest = h
 
 beside_due : {A B : Type 0} (asked : List Sent) (n : Need A) (k : Need B) → all_due asked (lacking n) ≡ true
     → all_due asked (lacking k) ≡ true → all_due asked (lacking (beside n k)) ≡ true
-beside_due asked (has a) (has b) h k = refl
-beside_due asked (has a) (fails fault) h k = refl
 beside_due asked (has a) (lacks want others) h k = k
-beside_due asked (fails fault) (has b) h k = refl
-beside_due asked (fails fault) (fails other) h k = refl
-beside_due asked (fails fault) (lacks want others) h k = refl
 beside_due asked (lacks want others) (has b) h k = h
-beside_due asked (lacks want others) (fails fault) h k = refl
 beside_due asked (lacks want others) (lacks other more) h k = due_joined asked (want ∷ others) (other ∷ more) h k
+beside_due asked _ _ h k = refl
 
 -- what a plan lacks is due
 pub need_due : {A : Type 0} (sight : Sight) (plan : Plan A) → all_due sight.asked (lacking (need sight plan)) ≡ true
@@ -161,9 +154,8 @@ apart_one asked queue want h due = by_test (is_waiting (question_of want) asked)
   where
     by_test : (waits listed : Bool) → is_listed (question_of want) queue ≡ listed → (waits || is_new want asked) ≡ true
         → are_apart asked (cond (waits || listed) queue (queue ++ want ∷ [])) ≡ true
-    by_test true listed is due = h
-    by_test false true is due = h
     by_test false false is due = apart_last asked queue want h is due
+    by_test _ _ is due = h
 
 pub with_apart : (asked : List Sent) (queue more : List Want) → are_apart asked queue ≡ true → all_due asked more ≡ true
     → are_apart asked (with_wants asked queue more) ≡ true

@@ -85,9 +85,8 @@ row_placed failure command state = grind arith
 
 placed_begun : (state : State) (item : Item) → is_placed (parts_of state item) ≡ true
 placed_begun state (a_request request) = row_placed (failure_of (wanting request.command) state) request.command state
-placed_begun state target_end = grind arith
-placed_begun state (a_composite at composite) = grind arith
 placed_begun state (a_raw at body) = refl
+placed_begun state _ = grind arith
 
 pub placed_rest : (choice : Choice) (rest : List Part) → is_placed (Part.Unfolds choice ∷ rest) ≡ true
     → is_placed rest ≡ true
@@ -108,11 +107,9 @@ placed_chosen (TellsNews below) state hand rest none is =
     by_news state.phase (news_of below state hand.item)
   where
     by_news : (phase : Phase) (news : List News) → is_placed (told_in phase news ++ rest) ≡ true
-    by_news Fresh news = is
-    by_news Gone news = is
-    by_news Attached [] = is
     by_news Attached (one ∷ news) =
         rw (told_alike has_note (λ news parts. refl) Attached news rest ∙ none) (by_news Attached news)
+    by_news _ _ = is
 placed_chosen Decides state hand rest none is =
     of_decided (λ (parts : List Part). is_placed (parts ++ rest) ≡ true) is (rw none is) (rw none is)
     (λ stopped thrown halt. let (no_note, are_placed) = placed_surplus stopped rest none is in
@@ -124,8 +121,7 @@ placed_chosen Stepped state hand rest none is = by_code (refused_with hand.effec
     by_code : (code : Option ℕ) → is_placed (stepped_by code ++ rest) ≡ true
     by_code None = rw none is
     by_code (Some code) = rw none is
-placed_chosen (Written seen) state hand rest none is = grind (arith, is)
-placed_chosen (Leaves exits) state hand rest none is = grind (arith, is)
+placed_chosen _ state hand rest none is = grind (arith, is)
 
 pub placed_test : IsTest placed
 placed_test = record {
@@ -145,9 +141,8 @@ row_noted failure command state = grind arith
 -- no item begins with classes
 pub begun_noted : (state : State) (item : Item) → first_note (parts_of state item) ≡ None
 begun_noted state (a_request request) = row_noted (failure_of (wanting request.command) state) request.command state
-begun_noted state target_end = grind arith
-begun_noted state (a_composite at composite) = grind arith
 begun_noted state (a_raw at body) = refl
+begun_noted state _ = grind arith
 
 -- where nothing is looked up any more all watches have to be set by now
 pub needs_none : (parts : List Part) → is_placed parts ≡ true → looks_ahead parts ≡ false → needs_watches parts ≡ true
@@ -286,5 +281,4 @@ module _ (question : Question) (replied : Replied) where
           → All (IsLearnt now) (cond (cond none asks false) (record sent { reply = Some replied } ∷ asked)
           (sent ∷ filled question replied asked))
       by_tests true true key again = (replied_now key, still_learnt known now grows asked h.1)
-      by_tests true false key again = (one_learnt known now grows sent h.0, again)
-      by_tests false asks key again = (one_learnt known now grows sent h.0, again)
+      by_tests _ _ key again = (one_learnt known now grows sent h.0, again)

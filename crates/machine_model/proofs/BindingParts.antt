@@ -341,7 +341,6 @@ looks_apart parts = false
 -- only the look-up of classes asks for a list of them, and only that of frames for frames
 pub lacked_safe : (state : State) (hand : Hand) (parts : List Part) → looks_apart parts ≡ false
     → All (λ want. is_safe want ≡ true) (lacked_by state hand parts)
-lacked_safe state hand [] none = tt
 lacked_safe state hand (Part.Looks all_threads ∷ rest) none =
     plan_lacks is_safe (sight_of state hand) threads_plan threads_safe
 lacked_safe state hand (Part.Looks (thread_frames thread start levels) ∷ rest) none = cc
@@ -366,14 +365,13 @@ lacked_safe state hand (Part.Awaits guard ∷ rest) none = guards guard
       where
         by_tests : (sent heard : Bool) → All (λ want. is_safe want ≡ true) (asked_by (greeted_by sent heard))
         by_tests false heard = tt
-        by_tests true false = tt
-        by_tests true true = tt
+        by_tests _ _ = tt
     guards IdSizes = by_sizes state.sizes
       where
         by_sizes : (sizes : Option SizesRead) → All (λ want. is_safe want ≡ true) (asked_by (sized_by sizes))
         by_sizes None = (refl, tt)
         by_sizes (Some sizes) = tt
-lacked_safe state hand (_ ∷ rest) none = tt
+lacked_safe state hand _ none = tt
 
 pub lacked_meek : (state : State) (hand : Hand) (parts : List Part) → looks_first parts ≡ false
     → All (λ want. is_meek want ≡ true) (lacked_by state hand parts)

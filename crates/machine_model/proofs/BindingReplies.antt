@@ -148,10 +148,8 @@ answers_on {state} {parts} {queue} {asked} question replied failed waits h = rec
 pub unlisted_case : (effect : Effect) (replied : Replied) (state : State)
     → ((done_by effect replied state).unlisted ≡ state.unlisted)
     ⊎ ((path : List ℕ) × (effect ≡ Set (wishes.Watch path)))
-unlisted_case (Does deed) replied state = inl refl
-unlisted_case (Clear wish request) replied state = inl refl
 unlisted_case (Set (wishes.Watch path)) replied state = inr (path, refl)
-unlisted_case (Set wish) replied state = inl refl
+unlisted_case _ replied state = inl refl
 
 pub effect_wanted : (effect : Effect) (replied : Replied) (w : Wishes) → (wishes_after effect replied w).wanted ≡ w.wanted
 effect_wanted effect replied w = grind arith
@@ -271,9 +269,8 @@ chosen_like (Written seen) state hand rest is = by_code (refused_with hand.effec
 chosen_like (Leaves exits) state hand rest is = by_phase state.phase
   where
     by_phase : (phase : Phase) → AreLike (leaves phase exits ++ rest) rest
-    by_phase Fresh = are_same rest
     by_phase Attached = record { ahead = refl; needs = λ needs. needs; notes = refl; binds = refl }
-    by_phase Gone = are_same rest
+    by_phase _ = are_same rest
 
 -- behind a note of a list stands what binds it
 pub list_behind : (part : Part) (rest : List Part) → notes_list part ≡ true → is_placed (part ∷ rest) ≡ true
@@ -332,26 +329,6 @@ classes_on {state} classes rest c is h = record {
 pub notes_on : {state : State} {queue : List Want} {asked : List Sent} (note : Note) (rest : List Part)
     → IsClear queue asked → is_placed (Part.Notes note ∷ rest) ≡ true
     → Binding state (Part.Notes note ∷ rest) queue asked → Binding (noted note state) rest queue asked
-notes_on {state} (Options options) rest c is h =
-    goes_by (noted (Options options) state) (Part.Notes (Options options)) rest rest
-    (as_before (noted (Options options) state) state refl refl refl) c refl is (are_same rest)
-    (λ needs w. w needs) h
-notes_on {state} (Roots roots) rest c is h =
-    goes_by (noted (Roots roots) state) (Part.Notes (Roots roots)) rest rest
-    (as_before (noted (Roots roots) state) state refl refl refl) c refl is (are_same rest)
-    (λ needs w. w needs) h
-notes_on {state} EntryHeld rest c is h =
-    goes_by (noted EntryHeld state) (Part.Notes EntryHeld) rest rest
-    (as_before (noted EntryHeld state) state refl refl refl) c refl is (are_same rest)
-    (λ needs w. w needs) h
-notes_on {state} Configured rest c is h =
-    goes_by (noted Configured state) (Part.Notes Configured) rest rest
-    (as_before (noted Configured state) state refl refl refl) c refl is (are_same rest)
-    (λ needs w. w needs) h
-notes_on {state} (Throws thrown) rest c is h =
-    goes_by (noted (Throws thrown) state) (Part.Notes (Throws thrown)) rest rest
-    (as_before (noted (Throws thrown) state) state refl refl refl) c refl is (are_same rest)
-    (λ needs w. w needs) h
 notes_on {state} (StopsAt caught uncaught) rest c is h =
     goes_by (noted (StopsAt caught uncaught) state) (Part.Notes (StopsAt caught uncaught)) rest rest
     (record { unlisted = refl; wanted = refl; loaded = refl; grows = grows_itself state.classes }) c refl is
@@ -369,6 +346,8 @@ notes_on {state} (Lines key path entries) rest c is h =
 notes_on {state} (Functions entries) rest c is h =
     lists_on (noted (Functions entries) state) (Part.Notes (Functions entries)) rest refl refl refl c is refl refl h
 notes_on (Classes classes) rest c is h = classes_on classes rest c is h
+notes_on {state} note rest c is h =
+    goes_by (noted note state) (Part.Notes note) rest rest (as_before (noted note state) state refl refl refl) c refl is (are_same rest) (λ needs w. w needs) h
 
 -- a look-up that is done
 pub finds_on : {state : State} (hand : Hand) (lookup : Lookup) (found : Need Finding) (rest : List Part)
@@ -376,21 +355,6 @@ pub finds_on : {state : State} (hand : Hand) (lookup : Lookup) (found : Need Fin
     → found_for lookup state hand ≡ found → is_done found ≡ true
     → Binding state (Part.Looks lookup ∷ rest) hand.queue hand.asked
     → Binding state (finished lookup (result_of found) state ++ rest) hand.queue hand.asked
-finds_on {state} hand all_threads found rest c is needs done h =
-    goes_by state (Part.Looks all_threads) rest (finished all_threads (result_of found) state ++ rest) (itself state) c
-    refl is (record { ahead = refl; needs = λ so. so; notes = refl; binds = refl }) (λ so w. w so) h
-finds_on {state} hand (thread_frames thread start levels) found rest c is needs done h =
-    goes_by state (Part.Looks (thread_frames thread start levels)) rest
-    (finished (thread_frames thread start levels) (result_of found) state ++ rest) (itself state) c
-    refl is (record { ahead = refl; needs = λ so. so; notes = refl; binds = refl }) (λ so w. w so) h
-finds_on {state} hand (container_children thing filter start count) found rest c is needs done h =
-    goes_by state (Part.Looks (container_children thing filter start count)) rest
-    (finished (container_children thing filter start count) (result_of found) state ++ rest) (itself state) c
-    refl is (record { ahead = refl; needs = λ so. so; notes = refl; binds = refl }) (λ so w. w so) h
-finds_on {state} hand (expression_value frame expression) found rest c is needs done h =
-    goes_by state (Part.Looks (expression_value frame expression)) rest
-    (finished (expression_value frame expression) (result_of found) state ++ rest) (itself state) c
-    refl is (record { ahead = refl; needs = λ so. so; notes = refl; binds = refl }) (λ so w. w so) h
 finds_on {state} hand (variable_write thing name text) found rest c is needs done h = by_result (result_of found)
   where
     goes : (parts : List Part) → AreLike (parts ++ rest) rest → Binding state (parts ++ rest) hand.queue hand.asked
@@ -401,25 +365,9 @@ finds_on {state} hand (variable_write thing name text) found rest c is needs don
     same outcome = record { ahead = refl; needs = λ so. so; notes = refl; binds = refl }
 
     by_result : (result : Result Finding) → Binding state (written_parts result ++ rest) hand.queue hand.asked
-    by_result (refused code) = goes (written_parts (refused code)) (same _)
     by_result (gave (write_found write seen)) = goes (written_parts (gave (write_found write seen)))
         (record { ahead = refl; needs = λ so. so; notes = refl; binds = refl })
-    by_result (gave (no_value failure)) = goes (written_parts (gave (no_value failure))) (same _)
-    by_result (gave (threads_found named)) = goes (written_parts (gave (threads_found named))) (same _)
-    by_result (gave (classes_found classes)) = goes (written_parts (gave (classes_found classes))) (same _)
-    by_result (gave (frames_found total frames)) = goes (written_parts (gave (frames_found total frames))) (same _)
-    by_result (gave (variables_found shown)) = goes (written_parts (gave (variables_found shown))) (same _)
-    by_result (gave (value_found seen)) = goes (written_parts (gave (value_found seen))) (same _)
-    by_result (gave (text_found text)) = goes (written_parts (gave (text_found text))) (same _)
-    by_result (gave (exception_found id mode)) = goes (written_parts (gave (exception_found id mode))) (same _)
-finds_on {state} hand (exception_text thread object) found rest c is needs done h =
-    goes_by state (Part.Looks (exception_text thread object)) rest
-    (finished (exception_text thread object) (result_of found) state ++ rest) (itself state) c
-    refl is (record { ahead = refl; needs = λ so. so; notes = refl; binds = refl }) (λ so w. w so) h
-finds_on {state} hand (exception_info thrown) found rest c is needs done h =
-    goes_by state (Part.Looks (exception_info thrown)) rest
-    (finished (exception_info thrown) (result_of found) state ++ rest) (itself state) c
-    refl is (record { ahead = refl; needs = λ so. so; notes = refl; binds = refl }) (λ so w. w so) h
+    by_result result = goes (written_parts result) (same _)
 finds_on {state} hand class_facts found rest c is needs done h = record {
   watches = λ so. h.watches refl;
   learnt = h.learnt;
@@ -439,3 +387,5 @@ finds_on {state} hand class_facts found rest c is needs done h = record {
         absurd (let no : false ≡ true = sym (unlisted_waits state hand unlisted (h.listed unlisted))
         ∙ ap is_done needs ∙ done in cc)
     complete false listed = found_complete state hand found listed h.learnt needs done
+finds_on {state} hand lookup found rest c is needs done h =
+    goes_by state (Part.Looks lookup) rest (finished lookup (result_of found) state ++ rest) (itself state) c refl is (record { ahead = refl; needs = λ so. so; notes = refl; binds = refl }) (λ so w. w so) h

@@ -59,18 +59,15 @@ flag_back false = refl
 
 depth_back : (depth : Depth) → depth_in (pos (number_of_depth depth)) ≡ depth
 depth_back Into = refl
-depth_back Over = refl
-depth_back Out = refl
+depth_back _ = refl
 
 wish_back : (wish : Wish) → wish_of (set_of wish) ≡ wish
-wish_back wishes.ThreadStart = refl
-wish_back wishes.ThreadDeath = refl
 wish_back (wishes.Watch path) = ap wishes.Watch (path_back path)
-wish_back (wishes.Stop at) = refl
 wish_back (wishes.Thrown caught uncaught) =
     ap (λ (flag : Bool). wishes.Thrown flag (bit uncaught == 1)) (flag_back caught)
     ∙ ap (wishes.Thrown caught) (flag_back uncaught)
 wish_back (wishes.Step thread depth) = ap (wishes.Step thread) (depth_back depth)
+wish_back _ = refl
 
 -- the command of a wish is its own
 pub one_command : (a b : Wish) → set_of a ≡ set_of b → a ≡ b

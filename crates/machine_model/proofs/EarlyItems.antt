@@ -48,9 +48,8 @@ row_greets failure command state = grind arith
 
 begun_greets : (state : State) (item : Item) → greets_first (parts_of state item) ≡ true
 begun_greets state (a_request request) = row_greets (failure_of (wanting request.command) state) request.command state
-begun_greets state target_end = grind arith
-begun_greets state (a_composite at composite) = grind arith
 begun_greets state (a_raw at body) = refl
+begun_greets state _ = grind arith
 
 rest_greets : (part : Part) (rest : List Part) → greets_first (part ∷ rest) ≡ true → greets_first rest ≡ true
 rest_greets part rest is = grind (arith, is)
@@ -62,9 +61,7 @@ chosen_greets (TellsNews below) state hand rest is =
 chosen_greets Decides state hand rest is =
     decided_alike greets_first (λ thrown parts. refl) (λ stopping parts. refl) (λ thread object parts. refl)
     (λ parts. refl) (λ parts. refl) state hand.item rest ∙ is
-chosen_greets Stepped state hand rest is = grind (arith, is)
-chosen_greets (Written seen) state hand rest is = grind (arith, is)
-chosen_greets (Leaves exits) state hand rest is = grind (arith, is)
+chosen_greets _ state hand rest is = grind (arith, is)
 
 greets_test : IsTest greets_to_attach
 greets_test = record {
@@ -125,8 +122,7 @@ noted_flags note state = (grind arith, grind arith)
 skipped_same : {m : Machine} {hand : Hand} {part : Part} (rest : List Part) → Skips m hand part
     → has_attach rest ≡ has_attach (part ∷ rest)
 skipped_same rest (Skips.by_guard is) = refl
-skipped_same rest (Skips.by_wishes is) = refl
-skipped_same rest (Skips.no_request is) = refl
+skipped_same rest _ = refl
 
 event_early : (m : Machine) (hand : Hand) (event : Event) (rest : List Part) → IsEarly m
     → IsAt m hand (Part.Tells event) rest
@@ -140,16 +136,11 @@ event_early m hand Initialized rest h at = record {
     by_phase : (phase : Phase) → cond (is_fresh (attached_from phase)) (cond m.state.greeting_sent
         (has_attach rest) true) true ≡ true
     by_phase Fresh = refl
-    by_phase Attached = refl
-    by_phase Gone = refl
-event_early m hand (some_news news) rest h at =
-    parts_early m hand (Part.Tells (some_news news)) rest rest (after_event (some_news news) m.state) h at
-    refl refl refl refl refl
-event_early m hand (a_stop stopping) rest h at =
-    parts_early m hand (Part.Tells (a_stop stopping)) rest rest (after_event (a_stop stopping) m.state) h at
-    refl refl refl refl refl
+    by_phase _ = refl
 event_early m hand Terminated rest h at =
     record { attaches = refl; unsent = asked_now h at.in_hand; sized = refl }
+event_early m hand event rest h at =
+    parts_early m hand (Part.Tells event) rest rest (after_event event m.state) h at refl refl refl refl refl
 
 -- the handshake goes out
 greets_early : (m : Machine) (hand : Hand) (guard : Guard) (rest : List Part) → Passed greets_to_attach m → IsEarly m
@@ -296,8 +287,6 @@ early_on m next said t b h (Moves.hears {request} read is) = record {
   unsent = h.unsent;
   sized = rw (has_more m.waiting (a_request request) refl) h.sized;
 }
-early_on m next said t b h (Moves.greeted read is) =
-    record { attaches = h.attaches; unsent = h.unsent; sized = h.sized }
 early_on m next said t b h (Moves.answers {question} {replied} {hand} is waits reply stays) =
     answers_early m hand question replied h is waits reply stays
 early_on m next said t b h (Moves.replies {effect} {replied} {hand} is flies reply stays) = record {
@@ -306,8 +295,6 @@ early_on m next said t b h (Moves.replies {effect} {replied} {hand} is flies rep
   unsent = rw is (asked_now h is);
   sized = h.sized;
 }
-early_on m next said t b h (Moves.late before after is reply) =
-    record { attaches = h.attaches; unsent = h.unsent; sized = h.sized }
 early_on m next said t b h (Moves.ends gone) = h
 early_on m next said t b h (Moves.loses late near why) = record {
   attaches = refl;
@@ -349,6 +336,7 @@ early_on m next said t b h (Moves.reads {at} {body} {composite} before after rea
     by_bools : (gone known raw has : Bool) → cond gone false (cond known raw false) ≡ true
         → cond gone true (cond has known true) ≡ true
     by_bools gone known raw has read = grind (arith, read)
+early_on m next said t b h _ = record { attaches = h.attaches; unsent = h.unsent; sized = h.sized }
 
 pub always_early : {messages : List Message} {m : Machine} → Run messages m → IsEarly m
 always_early r = by_runs {Holds = λ (messages : List Message) (m : Machine). IsEarly m} (record {

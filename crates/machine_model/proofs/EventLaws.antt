@@ -66,9 +66,8 @@ row_fits failure command state = grind arith
 
 begun_fits : (state : State) (item : Item) → fits item (parts_of state item) ≡ true
 begun_fits state (a_request request) = row_fits (failure_of (wanting request.command) state) request.command state
-begun_fits state target_end = grind arith
-begun_fits state (a_composite at composite) = grind arith
 begun_fits state (a_raw at body) = refl
+begun_fits state _ = grind arith
 
 gone_fits : (responds : Bool) (item : Item) → fits item (gone_parts responds item) ≡ true
 gone_fits responds item = grind arith
@@ -135,8 +134,7 @@ front_fits {hand = hand} h at = subst (λ (parts : List Part). fits hand.item pa
 replied_fits : (command : TargetCommand) (replied : Replied) (hand : Option Hand)
     → hand_fits (option_map (hand_replied command replied) hand) ≡ hand_fits hand
 replied_fits command replied None = refl
-replied_fits (a_question question) replied (Some hand) = refl
-replied_fits (an_effect effect) replied (Some hand) = refl
+replied_fits _ replied _ = refl
 
 given_fits : (hand : Option Hand) → hand_fits (option_map given_up hand) ≡ true
 given_fits None = refl
@@ -163,7 +161,6 @@ fits_on m next said h (Moves.tells {hand} {rest} {event} free at) =
 fits_on m next said h (Moves.sends {hand} {rest} {deed} free at near) =
     tail_fits hand.item (Part.Sends deed) rest (front_fits h at)
 fits_on m next said h (Moves.updates {hand} free at is near) = front_fits h at
-fits_on m next said h (Moves.greets free at is near) = h
 fits_on m next said h (Moves.notes {hand} {note} {rest} free at) =
     tail_fits hand.item (Part.Notes note) rest (front_fits h at)
 fits_on m next said h (Moves.unfolds {hand} {choice} {rest} free at) =
@@ -171,18 +168,12 @@ fits_on m next said h (Moves.unfolds {hand} {choice} {rest} free at) =
     (plain_attach (chosen choice m.state hand) rest (chosen_is choice m.state hand).plain) (front_fits h at)
 fits_on m next said h (Moves.queues free is) = fits_of h is
 fits_on m next said h (Moves.asks {want = want} free room is are) = asked_fits want m.hand ∙ h
-fits_on m next said h (Moves.hears read is) = h
-fits_on m next said h (Moves.greeted read is) = h
 fits_on m next said h (Moves.answers {question} {replied} is waits reply stays) =
     replied_fits (a_question question) replied m.hand ∙ h
 fits_on m next said h (Moves.replies {effect} {replied} is flying reply stays) =
     replied_fits (an_effect effect) replied m.hand ∙ h
-fits_on m next said h (Moves.late before after is reply) = h
-fits_on m next said h (Moves.ends gone) = h
 fits_on m next said h (Moves.loses late near why) = given_fits m.hand
-fits_on m next said h (Moves.comes read sized taken) = h
-fits_on m next said h (Moves.keeps is) = h
-fits_on m next said h (Moves.reads before after read is none taken) = h
+fits_on m next said h _ = h
 
 -- What is told --------------------------------------------------------------------------------------------------------
 
@@ -213,16 +204,14 @@ becomes_owes parts at same = ap hand_owes at.in_hand ∙ ap owes_event at.parts 
 replied_owes : (command : TargetCommand) (replied : Replied) (hand : Option Hand)
     → hand_owes (option_map (hand_replied command replied) hand) ≡ hand_owes hand
 replied_owes command replied None = refl
-replied_owes (a_question question) replied (Some hand) = refl
-replied_owes (an_effect effect) replied (Some hand) = refl
+replied_owes _ replied _ = refl
 
 -- an item that is begun owes no event
 begun_owes : (state : State) (item : Item) → owes_event (parts_of state item) ≡ false
 begun_owes state (a_request request) =
     rw (row_is (failure_of (wanting request.command) state) request.command state).responds refl
-begun_owes state target_end = grind arith
-begun_owes state (a_composite at composite) = grind arith
 begun_owes state (a_raw at body) = refl
+begun_owes state _ = grind arith
 
 given_owes : (hand : Option Hand) → hand_owes (option_map given_up hand) ≡ false
 given_owes None = refl
@@ -247,20 +236,8 @@ answered_owes request outcome state item rest is none h = rw none (by_attach (is
         by_outcome : (outcome : Outcome) (rest : List Part) → attach_tail (Part.Responds outcome ∷ rest) ≡ true
             → is_success (outcome_told outcome state) ≡ has_attach rest
         by_outcome (Success body) (Part.Tells Initialized ∷ rest) is = refl
-        by_outcome (Success body) [] is = cc
-        by_outcome (Success body) (Part.Tells (some_news news) ∷ rest) is = cc
-        by_outcome (Success body) (Part.Tells (a_stop stopping) ∷ rest) is = cc
-        by_outcome (Success body) (Part.Tells Terminated ∷ rest) is = cc
-        by_outcome (Success body) (Part.Responds outcome ∷ rest) is = cc
-        by_outcome (Success body) (Part.Sends deed ∷ rest) is = cc
-        by_outcome (Success body) (Part.Looks lookup ∷ rest) is = cc
-        by_outcome (Success body) (Part.Awaits guard ∷ rest) is = cc
-        by_outcome (Success body) (Part.Updates ∷ rest) is = cc
-        by_outcome (Success body) (Part.Notes note ∷ rest) is = cc
-        by_outcome (Success body) (Part.Unfolds choice ∷ rest) is = cc
-        by_outcome (Success body) (Part.Ends finish ∷ rest) is = cc
         by_outcome (Failed failure) [] is = refl
-        by_outcome (Failed failure) (part ∷ rest) is = cc
+        by_outcome _ _ is = cc
     by_attach false is = grind (arith, is)
 
 -- a part that isn't the response, and doesn't attach, changes nothing that is owed
@@ -285,9 +262,8 @@ loss_ends (Loses.by_effect in_hand flying reply is) = (refl, is)
 not_end : (gone last owed : Bool) → cond gone false last ≡ false → (gone ≡ true → owed ≡ false)
     → cond last false owed ≡ owed
 not_end true true owed is none = sym (none refl)
-not_end true false owed is none = refl
 not_end false true owed is none = cc
-not_end false false owed is none = refl
+not_end _ false owed is none = refl
 
 -- the request that is heard is the last without a response
 heard_left : {left now : List Request} {request : Request} → IsLeft left now (Some (Message.hears request))
@@ -298,14 +274,13 @@ heard_left (IsLeft.aside message none_heard none_told is) = cc
 skipped_owes : {m : Machine} {hand : Hand} (part : Part) (rest : List Part) → Skips m hand part
     → hand_fits m.hand ≡ true
     → IsAt m hand part rest → owes_event (part ∷ rest) ≡ owes_event rest
-skipped_owes part rest (Skips.by_guard is) h at = refl
-skipped_owes part rest (Skips.by_wishes is) h at = refl
 skipped_owes {hand = hand} part rest (Skips.no_request is) h at =
     by_item hand.item is (front_fits h at)
   where
     by_item : (item : Item) → request_in item ≡ [] → fits item (part ∷ rest) ≡ true
         → owes_event (part ∷ rest) ≡ owes_event rest
     by_item item is f = grind (arith, is, f)
+skipped_owes part rest _ h at = refl
 
 -- in a target that is gone no event is owed
 none_gone : {messages : List Message} {m : Machine} → Run messages m → is_gone m.state.phase ≡ true
@@ -339,14 +314,12 @@ attached_last item rest is = by_rest rest (item_attaches item) is
   where
     by_rest : (rest : List Part) (attaches : Bool) → cond attaches (is_empty rest) false ≡ true → rest ≡ []
     by_rest [] attaches is = refl
-    by_rest (part ∷ rest) true is = cc
-    by_rest (part ∷ rest) false is = cc
+    by_rest (part ∷ rest) _ is = cc
 
 none_owed : (attaches responds has : Bool) → cond attaches false (not has) ≡ true → cond responds false has ≡ false
-none_owed true responds has is = cc
 none_owed false true has is = refl
-none_owed false false true is = cc
 none_owed false false false is = refl
+none_owed _ _ _ is = cc
 
 -- what is news is told where no event is owed
 news_on : {messages : List Message} {requests : List Request} (state : State) (news : News)
@@ -406,7 +379,6 @@ tells_on messages m next said r h (Moves.sends {rest = rest} {deed} free at near
     more_told next _ refl refl refl h l (passed_owes at (plain_owes (Part.Sends deed) rest refl refl))
 tells_on messages m next said r h (Moves.updates {rest = rest} free at is near) l =
     more_told next _ refl refl refl h l (ap hand_owes at.in_hand ∙ ap owes_event at.parts)
-tells_on messages m next said r h (Moves.greets free at is near) l = more_told next _ refl refl refl h l refl
 tells_on messages m next said r h (Moves.notes {note = note} {rest} free at) l =
     now_told next h l (passed_owes at (plain_owes (Part.Notes note) rest refl refl))
 tells_on messages m next said r h (Moves.unfolds {hand} {choice} {rest} free at) l =
@@ -423,7 +395,6 @@ tells_on messages m next said r h (Moves.asks {hand} {want} free room is are) l 
     asked_owes want (Some hand) = refl
 tells_on messages m next said r h (Moves.hears {request} read is) l =
     same_told (sym (heard_left l)) refl (AreTold.hears request h.told)
-tells_on messages m next said r h (Moves.greeted read is) l = more_told next _ refl refl refl h l refl
 tells_on messages m next said r h (Moves.answers {question} {replied} is waits reply stays) l =
     more_told next _ refl refl refl h l (not_end (is_gone m.state.phase) (is_end (a_question question) replied)
     (hand_owes m.hand) stays (none_gone r) ∙ sym (replied_owes (a_question question) replied m.hand))
@@ -442,10 +413,7 @@ tells_on messages m next said r h (Moves.loses {message} late near why) l =
     let (aside, ends) = loss_ends why in
     more_told next message aside (loss_silent why).0 (loss_silent why).1 h l
     (ap (λ (b : Bool). cond b false (hand_owes m.hand)) ends ∙ sym (given_owes m.hand))
-tells_on messages m next said r h (Moves.comes read sized taken) l = more_told next _ refl refl refl h l refl
-tells_on messages m next said r h (Moves.keeps is) l = more_told next _ refl refl refl h l refl
-tells_on messages m next said r h
-    (Moves.reads before after read is none taken) l = more_told next _ refl refl refl h l refl
+tells_on messages m next said r h _ l = more_told next _ refl refl refl h l refl
 
 -- That the target is gone is told -------------------------------------------------------------------------------------
 
@@ -522,8 +490,7 @@ block_lasts {m} {rest = rest} parts at same h =
 skipped_lasts : {m : Machine} {hand : Hand} {part : Part} (rest : List Part) → Skips m hand part
     → has_last (part ∷ rest) ≡ has_last rest
 skipped_lasts rest (Skips.by_guard is) = refl
-skipped_lasts rest (Skips.by_wishes is) = refl
-skipped_lasts rest (Skips.no_request is) = refl
+skipped_lasts rest _ = refl
 
 numbered_end : (outcome : Outcome) (state : State) → (numbered_by outcome state).terminated ≡ state.terminated
 numbered_end outcome state = grind arith
@@ -538,8 +505,7 @@ replied_end command replied state = grind arith
 replied_lasts : (command : TargetCommand) (replied : Replied) (hand : Option Hand)
     → hand_lasts hand ≡ hand_lasts (option_map (hand_replied command replied) hand)
 replied_lasts command replied None = refl
-replied_lasts (a_question question) replied (Some hand) = refl
-replied_lasts (an_effect effect) replied (Some hand) = refl
+replied_lasts _ replied _ = refl
 
 asked_lasts : (want : Want) (hand : Option Hand) → hand_lasts hand ≡ hand_lasts (option_map (asked_hand want) hand)
 asked_lasts want None = refl
@@ -569,10 +535,9 @@ end_on m next said h (Moves.begins picked free none is) =
         → ((told || not (is_empty first)) ≡ true → (told || has_last (parts_of m.state picked.item)) ≡ true)
         → will_tell gone told false (is_empty (first ++ rest)) ≡ true
         → will_tell gone told (has_last (parts_of m.state picked.item)) (is_empty rest) ≡ true
-    begun_end false told first rest last h = refl
-    begun_end true true first rest last h = refl
     begun_end true false [] rest last h = grind (arith, h)
     begun_end true false (item ∷ first) rest last h = rw (last refl) refl
+    begun_end _ _ first rest last h = refl
 end_on m next said h (Moves.drops {hand} free is none) =
     same_end m m.state false _ refl refl (ap hand_lasts is ∙ ap has_last none) refl h
 end_on m next said h (Moves.responds {rest = rest} {outcome = outcome} free at is) =
@@ -591,7 +556,6 @@ end_on m next said h (Moves.sends {rest = rest} free at near) =
 end_on m next said h (Moves.updates {rest = rest} free at is near) =
     same_end m m.state (has_last (Part.Updates ∷ rest)) _ refl refl
     (ap hand_lasts at.in_hand ∙ ap has_last at.parts) refl h
-end_on m next said h (Moves.greets free at is near) = h
 end_on m next said h (Moves.notes {note = note} {rest} free at) =
     same_end m (noted note m.state) (has_last rest) _ (same_noted note m.state) (noted_end note m.state)
     (front_lasts at refl) refl h
@@ -601,7 +565,6 @@ end_on m next said h (Moves.queues {hand} free is) =
 end_on m next said h (Moves.asks {want = want} free room is are) =
     same_end m m.state _ _ refl refl (asked_lasts want m.hand) refl h
 end_on m next said h (Moves.hears {request} read is) = one_waits m (a_request request) h
-end_on m next said h (Moves.greeted read is) = h
 end_on m next said h (Moves.answers {question} {replied} is waits reply stays) =
     same_end m (replied_to (a_question question) replied m.state) _ _ (same_replied
     (a_question question) replied m.state)
@@ -609,8 +572,6 @@ end_on m next said h (Moves.answers {question} {replied} is waits reply stays) =
 end_on m next said h (Moves.replies {effect} {replied} is flying reply stays) =
     same_end m (replied_to (an_effect effect) replied m.state) _ _ (same_replied (an_effect effect) replied m.state)
     (replied_end (an_effect effect) replied m.state) (replied_lasts (an_effect effect) replied m.hand) refl h
-end_on m next said h (Moves.late before after is reply) = h
-end_on m next said h (Moves.ends gone) = h
 end_on m next said h (Moves.loses late near why) = rw (flat_map-append end_in m.waiting (target_end ∷ []))
     (some_end m.state.terminated (hand_lasts (option_map given_up m.hand)) (flat_map end_in m.waiting))
   where
@@ -625,6 +586,7 @@ end_on m next said h (Moves.reads {at} {body} {composite} before after read is n
     (ap (λ (items : List Item). is_empty (flat_map end_in items)) is
     ∙ ap is_empty (flat_map-append end_in before (a_raw at body ∷ after)
     ∙ sym (flat_map-append end_in before (a_composite at composite ∷ after)))) h
+end_on m next said h _ = h
 
 -- The law -------------------------------------------------------------------------------------------------------------
 

@@ -193,11 +193,9 @@ module _ (P : Id → Type 0) (free : (id : Id) → is_frame id ≡ false → P i
       ),
     ),
   )
-  event_free (events.ThreadStart request thread) = (free _ refl, tt)
-  event_free (events.ThreadDeath request thread) = (free _ refl, tt)
   event_free (events.ClassPrepare request thread tag c signature status) = (free _ refl, (free _ refl, tt))
-  event_free (events.VMStart request thread) = (free _ refl, tt)
   event_free (events.VMDeath request) = tt
+  event_free _ = (free _ refl, tt)
 
   pub composite_free : (composite : Composite) → All P (ids_of_composite composite)
   composite_free composite = all_flat (λ (event : Event). Unit {0}) P ids_of_event (λ event any. event_free event)

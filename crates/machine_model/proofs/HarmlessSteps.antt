@@ -80,9 +80,8 @@ row_threaded None _ state = grind arith
 begun_threaded : (state : State) (item : Item) → are_threaded (parts_of state item) ≡ true
 begun_threaded state (a_request request) =
     row_threaded (failure_of (wanting request.command) state) request.command state
-begun_threaded state target_end = grind arith
-begun_threaded state (a_composite at composite) = grind arith
 begun_threaded state (a_raw at body) = refl
+begun_threaded state _ = grind arith
 
 chosen_threaded : (choice : Choice) (state : State) (hand : Hand) (rest : List Part) → are_threaded rest ≡ true
     → are_threaded (chosen choice state hand ++ rest) ≡ true
@@ -96,8 +95,7 @@ chosen_threaded Stepped state hand rest is = by_code (refused_with hand.effect)
     by_code : (code : Option ℕ) → are_threaded (stepped_by code ++ rest) ≡ true
     by_code None = is
     by_code (Some code) = is
-chosen_threaded (Written seen) state hand rest is = grind (arith, is)
-chosen_threaded (Leaves exits) state hand rest is = grind (arith, is)
+chosen_threaded _ state hand rest is = grind (arith, is)
 
 threaded_test : IsTest threaded
 threaded_test = record {
@@ -125,8 +123,7 @@ module _ (thread : ThreadId) (depth : Depth) where
 
   no_thrown : (caught uncaught : Bool) → has_wish (thrown caught uncaught) it ≡ false
   no_thrown true uncaught = refl
-  no_thrown false true = refl
-  no_thrown false false = refl
+  no_thrown _ _ = refl
 
   abbrev first : Wanted → List Wish
   first wanted = wishes.ThreadStart ∷ wishes.ThreadDeath ∷ map wishes.Watch (watched wanted)
@@ -149,14 +146,13 @@ module _ (thread : ThreadId) (depth : Depth) where
 
 due_harmless : (w : Wishes) (effect : Effect) → has_thread w.wanted.step ≡ true → effect_due w ≡ Some effect
     → is_harmless_effect effect ≡ true
-due_harmless w (Does deed) there due = refl
-due_harmless w (Clear wish request) there due = refl
 due_harmless w (Set wish) there due = by_wish wish (new_set_due w wish due).is_wished
   where
     by_wish : (wish : Wish) → has_wish (wished w.wanted) wish ≡ true → is_harmless_wish wish ≡ true
     by_wish (wishes.Step thread depth) has =
         step_there thread depth w.wanted.step there (sym (only_step thread depth w.wanted) ∙ has)
     by_wish _ has = refl
+due_harmless w _ there due = refl
 
 -- Moves ---------------------------------------------------------------------------------------------------------------
 
@@ -189,15 +185,12 @@ said_on m next said there (Moves.loses late away why) = by_loss why
   where
     by_loss : {message : Message} {late : List TargetCommand} → Loses m message late → sends_well message ≡ true
     by_loss Loses.by_end = refl
-    by_loss (Loses.by_question is waits reply last) = refl
-    by_loss (Loses.by_effect is flying reply last) = refl
+    by_loss _ = refl
 said_on m next said there _ = refl
 
 noted_thread : (note : Note) (state : State) → has_thread state.wishes.wanted.step ≡ true
     → is_threaded (Part.Notes note) ≡ true → has_thread (noted note state).wishes.wanted.step ≡ true
 noted_thread (Steps step) state there is = is
-noted_thread (Lines None path entries) state there is = there
-noted_thread (Lines (Some key) path entries) state there is = there
 noted_thread (Classes classes) state there is =
     ap (λ (wanted : Wanted). has_thread wanted.step)
     (only_classes (found_in state.classes) classes state.wishes.wanted) ∙ there

@@ -79,20 +79,12 @@ pub composite_owes : (stopped dead : Bool) (policy : Policy) (at below : ℕ)
     → owed_in stopped (composite_parts Attached dead policy at below)
     ≡ cond dead 0 (0 + suspensions_by policy)
 composite_owes stopped true NoThread at below = refl
-composite_owes stopped true EventThread at below = refl
-composite_owes stopped true All at below = refl
-composite_owes stopped false NoThread at below = refl
-composite_owes stopped false EventThread at below = refl
-composite_owes stopped false All at below = refl
+composite_owes stopped _ _ at below = refl
 
 pub composite_last : (dead : Bool) (policy : Policy) (at below : ℕ)
     → has_last (composite_parts Attached dead policy at below) ≡ dying_by policy dead
 composite_last true NoThread at below = refl
-composite_last true EventThread at below = refl
-composite_last true All at below = refl
-composite_last false NoThread at below = refl
-composite_last false EventThread at below = refl
-composite_last false All at below = refl
+composite_last _ _ at below = refl
 
 gone_owes : (stopped responds : Bool) (item : Item) → owed_in stopped (gone_parts responds item) ≡ 0
 gone_owes stopped responds item = grind arith
@@ -103,10 +95,6 @@ given_owes (Some hand) = gone_owes false (has_response hand.parts) hand.item
 
 pub found_owes : (stopped : Bool) (lookup : Lookup) (result : Result Finding) (state : State) (rest : List Part)
     → owed_in stopped (finished lookup result state ++ rest) ≡ owed_in stopped (Part.Looks lookup ∷ rest)
-found_owes stopped all_threads result state rest = refl
-found_owes stopped (thread_frames thread start levels) result state rest = refl
-found_owes stopped (container_children thing filter start count) result state rest = refl
-found_owes stopped (expression_value frame expression) result state rest = refl
 found_owes stopped (variable_write thing name text) result state rest = grind arith
 found_owes stopped (exception_text thread object) result state rest = by_stop stopped
   where
@@ -114,8 +102,7 @@ found_owes stopped (exception_text thread object) result state rest = by_stop st
         ≡ owed_in stopped (Part.Looks (exception_text thread object) ∷ rest)
     by_stop true = refl
     by_stop false = refl
-found_owes stopped (exception_info thrown) result state rest = refl
-found_owes stopped class_facts result state rest = refl
+found_owes stopped _ result state rest = refl
 
 -- what is decided on a composite's suspension is one of three: a stop holds it, the entry does, or it is undone
 decided_owes : (state : State) (item : Item) → is_attached state.phase ≡ true
@@ -130,12 +117,8 @@ decided_owes state item attached = rw attached
 
     by_stop : (stopped configured entry starts : Bool) (thrown : List Thrown) (stop : Option Halt)
         → owed_in stopped (decided_by stopped (cond configured false (cond entry false starts)) thrown stop ++ []) ≡ 1
-    by_stop stopped true entry starts thrown None = refl
-    by_stop stopped false true starts thrown None = refl
-    by_stop stopped false false true thrown None = refl
-    by_stop stopped false false false thrown None = refl
-    by_stop true configured entry starts thrown (Some halt) = by_halt true halt.cause halt.thread
-    by_stop false configured entry starts thrown (Some halt) = by_halt false halt.cause halt.thread
+    by_stop stopped _ _ _ thrown None = refl
+    by_stop stopped configured entry starts thrown (Some halt) = by_halt stopped halt.cause halt.thread
 
 pub chosen_owes : {m : Machine} {hand : Hand} {choice : Choice} {rest : List Part} → IsHolding m
     → IsAt m hand (Part.Unfolds choice) rest
@@ -148,9 +131,7 @@ chosen_owes {m} {hand} {choice = Leaves exits} {rest} h at = by_phase m.state.ph
     by_phase : (phase : Phase) (exits : Bool)
         → owed_in m.state.stopped (leaves phase exits ++ rest) ≡ owed_in m.state.stopped rest
     by_phase Fresh exits = refl
-    by_phase Attached true = refl
-    by_phase Attached false = refl
-    by_phase Gone exits = refl
+    by_phase _ _ = refl
 chosen_owes {m} {hand} {choice = Written seen} {rest} h at = by_code (refused_with hand.effect)
   where
     by_code : (code : Option ℕ) → owed_in m.state.stopped (written_by seen code ++ rest) ≡ owed_in m.state.stopped rest
@@ -162,10 +143,8 @@ chosen_owes {m} {hand} {choice = Stepped} {rest} h at =
     by_rest : (rest : List Part) (stopped : Bool) (code : Option ℕ)
         → may_all m.state.phase stopped m.state.entry (Part.Unfolds Stepped ∷ rest) ≡ true
         → owed_in stopped (stepped_by code ++ rest) ≡ owed_in stopped rest
-    by_rest [] stopped None is = refl
-    by_rest [] stopped (Some code) is = refl
-    by_rest (part ∷ rest) true code is = cc
-    by_rest (part ∷ rest) false code is = cc
+    by_rest [] stopped _ is = refl
+    by_rest (part ∷ rest) _ code is = cc
 chosen_owes {m} {hand} {choice = Decides} {rest} h at = by_rest rest (is_attached m.state.phase) refl (may_front h at)
   where
     by_rest : (rest : List Part) (attached : Bool) → is_attached m.state.phase ≡ attached
@@ -173,33 +152,27 @@ chosen_owes {m} {hand} {choice = Decides} {rest} h at = by_rest rest (is_attache
         ≡ true
         → owed_in m.state.stopped (decided m.state hand.item ++ rest) ≡ owed_in m.state.stopped rest + 1
     by_rest [] true is may = decided_owes m.state hand.item is
-    by_rest [] false is may = cc
-    by_rest (part ∷ rest) true is may = cc
-    by_rest (part ∷ rest) false is may = cc
+    by_rest _ _ is may = cc
 
 pub skipped_owes : {m : Machine} {hand : Hand} {part : Part} (stopped : Bool) (rest : List Part) → Skips m hand part
     → owed_in stopped rest ≡ owed_in stopped (part ∷ rest)
 skipped_owes stopped rest (Skips.by_guard is) = refl
-skipped_owes stopped rest (Skips.by_wishes is) = refl
-skipped_owes stopped rest (Skips.no_request is) = refl
+skipped_owes stopped rest _ = refl
 
 pub skipped_last : {m : Machine} {hand : Hand} {part : Part} (rest : List Part) → Skips m hand part
     → has_last rest ≡ has_last (part ∷ rest)
 skipped_last rest (Skips.by_guard is) = refl
-skipped_last rest (Skips.by_wishes is) = refl
-skipped_last rest (Skips.no_request is) = refl
+skipped_last rest _ = refl
 
 pub replied_owes : (stopped : Bool) (command : TargetCommand) (replied : Replied) (hand : Option Hand)
     → owed_by stopped (option_map (hand_replied command replied) hand) ≡ owed_by stopped hand
 replied_owes stopped command replied None = refl
-replied_owes stopped (a_question question) replied (Some hand) = refl
-replied_owes stopped (an_effect effect) replied (Some hand) = refl
+replied_owes stopped _ replied _ = refl
 
 pub replied_last : (command : TargetCommand) (replied : Replied) (hand : Option Hand)
     → dies (option_map (hand_replied command replied) hand) ≡ dies hand
 replied_last command replied None = refl
-replied_last (a_question question) replied (Some hand) = refl
-replied_last (an_effect effect) replied (Some hand) = refl
+replied_last _ replied _ = refl
 
 pub asked_owes : (stopped : Bool) (want : Want) (hand : Option Hand)
     → owed_by stopped (option_map (asked_hand want) hand) ≡ owed_by stopped hand
@@ -285,9 +258,7 @@ deed_view_is m hand (Resume of_entry) rest h at = now_held m hand (Resume of_ent
     (undoes_entry m.state.stopped m.state.entry (owed_in m.state.stopped rest) _ (first_may h at) (held_front at)).0
 deed_view_is m hand (Resume of_stop) rest h at = now_held m hand (Resume of_stop) rest _ at
     (undoes_stop m.state.stopped m.state.entry (owed_in false rest) _ (first_may h at) (held_front at)).0
-deed_view_is m hand Dispose rest h at = now_held m hand Dispose rest _ at (sym (held_front at))
-deed_view_is m hand (Writes write) rest h at = now_held m hand (Writes write) rest _ at (sym (held_front at))
-deed_view_is m hand Exit rest h at = now_held m hand Exit rest _ at (sym (held_front at))
+deed_view_is m hand deed rest h at = now_held m hand deed rest _ at (sym (held_front at))
 
 pub deed_may : (m : Machine) (hand : Hand) (deed : Deed) (rest : List Part) → IsHolding m
     → IsAt m hand (Part.Sends deed) rest → may_send (an_effect (Does deed)) (view_of m) ≡ true
@@ -302,9 +273,7 @@ deed_may m hand (Resume of_stop) rest h at = both m.state.stopped _ (first_may h
     both : (stopped some : Bool) → stopped ≡ true → some ≡ true → cond stopped some false ≡ true
     both true some is h = h
     both false some is h = cc
-deed_may m hand Dispose rest h at = refl
-deed_may m hand Exit rest h at = refl
-deed_may m hand (Writes write) rest h at = refl
+deed_may m hand _ rest h at = refl
 
 -- Events and notes ----------------------------------------------------------------------------------------------------
 
@@ -329,14 +298,9 @@ stop_held {m} {stopping = stopping} {rest} h at =
     by_cause : (cause : StopCause) (stopped entry : Bool) (owed held : ℕ) → may_stop cause stopped rest ≡ true
         → held ≡ held_with stopped entry (cond (begins stopped cause) (owed + 1) owed)
         → (held_with true entry owed ≡ held) × (nat_lt 0 held ≡ true)
-    by_cause (Hit at) true entry owed held may is = by_hit true entry owed held is
-    by_cause (Hit at) false entry owed held may is = by_hit false entry owed held is
-    by_cause (by_exception text) true entry owed held may is = by_hit true entry owed held is
-    by_cause (by_exception text) false entry owed held may is = by_hit false entry owed held is
-    by_cause by_step true entry owed held may is = by_hit true entry owed held is
-    by_cause by_step false entry owed held may is = by_hit false entry owed held is
     by_cause by_client true entry owed held may is = (sym is, grind (arith, is))
     by_cause by_client false entry owed held may is = cc
+    by_cause _ stopped entry owed held may is = by_hit stopped entry owed held is
 
 -- the entry is held
 pub entry_held : {m : Machine} {hand : Hand} {rest : List Part} → IsHolding m → IsAt m hand (Part.Notes EntryHeld) rest

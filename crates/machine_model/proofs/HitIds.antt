@@ -27,10 +27,8 @@ ItemStands P (a_composite at composite) = All P (ids_of_composite composite)
 ItemStands P _ = Unit {0}
 
 pub events_stand : (P : Id → Type 0) (item : Item) → ItemStands P item → All P (flat_map ids_of_event (events_in item))
-events_stand P (a_request request) h = tt
 events_stand P (a_composite at composite) h = h
-events_stand P (a_raw at body) h = tt
-events_stand P target_end h = tt
+events_stand P _ h = tt
 
 -- of each event what is told passes
 pub each_event : {A : Type 0} (P : Id → Type 0) (Good : A → Type 0) (f : ATargetEvent → List A)

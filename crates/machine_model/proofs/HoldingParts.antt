@@ -162,10 +162,6 @@ found_may : (phase : Phase) (stopped entry : Bool) (lookup : Lookup) (result : R
     (rest : List Part)
     → may_all phase stopped entry (finished lookup result state ++ rest)
     ≡ may_all phase stopped entry (Part.Looks lookup ∷ rest)
-found_may phase stopped entry all_threads result state rest = refl
-found_may phase stopped entry (thread_frames thread start levels) result state rest = refl
-found_may phase stopped entry (container_children thing filter start count) result state rest = refl
-found_may phase stopped entry (expression_value frame expression) result state rest = refl
 found_may phase stopped entry (variable_write thing name text) result state rest = grind arith
 found_may phase stopped entry (exception_text thread object) result state rest = by_stop stopped
   where
@@ -173,8 +169,7 @@ found_may phase stopped entry (exception_text thread object) result state rest =
         ≡ may_all phase stopped entry (Part.Looks (exception_text thread object) ∷ rest)
     by_stop true = refl
     by_stop false = refl
-found_may phase stopped entry (exception_info thrown) result state rest = refl
-found_may phase stopped entry class_facts result state rest = refl
+found_may phase stopped entry _ result state rest = refl
 
 -- What is decided fits: the entry is held once, and a stop is told by a hit.
 decided_may : (phase : Phase) (state : State) (item : Item)
@@ -190,13 +185,9 @@ decided_may phase state item =
     by_stop : (attached stopped entry configured starts : Bool) (thrown : List Thrown) (stop : Option Halt)
         → may_all phase stopped entry
         (cond attached (decided_by stopped (cond configured false (cond entry false starts)) thrown stop) [] ++ []) ≡ true
-    by_stop false stopped entry configured starts thrown stop = refl
-    by_stop true stopped entry true starts thrown None = refl
-    by_stop true stopped true false starts thrown None = refl
-    by_stop true stopped false false true thrown None = refl
-    by_stop true stopped false false false thrown None = refl
     by_stop true true entry configured starts thrown (Some halt) = by_halt true entry halt.cause halt.thread
     by_stop true false entry configured starts thrown (Some halt) = by_halt false entry halt.cause halt.thread
+    by_stop _ stopped _ _ _ thrown _ = refl
 
 chosen_may : (choice : Choice) (state : State) (hand : Hand) (rest : List Part)
     → may_all state.phase state.stopped state.entry (Part.Unfolds choice ∷ rest) ≡ true
@@ -209,9 +200,7 @@ chosen_may (Leaves exits) state hand rest is = by_phase state.phase exits ∙ is
     by_phase : (phase : Phase) (exits : Bool) → may_all state.phase state.stopped state.entry (leaves phase exits ++ rest)
         ≡ may_all state.phase state.stopped state.entry rest
     by_phase Fresh exits = refl
-    by_phase Attached true = refl
-    by_phase Attached false = refl
-    by_phase Gone exits = refl
+    by_phase _ _ = refl
 chosen_may Decides state hand [] is = decided_may state.phase state hand.item
 chosen_may Decides state hand (part ∷ rest) is = none (is_attached state.phase) is
   where
@@ -232,9 +221,7 @@ chosen_may Stepped state hand rest is = by_rest rest state.stopped (refused_with
         → may_all state.phase stopped state.entry (stepped_by code ++ rest) ≡ true
     by_rest [] true None is = refl
     by_rest [] true (Some code) is = refl
-    by_rest [] false code is = cc
-    by_rest (part ∷ rest) true code is = cc
-    by_rest (part ∷ rest) false code is = cc
+    by_rest _ _ code is = cc
 
 -- In runs -------------------------------------------------------------------------------------------------------------
 
@@ -251,8 +238,7 @@ skipped_may : {m : Machine} {hand : Hand} {part : Part} (rest : List Part) → S
     → may_all m.state.phase m.state.stopped m.state.entry (part ∷ rest) ≡ true
     → may_all m.state.phase m.state.stopped m.state.entry rest ≡ true
 skipped_may rest (Skips.by_guard is) h = h
-skipped_may rest (Skips.by_wishes is) h = h
-skipped_may rest (Skips.no_request is) h = h
+skipped_may rest _ h = h
 
 pub same_stop : (command : TargetCommand) (replied : Replied) (state : State)
     → (replied_to command replied state).stopped ≡ state.stopped
@@ -274,29 +260,18 @@ event_may_all : (event : Event) (state : State) (rest : List Part)
     → may_all (after_event event state).phase (after_event event state).stopped (after_event event state).entry rest
     ≡ true
 event_may_all Initialized state rest is = is
-event_may_all (some_news news) state rest is = is
-event_may_all (a_stop stopping) state rest is = is
-event_may_all Terminated state rest is = is
+event_may_all _ state rest is = is
 
 note_may_all : (note : Note) (state : State) (rest : List Part)
     → may_all state.phase state.stopped (entry_noted note state.entry) rest ≡ true
     → may_all (noted note state).phase (noted note state).stopped (noted note state).entry rest ≡ true
 note_may_all EntryHeld state rest is = is
-note_may_all Configured state rest is = is
-note_may_all (Options options) state rest is = is
-note_may_all (Roots roots) state rest is = is
-note_may_all (Lines key path entries) state rest is = is
-note_may_all (Functions entries) state rest is = is
-note_may_all (StopsAt caught uncaught) state rest is = is
-note_may_all (Steps step) state rest is = is
-note_may_all (Throws thrown) state rest is = is
-note_may_all (Classes classes) state rest is = is
+note_may_all _ state rest is = is
 
 replied_may : (state : State) (command : TargetCommand) (replied : Replied) (hand : Option Hand)
     → hand_may state (option_map (hand_replied command replied) hand) ≡ hand_may state hand
 replied_may state command replied None = refl
-replied_may state (a_question question) replied (Some hand) = refl
-replied_may state (an_effect effect) replied (Some hand) = refl
+replied_may state _ replied _ = refl
 
 asked_may : (state : State) (want : Want) (hand : Option Hand)
     → hand_may state (option_map (asked_hand want) hand) ≡ hand_may state hand
@@ -337,7 +312,6 @@ holding_on m next said h (Moves.unfolds {hand} {choice} {rest} free at) =
 holding_on m next said h (Moves.queues free is) =
     subst (λ (hand : Option Hand). hand_may m.state hand ≡ true) is h
 holding_on m next said h (Moves.asks {want = want} free room is are) = asked_may m.state want m.hand ∙ h
-holding_on m next said h (Moves.hears read is) = h
 holding_on m next said h (Moves.greeted read is) =
     same_may m.state (record m.state { greeting_heard = true }) m.hand refl refl refl ∙ h
 holding_on m next said h (Moves.answers {question} {replied} is waits reply stays) =
@@ -350,16 +324,12 @@ holding_on m next said h (Moves.replies {effect} {replied} is flies reply stays)
     (same_replied (an_effect effect) replied m.state) (same_stop (an_effect effect) replied m.state)
     (same_entry (an_effect effect) replied m.state)
     ∙ replied_may m.state (an_effect effect) replied m.hand ∙ h
-holding_on m next said h (Moves.late before after is reply) = h
-holding_on m next said h (Moves.ends gone) = h
 holding_on m next said h (Moves.loses late near why) = given_may m.hand
   where
     given_may : (hand : Option Hand) → hand_may next.state (option_map given_up hand) ≡ true
     given_may None = refl
     given_may (Some hand) = gone_may false false (has_response hand.parts) hand.item
-holding_on m next said h (Moves.comes read sized taken) = h
-holding_on m next said h (Moves.keeps is) = h
-holding_on m next said h (Moves.reads before after read is none taken) = h
+holding_on m next said h _ = h
 
 pub holding : {messages : List Message} {m : Machine} → Run messages m → IsHolding m
 holding r = by_moves {Holds = λ (messages : List Message) (m : Machine). IsHolding m}
@@ -380,10 +350,8 @@ lost_flags m h gone = by_flags (is_gone m.state.phase) m.state.stopped m.state.e
   where
     by_flags : (gone stopped entry : Bool) → nothing_held gone stopped entry ≡ true → gone ≡ true
         → (stopped ≡ false) × (entry ≡ false)
-    by_flags true true entry h is = cc
-    by_flags true false true h is = cc
     by_flags true false false h is = (refl, refl)
-    by_flags false stopped entry h is = cc
+    by_flags _ _ _ h is = cc
 
 -- a part that isn't free is done while there is a target
 near_now : (gone others : Bool) → cond (cond gone false true) others false ≡ true → gone ≡ false
@@ -398,24 +366,13 @@ lost_on m next said f h (Moves.tells {event = Initialized} free at) = by_phase m
     by_phase : (phase : Phase) → nothing_held (is_gone phase) m.state.stopped m.state.entry ≡ true
         → nothing_held (is_gone (attached_from phase)) m.state.stopped m.state.entry ≡ true
     by_phase Fresh h = h
-    by_phase Attached h = h
-    by_phase Gone h = h
-lost_on m next said f h (Moves.tells {event = some_news news} free at) = h
+    by_phase _ h = h
 lost_on m next said f h (Moves.tells {event = a_stop stopping} free at) =
     rw (near_now (is_gone m.state.phase) _ (whole free_once f at)) refl
 lost_on m next said f h (Moves.tells {event = Terminated} free at) = refl
 lost_on m next said f h (Moves.sends free at near) = rw near refl
 lost_on m next said f h (Moves.notes {note = EntryHeld} free at) =
     rw (near_now (is_gone m.state.phase) _ (whole free_once f at)) refl
-lost_on m next said f h (Moves.notes {note = Configured} free at) = h
-lost_on m next said f h (Moves.notes {note = Options options} free at) = h
-lost_on m next said f h (Moves.notes {note = Roots roots} free at) = h
-lost_on m next said f h (Moves.notes {note = Lines key path entries} free at) = h
-lost_on m next said f h (Moves.notes {note = Functions entries} free at) = h
-lost_on m next said f h (Moves.notes {note = StopsAt caught uncaught} free at) = h
-lost_on m next said f h (Moves.notes {note = Steps step} free at) = h
-lost_on m next said f h (Moves.notes {note = Throws thrown} free at) = h
-lost_on m next said f h (Moves.notes {note = Classes classes} free at) = h
 lost_on m next said f h (Moves.answers {question} {replied} is waits reply stays) =
     rw (
       same_replied (a_question question) replied m.state,
@@ -429,22 +386,7 @@ lost_on m next said f h (Moves.replies {effect} {replied} is flies reply stays) 
       same_entry (an_effect effect) replied m.state,
     ) h
 lost_on m next said f h (Moves.loses late near why) = refl
-lost_on m next said f h (Moves.begins picked free none is) = h
-lost_on m next said f h (Moves.drops free is none) = h
-lost_on m next said f h (Moves.finds found free at needs done) = h
-lost_on m next said f h (Moves.passes_over free at why) = h
-lost_on m next said f h (Moves.updates free at is near) = h
-lost_on m next said f h (Moves.greets free at is near) = h
-lost_on m next said f h (Moves.unfolds free at) = h
-lost_on m next said f h (Moves.queues free is) = h
-lost_on m next said f h (Moves.asks free room is are) = h
-lost_on m next said f h (Moves.hears read is) = h
-lost_on m next said f h (Moves.greeted read is) = h
-lost_on m next said f h (Moves.late before after is reply) = h
-lost_on m next said f h (Moves.ends gone) = h
-lost_on m next said f h (Moves.comes read sized taken) = h
-lost_on m next said f h (Moves.keeps is) = h
-lost_on m next said f h (Moves.reads before after read is none taken) = h
+lost_on m next said f h _ = h
 
 pub lost_held : {messages : List Message} {m : Machine} → Run messages m → IsLost m
 lost_held r = by_runs {Holds = λ (messages : List Message) (m : Machine). IsLost m} (record {

@@ -88,12 +88,7 @@ module _ (P Q : Id → Type 0) (k : (id : Id) → P id → Q id) where
   weak_body (scope_list one) h = weak_frame one h
   weak_body (variable_list shown) h = all_weak (OfShownVariable P) (OfShownVariable Q) weak_variable shown h
   weak_body (a_value seen) h = weak_seen seen h
-  weak_body (a_written seen) h = tt
-  weak_body Nothing h = tt
-  weak_body Capabilities h = tt
-  weak_body (breakpoint_list rooted listed) h = tt
-  weak_body Continued h = tt
-  weak_body (an_exception id mode) h = tt
+  weak_body _ h = tt
 
   weak_store : (store : Store) → OfStore P store → OfStore Q store
   weak_store (to_slot thread one slot) h = (k (object thread.0) h.0, k (frame thread.0 one.0) h.1)
@@ -105,24 +100,16 @@ module _ (P Q : Id → Type 0) (k : (id : Id) → P id → Q id) where
 
   weak_part : (part : Part) → PartStands P part → PartStands Q part
   weak_part (Part.Responds (Success body)) h = weak_body body h
-  weak_part (Part.Responds (Failed failure)) h = tt
   weak_part (Part.Notes (Lines key path entries)) h = h
   weak_part (Part.Notes (Functions entries)) h = h
-  weak_part (Part.Notes (Steps None)) h = tt
   weak_part (Part.Notes (Steps (Some step))) h = k (object step.thread.0) h
-  weak_part (Part.Looks all_threads) h = tt
   weak_part (Part.Looks (thread_frames thread start levels)) h = k (object thread.0) h
   weak_part (Part.Looks (container_children thing filter start count)) h = weak_thing thing h
   weak_part (Part.Looks (expression_value one expression)) h = weak_frame one h
   weak_part (Part.Looks (variable_write thing name text)) h = weak_thing thing h
   weak_part (Part.Looks (exception_text thread one)) h = weak_object one.0 h
   weak_part (Part.Sends (Writes write)) h = weak_write write h
-  weak_part (Part.Sends Suspend) h = tt
-  weak_part (Part.Sends (Resume suspension)) h = tt
-  weak_part (Part.Sends Dispose) h = tt
-  weak_part (Part.Sends Exit) h = tt
   weak_part (Part.Looks (exception_info thrown)) h = weak_object thrown.object.0 h
-  weak_part (Part.Looks class_facts) h = tt
   weak_part (Part.Notes (Classes classes)) h = all_weak (OfClass P) (OfClass Q) (λ one. k _) classes h
   weak_part _ h = tt
 
@@ -185,41 +172,15 @@ weak_waits P Q k m w near = record {
 }
   where
     each : (item : Item) → ItemStands P item → ItemStands Q item
-    each (a_request request) h = tt
     each (a_composite at composite) h = weak_ids P Q k (ids_of_composite composite) h
-    each (a_raw at body) h = tt
-    each target_end h = tt
+    each _ h = tt
 
     tells : (part : Part) → TellStands P part → TellStands Q part
     tells (Part.Tells (some_news (thread_changed started thread))) h = k (object thread.0) h
     tells (Part.Tells (a_stop stopping)) h = k (object stopping.thread.0) h
-    tells (Part.Tells (some_news (entry_verified entry))) h = tt
-    tells (Part.Tells Initialized) h = tt
-    tells (Part.Tells Terminated) h = tt
-    tells (Part.Responds outcome) h = tt
-    tells (Part.Sends deed) h = tt
     tells (Part.Looks (exception_text thread one)) h = k (object thread.0) h
-    tells (Part.Looks all_threads) h = tt
-    tells (Part.Looks (thread_frames thread start levels)) h = tt
-    tells (Part.Looks (container_children thing filter start count)) h = tt
-    tells (Part.Looks (expression_value one expression)) h = tt
-    tells (Part.Looks (variable_write thing name text)) h = tt
-    tells (Part.Looks (exception_info thrown)) h = tt
-    tells (Part.Looks class_facts) h = tt
-    tells (Part.Awaits guard) h = tt
-    tells Part.Updates h = tt
     tells (Part.Notes (Throws thrown)) h = all_weak (OfThrown P) (OfThrown Q) (weak_thrown P Q k) thrown h
-    tells (Part.Notes (Options options)) h = tt
-    tells (Part.Notes (Roots roots)) h = tt
-    tells (Part.Notes (Lines key path entries)) h = tt
-    tells (Part.Notes (Functions entries)) h = tt
-    tells (Part.Notes (StopsAt caught uncaught)) h = tt
-    tells (Part.Notes (Steps step)) h = tt
-    tells (Part.Notes (Classes classes)) h = tt
-    tells (Part.Notes EntryHeld) h = tt
-    tells (Part.Notes Configured) h = tt
-    tells (Part.Unfolds choice) h = tt
-    tells (Part.Ends finish) h = tt
+    tells _ h = tt
 
     by_hand : (hand : Option Hand) → HandStands P hand → HandStands Q hand
     by_hand None h = tt
@@ -272,9 +233,6 @@ always_kept {P} t r =
 
 deed_may : (P : Id → Type 0) (sized : Bool) (deed : Deed) → OfDeed P deed
     → (needs_sizes (Part.Sends deed) ≡ true → sized ≡ true) → MaySend P sized (an_effect (Does deed))
-deed_may P sized Suspend k needs = record { ids = tt; sized_first = refl; fits = λ used h. tt }
-deed_may P sized (Resume suspension) k needs = record { ids = tt; sized_first = refl; fits = λ used h. tt }
-deed_may P sized Dispose k needs = record { ids = tt; sized_first = refl; fits = λ used h. tt }
 deed_may P sized Exit k needs = record { ids = tt; sized_first = refl; fits = λ used h. (tt, tt) }
 deed_may P sized (Writes write) k needs = subst (λ (sized : Bool). MaySend P sized (an_effect (Does (Writes write))))
     (sym (needs refl)) (record {
@@ -282,6 +240,7 @@ deed_may P sized (Writes write) k needs = subst (λ (sized : Bool). MaySend P si
       sized_first = written_sized write;
       fits = λ used h. written_fits used write k.plain h;
     })
+deed_may P sized _ k needs = record { ids = tt; sized_first = refl; fits = λ used h. tt }
 
 -- a command that clears has no id of the target's objects
 clear_may : (P : Id → Type 0) (sized : Bool) (wish : Wish) (request : ℕ) → MaySend P sized (an_effect
@@ -360,9 +319,6 @@ sends_may {P} {messages} {m} command null k move = by_move command (Some (Messag
           subst (λ command. MaySend P (is_some m.state.sizes) command) same
               (question_may P (is_some m.state.sizes) (question_of want) queue.0),
         )
-    by_move command said is (Moves.loses late near Loses.by_end) = cc
-    by_move command said is (Moves.loses late near (Loses.by_question held waits reply last)) = cc
-    by_move command said is (Moves.loses late near (Loses.by_effect held flying reply last)) = cc
     by_move command said is _ = cc
 
 -- one among these and one more is that one, or among these
@@ -370,8 +326,6 @@ pub last_or_not : {A : Type 0} (all : List A) (last one : A) (before after : Lis
     → all ++ last ∷ [] ≡ before ++ one ∷ after
     → ((all ≡ before) × (last ≡ one)) ⊎ ((rest : List A) × (all ≡ before ++ one ∷ rest))
 last_or_not [] last one [] after is = inl (refl, cc)
-last_or_not [] last one (first ∷ []) after is = cc
-last_or_not [] last one (first ∷ second ∷ before) after is = cc
 last_or_not {A} (first ∷ all) last one [] after is =
     let same : first ≡ one = cc in inr (all, ap (λ (m : A). m ∷ all) same)
 last_or_not {A} (first ∷ all) last one (other ∷ before) after is =
@@ -384,6 +338,7 @@ last_or_not {A} (first ∷ all) last one (other ∷ before) after is =
         ⊎ ((rest : List A) × (first ∷ all ≡ other ∷ (before ++ one ∷ rest)))
     behind same (inl (all_same, it)) = inl (cc, it)
     behind same (inr (rest, all_more)) = inr (rest, cc)
+last_or_not [] last one _ after is = cc
 
 -- what holds of each command as it is sent, by the messages before it
 pub record Sends (P : List Message → Id → Type 0) (Good : List Message → TargetCommand → Type 0)

@@ -232,5 +232,4 @@ plain_fits used thread (says i x ∷ sayings) is h = by_tests (plain_item i x) (
       one refl (all_front (FitsId used) (ids_of_item thread i x) (flat_map (ids_of_saying thread) sayings) h),
       rest refl (all_back (FitsId used) (ids_of_item thread i x) (flat_map (ids_of_saying thread) sayings) h),
     )
-    by_tests true false is one rest = cc
-    by_tests false others is one rest = cc
+    by_tests _ _ is one rest = cc

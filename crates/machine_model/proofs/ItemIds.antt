@@ -68,14 +68,12 @@ prepared_stand P (event ∷ events) h = all_joined (λ (c : LoadedClass). P (cla
 under_stand : (P : Id → Type 0) (policy : Policy) (classes : List LoadedClass)
     → All (λ (c : LoadedClass). P (class c.class.0)) classes
     → All (λ (c : LoadedClass). P (class c.class.0)) (prepared_under policy classes)
-under_stand P NoThread classes h = h
 under_stand P EventThread classes h = tt
-under_stand P AllThreads classes h = h
+under_stand P _ classes h = h
 
 -- the facts of classes, once an item is taken
 pub taken_stand : (P : Id → Type 0) (phase : Phase) (item : Item) (known : Known) → ItemStands P item
     → AreKnown P known → AreKnown P (learnt_by phase item known)
-taken_stand P phase (a_request request) known h k = k
 taken_stand P phase (a_composite at composite) known h k = by_phase phase
   where
     by_death : (prepared : List LoadedClass) (dies : Bool)
@@ -85,22 +83,18 @@ taken_stand P phase (a_composite at composite) known h k = by_phase phase
     by_death prepared false some = some
 
     by_phase : (phase : Phase) → AreKnown P (learnt_in phase composite known)
-    by_phase Fresh = k
     by_phase Attached = loaded_known P (prepared_in composite) known
         (by_death _ (has_death composite.events)
         (under_stand P composite.policy (flat_map prepared_by composite.events)
         (prepared_stand P composite.events h))) k
-    by_phase Gone = k
-taken_stand P phase (a_raw at body) known h k = k
-taken_stand P phase target_end known h k = k
+    by_phase _ = k
+taken_stand P phase _ known h k = k
 
 -- What waits ----------------------------------------------------------------------------------------------------------
 
 raw_stands : (P : Id → Type 0) (item : Item) → is_raw item ≡ true → ItemStands P item
-raw_stands P (a_request request) is = tt
 raw_stands P (a_composite at composite) is = cc
-raw_stands P (a_raw at body) is = tt
-raw_stands P target_end is = tt
+raw_stands P _ is = tt
 
 -- what is picked stood among what waited
 pub picked_stand : (P : Id → Type 0) (gone : Bool) (items : List Item) (picked : Picked)
@@ -157,8 +151,7 @@ in_front {P} {m} {hand} h at =
 replied_held : (P : Id → Type 0) (command : TargetCommand) (replied : Replied) (hand : Option Hand)
     → HandStands P hand → HandStands P (option_map (hand_replied command replied) hand)
 replied_held P command replied None h = tt
-replied_held P (a_question question) replied (Some hand) h = h
-replied_held P (an_effect effect) replied (Some hand) h = h
+replied_held P _ replied (Some hand) h = h
 
 asked_held : (P : Id → Type 0) (want : Want) (hand : Option Hand) → HandStands P hand
     → HandStands P (option_map (asked_hand want) hand)
@@ -191,7 +184,6 @@ held_on P messages m next said h k here (Moves.sends free at is) =
     let f = in_front h at in ((f.0, f.2), h.threads)
 held_on P messages m next said h k here (Moves.updates free at is near) =
     let f = in_front h at in ((f.0, (tt, f.2)), h.threads)
-held_on P messages m next said h k here (Moves.greets free at is near) = (h.held, h.threads)
 held_on P messages m next said h k here (Moves.notes {note = note} free at) =
     let f = in_front h at in
     ((f.0, f.2), subst (λ (threads : List ThreadId). All (OfThread P) threads) (sym (noted_threads note m.state)) h.threads)
@@ -216,33 +208,18 @@ held_on P messages m next said h k here _ = (h.held, h.threads)
 
 event_thrown : (P : Id → Type 0) (event : Event) (state : State) → All (OfThrown P) state.thrown
     → All (OfThrown P) (after_event event state).thrown
-event_thrown P Initialized state h = h
-event_thrown P (some_news news) state h = h
-event_thrown P (a_stop stopping) state h = h
 event_thrown P Terminated state h = tt
+event_thrown P _ state h = h
 
 deed_thrown : (P : Id → Type 0) (deed : Deed) (state : State) → All (OfThrown P) state.thrown
     → All (OfThrown P) (after_deed deed state).thrown
-deed_thrown P Suspend state h = h
-deed_thrown P (Resume of_composite) state h = h
-deed_thrown P (Resume of_entry) state h = h
 deed_thrown P (Resume of_stop) state h = tt
-deed_thrown P Dispose state h = h
-deed_thrown P Exit state h = h
-deed_thrown P (Writes write) state h = h
+deed_thrown P _ state h = h
 
 note_thrown : (P : Id → Type 0) (note : Note) (state : State) → NoteTells P note → All (OfThrown P) state.thrown
     → All (OfThrown P) (noted note state).thrown
 note_thrown P (Throws thrown) state k h = all_joined (OfThrown P) state.thrown thrown h k
-note_thrown P (Options options) state k h = h
-note_thrown P (Roots roots) state k h = h
-note_thrown P (Lines key path entries) state k h = h
-note_thrown P (Functions entries) state k h = h
-note_thrown P (StopsAt caught uncaught) state k h = h
-note_thrown P (Steps step) state k h = h
-note_thrown P (Classes classes) state k h = h
-note_thrown P EntryHeld state k h = h
-note_thrown P Configured state k h = h
+note_thrown P _ state k h = h
 
 responded_thrown : (outcome : Outcome) (state : State) → (numbered_by outcome state).thrown ≡ state.thrown
 responded_thrown outcome state = grind arith

@@ -53,10 +53,9 @@ way_due IdSizes state asked h = by_sizes state.sizes h
 
 pub lacked_due : (state : State) (hand : Hand) (parts : List Part) → sizes_kept state.sizes hand.asked ≡ true
     → all_due hand.asked (lacked_by state hand parts) ≡ true
-lacked_due state hand [] h = refl
 lacked_due state hand (Part.Looks lookup ∷ rest) h = need_due (sight_of state hand) (plan lookup state)
 lacked_due state hand (Part.Awaits guard ∷ rest) h = way_due guard state hand.asked h
-lacked_due state hand (_ ∷ rest) h = refl
+lacked_due state hand _ h = refl
 
 pub new_apart : (state : State) (hand : Hand) → sizes_kept state.sizes hand.asked ≡ true
     → are_apart hand.asked (newly_lacked state hand) ≡ true
@@ -218,23 +217,18 @@ kept_on m next said h (Moves.unfolds {hand} free at) = kept_of m hand at.in_hand
 kept_on m next said h (Moves.queues {hand} free is) = queued_kept m hand (near_queue m free) (kept_of m hand is h)
 kept_on m next said h (Moves.asks {hand} {want} {wants = others} free room is are) =
     rw is (asked_hand_kept m hand want others are (kept_of m hand is h))
-kept_on m next said h (Moves.hears read is) = h
 kept_on m next said h (Moves.greeted read is) = same_kept m.state next.state m.hand refl refl h
 kept_on m next said h (Moves.answers {question} {replied} {hand} is waits reply stays) =
     rw is (answered_kept m hand question replied reply stays (kept_of m hand is h))
 kept_on m next said h (Moves.replies {effect} {replied} {hand} is flying reply stays) =
     rw is (same_kept m.state (replied_to (an_effect effect) replied m.state) (Some hand) refl refl
     (kept_of m hand is h))
-kept_on m next said h (Moves.late before after is reply) = h
-kept_on m next said h (Moves.ends gone) = h
 kept_on m next said h (Moves.loses late near why) = given_kept m.hand
   where
     given_kept : (hand : Option Hand) → hand_kept (record m.state { phase = Gone }) (option_map given_up hand) ≡ true
     given_kept None = refl
     given_kept (Some hand) = refl
-kept_on m next said h (Moves.comes read sized taken) = h
-kept_on m next said h (Moves.keeps is) = h
-kept_on m next said h (Moves.reads before after read is none taken) = h
+kept_on m next said h _ = h
 
 pub always_kept : {messages : List Message} {m : Machine} → Run messages m → IsKept m
 always_kept r = by_moves {Holds = λ (messages : List Message) (m : Machine). IsKept m}

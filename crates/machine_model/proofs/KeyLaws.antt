@@ -36,9 +36,7 @@ slots_at (tag ∷ sign ∷ n ∷ others) = record { slot = signed_at sign n; tag
 
 ranges : (start len : ℤ) → range_at (signed_key start ++ signed_key len) ≡ (start, len)
 ranges (pos m) (pos n) = refl
-ranges (pos m) (negsuc n) = refl
-ranges (negsuc m) (pos n) = refl
-ranges (negsuc m) (negsuc n) = refl
+ranges _ _ = refl
 
 one_slot : (tag : ℕ) (n : ℤ) (rest : List ℕ)
     → slots_at ((tag ∷ signed_key n) ++ rest) ≡ record { slot = n; tag = tag } ∷ slots_at rest
@@ -114,11 +112,10 @@ pub same_back : (a b : Question) → same_question a b ≡ same_question b a
 same_back a b = by_both (same_question a b) (same_question b a) refl refl
   where
     by_both : (here there : Bool) → same_question a b ≡ here → same_question b a ≡ there → here ≡ there
-    by_both true true h k = refl
-    by_both false false h k = refl
     by_both true false h k =
         let no : true ≡ false = sym (is_same b) ∙ ap (λ (q : Question). same_question b q) (sym (is_one a b h)) ∙ k in
         absurd (false≢true (sym no))
     by_both false true h k =
         let no : true ≡ false = sym (is_same a) ∙ ap (λ (q : Question). same_question a q) (sym (is_one b a k)) ∙ h in
         absurd (false≢true (sym no))
+    by_both _ _ h k = refl

@@ -69,10 +69,8 @@ use Rattle.machine_model.specs.Names.{Functions, an_exception}
 -- a reply shows the target's end so
 same_end : (command : TargetCommand) (replied : Replied)
     → cond (is_farewell command) false (says_dead replied) ≡ is_end command replied
-same_end (a_question question) replied = refl
 same_end (an_effect (Does deed)) replied = grind arith
-same_end (an_effect (Set wish)) replied = refl
-same_end (an_effect (Clear wish request)) replied = refl
+same_end _ replied = refl
 
 -- the reply to IDSizes that is kept says sizes
 sizes_are : (sizes before : Option SizesRead) (replied : Replied) → IsReply sizes (a_question questions.IdSizes) replied
@@ -98,10 +96,9 @@ facts_are question heard known = by_question question
   where
     once : (knows said : Bool) → knows ≡ said → (fact : Fact)
         → cond knows known (with_fact fact known) ≡ with_facts (cond said [] (fact ∷ [])) known
-    once true true same fact = refl
     once true false same fact = cc
     once false true same fact = cc
-    once false false same fact = refl
+    once _ _ same fact = refl
 
     either : (knows : Bool) → cond knows known known ≡ known
     either true = refl
@@ -148,17 +145,7 @@ response_view : (outcome : Outcome) (m : Machine)
     → record (view_of (record m { state = numbered_by outcome m.state })) { held = held_in m.state m.hand }
     ≡ record (view_of m) { bound = with_told m.state.bound (breakpoints_in (outcome_told outcome m.state)) }
 response_view (Success Nothing) m = refl
-response_view (Success Capabilities) m = refl
-response_view (Success (breakpoint_list rooted listed)) m = refl
-response_view (Success Continued) m = refl
-response_view (Success (frame_list total frames)) m = refl
-response_view (Success (scope_list frame)) m = refl
-response_view (Success (variable_list shown)) m = refl
-response_view (Success (a_value seen)) m = refl
-response_view (Success (a_written seen)) m = refl
-response_view (Success (an_exception id mode)) m = refl
-response_view (Success (thread_list named)) m = refl
-response_view (Failed failure) m = refl
+response_view _ m = refl
 
 -- a note is made: what is held as the entry was held for the composite in hand
 note_view : (m next : Machine) (hand : Hand) (note : Note) (rest : List Part) → IsHolding m
@@ -166,32 +153,8 @@ note_view : (m next : Machine) (hand : Hand) (note : Note) (rest : List Part) �
     → view_of (left (knowing m (noted note m.state)) hand rest) ≡ view_of m
 note_view m next hand EntryHeld rest h at = held_as m (left (knowing m (noted EntryHeld m.state)) hand rest)
     (entry_held h at) (sym (dies_front at)) refl
-note_view m next hand Configured rest h at = held_as m (left (knowing m (noted Configured m.state)) hand rest)
-    (sym (held_front at)) (sym (dies_front at)) refl
-note_view m next hand (Options options) rest h at =
-    held_as m (left (knowing m (noted (Options options) m.state)) hand rest)
-    (sym (held_front at)) (sym (dies_front at)) refl
-note_view m next hand (Roots roots) rest h at =
-    held_as m (left (knowing m (noted (Roots roots) m.state)) hand rest)
-    (sym (held_front at)) (sym (dies_front at)) refl
-note_view m next hand (Lines key path entries) rest h at =
-    held_as m (left (knowing m (noted (Lines key path entries) m.state)) hand rest)
-    (sym (held_front at)) (sym (dies_front at)) refl
-note_view m next hand (Functions entries) rest h at =
-    held_as m (left (knowing m (noted (Functions entries) m.state)) hand rest)
-    (sym (held_front at)) (sym (dies_front at)) refl
-note_view m next hand (StopsAt caught uncaught) rest h at =
-    held_as m (left (knowing m (noted (StopsAt caught uncaught) m.state)) hand rest)
-    (sym (held_front at)) (sym (dies_front at)) refl
-note_view m next hand (Steps step) rest h at =
-    held_as m (left (knowing m (noted (Steps step) m.state)) hand rest)
-    (sym (held_front at)) (sym (dies_front at)) refl
-note_view m next hand (Throws thrown) rest h at =
-    held_as m (left (knowing m (noted (Throws thrown) m.state)) hand rest)
-    (sym (held_front at)) (sym (dies_front at)) refl
-note_view m next hand (Classes classes) rest h at =
-    held_as m (left (knowing m (noted (Classes classes) m.state)) hand rest)
-    (sym (held_front at)) (sym (dies_front at)) refl
+note_view m next hand note rest h at =
+    held_as m (left (knowing m (noted note m.state)) hand rest) (sym (held_front at)) (sym (dies_front at)) refl
 
 not_gone : (gone other : Bool) → cond (cond gone false true) other false ≡ true → not gone ≡ true
 not_gone gone other is = grind (arith, is)
@@ -200,10 +163,6 @@ not_gone gone other is = grind (arith, is)
 event_may : (m : Machine) (hand : Hand) (event : Event) (rest : List Part) → Passed free_once m → IsMarked m
     → IsHolding m → IsAt m hand (Part.Tells event) rest
     → may_tell (an_event (event_told event (after_event event m.state))) (view_of m) ≡ true
-event_may m hand (some_news (entry_verified entry)) rest f h w at =
-    not_gone (is_gone m.state.phase) _ (whole free_once f at)
-event_may m hand (some_news (thread_changed started thread)) rest f h w at =
-    not_gone (is_gone m.state.phase) _ (whole free_once f at)
 event_may m hand (a_stop stopping) rest f h w at =
     by_gone (is_gone m.state.phase) _ _ (whole free_once f at) (stop_held w at).1
   where
@@ -229,6 +188,7 @@ event_may m hand Terminated rest f h w at =
         → cond gone (not told) (cond (cond gone false dying) (not told) false) ≡ true
     by_gone true dying told is untold = untold
     by_gone false dying told is untold = rw is untold
+event_may m hand _ rest f h w at = not_gone (is_gone m.state.phase) _ (whole free_once f at)
 
 fresh_now : (phase : Phase) → is_fresh phase ≡ true → phase ≡ Fresh
 fresh_now phase is = grind (arith, is)
@@ -254,12 +214,6 @@ event_view_is m hand Initialized rest f h w at =
       composites = waiting_composites (is_gone phase) m.waiting;
       dying = cond (is_gone phase) false (dies m.hand);
     }) (fresh_now m.state.phase fresh)))
-event_view_is m hand (some_news (entry_verified entry)) rest f h w at =
-    held_as m (left (knowing m (after_event (some_news (entry_verified entry)) m.state)) hand rest)
-    (sym (held_front at)) (sym (dies_front at)) refl
-event_view_is m hand (some_news (thread_changed started thread)) rest f h w at =
-    held_as m (left (knowing m (after_event (some_news (thread_changed started thread)) m.state)) hand rest)
-    (sym (held_front at)) (sym (dies_front at)) refl
 event_view_is m hand (a_stop stopping) rest f h w at =
     held_as m (left (knowing m (after_event (a_stop stopping) m.state)) hand rest) (stop_held w at).0
     (sym (dies_front at)) refl
@@ -270,6 +224,8 @@ event_view_is m hand Terminated rest f h w at =
     tail : (gone others : Bool) → cond (cond gone true true) others false ≡ true → others ≡ true
     tail true others is = is
     tail false others is = is
+event_view_is m hand event rest f h w at =
+    held_as m (left (knowing m (after_event event m.state)) hand rest) (sym (held_front at)) (sym (dies_front at)) refl
 
 gone_is : (phase : Phase) → is_gone phase ≡ true → phase ≡ Gone
 gone_is phase is = grind (arith, is)
@@ -556,9 +512,6 @@ may_on m next said f h w (Moves.greets {guard = guard} free at is near) = rw (un
 may_on m next said f h w (Moves.asks {hand} free room is are) = rw (near_asks m hand free is).0 refl
 may_on m next said f h w (Moves.hears read is) = rw is refl
 may_on m next said f h w (Moves.greeted read is) = rw is refl
-may_on m next said f h w (Moves.loses late near Loses.by_end) = refl
-may_on m next said f h w (Moves.loses late near (Loses.by_question is waits reply last)) = refl
-may_on m next said f h w (Moves.loses late near (Loses.by_effect is flies reply last)) = refl
 may_on m next said f h w _ = refl
 
 -- Numbers -------------------------------------------------------------------------------------------------------------
@@ -578,27 +531,15 @@ no_numbers numbers threads = record { distinct = λ is. is; in_order = λ h. rw 
 outcome_numbers : (numbers : List ℕ) (outcome : Outcome) (state : State)
     → Numbers numbers state.threads (numbered_by outcome state).threads (numbers_in_outcome
     (outcome_told outcome state))
-outcome_numbers numbers (Failed failure) state = no_numbers numbers state.threads
-outcome_numbers numbers (Success Nothing) state = no_numbers numbers state.threads
-outcome_numbers numbers (Success Capabilities) state = no_numbers numbers state.threads
-outcome_numbers numbers (Success Continued) state = no_numbers numbers state.threads
-outcome_numbers numbers (Success (an_exception id mode)) state = no_numbers numbers state.threads
-outcome_numbers numbers (Success (frame_list total frames)) state = no_numbers numbers state.threads
-outcome_numbers numbers (Success (scope_list frame)) state = no_numbers numbers state.threads
-outcome_numbers numbers (Success (variable_list shown)) state = no_numbers numbers state.threads
-outcome_numbers numbers (Success (a_value seen)) state = no_numbers numbers state.threads
-outcome_numbers numbers (Success (a_written seen)) state = no_numbers numbers state.threads
-outcome_numbers numbers (Success (breakpoint_list rooted listed)) state = no_numbers numbers state.threads
 outcome_numbers numbers (Success (thread_list named)) state = record {
   distinct = distinct_with state.threads named;
   in_order = in_order_with numbers state.threads named;
 }
+outcome_numbers numbers _ state = no_numbers numbers state.threads
 
 event_numbers : (numbers : List ℕ) (event : Event) (state : State)
     → Numbers numbers state.threads (after_event event state).threads
     (numbers_in_event (event_told event (after_event event state)))
-event_numbers numbers Initialized state = no_numbers numbers state.threads
-event_numbers numbers (some_news (entry_verified entry)) state = no_numbers numbers state.threads
 event_numbers numbers (some_news (thread_changed started thread)) state =
     let named : List NamedThread = record { thread = thread; name = [] } ∷ [] in record {
       distinct = distinct_with state.threads named;
@@ -609,20 +550,12 @@ event_numbers numbers (a_stop stopping) state =
       distinct = distinct_with state.threads named;
       in_order = in_order_with numbers state.threads named;
     }
-event_numbers numbers Terminated state = no_numbers numbers state.threads
+event_numbers numbers _ state = no_numbers numbers state.threads
 
 note_numbers : (numbers : List ℕ) (note : Note) (state : State)
     → Numbers numbers state.threads (noted note state).threads []
 note_numbers numbers (Options options) state = no_numbers numbers state.threads
-note_numbers numbers EntryHeld state = no_numbers numbers state.threads
-note_numbers numbers Configured state = no_numbers numbers state.threads
-note_numbers numbers (Roots roots) state = no_numbers numbers state.threads
-note_numbers numbers (Lines key path entries) state = no_numbers numbers state.threads
-note_numbers numbers (Functions entries) state = no_numbers numbers state.threads
-note_numbers numbers (StopsAt caught uncaught) state = no_numbers numbers state.threads
-note_numbers numbers (Steps step) state = no_numbers numbers state.threads
-note_numbers numbers (Throws thrown) state = no_numbers numbers state.threads
-note_numbers numbers (Classes classes) state = no_numbers numbers state.threads
+note_numbers numbers _ state = no_numbers numbers state.threads
 
 same_threads : (command : TargetCommand) (replied : Replied) (state : State)
     → (replied_to command replied state).threads ≡ state.threads
@@ -644,11 +577,6 @@ numbers_on numbers m next said (Moves.answers {question} {replied} is waits repl
     reply_numbers numbers (a_question question) replied m.state
 numbers_on numbers m next said (Moves.replies {effect} {replied} is flies reply stays) =
     reply_numbers numbers (an_effect effect) replied m.state
-numbers_on numbers m next said (Moves.loses late near Loses.by_end) = no_numbers numbers m.state.threads
-numbers_on numbers m next said (Moves.loses late near (Loses.by_question is waits reply last)) =
-    no_numbers numbers m.state.threads
-numbers_on numbers m next said (Moves.loses late near (Loses.by_effect is flies reply last)) =
-    no_numbers numbers m.state.threads
 numbers_on numbers m next said _ = no_numbers numbers m.state.threads
 
 -- The law -------------------------------------------------------------------------------------------------------------

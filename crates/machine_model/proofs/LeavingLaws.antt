@@ -43,8 +43,6 @@ data IsAmong (all : List Message) (final : Message) (before : List Message) (mes
 is_among : (all : List Message) (final : Message) (before after : List Message) (message : Message)
     → all ++ final ∷ [] ≡ before ++ message ∷ after → IsAmong all final before message
 is_among [] final [] after message is = IsAmong.at_end refl (cc)
-is_among [] final (one ∷ []) after message is = cc
-is_among [] final (one ∷ other ∷ before) after message is = cc
 is_among (first ∷ all) final [] after message is = IsAmong.earlier all (ap (λ (m : Message). m ∷ all) (cc))
 is_among (first ∷ all) final (one ∷ before) after message is =
     onward (is_among all final before after message (cc))
@@ -57,6 +55,7 @@ is_among (first ∷ all) final (one ∷ before) after message is =
         IsAmong.at_end (ap (λ (m : Message). m ∷ all) same ∙ ap (λ (rest : List Message). one ∷ rest) are) one_is
     onward (IsAmong.earlier rest are) =
         IsAmong.earlier rest (ap (λ (m : Message). m ∷ all) same ∙ ap (λ (rest : List Message). one ∷ rest) are)
+is_among [] final _ after message is = cc
 
 -- behind these messages the machine came here, and this message was the next
 record IsNext (before : List Message) (message : Message) : Type 0 where
@@ -67,8 +66,6 @@ record IsNext (before : List Message) (message : Message) : Type 0 where
 
 next_of : {messages : List Message} {m : Machine} → Run messages m → (before after : List Message) (message : Message)
     → messages ≡ before ++ message ∷ after → IsNext before message
-next_of Run.starts [] after message is = cc
-next_of Run.starts (first ∷ before) after message is = cc
 next_of (Run.goes r still) before after message is = next_of r before after message is
 next_of (Run.moves {messages} {m} {next} {message = final} r allows) before after message is =
     by_place (is_among messages final before after message is) (λ rest are. next_of r before rest message are)
@@ -83,6 +80,7 @@ next_of (Run.moves {messages} {m} {next} {message = final} r allows) before afte
       moves = subst (λ (message : Message). Moves m (Some message) next) same (moved allows);
     }
     by_place (IsAmong.earlier rest are) others = others rest are
+next_of Run.starts _ after message is = cc
 
 -- The laws ------------------------------------------------------------------------------------------------------------
 
@@ -109,10 +107,9 @@ record IsToLeave (item : Item) (exits : Bool) : Type 0 where
 
 same_end : (terminates exits responds ends leaves : Bool)
     → leaves_well (leaving terminates) exits responds ends leaves ≡ true → exits ≡ terminates
-same_end true true responds ends leaves h = refl
 same_end true false responds ends leaves h = cc
 same_end false true responds ends leaves h = cc
-same_end false false responds ends leaves h = refl
+same_end _ _ responds ends leaves h = refl
 
 to_leave : (item : Item) (exits responds ends leaves : Bool)
     → leaves_well (aim_of item) exits responds ends leaves ≡ true → IsToLeave item exits
@@ -129,24 +126,19 @@ to_leave (a_request request) exits responds ends leaves h = by_command request.c
       as_asked = same_end arguments.terminate_debuggee exits responds ends leaves h;
     }
     by_command _ is h = cc
-to_leave (a_composite at composite) exits responds ends leaves h = cc
-to_leave (a_raw at body) exits responds ends leaves h = cc
-to_leave target_end exits responds ends leaves h = cc
+to_leave _ exits responds ends leaves h = cc
 
 -- the deed says whether the target is to end
 deed_is : (aim : Aim) (deed : Deed) (responds ends leaves : Bool) → is_sends (Part.Sends deed) ≡ true
     → may_stand aim (Part.Sends deed) responds ends leaves ≡ true
     → (exits : Bool) × (deed ≡ deed_for exits) × (leaves_well aim exits responds ends leaves ≡ true)
-deed_is aim Suspend responds ends leaves is h = cc
-deed_is aim (Resume suspension) responds ends leaves is h = cc
-deed_is aim (Writes write) responds ends leaves is h = cc
 deed_is aim Exit responds ends leaves is h = (true, refl, h)
 deed_is aim Dispose responds ends leaves is h = (false, refl, h)
+deed_is aim _ responds ends leaves is h = cc
 
 is_attached_now : (phase : Phase) → is_attached phase ≡ true → phase ≡ Attached
-is_attached_now Fresh is = cc
 is_attached_now Attached is = refl
-is_attached_now Gone is = cc
+is_attached_now _ is = cc
 
 farewell_at : {messages : List Message} {m : Machine} {hand : Hand} {rest : List Part} (deed : Deed) → Run messages m
     → IsAt m hand (Part.Sends deed) rest → is_sends (Part.Sends deed) ≡ true
@@ -266,8 +258,7 @@ in_turn_of {messages = messages} said response r (Moves.loses late near why) is 
     by_loss : {m : Machine} {message : Message} {late : List TargetCommand} → Loses m message late
         → Some message ≡ Some (Message.tells (a_response response)) → IsInTurn messages response
     by_loss Loses.by_end is = cc
-    by_loss (Loses.by_question held waits reply last) is = cc
-    by_loss (Loses.by_effect held flies reply last) is = cc
+    by_loss _ is = cc
 in_turn_of said response r _ is = cc
 
 pub disconnects : (messages before after : List Message) (m : Machine) (response : Response) → Run messages m
@@ -291,9 +282,7 @@ to_attach (a_request request) h = by_command request.command refl h
     by_command (Attach arguments) is h =
         record { request = request; arguments = arguments; is_request = refl; is_attach = is }
     by_command _ is h = cc
-to_attach (a_composite at composite) h = cc
-to_attach (a_raw at body) h = cc
-to_attach target_end h = cc
+to_attach _ h = cc
 
 greeting_at : {messages : List Message} {m : Machine} {hand : Hand} {rest : List Part} → Run messages m
     → IsAt m hand (Part.Awaits Handshake) rest → IsGreeting messages
@@ -335,8 +324,7 @@ greeting_of {messages = messages} said r (Moves.loses late near why) is = by_los
     by_loss : {m : Machine} {message : Message} {late : List TargetCommand} → Loses m message late
         → Some message ≡ Some Message.greets → IsGreeting messages
     by_loss Loses.by_end is = cc
-    by_loss (Loses.by_question held waits reply last) is = cc
-    by_loss (Loses.by_effect held flies reply last) is = cc
+    by_loss _ is = cc
 greeting_of said r _ is = cc
 
 pub greetings : (messages before after : List Message) (m : Machine) → Run messages m

@@ -142,9 +142,7 @@ row_stands state command replied = grind arith
 pub begun_stands : (state : State) (item : Item) (replied : Bool)
     → stands (is_attached state.phase) false replied (aim_of item) (parts_of state item) None ≡ true
 begun_stands state (a_request request) replied = row_stands state request.command replied
-begun_stands state target_end replied = grind arith
-begun_stands state (a_composite at composite) replied = grind arith
-begun_stands state (a_raw at body) replied = grind arith
+begun_stands state _ replied = grind arith
 
 -- what a choice becomes fits where the choice did
 pub chosen_fits : (choice : Choice) (state : State) (hand : Hand) (aim : Aim) (responds ends leaves : Bool)
@@ -155,16 +153,12 @@ chosen_fits (TellsNews below) state hand aim responds ends leaves is =
   where
     by_news : (phase : Phase) (news : List News)
         → fits_before aim responds ends leaves (told_in phase news) ≡ true
-    by_news Fresh news = refl
-    by_news Gone news = refl
-    by_news Attached [] = refl
     by_news Attached (one ∷ news) = rw is (by_news Attached news)
+    by_news _ _ = refl
 chosen_fits Decides state hand aim responds ends leaves is =
     of_decided (λ (parts : List Part). fits_before aim responds ends leaves parts ≡ true) refl refl (rw is refl)
     (λ stopped thrown halt. grind (arith, is)) state hand.item
-chosen_fits Stepped state hand aim responds ends leaves is = grind (arith, is)
-chosen_fits (Written seen) state hand aim responds ends leaves is = grind (arith, is)
-chosen_fits (Leaves exits) state hand aim responds ends leaves is = grind (arith, is)
+chosen_fits _ state hand aim responds ends leaves is = grind (arith, is)
 
 -- and leaves the target only in an attached session
 pub chosen_attached : (choice : Choice) (state : State) (hand : Hand)
@@ -173,10 +167,8 @@ chosen_attached (TellsNews below) state hand =
     by_news (is_attached state.phase) state.phase (news_of below state hand.item)
   where
     none_sent : (phase : Phase) (news : List News) → has_part is_sends (told_in phase news) ≡ false
-    none_sent Fresh news = refl
-    none_sent Gone news = refl
-    none_sent Attached [] = refl
     none_sent Attached (one ∷ news) = none_sent Attached news
+    none_sent _ _ = refl
 
     by_news : (attached : Bool) (phase : Phase) (news : List News)
         → sends_attached attached (told_in phase news) ≡ true
@@ -184,18 +176,13 @@ chosen_attached (TellsNews below) state hand =
 chosen_attached Decides state hand =
     of_decided (λ (parts : List Part). sends_attached (is_attached state.phase) parts ≡ true) refl refl refl
     (λ stopped thrown halt. grind arith) state hand.item
-chosen_attached Stepped state hand = grind arith
-chosen_attached (Written seen) state hand = grind arith
-chosen_attached (Leaves exits) state hand = grind arith
+chosen_attached _ state hand = grind arith
 
 -- where it does, if the choice was to
 pub chosen_leaves : (choice : Choice) (state : State) (hand : Hand) → is_leave (Part.Unfolds choice) ≡ true
     → is_attached state.phase ≡ true → has_part is_leave (chosen choice state hand) ≡ true
-chosen_leaves (TellsNews below) state hand is near = cc
-chosen_leaves Decides state hand is near = cc
-chosen_leaves Stepped state hand is near = cc
-chosen_leaves (Written seen) state hand is near = cc
 chosen_leaves (Leaves exits) state hand is near = grind (arith, is, near)
+chosen_leaves _ state hand is near = cc
 
 -- what a look-up becomes leaves no target
 pub found_fits : (lookup : Lookup) (result : Result Finding) (state : State) (aim : Aim) (responds ends leaves : Bool)
@@ -216,9 +203,7 @@ pub gone_stands : (responds : Bool) (item : Item) (sent replied : Bool)
     → stands false sent replied (aim_of item) (gone_parts responds item) None ≡ true
 gone_stands true (a_request request) sent replied is = row_gone request.command sent replied is
 gone_stands false (a_request request) sent replied is = tail_gone request.command sent replied is
-gone_stands responds target_end sent replied is = grind (arith, is)
-gone_stands responds (a_composite at composite) sent replied is = grind (arith, is)
-gone_stands responds (a_raw at body) sent replied is = grind (arith, is)
+gone_stands responds _ sent replied is = grind (arith, is)
 
 -- Lists that are joined -----------------------------------------------------------------------------------------------
 
@@ -320,10 +305,7 @@ tail_stands attached sent replied aim part rest effect none goes_on h =
         (cond sent (cond to_leave (cond others_end (not others_leave) false) false) true)
         (cond to_leave (cond attached (others_leave || left) true) true) false) false) false ≡ true
     by_bools true false false false fit others_send others_end others_leave to_leave left unsent none goes_on h = h
-    by_bools false sends leave ends fit others_send others_end others_leave to_leave left unsent none goes_on h = cc
-    by_bools true true leave ends fit others_send others_end others_leave to_leave left unsent none goes_on h = cc
-    by_bools true false true ends fit others_send others_end others_leave to_leave left unsent none goes_on h = cc
-    by_bools true false false true fit others_send others_end others_leave to_leave left unsent none goes_on h = cc
+    by_bools _ _ _ _ fit others_send others_end others_leave to_leave left unsent none goes_on h = cc
 
 -- behind a part that stands in no item that is to leave the target
 pub other_stands : (attached sent replied now : Bool) (aim : Aim) (part : Part) (parts rest : List Part)
@@ -339,8 +321,7 @@ other_stands attached sent replied now aim part parts rest effect later is becom
   where
     two : (may fit leaves : Bool) → may ≡ not leaves → cond may fit false ≡ true → (leaves ≡ false) × (fit ≡ true)
     two true fit false is h = (refl, h)
-    two true fit true is h = cc
-    two false fit leaves is h = cc
+    two _ fit _ is h = cc
 
 -- what a part shows that leaves the target
 pub record Leaving (sent : Bool) (aim : Aim) (part : Part) (rest : List Part) : Type 0 where

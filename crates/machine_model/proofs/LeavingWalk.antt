@@ -200,9 +200,7 @@ skipped_stands : (attached sent replied : Bool) {m : Machine} {hand : Hand} {par
     → stands attached sent replied (aim_of hand.item) rest hand.effect ≡ true
 skipped_stands attached sent replied {hand = hand} {part} rest (Skips.by_guard is) h =
     tail_stands attached sent replied (aim_of hand.item) part rest hand.effect refl refl h
-skipped_stands attached sent replied {hand = hand} {part} rest (Skips.by_wishes is) h =
-    tail_stands attached sent replied (aim_of hand.item) part rest hand.effect refl refl h
-skipped_stands attached sent replied {hand = hand} {part} rest (Skips.no_request is) h =
+skipped_stands {hand = hand} {part} attached sent replied rest _ h =
     tail_stands attached sent replied (aim_of hand.item) part rest hand.effect refl refl h
 
 -- an item is begun only where no target was left
@@ -264,8 +262,7 @@ same_sent attached sent replied now leaves aim parts effect is h =
 pub lost_apart : {m : Machine} {message : Message} {late : List TargetCommand} → Loses m message late
     → sends_farewell message ≡ false
 lost_apart Loses.by_end = refl
-lost_apart (Loses.by_question is waits reply last) = refl
-lost_apart (Loses.by_effect is flies reply last) = refl
+lost_apart _ = refl
 
 lost_on : (m : Machine) (message : Message) (sent replied : Bool) → sends_farewell message ≡ false
     → hand_stands (is_attached m.state.phase) sent replied m.hand ≡ true
@@ -314,7 +311,6 @@ stands_on m next said sent replied h (Moves.updates {hand} {effect} {rest} free 
     (other_stands (is_attached m.state.phase) sent replied (is_attached m.state.phase) (aim_of hand.item)
     Part.Updates (Part.Updates ∷ rest) rest hand.effect (Some (record { effect = effect; reply = None })) refl
     (λ not_so fit. rw (not_so, fit) refl) (stands_at (is_attached m.state.phase) sent replied at h))
-stands_on m next said sent replied h (Moves.greets free at is near) = h
 stands_on m next said sent replied h (Moves.notes {hand} {note} {rest} free at) =
     rw (same_noted note m.state)
     (tail_stands (is_attached m.state.phase) sent replied (aim_of hand.item) (Part.Notes note) rest hand.effect
@@ -326,8 +322,6 @@ stands_on m next said sent replied h (Moves.queues free is) =
     hand_at (is_attached m.state.phase) sent replied is h
 stands_on m next said sent replied h (Moves.asks {want = want} free room is are) =
     asked_stands (is_attached m.state.phase) sent replied want m.hand ∙ h
-stands_on m next said sent replied h (Moves.hears read is) = h
-stands_on m next said sent replied h (Moves.greeted read is) = h
 stands_on m next said sent replied h (Moves.answers {question} {replied = reply} is waits good stays) =
     rw (same_replied (a_question question) reply m.state)
     (answered_stands (is_attached m.state.phase) sent replied question reply m.hand ∙ h)
@@ -338,12 +332,9 @@ stands_on m next said sent replied h (Moves.replies {effect} {replied = reply} {
     doing ≡ true) flies (hand_at (is_attached m.state.phase) sent replied is h)))
 stands_on m next said sent replied h (Moves.late {command} {replied = reply} before after is good) =
     more_replied (is_attached m.state.phase) sent replied (Message.answers command reply) m.hand h
-stands_on m next said sent replied h (Moves.ends gone) = h
 stands_on m next said sent replied h (Moves.loses {message} late near why) =
     lost_on m message sent replied (lost_apart why) h
-stands_on m next said sent replied h (Moves.comes read sized taken) = h
-stands_on m next said sent replied h (Moves.keeps is) = h
-stands_on m next said sent replied h (Moves.reads before after read is none taken) = h
+stands_on m next said sent replied h _ = h
 
 -- so it stands, by the messages so far
 abbrev pub Stands : List Message → Machine → Type 0

@@ -169,7 +169,6 @@ module _ (P : Id → Type 0) (null : P (class 0)) (sight : Sight) (known : Known
 
   -- the names that are asked are those of threads in the answer to AllThreads
   threads_heard : (heard : Option Answer) → IsHeard P heard → All (OfThread P) (threads_in heard)
-  threads_heard (Some (answers.AllThreads [])) k = tt
   threads_heard (Some (answers.AllThreads (thread ∷ threads))) k =
       (k.0, threads_heard (Some (answers.AllThreads threads)) k.1)
   threads_heard _ k = tt
@@ -195,7 +194,6 @@ module _ (P : Id → Type 0) (null : P (class 0)) (sight : Sight) (known : Known
 
   -- a class is asked by its id and those of its methods
   methods_heard : (heard : Option Answer) → IsHeard P heard → All (OfMethod P) (methods_in heard)
-  methods_heard (Some (answers.Methods [])) k = tt
   methods_heard (Some (answers.Methods (one ∷ others))) k = (k.0, methods_heard (Some (answers.Methods others)) k.1)
   methods_heard _ k = tt
 
@@ -280,7 +278,6 @@ module _ (P : Id → Type 0) (null : P (class 0)) (sight : Sight) (known : Known
 
   frames_heard : (thread : ThreadId) (heard : Option Answer) → HasFrames thread heard
       → All (OfFrame P thread) (frames_in heard)
-  frames_heard thread (Some (answers.Frames [])) k = tt
   frames_heard thread (Some (answers.Frames (one ∷ frames))) k =
       ((k.0, k.1.0, k.1.1.0), frames_heard thread (Some (answers.Frames frames)) k.1.1.1)
   frames_heard thread _ k = tt
@@ -411,15 +408,7 @@ module _ (P : Id → Type 0) (null : P (class 0)) (sight : Sight) (known : Known
       by_value (values.ThreadGroup o) k = object_row_of OfSeen o.0 _ _ k (null_row types v d) (object_row types v.value)
       by_value (values.ClassLoader o) k = object_row_of OfSeen o.0 _ _ k (null_row types v d) (object_row types v.value)
       by_value (values.ClassObject o) k = object_row_of OfSeen o.0 _ _ k (null_row types v d) (object_row types v.value)
-      by_value (values.Byte x) k = gives_row OfSeen _ tt
-      by_value (values.Char x) k = gives_row OfSeen _ tt
-      by_value (values.Double x) k = gives_row OfSeen _ tt
-      by_value (values.Float x) k = gives_row OfSeen _ tt
-      by_value (values.Int x) k = gives_row OfSeen _ tt
-      by_value (values.Long x) k = gives_row OfSeen _ tt
-      by_value (values.Short x) k = gives_row OfSeen _ tt
-      by_value (values.Boolean x) k = gives_row OfSeen _ tt
-      by_value values.Void k = gives_row OfSeen _ tt
+      by_value _ k = gives_row OfSeen _ tt
 
   -- children: their values stand where ids say that were read
   abbrev OfPlace : Place → Type 0
@@ -481,8 +470,6 @@ module _ (P : Id → Type 0) (null : P (class 0)) (sight : Sight) (known : Known
   chain_row : (steps : ℕ) (met : List ℕ) (c : ℕ) → All OfNumber met → OfNumber c
       → Row (All OfNumber) (chain steps met c)
   unfolding chain
-  chain_row zero met c h k = gives_row (All OfNumber) met h
-  chain_row (suc steps) met zero h k = gives_row (All OfNumber) met h
   chain_row (suc steps) met (suc c) h k = by_met (list_any (λ other. other == suc c) met)
       (λ above good. chain_row steps (met ++ suc c ∷ []) above (all_joined OfNumber met (suc c ∷ []) h (k, tt)) good)
     where
@@ -498,9 +485,9 @@ module _ (P : Id → Type 0) (null : P (class 0)) (sight : Sight) (known : Known
           (asks (OfClass P) above_in (Want.Fact (questions.Superclass (record { 0 = suc c })))
           (record { ids = (k, tt); plain = refl; first = refl }) above_heard)
           (λ above good. behind above.0 good)
+  chain_row _ met _ h k = gives_row (All OfNumber) met h
 
   fields_heard : (heard : Option Answer) → IsHeard P heard → All OfField (fields_in heard)
-  fields_heard (Some (answers.Fields [])) k = tt
   fields_heard (Some (answers.Fields (one ∷ others))) k = (k.0, fields_heard (Some (answers.Fields others)) k.1)
   fields_heard _ k = tt
 
@@ -551,9 +538,8 @@ module _ (P : Id → Type 0) (null : P (class 0)) (sight : Sight) (known : Known
   dropped_all Good (suc n) (a ∷ list) h = dropped_all Good n list h.1
 
   taken_all : {A : Type 0} (Good : A → Type 0) (n : ℕ) (list : List A) → All Good list → All Good (take n list)
-  taken_all Good zero list h = tt
-  taken_all Good (suc n) [] h = tt
   taken_all Good (suc n) (a ∷ list) h = (h.0, taken_all Good n list h.1)
+  taken_all Good _ _ h = tt
 
   page_all : {A : Type 0} (Good : A → Type 0) (start count : ℕ) (list : List A) → All Good list
       → All Good (page start count list)
@@ -565,9 +551,8 @@ module _ (P : Id → Type 0) (null : P (class 0)) (sight : Sight) (known : Known
 
   zipped : (children : List Child) (found : List Value) → All OfChild children → All OfValue found
       → All OfTwo (zip children found)
-  zipped [] found h k = tt
-  zipped (child ∷ children) [] h k = tt
   zipped (child ∷ children) (value ∷ found) h k = ((h.0, k.0), zipped children found h.1 k.1)
+  zipped _ _ h k = tt
 
   listed_values : (found : List Value) → All P (flat_map ids_of_value found) → All OfValue found
   listed_values [] h = tt
@@ -592,9 +577,7 @@ module _ (P : Id → Type 0) (null : P (class 0)) (sight : Sight) (known : Known
       by_place : (place : Place) → OfPlace place → All OfValue (values_known children)
           → All OfValue (cons_option (known_at place) (values_known children))
       by_place (is_known value) k rest = (k, rest)
-      by_place (in_slot slot tag) k rest = rest
-      by_place (in_field one) k rest = rest
-      by_place (at_index i) k rest = rest
+      by_place _ k rest = rest
 
   slots_row : (f : FrameThing) → OfFrameThing P f → (slots : List Slot) → is_short slots ≡ true
       → Row (All OfValue) (slots_plan f slots)
@@ -637,9 +620,8 @@ module _ (P : Id → Type 0) (null : P (class 0)) (sight : Sight) (known : Known
 
   -- a page is short
   few_taken : {A : Type 0} (n : ℕ) (list : List A) → length (take n list) ≤ n
-  few_taken zero list = omega arith
-  few_taken (suc n) [] = omega arith
   few_taken (suc n) (a ∷ list) = let rest = few_taken n list in omega (arith, rest)
+  few_taken _ _ = omega arith
 
   few_counted : (total start count : ℕ) → count_from total start count ≤ 10000
   few_counted total start zero = grind arith
@@ -680,10 +662,8 @@ module _ (P : Id → Type 0) (null : P (class 0)) (sight : Sight) (known : Known
     where
       by_place : (place : Place) → OfPlace place → All (λ (one : FieldId). P (field one.0)) (fields_of children)
           → All (λ (one : FieldId). P (field one.0)) (cons_option (field_at place) (fields_of children))
-      by_place (is_known value) k rest = rest
-      by_place (in_slot slot tag) k rest = rest
       by_place (in_field one) k rest = (k, rest)
-      by_place (at_index i) k rest = rest
+      by_place _ k rest = rest
 
   fields_page_row : (id : ℕ) → P (object id) → (start count : ℕ) → Row (All OfTwo) (fields_page start count id)
   fields_page_row id k start count = chains (All OfChild) (All OfTwo) (object_fields id)
@@ -703,20 +683,17 @@ module _ (P : Id → Type 0) (null : P (class 0)) (sight : Sight) (known : Known
 
   page_row : (thing : Thing) → OfThing P thing → (filter : Filter) (start count : ℕ)
       → Row (All OfTwo) (page_plan thing filter start count)
-  page_row (things.Frame f) k filter start count = gives_row (All OfTwo) [] tt
   page_row (things.Locals f) k Both start count = locals_page_row f k start count
-  page_row (things.Locals f) k Indexed start count = gives_row (All OfTwo) [] tt
   page_row (things.Locals f) k Named start count = locals_page_row f k start count
   page_row (things.Object o) k Both start count = by_id_row (All OfTwo) o.0 (gives []) (fields_page start count)
       (gives_row (All OfTwo) [] tt) (fields_page_row o.0 k start count)
-  page_row (things.Object o) k Indexed start count = gives_row (All OfTwo) [] tt
   page_row (things.Object o) k Named start count = by_id_row (All OfTwo) o.0 (gives []) (fields_page start count)
       (gives_row (All OfTwo) [] tt) (fields_page_row o.0 k start count)
   page_row (things.Array o) k Both start count = by_id_row (All OfTwo) o.0 (gives []) (elements_page start count)
       (gives_row (All OfTwo) [] tt) (elements_page_row o.0 k start count)
   page_row (things.Array o) k Indexed start count = by_id_row (All OfTwo) o.0 (gives []) (elements_page start count)
       (gives_row (All OfTwo) [] tt) (elements_page_row o.0 k start count)
-  page_row (things.Array o) k Named start count = gives_row (All OfTwo) [] tt
+  page_row _ k _ start count = gives_row (All OfTwo) [] tt
 
   child_row : (types : Bool) (two : Child × Value) → OfTwo two → Row (OfShownVariable P) (child_plan types two)
   child_row types two k = makes OfSeen (OfShownVariable P) (shown_as two.0.name)
@@ -768,8 +745,6 @@ module _ (P : Id → Type 0) (null : P (class 0)) (sight : Sight) (known : Known
   field_from_row : (steps : ℕ) (met : List ℕ) (name : List ℕ) (c : ℕ) → OfNumber c
       → Row (OnSome OfField) (field_from steps met name c)
   unfolding field_from
-  field_from_row zero met name c k = gives_row (OnSome OfField) None tt
-  field_from_row (suc steps) met name zero k = gives_row (OnSome OfField) None tt
   field_from_row (suc steps) met name (suc c) k = by_met (list_any (λ other. other == suc c) met)
       (λ above good. field_from_row steps (met ++ suc c ∷ []) name above good)
     where
@@ -794,6 +769,7 @@ module _ (P : Id → Type 0) (null : P (class 0)) (sight : Sight) (known : Known
           (asks (OfClass P) above_in (Want.Fact (questions.Superclass (record { 0 = suc c })))
           (record { ids = (k, tt); plain = refl; first = refl }) above_heard)
           (λ above good. behind above.0 good)))
+  field_from_row _ met name _ k = gives_row (OnSome OfField) None tt
 
   field_value_row : (id : ℕ) → P (object id) → (f : Option Field) → OnSome OfField f → Row OfSought (field_value id f)
   field_value_row id k None h = missing_row no_such_name
@@ -826,7 +802,6 @@ module _ (P : Id → Type 0) (null : P (class 0)) (sight : Sight) (known : Known
   name_on_row name (values.Array o) k =
       object_row_of OfSought o.0 (missing no_such_name) (length_hop name) k (missing_row no_such_name)
       (λ id k. length_hop_row id k name)
-  name_on_row name (values.String o) k = missing_row no_such_name
   name_on_row name (values.Object o) k =
       object_row_of OfSought o.0 (missing no_such_name) (field_hop name) k (missing_row no_such_name)
       (λ id k. field_hop_row id k name)
@@ -894,10 +869,8 @@ module _ (P : Id → Type 0) (null : P (class 0)) (sight : Sight) (known : Known
   -- what is written stands where ids say that were read, and is null or no reference
   stored : (w : Writing) (store : Option Store) → OnSome (OfStore P) store → (declared : List ℕ)
       (value : Result Value Failure) → OfValueRead value → IsGood P (write_with w store declared value)
-  stored w None k declared (Ok value) h = tt
   stored w (Some store) k declared (Ok value) h = record { of_store = k; plain = h }
-  stored w None k declared (Err failure) h = tt
-  stored w (Some store) k declared (Err failure) h = tt
+  stored w _ k declared _ h = tt
 
   child_row_written : (w : Writing) (store_in : Place → Option Store)
       → ((place : Place) → OfPlace place → OnSome (OfStore P) (store_in place)) → (child : Option Child)
@@ -920,23 +893,17 @@ module _ (P : Id → Type 0) (null : P (class 0)) (sight : Sight) (known : Known
 
   slot_stores : (f : FrameThing) → OfFrameThing P f → (place : Place) → OfPlace place
       → OnSome (OfStore P) (slot_store f place)
-  slot_stores f k (is_known value) h = tt
   slot_stores f k (in_slot slot tag) h = (k.0, k.1)
-  slot_stores f k (in_field one) h = tt
-  slot_stores f k (at_index i) h = tt
+  slot_stores f k _ h = tt
 
   field_stores : (id : ℕ) → P (object id) → (place : Place) → OfPlace place → OnSome (OfStore P) (field_store id place)
-  field_stores id k (is_known value) h = tt
-  field_stores id k (in_slot slot tag) h = tt
   field_stores id k (in_field one) h = (k, h)
-  field_stores id k (at_index i) h = tt
+  field_stores id k _ h = tt
 
   element_stores : (id : ℕ) → P (object id) → (place : Place) → OfPlace place
       → OnSome (OfStore P) (element_store id place)
-  element_stores id k (is_known value) h = tt
-  element_stores id k (in_slot slot tag) h = tt
-  element_stores id k (in_field one) h = tt
   element_stores id k (at_index i) h = k
+  element_stores id k _ h = tt
 
   local_written_row : (w : Writing) (f : FrameThing) → OfFrameThing P f → (name : List ℕ)
       → Row (IsGood P) (local_written w f name)

@@ -48,9 +48,8 @@ row_once failure command state = grind arith
 
 begun_once : (state : State) (item : Item) → stand_once (parts_of state item) ≡ true
 begun_once state (a_request request) = row_once (failure_of (wanting request.command) state) request.command state
-begun_once state target_end = grind arith
-begun_once state (a_composite at composite) = grind arith
 begun_once state (a_raw at body) = refl
+begun_once state _ = grind arith
 
 gone_none : (responds : Bool) (item : Item) → has_mark (gone_parts responds item) ≡ false
 gone_none responds item = grind arith
@@ -176,14 +175,11 @@ same_reply command replied state = grind arith
 replied_marked : (phase : Phase) (terminated : Bool) (command : TargetCommand) (replied : Replied) (hand : Option Hand)
     → hand_marked phase terminated (option_map (hand_replied command replied) hand) ≡ hand_marked phase terminated hand
 replied_marked phase terminated command replied None = refl
-replied_marked phase terminated (a_question question) replied (Some hand) = refl
-replied_marked phase terminated (an_effect effect) replied (Some hand) = refl
+replied_marked phase terminated _ replied _ = refl
 
 told_marked : (event : Event) (state : State) (rest : List Part) → stand_once (Part.Tells event ∷ rest) ≡ true
     → marked state.phase state.terminated rest ≡ true
     → marked (after_event event state).phase (after_event event state).terminated rest ≡ true
-told_marked (some_news news) state rest is left = left
-told_marked (a_stop stopping) state rest is left = left
 told_marked Initialized state rest is left =
     marked_none (after_event Initialized state).phase state.terminated rest
     (still_over state.phase (over_of (over_gone state.phase state.terminated) _ left))
@@ -198,13 +194,13 @@ told_marked Initialized state rest is left =
     still_over : (phase : Phase) → over_gone phase state.terminated ≡ true
         → over_gone (attached_from phase) state.terminated ≡ true
     still_over Fresh is = is
-    still_over Attached is = is
-    still_over Gone is = is
+    still_over _ is = is
 told_marked Terminated state rest is left =
     marked_none (after_event Terminated state).phase true rest refl (unmarked (has_mark rest) is)
   where
     unmarked : (has : Bool) → not has ≡ true → has ≡ false
     unmarked has is = grind (arith, is)
+told_marked _ state rest is left = left
 
 -- what is left of a hand
 left_marked : (m : Machine) (hand : Hand) (part : Part) (rest : List Part) → IsMarked m → IsAt m hand part rest
@@ -233,7 +229,6 @@ marked_on m next said once h (Moves.sends {hand} {rest} {deed} free at near) =
     left_marked m hand (Part.Sends deed) rest h at
 marked_on m next said once h (Moves.updates {hand} {rest = rest} free at is near) = marked_at m hand Part.Updates
     rest h at
-marked_on m next said once h (Moves.greets free at is near) = h
 marked_on m next said once h (Moves.notes {hand} {note} {rest} free at) =
     rw (same_noted note m.state, same_note note m.state) (left_marked m hand (Part.Notes note) rest h at)
 marked_on m next said once h (Moves.unfolds {hand} {choice} {rest} free at) =
@@ -243,16 +238,12 @@ marked_on m next said once h (Moves.queues {hand} free is) =
     subst (λ (hand : Option Hand). hand_marked m.state.phase m.state.terminated hand ≡ true) is h
 marked_on m next said once h (Moves.asks {hand} free room is are) =
     rw is (subst (λ (hand : Option Hand). hand_marked m.state.phase m.state.terminated hand ≡ true) is h)
-marked_on m next said once h (Moves.hears read is) = h
-marked_on m next said once h (Moves.greeted read is) = h
 marked_on m next said once h (Moves.answers {question} {replied} is waits reply stays) =
     rw (same_replied (a_question question) replied m.state, same_reply (a_question question) replied m.state)
     (replied_marked m.state.phase m.state.terminated (a_question question) replied m.hand ∙ h)
 marked_on m next said once h (Moves.replies {effect} {replied} is flies reply stays) =
     rw (same_replied (an_effect effect) replied m.state, same_reply (an_effect effect) replied m.state)
     (replied_marked m.state.phase m.state.terminated (an_effect effect) replied m.hand ∙ h)
-marked_on m next said once h (Moves.late before after is reply) = h
-marked_on m next said once h (Moves.ends gone) = h
 marked_on m next said once h (Moves.loses late near why) = given_marked m.hand
   where
     gone_over : (told : Bool) → cond told true true ≡ true
@@ -265,6 +256,4 @@ marked_on m next said once h (Moves.loses late near why) = given_marked m.hand
         marked_none Gone m.state.terminated
         (gone_parts (has_response hand.parts) hand.item) (gone_over m.state.terminated)
         (gone_none (has_response hand.parts) hand.item)
-marked_on m next said once h (Moves.comes read sized taken) = h
-marked_on m next said once h (Moves.keeps is) = h
-marked_on m next said once h (Moves.reads before after read is none taken) = h
+marked_on m next said once h _ = h

@@ -84,24 +84,19 @@ row_last failure command state = grind arith
 
 begun_last : (state : State) (item : Item) → stand_last (parts_of state item) ≡ true
 begun_last state (a_request request) = row_last (failure_of (wanting request.command) state) request.command state
-begun_last state target_end = grind arith
-begun_last state (a_composite at composite) = grind arith
 begun_last state (a_raw at body) = refl
+begun_last state _ = grind arith
 
 chosen_none : (choice : Choice) (state : State) (hand : Hand) → no_options (chosen choice state hand) ≡ true
 chosen_none (TellsNews below) state hand = by_news state.phase (news_of below state hand.item)
   where
     by_news : (phase : Phase) (news : List News) → no_options (told_in phase news) ≡ true
-    by_news Fresh news = refl
-    by_news Gone news = refl
-    by_news Attached [] = refl
     by_news Attached (one ∷ news) = by_news Attached news
+    by_news _ _ = refl
 chosen_none Decides state hand =
     of_decided (λ (parts : List Part). no_options parts ≡ true) refl refl refl (λ stopped thrown halt. grind arith)
     state hand.item
-chosen_none Stepped state hand = grind arith
-chosen_none (Written seen) state hand = grind arith
-chosen_none (Leaves exits) state hand = grind arith
+chosen_none _ state hand = grind arith
 
 found_none : (lookup : Lookup) (result : Result Finding) (state : State)
     → no_options (finished lookup result state) ≡ true
@@ -148,9 +143,8 @@ Fits (Some hand) = FitsItem hand.item hand.parts
 
 begun_fits : (state : State) (item : Item) → FitsItem item (parts_of state item)
 begun_fits state (a_request request) = λ has options. row_asks state request.command options
-begun_fits state (a_composite at composite) = grind arith
 begun_fits state (a_raw at body) = refl
-begun_fits state target_end = grind arith
+begun_fits state _ = grind arith
 
 -- these parts stand where a part stood that writes down nothing
 fits_joined : (item : Item) (part : Part) (parts rest : List Part) → no_options parts ≡ true
@@ -165,10 +159,7 @@ fits_joined (a_request request) part parts rest none brings plain h = λ has opt
     either : (some others first : Bool) → (some ≡ true → first ≡ true) → (some || others) ≡ true
         → (first || others) ≡ true
     either some others first brings is = grind (arith, brings, is)
-fits_joined (a_composite at composite) part parts rest none brings plain h =
-    none_joined parts rest none (grind (arith, h))
-fits_joined (a_raw at body) part parts rest none brings plain h = none_joined parts rest none (grind (arith, h))
-fits_joined target_end part parts rest none brings plain h = none_joined parts rest none (grind (arith, h))
+fits_joined _ part parts rest none brings plain h = none_joined parts rest none (grind (arith, h))
 
 fits_tail : (item : Item) (part : Part) (rest : List Part) → stand_last (part ∷ rest) ≡ true
     → FitsItem item (part ∷ rest) → FitsItem item rest
@@ -184,9 +175,7 @@ fits_tail item part rest last h = by_options item (is_options part) refl h
         let none : has_response rest ≡ false = unsaid (has_response rest) (stand_last rest)
         (ap (λ (b : Bool). cond (cond b (not (has_response rest)) true) (stand_last rest) false) (sym is) ∙ last) in
         let no : true ≡ false = sym has ∙ none in cc
-    by_options (a_composite at composite) true is h = grind (arith, h, is)
-    by_options (a_raw at body) true is h = grind (arith, h, is)
-    by_options target_end true is h = grind (arith, h, is)
+    by_options _ true is h = grind (arith, h, is)
 
 -- The walk ------------------------------------------------------------------------------------------------------------
 
@@ -287,14 +276,12 @@ still_on m next same near hands fits = record {
 replied_hand : (command : TargetCommand) (replied : Replied) (hand : Option Hand) (options : ClientOptions)
     → options_in (option_map (hand_replied command replied) hand) options ≡ options_in hand options
 replied_hand command replied None options = refl
-replied_hand (a_question question) replied (Some hand) options = refl
-replied_hand (an_effect effect) replied (Some hand) options = refl
+replied_hand _ replied _ options = refl
 
 replied_fits : (command : TargetCommand) (replied : Replied) (hand : Option Hand) → Fits hand
     → Fits (option_map (hand_replied command replied) hand)
 replied_fits command replied None h = tt
-replied_fits (a_question question) replied (Some hand) h = h
-replied_fits (an_effect effect) replied (Some hand) h = h
+replied_fits _ replied (Some hand) h = h
 
 replied_options : (command : TargetCommand) (replied : Replied) (state : State)
     → (replied_to command replied state).options ≡ state.options
@@ -310,9 +297,8 @@ begun_options : (state : State) (item : Item) (options : ClientOptions)
     → cond (has_response (parts_of state item)) options (options_noted (parts_of state item) options) ≡ options
 begun_options state (a_request request) options =
     rw (row_is (failure_of (wanting request.command) state) request.command state).responds refl
-begun_options state target_end options = grind arith
-begun_options state (a_composite at composite) options = grind arith
 begun_options state (a_raw at body) options = refl
+begun_options state _ options = grind arith
 
 skipped_on : (m : Machine) (hand : Hand) (part : Part) (rest : List Part) → stand_last (part ∷ rest) ≡ true
     → IsAt m hand part rest → Skips m hand part → Onward m (left m hand rest)
@@ -337,42 +323,29 @@ skipped_on m hand part rest last at (Skips.no_request {outcome} is) =
     by_item : (item : Item) → FitsItem item (Part.Responds outcome ∷ rest) → request_in item ≡ []
         → cond (has_response rest) m.state.options (options_noted rest m.state.options) ≡ m.state.options
     by_item (a_request request) h is = cc
-    by_item (a_composite at composite) h is = behind rest h
-    by_item (a_raw at body) h is = behind rest h
-    by_item target_end h is = behind rest h
+    by_item _ h is = behind rest h
 
 event_near : (event : Event) (state : State) → is_gone (after_event event state).phase ≡ false
     → is_gone state.phase ≡ false
 event_near Initialized state near = sym (attached_gone state.phase) ∙ near
-event_near (some_news news) state near = near
-event_near (a_stop stopping) state near = near
 event_near Terminated state near = cc
+event_near _ state near = near
 
 event_options : (event : Event) (state : State) → (after_event event state).options ≡ state.options
 event_options Initialized state = refl
-event_options (some_news news) state = refl
-event_options (a_stop stopping) state = refl
-event_options Terminated state = refl
+event_options _ state = refl
 
 -- a note behind the response
 noted_same : (note : Note) (state : State) (rest : List Part) → stand_last (Part.Notes note ∷ rest) ≡ true
     → cond (has_response rest) (noted note state).options (options_noted rest (noted note state).options)
     ≡ cond (has_response rest) state.options (options_noted (Part.Notes note ∷ rest) state.options)
-noted_same (Roots roots) state rest last = refl
-noted_same EntryHeld state rest last = refl
-noted_same Configured state rest last = refl
-noted_same (Lines key path entries) state rest last = refl
-noted_same (Functions entries) state rest last = refl
-noted_same (StopsAt caught uncaught) state rest last = refl
-noted_same (Steps step) state rest last = refl
-noted_same (Throws thrown) state rest last = refl
-noted_same (Classes classes) state rest last = refl
 noted_same (Options options) state rest last = by_bool (has_response rest) last
   where
     by_bool : (has : Bool) → cond (not has) (stand_last rest) false ≡ true
         → cond has options (options_noted rest options) ≡ cond has state.options (options_noted rest options)
     by_bool true is = cc
     by_bool false is = refl
+noted_same _ state rest last = refl
 
 numbered_options : (outcome : Outcome) (state : State) → (numbered_by outcome state).options ≡ state.options
 numbered_options outcome state = grind arith
@@ -445,8 +418,6 @@ on_move m next said last near other (Moves.sends {hand} {rest} {deed} free at cl
     (λ h. refl)
 on_move m next said last near other (Moves.updates {hand} free at is close) =
     still_on m next refl (λ near. near) (λ options. options_at options at) (λ h. fits_at at h)
-on_move m next said last near other (Moves.greets free at is close) =
-    still_on m next refl (λ near. near) (λ options. refl) (λ h. h)
 on_move m next said last near other (Moves.notes {hand} {note} {rest} free at) =
     tail_on m next hand (Part.Notes note) rest (whole options_last last at) at (λ options. refl) (λ h. h)
     (λ near. sym (ap is_gone (same_noted note m.state)) ∙ near)
@@ -469,8 +440,7 @@ on_move m next said last near other _ = still_on m next refl (λ near. near) (λ
 lost_other : {m : Machine} {message : Message} {late : List TargetCommand} → Loses m message late
     → is_other (Some message) ≡ true
 lost_other Loses.by_end = refl
-lost_other (Loses.by_question is waits reply last) = refl
-lost_other (Loses.by_effect is flies reply last) = refl
+lost_other _ = refl
 
 noted_on : (messages : List Message) (m next : Machine) (said : Option Message) → Run messages m → Noted messages m
     → Moves m said next → Noted (with_said messages said) next

@@ -295,8 +295,7 @@ becomes {messages} {m} {hand} {part} {rest} parts responds h at is brings leads 
 loss_aside : {m : Machine} {message : Message} {late : List TargetCommand} → Loses m message late
     → responds message ≡ false
 loss_aside Loses.by_end = refl
-loss_aside (Loses.by_question in_hand waits reply is) = refl
-loss_aside (Loses.by_effect in_hand flying reply is) = refl
+loss_aside _ = refl
 
 -- something comes, or is said, that changes neither the item in hand nor whether the target is gone
 same_all : (messages : List Message) (m next : Machine) (hand : Option Hand) (message : Message)
@@ -340,9 +339,7 @@ begun_order {messages} {m} picked request r none is item =
 -- what is learnt at its turn decides nothing of what an item does
 parts_taken : (state : State) (item : Item) → parts_of (taken item state) item ≡ parts_of state item
 parts_taken state (a_request request) = refl
-parts_taken state (a_composite at composite) = refl
-parts_taken state (a_raw at body) = refl
-parts_taken state target_end = refl
+parts_taken state _ = refl
 
 begun_held : {messages : List Message} {m : Machine} (picked : Picked) → Run messages m → m.hand ≡ None
     → pick (is_gone m.state.phase) m.waiting ≡ Some picked → Run messages (begun m picked.item picked.rest)
@@ -507,12 +504,6 @@ chosen_held {messages} {m} {hand} {choice} {rest} h r at =
 skipped_held : {messages : List Message} {m : Machine} {hand : Hand} {part : Part} {rest : List Part}
     (h : Held messages m hand) → IsAt m hand part rest → Skips m hand part
     → Held messages (left m hand rest) (record hand { parts = rest })
-skipped_held {hand = hand} {rest = rest} h at (Skips.by_guard is) =
-    none_more (passed_on_held [] (record hand { parts = rest }) h at refl refl refl refl refl
-    (λ near. asked_still h near))
-skipped_held {hand = hand} {rest = rest} h at (Skips.by_wishes is) =
-    none_more (passed_on_held [] (record hand { parts = rest }) h at refl refl refl refl refl
-    (λ near. asked_still h near))
 skipped_held {messages} {m} {hand} {part} {rest} h at (Skips.no_request is) = record {
   earlier = h.earlier;
   since = h.since;
@@ -526,6 +517,8 @@ skipped_held {messages} {m} {hand} {part} {rest} h at (Skips.no_request is) = re
   in_order = h.in_order;
   leads = λ request item answer answers. let no : request ∷ [] ≡ [] = sym (ap request_in item) ∙ is in cc;
 }
+skipped_held {hand = hand} {rest = rest} h at _ =
+    none_more (passed_on_held [] (record hand { parts = rest }) h at refl refl refl refl refl (λ near. asked_still h near))
 
 told_event : {messages : List Message} {m : Machine} {hand : Hand} {rest : List Part} (event : Event)
     (h : Held messages m hand) → Run messages m → IsAt m hand (Part.Tells event) rest
@@ -537,17 +530,13 @@ told_event {hand = hand} {rest} Initialized h r at =
   where
     same_attached : (phase : Phase) → is_gone (attached_from phase) ≡ is_gone phase
     same_attached phase = grind arith
-told_event {hand = hand} {rest} (some_news news) h r at =
-    passed_on_held _ (record hand { parts = rest }) h at refl refl refl refl refl
-    (λ near. asked_aside _ h refl near)
-told_event {hand = hand} {rest} (a_stop stopping) h r at =
-    passed_on_held _ (record hand { parts = rest }) h at refl refl refl refl refl
-    (λ near. asked_aside _ h refl near)
 told_event {hand = hand} {rest} Terminated h r at =
     ended_held _ h (silent_behind (whole silent_last (tested silent_test r) at)) refl
   where
     silent_behind : last_silent (Part.Tells Terminated ∷ rest) ≡ true → has_response rest ≡ false
     silent_behind is = grind (arith, is)
+told_event {hand = hand} {rest} _ h r at =
+    passed_on_held _ (record hand { parts = rest }) h at refl refl refl refl refl (λ near. asked_aside _ h refl near)
 
 one_response : {messages : List Message} {m : Machine} {hand : Hand} {outcome : Outcome} {rest : List Part}
     → Run messages m → IsAt m hand (Part.Responds outcome) rest → has_response rest ≡ false
@@ -586,10 +575,6 @@ explains_on messages m next said r h (Moves.updates {hand} {effect} {rest} free 
       held = same_held _ (held_of h at.in_hand) refl (sym at.parts) refl refl
           (λ still. AreAsked.sends effect b.silent b.lands ((held_of h at.in_hand).asked near));
     }
-explains_on messages m next said r h (Moves.greets free at is near) now = record {
-  explained = AreExplained.aside _ refl h.explained;
-  held = same_all messages m next m.hand _ refl refl (λ still. refl) h.held;
-}
 explains_on messages m next said r h (Moves.notes {hand} {note} {rest} free at) now = record {
   explained = h.explained;
   held = none_more (passed_on_held [] _ (held_of h at.in_hand) at refl (ap is_gone (same_noted note m.state)) refl refl
@@ -609,14 +594,6 @@ explains_on messages m next said r h (Moves.asks {hand} {want} {wants = others} 
           (λ still. AreAsked.asks want (next_new m hand want others (always_kept r) is are) lands
           ((held_of h is).asked near)));
     }
-explains_on messages m next said r h (Moves.hears read is) now = record {
-  explained = AreExplained.aside _ refl h.explained;
-  held = same_all messages m next m.hand _ refl refl (λ still. refl) h.held;
-}
-explains_on messages m next said r h (Moves.greeted read is) now = record {
-  explained = AreExplained.aside _ refl h.explained;
-  held = same_all messages m next m.hand _ refl refl (λ still. refl) h.held;
-}
 explains_on messages m next said r h (Moves.answers {question} {replied} {hand} is waits reply stays) now = record {
   explained = AreExplained.aside _ refl h.explained;
   held = subst (λ (held : Option Hand). HeldIn (messages ++ Message.answers (a_question question) replied ∷ [])
@@ -640,26 +617,12 @@ explains_on messages m next said r h (Moves.late {command} before after is reply
   held = same_all messages m next m.hand _ refl refl
       (λ near. let no : true ≡ false = sym (late_gone m before after command (no_late r) is) ∙ near in cc) h.held;
 }
-explains_on messages m next said r h (Moves.ends gone) now = record {
-  explained = AreExplained.aside _ refl h.explained;
-  held = same_all messages m next m.hand _ refl refl (λ still. refl) h.held;
-}
 explains_on messages m next said r h (Moves.loses {message} late near why) now = record {
   explained = AreExplained.aside message (loss_aside why) h.explained;
   held = given_held messages m next m.hand message (loss_silent why).1 near refl h.held;
 }
-explains_on messages m next said r h (Moves.comes read sized taken) now = record {
-  explained = AreExplained.aside _ refl h.explained;
-  held = same_all messages m next m.hand _ refl refl (λ still. refl) h.held;
-}
-explains_on messages m next said r h (Moves.keeps is) now = record {
-  explained = AreExplained.aside _ refl h.explained;
-  held = same_all messages m next m.hand _ refl refl (λ still. refl) h.held;
-}
-explains_on messages m next said r h (Moves.reads before after read is none taken) now = record {
-  explained = AreExplained.aside _ refl h.explained;
-  held = same_all messages m next m.hand _ refl refl (λ still. refl) h.held;
-}
+explains_on messages m next said r h _ now =
+    record { explained = AreExplained.aside _ refl h.explained; held = same_all messages m next m.hand _ refl refl (λ still. refl) h.held; }
 
 pub are_explained : (messages : List Message) (m : Machine) → Run messages m → AreExplained messages
 are_explained messages m r = (by_runs {Holds = Explains} (record {

@@ -204,26 +204,20 @@ after_stands P Good Best (lacks want others) f h k = h
 pub beside_stands : {A B : Type 0} (P : Id → Type 0) (Good : A → Type 0) (Best : B → Type 0) (m : Need A) (n : Need B)
     → NeedStands P Good m → NeedStands P Best n → NeedStands P (λ two. Good two.0 × Best two.1) (beside m n)
 beside_stands P Good Best (has a) (has b) h k = (h, k)
-beside_stands P Good Best (has a) (fails fault) h k = tt
 beside_stands P Good Best (has a) (lacks want others) h k = k
-beside_stands P Good Best (fails fault) (has b) h k = tt
-beside_stands P Good Best (fails fault) (fails other) h k = tt
-beside_stands P Good Best (fails fault) (lacks want others) h k = tt
 beside_stands P Good Best (lacks want others) (has b) h k = h
-beside_stands P Good Best (lacks want others) (fails fault) h k = tt
 beside_stands P Good Best (lacks want others) (lacks other more) h k =
     all_joined (IsWanted P true) (want ∷ others) (other ∷ more) h k
+beside_stands P Good Best _ _ h k = tt
 
 after_after : {A B C : Type 0} (n : Need A) (f : A → Need B) (g : B → Need C)
     → after n (λ a. after (f a) g) ≡ after (after n f) g
 after_after (has a) f g = refl
-after_after (fails fault) f g = refl
-after_after (lacks want others) f g = refl
+after_after _ f g = refl
 
 pub after_like : {A B : Type 0} (n : Need A) (f g : A → Need B) → ((a : A) → f a ≡ g a) → after n f ≡ after n g
 after_like (has a) f g like = like a
-after_like (fails fault) f g like = refl
-after_like (lacks want others) f g like = refl
+after_like _ f g like = refl
 
 pub need_chained : {A B : Type 0} (sight : Sight) (p : Plan A) (f : A → Plan B)
     → need sight (chained p f) ≡ after (need sight p) (λ a. need sight (f a))

@@ -243,9 +243,7 @@ replied_numbers command replied state = grind arith
 
 pub taken_numbers : (item : Item) (state : State) → (taken item state).numbers ≡ state.numbers
 taken_numbers (a_request request) state = refl
-taken_numbers (a_composite at composite) state = refl
-taken_numbers (a_raw at body) state = refl
-taken_numbers target_end state = refl
+taken_numbers _ state = refl
 
 -- a message that tells things by numbers
 by_things : {messages : List Message} (things : List Thing) (numbers : InHand) (message : Message)
@@ -264,14 +262,6 @@ responded_on : {messages : List Message} (request : Request) (outcome : Outcome)
     → AreOf messages state.numbers
     → AreOf (messages ++ Message.tells (response_to request (outcome_told outcome state)) ∷ [])
     (numbered_by outcome state).numbers
-responded_on request (Failed failure) state h = aside state.numbers _ refl refl h
-responded_on request (Success Nothing) state h = aside state.numbers _ refl refl h
-responded_on request (Success Capabilities) state h = aside state.numbers _ refl refl h
-responded_on request (Success (breakpoint_list rooted listed)) state h = aside state.numbers _ refl refl h
-responded_on request (Success Continued) state h = aside state.numbers _ refl refl h
-responded_on request (Success (an_exception id mode)) state h = aside state.numbers _ refl refl h
-responded_on request (Success (a_written seen)) state h = aside state.numbers _ refl refl h
-responded_on request (Success (thread_list named)) state h = aside state.numbers _ refl refl h
 responded_on {messages} request (Success (frame_list total frames)) state h =
     by_things (things_of (frame_list total frames)) state.numbers _ refl
     (frame_numbers state.options (with_things (things_of (frame_list total frames)) state.numbers) frames) h
@@ -287,28 +277,21 @@ responded_on {messages} request (Success (a_value seen)) state h =
     by_things (things_of (a_value seen)) state.numbers _ refl
     (value_numbers now seen.thing (subst (λ (past : Past). 0 < past.next)
     (sym (past_kept (things_of (a_value seen)) state.numbers)) (positive h).0)) h
+responded_on request _ state h = aside state.numbers _ refl refl h
 
 told_on : {messages : List Message} (event : Event) (state : State) → AreOf messages state.numbers
     → AreOf (messages ++ Message.tells (an_event (event_told event (after_event event state))) ∷ [])
     (after_event event state).numbers
-told_on Initialized state h = aside state.numbers _ refl refl h
-told_on (some_news (entry_verified entry)) state h = aside state.numbers _ refl refl h
-told_on (some_news (thread_changed started thread)) state h = aside state.numbers _ refl refl h
-told_on (a_stop stopping) state h = aside state.numbers _ refl refl h
 told_on Terminated state h = aside (numbers_over state.stopped state.numbers) _ refl refl (lost_now state.stopped state.numbers h)
+told_on _ state h = aside state.numbers _ refl refl h
 
 deed_on : {messages : List Message} (deed : Deed) (state : State) → (deed ≡ Resume of_stop → state.stopped ≡ true)
     → AreOf messages state.numbers
     → AreOf (messages ++ Message.sends (an_effect (Does deed)) ∷ []) (after_deed deed state).numbers
-deed_on Suspend state in_stop h = aside state.numbers _ refl refl h
-deed_on (Resume of_composite) state in_stop h = aside state.numbers _ refl refl h
-deed_on (Resume of_entry) state in_stop h = aside state.numbers _ refl refl h
 deed_on {messages} (Resume of_stop) state in_stop h =
     subst (λ (stopped : Bool). AreOf (messages ++ Message.sends (an_effect (Does (Resume of_stop))) ∷ [])
     (numbers_over stopped state.numbers)) (sym (in_stop refl)) (spent state.numbers (ReferencesAre.resumed _ refl h))
-deed_on Dispose state in_stop h = aside state.numbers _ refl refl h
-deed_on Exit state in_stop h = aside state.numbers _ refl refl h
-deed_on (Writes write) state in_stop h = aside state.numbers _ refl refl h
+deed_on _ state in_stop h = aside state.numbers _ refl refl h
 
 in_its_stop : {m : Machine} {hand : Hand} {deed : Deed} {rest : List Part} → IsHolding m
     → IsAt m hand (Part.Sends deed) rest → deed ≡ Resume of_stop → m.state.stopped ≡ true
@@ -321,9 +304,8 @@ in_its_stop {m} {hand} {deed} {rest} w at is = by_may m.state.stopped _
 
 request_on : {messages : List Message} (numbers : InHand) (effect : Effect) → is_deed effect ≡ false
     → AreOf messages numbers → AreOf (messages ++ Message.sends (an_effect effect) ∷ []) numbers
-request_on numbers (Set wish) is h = aside numbers _ refl refl h
-request_on numbers (Clear wish request) is h = aside numbers _ refl refl h
 request_on numbers (Does deed) is h = cc
+request_on numbers _ is h = aside numbers _ refl refl h
 
 -- `updates` sends no deed
 pub due_request : (w : Wishes) (effect : Effect) → effect_due w ≡ Some effect → is_deed effect ≡ false
@@ -346,28 +328,20 @@ references_on messages m next said w h (Moves.tells {event = event} free at) = t
 references_on messages m next said w h (Moves.sends {deed = deed} free at near) = deed_on deed m.state (in_its_stop w at) h
 references_on messages m next said w h (Moves.updates {effect = effect} free at is near) =
     request_on m.state.numbers effect (due_request m.state.wishes effect is) h
-references_on messages m next said w h (Moves.greets free at is near) = aside m.state.numbers _ refl refl h
 references_on messages m next said w h (Moves.notes {note = note} free at) = same_numbers m.state.numbers next.state.numbers (noted_numbers note m.state) h
 references_on messages m next said w h (Moves.unfolds free at) = h
 references_on messages m next said w h (Moves.queues free is) = h
-references_on messages m next said w h (Moves.asks free room is are) = aside m.state.numbers _ refl refl h
-references_on messages m next said w h (Moves.hears read is) = aside m.state.numbers _ refl refl h
-references_on messages m next said w h (Moves.greeted read is) = aside m.state.numbers _ refl refl h
 references_on messages m next said w h (Moves.answers {question} {replied} is waits reply last) =
     aside next.state.numbers _ refl refl (same_numbers m.state.numbers next.state.numbers (replied_numbers (a_question question) replied m.state) h)
 references_on messages m next said w h (Moves.replies {effect} {replied} is flying reply last) =
     aside next.state.numbers _ refl refl (same_numbers m.state.numbers next.state.numbers (replied_numbers (an_effect effect) replied m.state) h)
-references_on messages m next said w h (Moves.late before after is reply) = aside m.state.numbers _ refl refl h
-references_on messages m next said w h (Moves.ends gone) = aside m.state.numbers _ refl refl h
 references_on messages m next said w h (Moves.loses late away Loses.by_end) =
     aside (numbers_over m.state.stopped m.state.numbers) _ refl refl (lost_now m.state.stopped m.state.numbers h)
 references_on messages m next said w h (Moves.loses late away (Loses.by_question is waits reply last)) =
     aside (numbers_over m.state.stopped m.state.numbers) _ refl refl (lost_now m.state.stopped m.state.numbers h)
 references_on messages m next said w h (Moves.loses late away (Loses.by_effect is flying reply last)) =
     aside (numbers_over m.state.stopped m.state.numbers) _ refl refl (lost_now m.state.stopped m.state.numbers h)
-references_on messages m next said w h (Moves.comes read sized taken) = aside m.state.numbers _ refl refl h
-references_on messages m next said w h (Moves.keeps is) = aside m.state.numbers _ refl refl h
-references_on messages m next said w h (Moves.reads before after read is none taken) = aside m.state.numbers _ refl refl h
+references_on messages m next said w h _ = aside m.state.numbers _ refl refl h
 
 -- The law -------------------------------------------------------------------------------------------------------------
 

@@ -52,7 +52,6 @@ new_unset w wish new = (none_left (λ one. is_wish wish one.wish) w.installed ne
 other_installed : (w : Wishes) (parts : List Part) (effect : Effect) (replied : Replied) (wish : Wish)
     → IsDue w parts (Some effect) → has_wish (wished w.wanted) wish ≡ true → is_set_of wish effect ≡ false
     → requests_of wish (wishes_after effect replied w).installed ≡ requests_of wish w.installed
-other_installed w parts (Does deed) replied wish due asked other = refl
 other_installed w parts (Set one) replied wish due asked other = by_id (request_in replied)
   where
     by_id : (found : Option ℕ) → requests_of wish (set_to found one w).installed ≡ requests_of wish w.installed
@@ -73,7 +72,7 @@ other_installed w parts (Clear one request) (an_answer answer) wish due asked ot
     kept r is = not_true (is_wish one r.wish) (λ same.
         sym unwished ∙ ap (has_wish (wished w.wanted)) (equal_is one r.wish same ∙ sym (equal_is wish r.wish is))
         ∙ asked)
-other_installed w parts (Clear one request) (an_error code) wish due asked other = refl
+other_installed w parts _ _ wish due asked other = refl
 
 pub other_stays : (sizes : Option SizesRead) (w : Wishes) (parts : List Part) (effect : Effect) (replied : Replied)
     (wish : Wish) → IsDue w parts (Some effect) → IsReply sizes (an_effect effect) replied
@@ -87,9 +86,8 @@ other_stays sizes w parts effect replied wish due reply asked other = (
     as_it_was : (effect : Effect) → is_set_of wish effect ≡ false
         → refused_by_effect wish effect replied (has_wish w.refused wish)
         ≡ has_wish w.refused wish
-    as_it_was (Does deed) other = refl
     as_it_was (Set one) other = rw other refl
-    as_it_was (Clear one request) other = refl
+    as_it_was _ other = refl
 
 -- what is replied to the Set of a wish is what stands of it
 set_answered : (w : Wishes) (wish : Wish) (answer : Answer) → IsNewSet w wish
@@ -135,9 +133,8 @@ data IsTold (wish : Wish) (w : Wishes) (flying : Option Effect) : List Message �
       → IsTold wish w flying (sending wish ∷ Message.answers (an_effect (Set wish)) reply ∷ [])
 
 pub set_is : (wish : Wish) (effect : Effect) → is_set_of wish effect ≡ true → effect ≡ Set wish
-set_is wish (Does deed) is = cc
 set_is wish (Set one) is = ap Set (sym (equal_is wish one is))
-set_is wish (Clear one request) is = cc
+set_is wish _ is = cc
 
 abbrev about : Wish → Effect → Message → List Message
 about wish effect message = cond (is_set_of wish effect) (message ∷ []) []
@@ -152,11 +149,10 @@ told_sends wish w effect messages told new = by_test (is_set_of wish effect) ref
     by_test true is messages (IsTold.unset u idle) =
         subst (λ (effect : Effect). IsTold wish w (Some effect) (Message.sends (an_effect effect) ∷ []))
         (sym (set_is wish effect is)) (IsTold.flies refl)
-    by_test true is messages (IsTold.flies same) = absurd (cc)
     by_test true is messages (IsTold.replied says) = absurd (not_unset says (new (set_is wish effect is)))
     by_test false is messages (IsTold.unset u idle) = IsTold.unset u is
-    by_test false is messages (IsTold.flies same) = absurd (cc)
     by_test false is messages (IsTold.replied says) = IsTold.replied says
+    by_test _ is messages (IsTold.flies same) = absurd (cc)
 
 told_replies : (wish : Wish) (now w : Wishes) (effect : Effect) (reply : Replied) (messages : List Message)
     → IsTold wish w (Some effect) messages → (effect ≡ Set wish → IsUnset wish w × IsAsReplied now wish reply)
@@ -199,8 +195,7 @@ unwished_none : {messages : List Message} {m : Machine} (r : Run messages m) (wi
     → has_wish (wished m.state.wishes.wanted) wish ≡ false → set_since wish r ≡ []
 unfolding set_since
 unwished_none Run.starts wish is = refl
-unwished_none (Run.goes r went) wish is = rw is refl
-unwished_none (Run.moves r allows) wish is = rw is refl
+unwished_none _ wish is = rw is refl
 
 wanted_replied : (effect : Effect) (reply : Replied) (w : Wishes) → (wishes_after effect reply w).wanted ≡ w.wanted
 wanted_replied effect reply w = grind arith

@@ -173,15 +173,7 @@ seen_safe types v = by_value v.value
     by_value (values.ThreadGroup o) = by_id_safe o.0 _ _ (null_safe types v) (object_safe types v.value)
     by_value (values.ClassLoader o) = by_id_safe o.0 _ _ (null_safe types v) (object_safe types v.value)
     by_value (values.ClassObject o) = by_id_safe o.0 _ _ (null_safe types v) (object_safe types v.value)
-    by_value (values.Byte x) = gives_safe _
-    by_value (values.Char x) = gives_safe _
-    by_value (values.Double x) = gives_safe _
-    by_value (values.Float x) = gives_safe _
-    by_value (values.Int x) = gives_safe _
-    by_value (values.Long x) = gives_safe _
-    by_value (values.Short x) = gives_safe _
-    by_value (values.Boolean x) = gives_safe _
-    by_value values.Void = gives_safe _
+    by_value _ = gives_safe _
 
 -- What was thrown ------------------------------------------------------------------------------------------------------
 
@@ -211,8 +203,6 @@ locals_safe f = makes is_safe with_this (both (this_plan f) (visible_plan f))
 
 chain_safe : (steps : ℕ) (met : List ℕ) (class : ℕ) → Safe (chain steps met class)
 unfolding chain
-chain_safe zero met class = gives_safe met
-chain_safe (suc steps) met zero = gives_safe met
 chain_safe (suc steps) met (suc class) =
     by_met (list_any (λ other. other == suc class) met) (chain_safe steps (met ++ suc class ∷ []))
   where
@@ -224,6 +214,7 @@ chain_safe (suc steps) met (suc class) =
     by_met false behind = chains is_safe (above_plan (suc class)) (λ above. chain steps (met ++ suc class ∷ []) above.0)
         (asks is_safe above_in (Want.Fact (questions.Superclass (record { 0 = suc class }))) refl)
         (λ above. behind above.0)
+chain_safe _ met _ = gives_safe met
 
 class_fields_safe : (class : ℕ) → Safe (class_fields class)
 class_fields_safe class = makes is_safe _ (fields_plan class)
@@ -280,20 +271,17 @@ elements_page_safe start count id = chains is_safe (length_plan (suc id))
     (elements_safe id start (count_from total start count)))
 
 page_safe : (thing : Thing) (filter : Filter) (start count : ℕ) → Safe (page_plan thing filter start count)
-page_safe (things.Frame f) filter start count = gives_safe []
 page_safe (things.Locals f) Both start count = locals_page_safe f start count
-page_safe (things.Locals f) Indexed start count = gives_safe []
 page_safe (things.Locals f) Named start count = locals_page_safe f start count
 page_safe (things.Object o) Both start count =
     by_id_safe o.0 (gives []) (fields_page start count) (gives_safe []) (fields_page_safe start count)
-page_safe (things.Object o) Indexed start count = gives_safe []
 page_safe (things.Object o) Named start count =
     by_id_safe o.0 (gives []) (fields_page start count) (gives_safe []) (fields_page_safe start count)
 page_safe (things.Array o) Both start count =
     by_id_safe o.0 (gives []) (elements_page start count) (gives_safe []) (elements_page_safe start count)
 page_safe (things.Array o) Indexed start count =
     by_id_safe o.0 (gives []) (elements_page start count) (gives_safe []) (elements_page_safe start count)
-page_safe (things.Array o) Named start count = gives_safe []
+page_safe _ _ start count = gives_safe []
 
 child_safe : (types : Bool) (two : Child × Value) → Safe (child_plan types two)
 child_safe types two = makes is_safe (shown_as two.0.name)
@@ -322,8 +310,6 @@ found_safe None above k = k
 
 field_from_safe : (steps : ℕ) (met : List ℕ) (name : List ℕ) (class : ℕ) → Safe (field_from steps met name class)
 unfolding field_from
-field_from_safe zero met name class = gives_safe None
-field_from_safe (suc steps) met name zero = gives_safe None
 field_from_safe (suc steps) met name (suc class) =
     by_met (list_any (λ other. other == suc class) met) (field_from_safe steps (met ++ suc class ∷ []) name)
   where
@@ -341,6 +327,7 @@ field_from_safe (suc steps) met name (suc class) =
         (λ above. field_from steps (met ++ suc class ∷ []) name above.0)
         (asks is_safe above_in (Want.Fact (questions.Superclass (record { 0 = suc class }))) refl)
         (λ above. behind above.0)))
+field_from_safe _ met name _ = gives_safe None
 
 field_value_safe : (id : ℕ) (f : Option Field) → Safe (field_value (suc id) f)
 field_value_safe id None = missing_safe no_such_name
@@ -374,7 +361,6 @@ field_on_safe name id =
 name_on_safe : (name : List ℕ) (value : Value) → Safe (name_on name value)
 name_on_safe name (values.Array o) =
     by_id_safe o.0 (missing no_such_name) (length_hop name) (missing_safe no_such_name) (length_hop_safe name)
-name_on_safe name (values.String o) = missing_safe no_such_name
 name_on_safe name (values.Object o) = field_on_safe name o.0
 name_on_safe name (values.Thread o) = field_on_safe name o.0
 name_on_safe name (values.ThreadGroup o) = field_on_safe name o.0

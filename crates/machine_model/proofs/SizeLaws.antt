@@ -49,9 +49,8 @@ row_sized failure command state = grind arith
 begun_sized : (state : State) (item : Item) → cond (has_attach (parts_of state item)) (has_sizes
     (parts_of state item)) true ≡ true
 begun_sized state (a_request request) = row_sized (failure_of (wanting request.command) state) request.command state
-begun_sized state target_end = grind arith
-begun_sized state (a_composite at composite) = grind arith
 begun_sized state (a_raw at body) = refl
+begun_sized state _ = grind arith
 
 -- what a part becomes leaves the guard where it is
 has_behind : (parts rest : List Part) → has_sizes rest ≡ true → has_sizes (parts ++ rest) ≡ true
@@ -121,8 +120,7 @@ same_phase command replied state = grind arith
 replied_parts : (command : TargetCommand) (replied : Replied) (hand : Option Hand)
     → parts_in (option_map (hand_replied command replied) hand) ≡ parts_in hand
 replied_parts command replied None = refl
-replied_parts (a_question question) replied (Some hand) = refl
-replied_parts (an_effect effect) replied (Some hand) = refl
+replied_parts _ replied _ = refl
 
 asked_parts : (want : Want) (hand : Option Hand) → parts_in (option_map (asked_hand want) hand) ≡ parts_in hand
 asked_parts want None = refl
@@ -190,7 +188,6 @@ sized_on m next said h (Moves.sends {hand} {rest} {deed} free at near) =
     left_sized m hand (Part.Sends deed) rest h at refl
 sized_on m next said h (Moves.updates {hand} {effect} {rest} free at is near) =
     held_sized m (Some hand) (Some (record hand { parts = Part.Updates ∷ rest })) at.in_hand (sym at.parts) h
-sized_on m next said h (Moves.greets free at is near) = h
 sized_on m next said h (Moves.notes {hand} {note} {rest} free at) =
     same_sized m (noted note m.state) rest (noted_sizes note m.state) (left_sized m hand
     (Part.Notes note) rest h at refl)
@@ -200,19 +197,13 @@ sized_on m next said h (Moves.unfolds {hand} {choice} {rest} free at) =
 sized_on m next said h (Moves.queues {hand} free is) = held_sized m (Some hand) (Some hand) is refl h
 sized_on m next said h (Moves.asks {hand} {want} free room is are) =
     held_sized m m.hand (option_map (asked_hand want) m.hand) refl (asked_parts want m.hand) h
-sized_on m next said h (Moves.hears read is) = h
-sized_on m next said h (Moves.greeted read is) = h
 sized_on m next said h (Moves.answers {question} {replied} is waits reply stays) =
     rw (replied_parts (a_question question) replied m.hand, same_phase (a_question question) replied m.state)
     (replied_sized m (a_question question) replied reply stays h)
 sized_on m next said h (Moves.replies {effect} {replied} is flying reply stays) =
     rw (replied_parts (an_effect effect) replied m.hand) h
-sized_on m next said h (Moves.late before after is reply) = h
-sized_on m next said h (Moves.ends gone) = h
 sized_on m next said h (Moves.loses late near why) = refl
-sized_on m next said h (Moves.comes read sized taken) = h
-sized_on m next said h (Moves.keeps is) = h
-sized_on m next said h (Moves.reads before after read is none taken) = h
+sized_on m next said h _ = h
 
 pub always_sized : {messages : List Message} {m : Machine} → Run messages m → IsSized m
 always_sized r = by_moves {Holds = λ (messages : List Message) (m : Machine). IsSized m}

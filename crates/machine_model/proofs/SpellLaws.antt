@@ -168,11 +168,8 @@ due_next full m (Some hand) message is = due_first full m hand.queue message is
 
 due_load : (full : Bool) (m : Machine) (load : Load) (message : Message)
     → said (due_by true load m).act ≡ Some message → said (due_by full load m).act ≡ Some message
-due_load full m busy message is = is
 due_load full m queued message is = due_next full m m.hand message is
-due_load full m lacking_more message is = is
-due_load full m waiting message is = is
-due_load full m clear message is = is
+due_load full m _ message is = is
 
 due_any : (id_pending : Bool) (m : Machine) (message : Message) → said (due id_pending m).act ≡ Some message
     → said (due false m).act ≡ Some message

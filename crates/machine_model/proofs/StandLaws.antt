@@ -63,17 +63,15 @@ same_set wish _ w installed new h test = h test
 same_replied : (w : Wishes) (parts : List Part) (effect : Effect) (replied : Replied) (installed : List EventRequest)
     → IsDue w parts (Some effect) → IsTidy w → AreSame w.installed installed
     → AreSame (wishes_after effect replied w).installed (installed_after effect replied installed)
-same_replied w parts (Does deed) replied installed due tidy h test = h test
 same_replied w parts (Set wish) (an_answer answer) installed due tidy h test =
     same_set wish answer w installed (new_set_due w wish (due refl).0) h test
-same_replied w parts (Set wish) (an_error code) installed due tidy h test = h test
 same_replied w parts (Clear wish request) (an_answer answer) installed due tidy h test =
     let keep : EventRequest → Bool = λ one. not (is_request wish request one) in
     ap (list_any test) (sym (cleared_once (is_surplus (wished w.wanted)) (record { wish = wish; request = request })
     w.installed tidy.installed_in_order
     (clears-is w (record { wish = wish; request = request }) (due_clear w wish request (due refl).0))))
     ∙ any_kept test keep w.installed ∙ h (λ one. keep one && test one) ∙ sym (any_kept test keep installed)
-same_replied w parts (Clear wish request) (an_error code) installed due tidy h test = h test
+same_replied w parts _ _ installed due tidy h test = h test
 
 same_on : (m next : Machine) (said : Option Message) (c : Counted) → Settling m → Step m next said
     → AreSame m.state.wishes.installed c.installed → AreSame next.state.wishes.installed (count_said said c).installed
@@ -120,14 +118,12 @@ pub refused_replied : (sizes : Option SizesRead) (w : Wishes) (parts : List Part
     (wish : Wish) → IsDue w parts (Some effect) → IsReply sizes (an_effect effect) replied
     → has_wish (wishes_after effect replied w).refused wish
     ≡ refused_by_effect wish effect replied (has_wish w.refused wish)
-refused_replied sizes w parts (Does deed) replied wish due reply = refl
 refused_replied sizes w parts (Set other) replied wish due (IsReply.with_answer {answer} used serves is good) =
     refused_answered w other wish answer (new_set_due w other (due refl).0) is.row
 refused_replied sizes w parts (Set other) replied wish due (IsReply.with_error some tolerated) =
     any-insert wish_cmp (is_wish wish) (alike wish) other w.refused
     ∙ or_cond (is_wish wish other) (has_wish w.refused wish)
-refused_replied sizes w parts (Clear other request) (an_answer answer) wish due reply = refl
-refused_replied sizes w parts (Clear other request) (an_error code) wish due reply = refl
+refused_replied sizes w parts _ _ wish due reply = refl
 
 and_cond : (a b : Bool) → (a && b) ≡ cond a b false
 and_cond true b = refl
@@ -148,9 +144,8 @@ kept_so wish w was tidy is = by_tests (has_wish (wished w.wanted) wish) was refl
   where
     by_tests : (asked was : Bool) → has_wish (wished w.wanted) wish ≡ asked → has_wish w.refused wish ≡ was
         → has_wish w.refused wish ≡ cond asked was false
-    by_tests true was e is = is
     by_tests false true e is = absurd (let h = tidy.refused_is_wished wish is in cc)
-    by_tests false false e is = is
+    by_tests _ _ e is = is
 
 refused_on : {messages : List Message} {m : Machine} (r : Run messages m) (wish : Wish) (next : Machine)
     (said : Option Message) (was : Bool) → Moves m said next → is_gone next.state.phase ≡ false
@@ -258,8 +253,7 @@ is_sending m next message effect (Moves.loses late near why) is = absurd (not_lo
     not_lost : {message : Message} {late : List TargetCommand} → Loses m message late
         → ¬ (message ≡ Message.sends (an_effect effect))
     not_lost Loses.by_end is = cc
-    not_lost (Loses.by_question held waits reply last) is = cc
-    not_lost (Loses.by_effect held flying reply last) is = cc
+    not_lost _ is = cc
 is_sending m next message effect _ is = absurd (cc)
 
 is_new : {messages : List Message} {m : Machine} (r : Run messages m) (effect : Effect) → IsSending m effect

@@ -104,19 +104,14 @@ effect_wanted effect replied state = grind arith
 
 pub note_wished : (P : Id → Type 0) (note : Note) (state : State) → PartStands P (Part.Notes note)
     → AreKnown P state.classes → AreWished P state.wishes.wanted → AreWished P (noted note state).wishes.wanted
-note_wished P (Options options) state k facts h = h
-note_wished P (Roots roots) state k facts h = h
-note_wished P EntryHeld state k facts h = h
-note_wished P Configured state k facts h = h
-note_wished P (Lines None path entries) state k facts h = h
 note_wished P (Lines (Some key) path entries) state k facts h = lines_stand P key entries state.wishes.wanted k h
 note_wished P (Functions entries) state k facts h = functions_stand P entries state.wishes.wanted k h
 note_wished P (StopsAt caught uncaught) state k facts h =
     record { short = h.short; functions = h.functions; bound = h.bound; step = h.step }
 note_wished P (Steps step) state k facts h = step_stands P step state.wishes.wanted k h
-note_wished P (Throws thrown) state k facts h = h
 note_wished P (Classes classes) state k facts h =
     classes_stand P state.classes classes state.wishes.wanted k facts h
+note_wished P _ state k facts h = h
 
 -- what needs the sizes has them
 pub sized_by : (sized attached : Bool) (part : Part) (rest : List Part) → in_order sized attached (part ∷ rest) ≡ true
@@ -136,9 +131,8 @@ row_order state sized command h = grind (arith, h)
 pub begun_order : (state : State) (sized : Bool) (item : Item) → in_order sized (is_attached state.phase) [] ≡ true
     → in_order sized (is_attached state.phase) (parts_of state item) ≡ true
 begun_order state sized (a_request request) h = row_order state sized request.command h
-begun_order state sized target_end h = grind (arith, h)
-begun_order state sized (a_composite at composite) h = grind (arith, h)
 begun_order state sized (a_raw at body) h = h
+begun_order state sized _ h = grind (arith, h)
 
 key_is_short : (roots : List (List ℕ)) (path : List ℕ) → IsShortKey (key_of roots path)
 unfolding key_of
@@ -204,10 +198,7 @@ told_frame P number numbers h = by_thing (thing_with number numbers) (told_thing
     by_thing : (found : Result Thing RefFault) → OnFound (OfThing P) found
         → OnFound (OfFrameThing P) (and_then as_frame found)
     by_thing (Ok (things.Frame one)) k = k
-    by_thing (Ok (things.Locals one)) k = tt
-    by_thing (Ok (things.Object one)) k = tt
-    by_thing (Ok (things.Array one)) k = tt
-    by_thing (Err fault) k = tt
+    by_thing _ k = tt
 
 told_container : (P : Id → Type 0) (number : ℕ) (numbers : InHand) → All (OfThing P) numbers.things
     → OnFound (OfThing P) (container number numbers)
@@ -215,11 +206,10 @@ told_container P number numbers h = by_thing (thing_with number numbers) (told_t
   where
     by_thing : (found : Result Thing RefFault) → OnFound (OfThing P) found
         → OnFound (OfThing P) (and_then as_container found)
-    by_thing (Ok (things.Frame one)) k = tt
     by_thing (Ok (things.Locals one)) k = k
     by_thing (Ok (things.Object one)) k = k
     by_thing (Ok (things.Array one)) k = k
-    by_thing (Err fault) k = tt
+    by_thing _ k = tt
 
 functions_short : (id : ℕ) (functions : List FunctionBreakpoint) → All IsShortFunction (functions_from id functions)
 functions_short id [] = tt
@@ -270,7 +260,6 @@ row_parts P (SetBreakpoints arguments) state told told_things threw_them =
 row_parts P (SetFunctionBreakpoints arguments) state told told_things threw_them =
     (functions_short state.next_entry arguments.breakpoints, (tt, (tt, (tt, (tt, (tt, tt))))))
 row_parts P (SetExceptionBreakpoints arguments) state told told_things threw_them = (tt, (tt, (tt, tt)))
-row_parts P Threads state told told_things threw_them = (tt, tt)
 row_parts P (Next arguments) state told told_things threw_them =
     step_stand P Over state.threads arguments.thread_id told
 row_parts P (StepIn arguments) state told told_things threw_them =
@@ -287,9 +276,8 @@ row_parts P (Continue arguments) state told told_things threw_them = by_thread (
 row_parts P (Pause arguments) state told told_things threw_them = by_stop state.stopped (thread_with state.threads arguments.thread_id)
   where
     by_stop : (stopped : Bool) (thread : Option ThreadId) → All (PartStands P) (pause_parts stopped thread)
-    by_stop stopped None = (tt, tt)
-    by_stop true (Some thread) = (tt, tt)
     by_stop false (Some thread) = (tt, (tt, (tt, (tt, (tt, tt)))))
+    by_stop _ _ = (tt, tt)
 row_parts P (StackTrace arguments) state told told_things threw_them = by_thread (thread_with state.threads arguments.thread_id)
     (told_thread P state.threads arguments.thread_id told)
   where
@@ -325,11 +313,9 @@ row_parts P (Evaluate arguments) state told told_things threw_them =
     by_frame : (read : Result Expr ℕ) (found : Result FrameThing RefFault) → OnFound (OfFrameThing P) found
         → All (PartStands P) (evaluate_by read found)
     by_frame (Ok expression) (Ok one) k = (k, tt)
-    by_frame (Err place) (Ok one) k = (tt, tt)
-    by_frame read (Err fault) k = (tt, tt)
+    by_frame _ _ k = (tt, tt)
 row_parts P (Disconnect arguments) state told told_things threw_them = (tt, (tt, (tt, tt)))
-row_parts P Unsupported state told told_things threw_them = (tt, tt)
-row_parts P (BadArguments name) state told told_things threw_them = (tt, tt)
+row_parts P _ state told told_things threw_them = (tt, tt)
 
 unless_fails : (P : Id → Type 0) (failure : Option Failure) (row : List Part) → All (PartStands P) row
     → All (PartStands P) (parts_by failure row)
@@ -350,14 +336,10 @@ begun_parts P state (a_composite at composite) told told_things threw_them =
   where
     by_phase : (phase : Phase) (dies : Bool) (policy : Policy)
         → All (PartStands P) (composite_parts phase dies policy at state.next_entry)
-    by_phase Fresh dies policy = tt
-    by_phase Attached true NoThread = (tt, tt)
-    by_phase Attached true EventThread = (tt, tt)
-    by_phase Attached true AllThreads = (tt, tt)
     by_phase Attached false NoThread = (tt, (tt, (tt, tt)))
-    by_phase Attached false EventThread = (tt, tt)
     by_phase Attached false AllThreads = (tt, (tt, (tt, (tt, tt))))
-    by_phase Gone dies policy = tt
+    by_phase Attached _ _ = (tt, tt)
+    by_phase _ dies policy = tt
 begun_parts P state (a_raw at body) told told_things threw_them = tt
 
 pub chosen_order : (choice : Choice) (state : State) (hand : Hand) (sized attached : Bool) (rest : List Part)
@@ -384,19 +366,16 @@ chosen_parts P (TellsNews below) state hand rest item h =
     by_news state.phase (news_of below state hand.item)
   where
     by_news : (phase : Phase) (news : List News) → All (PartStands P) (told_in phase news ++ rest)
-    by_news Fresh news = h
-    by_news Gone news = h
-    by_news Attached [] = h
     by_news Attached (one ∷ news) = (tt, by_news Attached news)
+    by_news _ _ = h
 chosen_parts P Decides state hand rest item h =
     by_stop (is_attached state.phase) state.stopped (holds_entry state (events_in hand.item))
     (thrown_in state.wishes (events_in hand.item))
     (stop_among state.wishes (hits_in state.wishes (events_in hand.item))) (halt_stands P state.wishes hand.item item)
   where
     told : (cause : HaltCause) (thread : ThreadId) → OfCause P cause → PartStands P (told_part cause thread)
-    told (came_to at) thread k = tt
     told (threw one) thread k = k
-    told has_stepped thread k = tt
+    told _ thread k = tt
 
     by_surplus : (stopped : Bool) → All (PartStands P) (surplus stopped ++ rest)
     by_surplus false = h
@@ -405,10 +384,9 @@ chosen_parts P Decides state hand rest item h =
     by_stop : (attached stopped holds : Bool) (thrown : List Thrown) (stop : Option Halt) → OnSome (OfHalt P) stop
         → All (PartStands P) (cond attached (decided_by stopped holds thrown stop) [] ++ rest)
     by_stop false stopped holds thrown stop hit = h
-    by_stop true stopped true thrown None hit = (tt, h)
-    by_stop true stopped false thrown None hit = (tt, h)
     by_stop true stopped holds thrown (Some halt) hit =
         (tt, (tt, (tt, (told halt.cause halt.thread hit.1, by_surplus stopped))))
+    by_stop true stopped _ thrown None hit = (tt, h)
 chosen_parts P Stepped state hand rest item h = by_code (refused_with hand.effect)
   where
     by_code : (code : Option ℕ) → All (PartStands P) (stepped_by code ++ rest)
@@ -422,76 +400,39 @@ chosen_parts P (Written seen) state hand rest item h = by_code (refused_with han
 chosen_parts P (Leaves exits) state hand rest item h = by_phase state.phase exits
   where
     by_phase : (phase : Phase) (exits : Bool) → All (PartStands P) (leaves phase exits ++ rest)
-    by_phase Fresh exits = h
     by_phase Attached true = (tt, h)
     by_phase Attached false = (tt, h)
-    by_phase Gone exits = h
+    by_phase _ exits = h
 
 body_good : (P : Id → Type 0) (finding : Finding) → IsGood P finding → OfBody P (body_of finding)
 body_good P (threads_found named) h = h
-body_good P (classes_found classes) h = tt
 body_good P (frames_found total frames) h = h
 body_good P (variables_found shown) h = h
 body_good P (value_found seen) h = h
-body_good P (no_value failure) h = tt
-body_good P (write_found write seen) h = tt
-body_good P (text_found text) h = tt
-body_good P (exception_found id mode) h = tt
+body_good P _ h = tt
 
 outcome_good : (P : Id → Type 0) (numbers : InHand) (found : Need Finding) → NeedStands P (IsGood P) found
     → OfOutcome P (outcome_by numbers (result_of found))
 outcome_good P numbers (has finding) h = shown_good P numbers (body_of finding) (body_good P finding h)
-outcome_good P numbers (fails fault) h = tt
-outcome_good P numbers (lacks want others) h = tt
+outcome_good P numbers _ h = tt
 
 value_good : (P : Id → Type 0) (numbers : InHand) (found : Need Finding) → NeedStands P (IsGood P) found
     → OfOutcome P (value_outcome numbers (result_of found))
 value_good P numbers (has (no_value failure)) h = tt
-value_good P numbers (has (threads_found named)) h = outcome_good P numbers (has (threads_found named)) h
-value_good P numbers (has (classes_found classes)) h = outcome_good P numbers (has (classes_found classes)) h
-value_good P numbers (has (frames_found total frames)) h = outcome_good P numbers (has (frames_found total frames)) h
-value_good P numbers (has (variables_found shown)) h = outcome_good P numbers (has (variables_found shown)) h
-value_good P numbers (has (value_found seen)) h = outcome_good P numbers (has (value_found seen)) h
-value_good P numbers (has (write_found write seen)) h = outcome_good P numbers (has (write_found write seen)) h
-value_good P numbers (has (text_found text)) h = outcome_good P numbers (has (text_found text)) h
-value_good P numbers (has (exception_found id mode)) h = outcome_good P numbers (has (exception_found id mode)) h
 value_good P numbers (fails fault) h = tt
 value_good P numbers (lacks want others) h = tt
+value_good P numbers found h = outcome_good P numbers found h
 
 found_parts : (P : Id → Type 0) (lookup : Lookup) (found : Need Finding) (state : State) → NeedStands P (IsGood P) found
     → All (PartStands P) (finished lookup (result_of found) state)
 found_parts P all_threads (has finding) state h = (body_good P finding h, tt)
-found_parts P all_threads (fails fault) state h = (tt, tt)
-found_parts P all_threads (lacks want others) state h = (tt, tt)
-found_parts P (exception_text thread one) found state h = (tt, tt)
 found_parts P (exception_info thrown) (has finding) state h = (body_good P finding h, tt)
-found_parts P (exception_info thrown) (fails fault) state h = (tt, tt)
-found_parts P (exception_info thrown) (lacks want others) state h = (tt, tt)
 found_parts P (thread_frames thread start levels) found state h = (outcome_good P state.numbers found h, tt)
 found_parts P (container_children thing filter start count) found state h = (outcome_good P state.numbers found h, tt)
 found_parts P (expression_value one expression) found state h = (value_good P state.numbers found h, tt)
 found_parts P (variable_write thing name text) (has (write_found write seen)) state h = (h, (tt, tt))
-found_parts P (variable_write thing name text) (has (no_value failure)) state h = (tt, tt)
-found_parts P (variable_write thing name text) (has (threads_found named)) state h = (tt, tt)
-found_parts P (variable_write thing name text) (has (classes_found classes)) state h = (tt, tt)
-found_parts P (variable_write thing name text) (has (frames_found total frames)) state h = (tt, tt)
-found_parts P (variable_write thing name text) (has (variables_found shown)) state h = (tt, tt)
-found_parts P (variable_write thing name text) (has (value_found seen)) state h = (tt, tt)
-found_parts P (variable_write thing name text) (has (text_found found)) state h = (tt, tt)
-found_parts P (variable_write thing name text) (has (exception_found id mode)) state h = (tt, tt)
-found_parts P (variable_write thing name text) (fails fault) state h = (tt, tt)
-found_parts P (variable_write thing name text) (lacks want others) state h = (tt, tt)
-found_parts P class_facts (has (threads_found named)) state h = (tt, tt)
 found_parts P class_facts (has (classes_found classes)) state h = (h, tt)
-found_parts P class_facts (has (frames_found total frames)) state h = (tt, tt)
-found_parts P class_facts (has (variables_found shown)) state h = (tt, tt)
-found_parts P class_facts (has (value_found seen)) state h = (tt, tt)
-found_parts P class_facts (has (no_value failure)) state h = (tt, tt)
-found_parts P class_facts (has (write_found write seen)) state h = (tt, tt)
-found_parts P class_facts (has (text_found text)) state h = (tt, tt)
-found_parts P class_facts (has (exception_found id mode)) state h = (tt, tt)
-found_parts P class_facts (fails fault) state h = (tt, tt)
-found_parts P class_facts (lacks want others) state h = (tt, tt)
+found_parts P _ _ state h = (tt, tt)
 
 -- Parts that need the sizes -------------------------------------------------------------------------------------------
 
@@ -505,21 +446,17 @@ skipped_order rest (Skips.no_request is) h = h
 
 pub sent_order : (sized attached : Bool) (deed : Deed) (rest : List Part)
     → in_order sized attached (Part.Sends deed ∷ rest) ≡ true → in_order sized attached rest ≡ true
-sent_order sized attached Suspend rest h = h
-sent_order sized attached (Resume suspension) rest h = h
-sent_order sized attached Dispose rest h = h
-sent_order sized attached Exit rest h = h
 sent_order sized attached (Writes write) rest h = in_any_order sized attached rest
     (sized_by sized attached (Part.Sends (Writes write)) rest h refl refl)
+sent_order sized attached _ rest h = h
 
 pub event_order : (state : State) (event : Event) (rest : List Part) → is_gone (after_event event state).phase ≡ false
     → in_order (is_some state.sizes) (is_attached state.phase) (Part.Tells event ∷ rest) ≡ true
     → in_order (is_some state.sizes) (is_attached (after_event event state).phase) rest ≡ true
 event_order state Initialized rest near h = in_any_order _ _ rest
     (sized_by (is_some state.sizes) (is_attached state.phase) (Part.Tells Initialized) rest h refl refl)
-event_order state (some_news news) rest near h = h
-event_order state (a_stop stopping) rest near h = h
 event_order state Terminated rest near h = cc
+event_order state _ rest near h = h
 
 -- a look-up that stands in front, where the sizes are known
 pub looks_stand : {P : Id → Type 0} {state : State} {left : List Part} {queue : List Want} (hand : Hand)

@@ -97,9 +97,8 @@ all_taken Good asked queue (want ∷ wants) h k =
 
 lacking_all : {A : Type 0} (P : Id → Type 0) (Good : A → Type 0) (found : Need A) → NeedStands P Good found
     → All (IsWanted P true) (lacking found)
-lacking_all P Good (has a) h = tt
-lacking_all P Good (fails fault) h = tt
 lacking_all P Good (lacks want others) h = h
+lacking_all P Good _ h = tt
 
 guard_all : (P : Id → Type 0) (guard : Guard) (state : State)
     → All (IsWanted P (is_some state.sizes)) (asked_by (way guard state))
@@ -112,19 +111,17 @@ guard_all P Handshake state = by_tests state.greeting_sent state.greeting_heard
   where
     by_tests : (sent heard : Bool) → All (IsWanted P (is_some state.sizes)) (asked_by (greeted_by sent heard))
     by_tests false heard = tt
-    by_tests true false = tt
-    by_tests true true = tt
+    by_tests _ _ = tt
 
 lacked_all : {P : Id → Type 0} {state : State} {queue : List Want} (hand : Hand) (left : List Part)
     → P (class 0) → Near P state left queue hand.asked
     → All (IsWanted P (is_some state.sizes)) (lacked_by state hand left)
-lacked_all hand [] null n = tt
 lacked_all {P} {state} hand (Part.Looks lookup ∷ rest) null n =
     let sized = sized_by (is_some state.sizes) (is_attached state.phase) (Part.Looks lookup) rest n.order refl refl in
     subst (λ sized. All (IsWanted P sized) (lacking (found_for lookup state hand))) (sym sized)
     (lacking_all P (IsGood P) (found_for lookup state hand) (looks_stand hand lookup null n sized n.parts.0))
 lacked_all {P} {state} hand (Part.Awaits guard ∷ rest) null n = guard_all P guard state
-lacked_all hand (_ ∷ rest) null n = tt
+lacked_all hand _ null n = tt
 
 none_of : (P : Id → Type 0) (queue : List Want) → All (IsWanted P true) queue → total by_want queue ≡ 0
 none_of P [] h = refl
@@ -268,8 +265,7 @@ listed_few (Some sizes) = omega arith
 said_few : (command : TargetCommand) (replied : Replied)
     → length (sizes_by (Message.answers command replied)) ≤ by_command command
 said_few (a_question questions.IdSizes) replied = listed_few (sizes_in replied)
-said_few (a_question _) replied = omega arith
-said_few (an_effect effect) replied = omega arith
+said_few _ replied = omega arith
 
 unless_fewer : (failed : Bool) (queue : List Want) → total by_want (unless_failed failed queue) ≤ total by_want queue
 unless_fewer true queue = omega arith
@@ -336,7 +332,6 @@ heard_known P null questions.AllClasses heard known r h =
   where
     by_heard : (heard : Option Answer) → IsHeard P heard → All (λ (c : LoadedClass). P (class c.class.0))
         (classes_in heard)
-    by_heard (Some (answers.AllClasses [])) r = tt
     by_heard (Some (answers.AllClasses (c ∷ classes))) r = (r.0, by_heard (Some (answers.AllClasses classes)) r.1)
     by_heard _ r = tt
 heard_known P null (questions.Methods c) heard known r h = record {
@@ -413,8 +408,7 @@ only_sizes P question (sent ∷ asked) h waits =
         → (is_waiting question asked ≡ true → is_sizes question ≡ true) → is_sizes question ≡ true
     by_test true true asks waits rest = as_sizes question
         (subst (λ (q : Question). same_question q question ≡ true) (sizes_is (question_of sent.want) h.0.first) asks)
-    by_test true false asks waits rest = rest waits
-    by_test false asks same waits rest = rest waits
+    by_test _ _ _ waits rest = rest waits
 
 -- What a reply to a question leaves -----------------------------------------------------------------------------------
 
@@ -437,9 +431,8 @@ sizes_long messages message = ap length (sizes_more messages (Some message)) ∙
 
 first_more : (all : List SizesRead) (sizes : Option SizesRead) → length all ≡ 0 → first_sizes
     (all ++ listed sizes) ≡ sizes
-first_more [] None none = refl
-first_more [] (Some sizes) none = refl
 first_more (one ∷ all) sizes none = absurd (omega arith)
+first_more [] _ none = refl
 
 empty_queue : (P : Id → Type 0) (queue : List Want) → All (IsWanted P false) queue → total by_want queue ≡ 0
     → queue ≡ []

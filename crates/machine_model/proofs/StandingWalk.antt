@@ -81,8 +81,6 @@ kept_on {P} messages m next said null w k (Moves.unfolds {hand} {choice} {rest} 
     })
 kept_on messages m next said null w k (Moves.queues free is) brought = queued_kept m null k free is
 kept_on messages m next said null w k (Moves.asks free room is are) brought = asked_kept m k is are
-kept_on messages m next said null w k (Moves.hears read is) brought =
-    quiet_kept m.state said k (same_state m.state) refl refl refl
 kept_on messages m next said null w k (Moves.greeted read is) brought =
     quiet_kept next.state said k
     (record { sizes = refl; classes = refl; back = λ near. near }) refl refl refl
@@ -95,12 +93,5 @@ kept_on messages m next said null w k (Moves.replies {effect} {replied} is flyin
     (effect_same effect replied m.state) refl refl (effect_wanted effect replied m.state))
 kept_on messages m next said null w k (Moves.late {command} {replied} before after is reply) brought =
     late_kept m command replied before after k is
-kept_on messages m next said null w k (Moves.ends gone) brought =
-    quiet_kept m.state said k (same_state m.state) refl refl refl
 kept_on messages m next said null w k (Moves.loses {message} late near why) brought = lost_kept message late k why
-kept_on messages m next said null w k (Moves.comes read sized taken) brought =
-    quiet_kept m.state said k (same_state m.state) refl refl refl
-kept_on messages m next said null w k (Moves.keeps is) brought =
-    quiet_kept m.state said k (same_state m.state) refl refl refl
-kept_on messages m next said null w k (Moves.reads before after read is none taken) brought =
-    quiet_kept m.state said k (same_state m.state) refl refl refl
+kept_on messages m next said null w k _ brought = quiet_kept m.state said k (same_state m.state) refl refl refl

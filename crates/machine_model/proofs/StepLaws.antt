@@ -113,9 +113,8 @@ row_steps state command steps is = grind (arith, is)
 begun_steps : (state : State) (item : Item) (steps : Bool) → ends_well state.stopped steps ≡ true
     → steps_well state.stopped steps (parts_of state item) ≡ true
 begun_steps state (a_request request) steps is = row_steps state request.command steps is
-begun_steps state target_end steps is = grind (arith, is)
-begun_steps state (a_composite at composite) steps is = grind (arith, is)
 begun_steps state (a_raw at body) steps is = is
+begun_steps state _ steps is = grind (arith, is)
 
 found_steps : (stopped steps : Bool) (lookup : Lookup) (result : Result Finding) (state : State) (rest : List Part)
     → steps_well stopped steps (Part.Looks lookup ∷ rest) ≡ true
@@ -127,8 +126,6 @@ chosen_steps : (stopped steps : Bool) (choice : Choice) (state : State) (hand : 
     → steps_well stopped steps (chosen choice state hand ++ rest) ≡ true
 chosen_steps stopped steps (TellsNews below) state hand rest same is =
     told_alike (steps_well stopped steps) (λ news parts. refl) state.phase (news_of below state hand.item) rest ∙ is
-chosen_steps stopped steps (Written seen) state hand rest same is = grind (arith, is)
-chosen_steps stopped steps (Leaves exits) state hand rest same is = grind (arith, is)
 chosen_steps stopped steps Stepped state hand rest same is = by_rest rest (refused_with hand.effect) is
   where
     by_rest : (rest : List Part) (code : Option ℕ) → steps_well stopped steps (Part.Unfolds Stepped ∷ rest) ≡ true
@@ -143,6 +140,7 @@ chosen_steps stopped steps Decides state hand [] same is =
         → steps_well stopped false (told_part cause thread ∷ surplus again ++ []) ≡ true
     by_halt again cause thread = grind arith
 chosen_steps stopped steps Decides state hand (part ∷ rest) same is = cc
+chosen_steps stopped steps _ state hand rest same is = grind (arith, is)
 
 gone_steps : (steps responds : Bool) (item : Item) → steps_well false steps (gone_parts responds item) ≡ true
 gone_steps steps responds item = grind arith
@@ -157,18 +155,9 @@ tail_steps stopped steps part rest is = second (may_part steps part rest) _ is
 
 -- what changes of the step in a state
 noted_steps : (note : Note) (state : State) → steps_in (noted note state) ≡ steps_noted note (steps_in state)
-noted_steps (Options options) state = refl
-noted_steps (Roots roots) state = refl
-noted_steps EntryHeld state = refl
-noted_steps Configured state = refl
-noted_steps (Lines None path entries) state = refl
-noted_steps (Lines (Some key) path entries) state = refl
-noted_steps (Functions entries) state = refl
-noted_steps (StopsAt caught uncaught) state = refl
-noted_steps (Steps step) state = refl
-noted_steps (Throws thrown) state = refl
 noted_steps (Classes classes) state = ap (λ (wanted : Wanted). is_some wanted.step)
     (only_classes (found_in state.classes) classes state.wishes.wanted)
+noted_steps _ state = refl
 
 noted_stop : (note : Note) (state : State) → (noted note state).stopped ≡ state.stopped
 noted_stop note state = grind arith
@@ -181,9 +170,7 @@ event_steps : (event : Event) (state : State) (rest : List Part) → steps_well 
     (steps_in state) rest ≡ true
     → steps_well (after_event event state).stopped (steps_in (after_event event state)) rest ≡ true
 event_steps Initialized state rest is = is
-event_steps (some_news news) state rest is = is
-event_steps (a_stop stopping) state rest is = is
-event_steps Terminated state rest is = is
+event_steps _ state rest is = is
 
 -- In runs -------------------------------------------------------------------------------------------------------------
 
@@ -195,8 +182,7 @@ steps_front {m} h at = subst (λ (parts : List Part). steps_well m.state.stopped
 same_hand : (stopped steps : Bool) (command : TargetCommand) (replied : Replied) (hand : Option Hand)
     → hand_steps stopped steps (option_map (hand_replied command replied) hand) ≡ hand_steps stopped steps hand
 same_hand stopped steps command replied None = refl
-same_hand stopped steps (a_question question) replied (Some hand) = refl
-same_hand stopped steps (an_effect effect) replied (Some hand) = refl
+same_hand stopped steps _ replied _ = refl
 
 asked_same : (stopped steps : Bool) (want : Want) (hand : Option Hand)
     → hand_steps stopped steps (option_map (asked_hand want) hand) ≡ hand_steps stopped steps hand
@@ -207,8 +193,7 @@ skipped_steps : {m : Machine} {hand : Hand} {part : Part} (rest : List Part) →
     → steps_well m.state.stopped (steps_in m.state) (part ∷ rest) ≡ true
     → steps_well m.state.stopped (steps_in m.state) rest ≡ true
 skipped_steps rest (Skips.by_guard is) h = h
-skipped_steps rest (Skips.by_wishes is) h = h
-skipped_steps rest (Skips.no_request is) h = h
+skipped_steps rest _ h = h
 
 stepping_on : (m next : Machine) (said : Option Message) → IsStepping m → Moves m said next → IsStepping next
 stepping_on m next said h (Moves.begins picked free none is) =
@@ -227,7 +212,6 @@ stepping_on m next said h (Moves.tells {rest = rest} {event} free at) = event_st
 stepping_on m next said h (Moves.sends {rest = rest} {deed} free at near) =
     tail_steps m.state.stopped (steps_in m.state) (Part.Sends deed) rest (steps_front h at)
 stepping_on m next said h (Moves.updates free at is near) = steps_front h at
-stepping_on m next said h (Moves.greets free at is near) = h
 stepping_on m next said h (Moves.notes {note = note} {rest} free at) =
     rw (noted_stop note m.state, noted_steps note m.state)
     (tail_steps m.state.stopped (steps_in m.state) (Part.Notes note) rest (steps_front h at))
@@ -237,24 +221,18 @@ stepping_on m next said h (Moves.queues free is) =
     subst (λ (held : Option Hand). hand_steps m.state.stopped (steps_in m.state) held ≡ true) is h
 stepping_on m next said h (Moves.asks {want = want} free room is are) =
     asked_same m.state.stopped (steps_in m.state) want m.hand ∙ h
-stepping_on m next said h (Moves.hears read is) = h
-stepping_on m next said h (Moves.greeted read is) = h
 stepping_on m next said h (Moves.answers {question} {replied} is waits reply stays) =
     rw (same_stop (a_question question) replied m.state, learnt_wishes question replied m.state)
     (same_hand m.state.stopped (steps_in m.state) (a_question question) replied m.hand ∙ h)
 stepping_on m next said h (Moves.replies {effect} {replied} is flies reply stays) =
     rw (same_stop (an_effect effect) replied m.state, replied_steps effect replied m.state.wishes)
     (same_hand m.state.stopped (steps_in m.state) (an_effect effect) replied m.hand ∙ h)
-stepping_on m next said h (Moves.late before after is reply) = h
-stepping_on m next said h (Moves.ends gone) = h
 stepping_on m next said h (Moves.loses late near why) = given_steps m.hand
   where
     given_steps : (hand : Option Hand) → hand_steps false (steps_in m.state) (option_map given_up hand) ≡ true
     given_steps None = refl
     given_steps (Some hand) = gone_steps (steps_in m.state) (has_response hand.parts) hand.item
-stepping_on m next said h (Moves.comes read sized taken) = h
-stepping_on m next said h (Moves.keeps is) = h
-stepping_on m next said h (Moves.reads before after read is none taken) = h
+stepping_on m next said h _ = h
 
 steps_kept : {messages : List Message} {m : Machine} → Run messages m → IsStepping m
 steps_kept r = by_moves {Holds = λ (messages : List Message) (m : Machine). IsStepping m}
@@ -275,8 +253,7 @@ no_place thread depth (place ∷ those) = no_place thread depth those
 no_thrown : (thread : ThreadId) (depth : Depth) (caught uncaught : Bool)
     → has_wish (thrown caught uncaught) (wishes.Step thread depth) ≡ false
 no_thrown thread depth true uncaught = refl
-no_thrown thread depth false true = refl
-no_thrown thread depth false false = refl
+no_thrown thread depth _ _ = refl
 
 step_wished : (wanted : Wanted) (thread : ThreadId) (depth : Depth)
     → has_wish (wished wanted) (wishes.Step thread depth) ≡ has_wish (stepping wanted.step) (wishes.Step thread depth)
@@ -337,10 +314,6 @@ none_of (Some step) is = cc
 
 cleared_at : {messages : List Message} (m next : Machine) (said : Option Message) (stop : Stopped) → Run messages m
     → said ≡ Some (Message.tells (an_event (events.Stopped stop))) → Moves m said next → HasNoStep m.state.wishes
-cleared_at m next said stop r is (Moves.tells {event = Initialized} free at) = cc
-cleared_at m next said stop r is (Moves.tells {event = some_news (entry_verified entry)} free at) = cc
-cleared_at m next said stop r is (Moves.tells {event = some_news (thread_changed started thread)} free at) = cc
-cleared_at m next said stop r is (Moves.tells {event = Terminated} free at) = cc
 cleared_at m next said stop r is (Moves.tells {hand} {rest} {event = a_stop stopping} free at) =
     let near = near_stop (is_gone m.state.phase) _ (whole free_once (tested free_test r) at) in
     no_step m.state.wishes (λ thread depth. at_rest m.state.wishes (settling r near).tidy
@@ -354,9 +327,6 @@ cleared_at m next said stop r is (Moves.tells {hand} {rest} {event = a_stop stop
     none_steps : (steps others : Bool) → cond (not steps) others false ≡ true → steps ≡ false
     none_steps true others is = cc
     none_steps false others is = refl
-cleared_at m next said stop r is (Moves.loses late near Loses.by_end) = cc
-cleared_at m next said stop r is (Moves.loses late near (Loses.by_question held waits reply last)) = cc
-cleared_at m next said stop r is (Moves.loses late near (Loses.by_effect held flies reply last)) = cc
 cleared_at m next said stop r is _ = cc
 
 pub clears_steps : (messages : List Message) (m : Machine) (stop : Stopped) → Run messages m
@@ -376,6 +346,5 @@ steps_at_rest messages m r rests attached =
     }
   where
     none_in : (stopped steps : Bool) → stopped ≡ true → ends_well stopped steps ≡ true → steps ≡ false
-    none_in true true is well = cc
     none_in true false is well = refl
-    none_in false steps is well = cc
+    none_in _ _ is well = cc

@@ -145,27 +145,21 @@ within false is = refl
 walks_responded : (m : Machine) (hand : Hand) (rest : List Part) (outcome : Outcome) (item : Item) → hand.item ≡ item
     → IsAt m hand (Part.Responds outcome) rest → Walks m (responded item outcome m hand rest)
 walks_responded m hand rest outcome (a_request request) is at = λ free gate. Moves.responds free at is
-walks_responded m hand rest outcome (a_composite place composite) is at =
-    λ free gate. Moves.passes_over free at (Skips.no_request (ap request_in is))
-walks_responded m hand rest outcome (a_raw place body) is at =
-    λ free gate. Moves.passes_over free at (Skips.no_request (ap request_in is))
-walks_responded m hand rest outcome target_end is at =
+walks_responded m hand rest outcome _ is at =
     λ free gate. Moves.passes_over free at (Skips.no_request (ap request_in is))
 
 walks_looked : (m : Machine) (hand : Hand) (rest : List Part) (lookup : Lookup) (found : Need Finding)
     → IsAt m hand (Part.Looks lookup) rest → found_for lookup m.state hand ≡ found
     → Walks m (looked lookup found m hand rest)
-walks_looked m hand rest lookup (has finding) at is = λ free gate. Moves.finds (has finding) free at is refl
-walks_looked m hand rest lookup (fails fault) at is = λ free gate. Moves.finds (fails fault) free at is refl
 walks_looked m hand rest lookup (lacks want others) at is = λ free gate. tt
+walks_looked m hand rest lookup found at is = λ free gate. Moves.finds found free at is refl
 
 walks_guarded : (m : Machine) (hand : Hand) (rest : List Part) (guard : Guard) (found : Way)
     → IsAt m hand (Part.Awaits guard) rest → way guard m.state ≡ found → Walks m (guarded found m hand rest)
 walks_guarded m hand rest guard passes at is = λ free gate. Moves.passes_over free at (Skips.by_guard is)
 walks_guarded m hand rest guard greets_way at is =
     λ free gate. Moves.greets free at is (within (is_gone m.state.phase) gate)
-walks_guarded m hand rest guard holds_way at is = λ free gate. tt
-walks_guarded m hand rest guard (asks_way want) at is = λ free gate. tt
+walks_guarded m hand rest guard _ at is = λ free gate. tt
 
 walks_updated : (m : Machine) (hand : Hand) (rest : List Part) (found : Option Effect)
     → IsAt m hand Part.Updates rest → effect_due m.state.wishes ≡ found → Walks m (updated found m hand rest)
@@ -209,9 +203,8 @@ walks m = walks_in m m.hand refl
 walks_asked : (full : Bool) (m : Machine) (hand : Hand) (wants : List Want) → is_full false m ≡ full
     → load_of m ≡ queued → m.hand ≡ Some hand → hand.queue ≡ wants
     → Walked m (asked_first full m wants).act (asked_first full m wants).next
-walks_asked full m hand [] fill is held are = tt
-walks_asked true m hand (want ∷ wants) fill is held are = tt
 walks_asked false m hand (want ∷ wants) fill is held are = Moves.asks is fill held are
+walks_asked _ m hand _ fill is held are = tt
 
 walks_queued : (full : Bool) (m : Machine) (hand : Option Hand) → is_full false m ≡ full → load_of m ≡ queued
     → m.hand ≡ hand → Walked m (asked_next full m hand).act (asked_next full m hand).next
@@ -230,12 +223,11 @@ walks_gated false m to walked = tt
 
 walks_by : (m : Machine) (load : Load) → load_of m ≡ load
     → Walked m (due_by (is_full false m) load m).act (due_by (is_full false m) load m).next
-walks_by m busy is = tt
 walks_by m queued is = walks_queued (is_full false m) m m.hand refl is refl
 walks_by m lacking_more is = walks_lacking m m.hand is refl
-walks_by m waiting is = tt
 walks_by m clear is =
     walks_gated (lets (is_gone m.state.phase) (wanted m).act) m (wanted m) (λ gate. walks m is gate)
+walks_by m _ is = tt
 
 pub walks_due : (m : Machine) → Walked m (due false m).act (due false m).next
 unfolding due
@@ -247,11 +239,8 @@ acted : {m next : Machine} {message : Message} (act : Act) → said act ≡ Some
     → Moves m (Some message) next
 acted Act.Waits is w = cc
 acted Act.Goes is w = cc
-acted {m} {next} (Act.Tells told) is w = subst (λ (s : Option Message). Moves m s next) is w
-acted {m} {next} Act.Greets is w = subst (λ (s : Option Message). Moves m s next) is w
-acted {m} {next} (Act.Sends effect) is w = subst (λ (s : Option Message). Moves m s next) is w
-acted {m} {next} (Act.Asks question) is w = subst (λ (s : Option Message). Moves m s next) is w
 acted (Act.Over finish) is w = cc
+acted {m} {next} _ is w = subst (λ (s : Option Message). Moves m s next) is w
 
 gone_on : {m : Machine} → (due false m).act ≡ Act.Goes → Moves m None (due false m).next
 gone_on {m} is = subst (λ (act : Act). Walked m act (due false m).next) is (walks_due m)

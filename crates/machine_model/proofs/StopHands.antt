@@ -101,8 +101,7 @@ chosen_ends Decides state hand rest is =
     sym (decided_alike ends_ahead (λ thrown parts. refl) (λ stopping parts. refl) (λ thread object parts. refl)
     (λ parts. refl) (λ parts. refl) state hand.item rest) ∙ is
 chosen_ends Stepped state hand rest is = refl
-chosen_ends (Written seen) state hand rest is = grind (arith, is)
-chosen_ends (Leaves exits) state hand rest is = grind (arith, is)
+chosen_ends _ state hand rest is = grind (arith, is)
 
 chosen_looks : (choice : Choice) (state : State) (hand : Hand) (rest : List Part)
     → frames_ahead (Part.Unfolds choice ∷ rest) ≡ false → frames_ahead (chosen choice state hand ++ rest) ≡ false
@@ -116,30 +115,17 @@ chosen_looks Stepped state hand rest is = by_code (refused_with hand.effect)
     by_code : (code : Option ℕ) → frames_ahead (stepped_by code ++ rest) ≡ false
     by_code None = is
     by_code (Some code) = is
-chosen_looks (Written seen) state hand rest is = grind (arith, is)
-chosen_looks (Leaves exits) state hand rest is = grind (arith, is)
+chosen_looks _ state hand rest is = grind (arith, is)
 
 found_ends : (lookup : Lookup) (result : Result Finding) (state : State) (rest : List Part)
     → ends_ahead (finished lookup result state ++ rest) ≡ ends_ahead rest
-found_ends all_threads result state rest = refl
-found_ends (thread_frames thread start levels) result state rest = refl
-found_ends (container_children thing filter start count) result state rest = refl
-found_ends (expression_value frame expression) result state rest = refl
 found_ends (variable_write thing name text) result state rest = grind arith
-found_ends (exception_text thread object) result state rest = refl
-found_ends (exception_info thrown) result state rest = refl
-found_ends class_facts result state rest = refl
+found_ends _ result state rest = refl
 
 found_looks : (lookup : Lookup) (result : Result Finding) (state : State) (rest : List Part)
     → frames_ahead (finished lookup result state ++ rest) ≡ frames_ahead rest
-found_looks all_threads result state rest = refl
-found_looks (thread_frames thread start levels) result state rest = refl
-found_looks (container_children thing filter start count) result state rest = refl
-found_looks (expression_value frame expression) result state rest = refl
 found_looks (variable_write thing name text) result state rest = grind arith
-found_looks (exception_text thread object) result state rest = refl
-found_looks (exception_info thrown) result state rest = refl
-found_looks class_facts result state rest = refl
+found_looks _ result state rest = refl
 
 was_running : (event : Event) (state : State) → is_gone (after_event event state).phase ≡ false
     → (after_event event state).stopped ≡ false → (is_gone state.phase ≡ false) × (state.stopped ≡ false)
@@ -147,12 +133,10 @@ was_running Initialized state near running = (by_phase state.phase near, running
   where
     by_phase : (phase : Phase) → is_gone (after_event Initialized (record state { phase = phase })).phase ≡ false
         → is_gone phase ≡ false
-    by_phase Fresh near = refl
-    by_phase Attached near = refl
     by_phase Gone near = cc
+    by_phase _ near = refl
 was_running (some_news news) state near running = (near, running)
-was_running (a_stop stopping) state near running = cc
-was_running Terminated state near running = cc
+was_running _ state near running = cc
 
 noted_running : (state now : State) → now.phase ≡ state.phase → now.stopped ≡ state.stopped
     → is_gone now.phase ≡ false → now.stopped ≡ false → (is_gone state.phase ≡ false) × (state.stopped ≡ false)
@@ -180,11 +164,7 @@ sent_on : (m : Machine) {rest : List Part} (hand : Hand) (deed : Deed)
 sent_on m hand (Resume of_stop) q bare next phase stopped = ended next q (bare refl)
 sent_on m hand Suspend q bare next phase stopped =
     behind next q (λ near running. absurd (let no : true ≡ false = sym stopped ∙ running in cc))
-sent_on m hand (Resume of_composite) q bare next phase stopped = behind next q (noted_running m.state next phase stopped)
-sent_on m hand (Resume of_entry) q bare next phase stopped = behind next q (noted_running m.state next phase stopped)
-sent_on m hand Dispose q bare next phase stopped = behind next q (noted_running m.state next phase stopped)
-sent_on m hand Exit q bare next phase stopped = behind next q (noted_running m.state next phase stopped)
-sent_on m hand (Writes write) q bare next phase stopped = behind next q (noted_running m.state next phase stopped)
+sent_on m hand _ q bare next phase stopped = behind next q (noted_running m.state next phase stopped)
 
 filled_calm : (question : Question) (replied : Replied) (asked : List Sent) → All IsCalmSent asked
     → All IsCalmSent (filled question replied asked)
@@ -305,7 +285,6 @@ quiet_on messages m next said r q (Moves.asks {hand} {want} {wants} free room is
     (hand.asked ++ record { want = want; reply = None } ∷ [])) (sym are)
     (asked_on (subst (λ (queue : List Want). Quiet m.state hand.parts queue hand.asked) are
     (subst (λ (held : Option Hand). QuietHand m.state held) is q))))
-quiet_on messages m next said r q (Moves.hears read is) = q
 quiet_on messages m next said r q (Moves.greeted read is) = same_hand m.state next.state m.hand refl refl q
 quiet_on messages m next said r q (Moves.answers {question} {replied} {hand} is waits reply last) =
     subst (λ (held : Option Hand). QuietHand next.state (option_map (hand_replied (a_question question) replied) held))
@@ -316,12 +295,8 @@ quiet_on messages m next said r q (Moves.replies {effect} {replied} {hand} is fl
     subst (λ (held : Option Hand). QuietHand next.state (option_map (hand_replied (an_effect effect) replied) held))
     (sym is) (same_hand m.state next.state (Some hand) (same_replied (an_effect effect) replied m.state)
     (same_stop (an_effect effect) replied m.state) (subst (λ (held : Option Hand). QuietHand m.state held) is q))
-quiet_on messages m next said r q (Moves.late before after is reply) = q
-quiet_on messages m next said r q (Moves.ends gone) = q
 quiet_on messages m next said r q (Moves.loses late near why) = given_on next.state m.hand refl
-quiet_on messages m next said r q (Moves.comes read sized taken) = q
-quiet_on messages m next said r q (Moves.keeps is) = q
-quiet_on messages m next said r q (Moves.reads before after read is none taken) = q
+quiet_on messages m next said r q _ = q
 
 quiet : {messages : List Message} {m : Machine} → Run messages m → IsQuiet m
 quiet r = by_runs {Holds = λ (messages : List Message) (m : Machine). IsQuiet m} (record {
@@ -354,5 +329,4 @@ calm_reply {m = m} {hand} question r is waits near running = by_asked hand.asked
             → (is_waiting question asked ≡ true → asks_frames question ≡ false) → asks_frames question ≡ false
         by_test true true same waits rest =
             ap asks_frames (sym (is_one (question_of sent.want) question same)) ∙ h.0
-        by_test true false same waits rest = rest waits
-        by_test false asks same waits rest = rest waits
+        by_test _ _ same waits rest = rest waits

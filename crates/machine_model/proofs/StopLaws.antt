@@ -108,11 +108,7 @@ hits_are w (event ∷ events) = by_event event (all_before w event events (hits_
         by_live (happened.Exception request thread at exception catch)
         (record { cause = threw (record { 0 = object_named exception }); thread = thread })
         (is_live w kinds.Exception request) (λ is. IsHalt.at_exception is) h
-    by_event (happened.ThreadStart request thread) h = h
-    by_event (happened.ThreadDeath request thread) h = h
-    by_event (happened.ClassPrepare request thread tag class signature status) h = h
-    by_event (happened.VMStart request thread) h = h
-    by_event (happened.VMDeath request) h = h
+    by_event _ h = h
 
 -- what holds of all holds of the one that is picked
 abbrev OfSome : (P : Halt → Type 0) → Option Halt → Type 0
@@ -231,37 +227,21 @@ module _ (messages more : List Message) (item : Item) where
 
   cause_still : (stopping : Stopping) (cause : StopCause) → StopOf messages item stopping cause
       → StopOf (messages ++ more) item stopping cause
-  cause_still stopping (Hit at) h = hit_still h
-  cause_still stopping (by_exception text) h = hit_still h
-  cause_still stopping by_step h = hit_still h
   cause_still stopping by_client h = h
+  cause_still stopping _ h = hit_still h
 
   event_still : (event : Event) → EventTells messages item event → EventTells (messages ++ more) item event
-  event_still Initialized h = tt
-  event_still (some_news news) h = tt
   event_still (a_stop stopping) h = cause_still stopping stopping.cause h
-  event_still Terminated h = tt
+  event_still _ h = tt
 
   look_still : (lookup : Lookup) → LookTells messages item lookup → LookTells (messages ++ more) item lookup
   look_still (exception_text thread object) h = halted_still h
-  look_still all_threads h = tt
-  look_still (thread_frames thread start levels) h = tt
-  look_still (container_children thing filter start count) h = tt
-  look_still (expression_value frame expression) h = tt
-  look_still (variable_write thing name text) h = tt
-  look_still (exception_info thrown) h = tt
-  look_still class_facts h = tt
+  look_still _ h = tt
 
   part_still : (part : Part) → PartTells messages item part → PartTells (messages ++ more) item part
   part_still (Part.Tells event) h = event_still event h
-  part_still (Part.Responds outcome) h = tt
-  part_still (Part.Sends deed) h = tt
   part_still (Part.Looks lookup) h = look_still lookup h
-  part_still (Part.Awaits guard) h = tt
-  part_still Part.Updates h = tt
-  part_still (Part.Notes note) h = tt
-  part_still (Part.Unfolds choice) h = tt
-  part_still (Part.Ends finish) h = tt
+  part_still _ h = tt
 
   parts_still : (parts : List Part) → All (PartTells messages item) parts
       → All (PartTells (messages ++ more) item) parts
@@ -283,14 +263,11 @@ step_tells messages item depth (Some thread) = (tt, (tt, (tt, tt)))
 row_tells : (messages : List Message) (item : Item) (command : Command) (state : State)
     → (is_pause_command command ≡ true → is_pause item ≡ true) → All (PartTells messages item) (row_of command state)
 row_tells messages item (Initialize arguments) state is = (tt, (tt, tt))
-row_tells messages item (Attach arguments) state is = (tt, (tt, (tt, (tt, (tt, (tt, tt))))))
 row_tells messages item ConfigurationDone state is = by_entry state.entry
   where
     by_entry : (entry : Bool) → All (PartTells messages item) (configured_parts entry)
     by_entry true = (tt, (tt, (tt, tt)))
     by_entry false = (tt, (tt, tt))
-row_tells messages item (SetBreakpoints arguments) state is = (tt, (tt, (tt, (tt, (tt, (tt, tt))))))
-row_tells messages item (SetFunctionBreakpoints arguments) state is = (tt, (tt, (tt, (tt, (tt, (tt, tt))))))
 row_tells messages item (SetExceptionBreakpoints arguments) state is = (tt, (tt, (tt, tt)))
 row_tells messages item Threads state is = (tt, tt)
 row_tells messages item (Next arguments) state is =
@@ -315,9 +292,8 @@ row_tells messages item (Pause arguments) state is =
   where
     by_stop : (stopped : Bool) (thread : Option ThreadId) → is_pause item ≡ true
         → All (PartTells messages item) (pause_parts stopped thread)
-    by_stop stopped None is = (tt, tt)
-    by_stop true (Some thread) is = (tt, tt)
     by_stop false (Some thread) is = (tt, (tt, (tt, (tt, (is, tt)))))
+    by_stop _ _ is = (tt, tt)
 row_tells messages item (StackTrace arguments) state is = by_thread (thread_with state.threads arguments.thread_id)
   where
     by_thread : (thread : Option ThreadId) → All (PartTells messages item) (stack_parts thread arguments)
@@ -345,11 +321,11 @@ row_tells messages item (Evaluate arguments) state is =
     by_frame : (read : prelude.Result Expr ℕ) (found : prelude.Result FrameThing RefFault)
         → All (PartTells messages item) (evaluate_by read found)
     by_frame (Ok expression) (Ok one) = (tt, tt)
-    by_frame (Err place) (Ok one) = (tt, tt)
-    by_frame read (Err fault) = (tt, tt)
+    by_frame _ _ = (tt, tt)
 row_tells messages item (Disconnect arguments) state is = (tt, (tt, (tt, tt)))
 row_tells messages item Unsupported state is = (tt, tt)
 row_tells messages item (BadArguments name) state is = (tt, tt)
+row_tells messages item _ state is = (tt, (tt, (tt, (tt, (tt, (tt, tt))))))
 
 unless_fails : (messages : List Message) (item : Item) (failure : Option Failure) (row : List Part) → All (PartTells messages item) row
     → All (PartTells messages item) (parts_by failure row)
@@ -370,37 +346,21 @@ begun_tells messages state (a_composite at composite) =
   where
     by_phase : (phase : Phase) (dies : Bool) (policy : Policy)
         → All (PartTells messages (a_composite at composite)) (composite_parts phase dies policy at state.next_entry)
-    by_phase Fresh dies policy = tt
-    by_phase Attached true NoThread = (tt, tt)
-    by_phase Attached true EventThread = (tt, tt)
-    by_phase Attached true AllThreads = (tt, tt)
     by_phase Attached false NoThread = (tt, (tt, (tt, tt)))
-    by_phase Attached false EventThread = (tt, tt)
     by_phase Attached false AllThreads = (tt, (tt, (tt, (tt, tt))))
-    by_phase Gone dies policy = tt
+    by_phase Attached _ _ = (tt, tt)
+    by_phase _ dies policy = tt
 begun_tells messages state (a_raw at body) = tt
 
 found_tells : {messages : List Message} {m : Machine} {hand : Hand} → Run messages m → m.hand ≡ Some hand
     → (lookup : Lookup) (found : Need Finding) → found_for lookup m.state hand ≡ found → is_done found ≡ true
     → (rest : List Part) → LookTells messages hand.item lookup → All (PartTells messages hand.item) rest
     → All (PartTells messages hand.item) (finished lookup (result_of found) m.state ++ rest)
-found_tells r is all_threads found needs done rest looks h = (tt, h)
-found_tells r is (thread_frames thread start levels) found needs done rest looks h = (tt, h)
-found_tells r is (container_children thing filter start count) found needs done rest looks h = (tt, h)
-found_tells r is (expression_value frame expression) found needs done rest looks h = (tt, h)
 found_tells {messages} {hand = hand} r is (variable_write thing name text) found needs done rest looks h = by_result (result_of found)
   where
     by_result : (result : Result Finding) → All (PartTells messages hand.item) (written_parts result ++ rest)
-    by_result (refused code) = (tt, h)
     by_result (gave (write_found write seen)) = (tt, (tt, h))
-    by_result (gave (no_value failure)) = (tt, h)
-    by_result (gave (threads_found named)) = (tt, h)
-    by_result (gave (classes_found classes)) = (tt, h)
-    by_result (gave (frames_found total frames)) = (tt, h)
-    by_result (gave (variables_found shown)) = (tt, h)
-    by_result (gave (value_found seen)) = (tt, h)
-    by_result (gave (text_found text)) = (tt, h)
-    by_result (gave (exception_found id mode)) = (tt, h)
+    by_result _ = (tt, h)
 found_tells {messages} {m} {hand} r is (exception_text thread object) found needs done rest looks h = (
   record {
     halt = record { cause = threw object; thread = thread };
@@ -420,8 +380,7 @@ found_tells {messages} {m} {hand} r is (exception_text thread object) found need
   },
   h,
 )
-found_tells r is (exception_info thrown) found needs done rest looks h = (tt, h)
-found_tells r is class_facts found needs done rest looks h = (tt, h)
+found_tells r is _ found needs done rest looks h = (tt, h)
 
 -- what is decided of a composite tells of what halted a thread in it
 decided_tells : {messages : List Message} {m : Machine} {hand : Hand} → Run messages m → m.hand ≡ Some hand
@@ -471,10 +430,9 @@ decided_tells {messages} {m} {hand} r is bound rest h =
         → OfSome (HasHalted m.state.wishes (events_in hand.item)) stop
         → All (PartTells messages hand.item) (cond attached (decided_by stopped holds thrown stop) [] ++ rest)
     by_stop false stopped holds thrown stop hit = h
-    by_stop true stopped true thrown None hit = (tt, h)
-    by_stop true stopped false thrown None hit = (tt, h)
     by_stop true stopped holds thrown (Some halt) hit =
         (tt, (tt, (tt, (told halt.cause halt.thread hit, by_surplus stopped))))
+    by_stop true stopped _ thrown None hit = (tt, h)
 
 chosen_tells : {messages : List Message} {m : Machine} {hand : Hand} → Run messages m → m.hand ≡ Some hand
     → (choice : Choice) (rest : List Part) → (decides (Part.Unfolds choice) ≡ true → IsBoundFirst m.state)
@@ -484,16 +442,13 @@ chosen_tells {messages} {m} {hand} r is (TellsNews below) rest bound h =
     by_news m.state.phase (news_of below m.state hand.item)
   where
     by_news : (phase : Phase) (news : List News) → All (PartTells messages hand.item) (told_in phase news ++ rest)
-    by_news Fresh news = h
-    by_news Gone news = h
-    by_news Attached [] = h
     by_news Attached (one ∷ news) = (tt, by_news Attached news)
+    by_news _ _ = h
 chosen_tells {messages} {m} {hand} r is (Leaves exits) rest bound h = by_phase m.state.phase
   where
     by_phase : (phase : Phase) → All (PartTells messages hand.item) (leaves phase exits ++ rest)
-    by_phase Fresh = h
     by_phase Attached = (tt, h)
-    by_phase Gone = h
+    by_phase _ = h
 chosen_tells r is Decides rest bound h = decided_tells r is (bound refl) rest h
 chosen_tells {messages} {m} {hand} r is (Written seen) rest bound h = by_code (refused_with hand.effect)
   where
@@ -512,56 +467,16 @@ given_tells messages (Some hand) = by_item (has_response hand.parts) hand.item
   where
     by_row : (item : Item) (command : Command) → All (PartTells messages item) (gone_row command)
     by_row item (Disconnect arguments) = (tt, (tt, tt))
-    by_row item (Initialize arguments) = (tt, tt)
-    by_row item (Attach arguments) = (tt, tt)
-    by_row item ConfigurationDone = (tt, tt)
-    by_row item (SetBreakpoints arguments) = (tt, tt)
-    by_row item (SetFunctionBreakpoints arguments) = (tt, tt)
-    by_row item (SetExceptionBreakpoints arguments) = (tt, tt)
-    by_row item (Next arguments) = (tt, tt)
-    by_row item (StepIn arguments) = (tt, tt)
-    by_row item (StepOut arguments) = (tt, tt)
-    by_row item (ExceptionInfo arguments) = (tt, tt)
-    by_row item Threads = (tt, tt)
-    by_row item (Continue arguments) = (tt, tt)
-    by_row item (Pause arguments) = (tt, tt)
-    by_row item (StackTrace arguments) = (tt, tt)
-    by_row item (Scopes arguments) = (tt, tt)
-    by_row item (Variables arguments) = (tt, tt)
-    by_row item (SetVariable arguments) = (tt, tt)
-    by_row item (Evaluate arguments) = (tt, tt)
-    by_row item Unsupported = (tt, tt)
-    by_row item (BadArguments name) = (tt, tt)
+    by_row item _ = (tt, tt)
 
     by_tail : (item : Item) (command : Command) → All (PartTells messages item) (gone_tail command)
     by_tail item (Disconnect arguments) = (tt, tt)
-    by_tail item (Initialize arguments) = tt
-    by_tail item (Attach arguments) = tt
-    by_tail item ConfigurationDone = tt
-    by_tail item (SetBreakpoints arguments) = tt
-    by_tail item (SetFunctionBreakpoints arguments) = tt
-    by_tail item (SetExceptionBreakpoints arguments) = tt
-    by_tail item (Next arguments) = tt
-    by_tail item (StepIn arguments) = tt
-    by_tail item (StepOut arguments) = tt
-    by_tail item (ExceptionInfo arguments) = tt
-    by_tail item Threads = tt
-    by_tail item (Continue arguments) = tt
-    by_tail item (Pause arguments) = tt
-    by_tail item (StackTrace arguments) = tt
-    by_tail item (Scopes arguments) = tt
-    by_tail item (Variables arguments) = tt
-    by_tail item (SetVariable arguments) = tt
-    by_tail item (Evaluate arguments) = tt
-    by_tail item Unsupported = tt
-    by_tail item (BadArguments name) = tt
+    by_tail item _ = tt
 
     by_item : (responds : Bool) (item : Item) → All (PartTells messages item) (gone_parts responds item)
     by_item true (a_request request) = by_row (a_request request) request.command
     by_item false (a_request request) = by_tail (a_request request) request.command
-    by_item responds (a_composite at composite) = tt
-    by_item responds (a_raw at body) = tt
-    by_item responds target_end = tt
+    by_item responds _ = tt
 
 -- In runs -------------------------------------------------------------------------------------------------------------
 
@@ -574,8 +489,7 @@ stops_front messages {m} {hand} h at =
 replied_tells : (messages : List Message) (command : TargetCommand) (replied : Replied) (hand : Option Hand)
     → HandTells messages hand → HandTells messages (option_map (hand_replied command replied) hand)
 replied_tells messages command replied None h = tt
-replied_tells messages (a_question question) replied (Some hand) h = h
-replied_tells messages (an_effect effect) replied (Some hand) h = h
+replied_tells messages _ replied (Some hand) h = h
 
 asked_tells : (messages : List Message) (want : Want) (hand : Option Hand) → HandTells messages hand
     → HandTells messages (option_map (asked_hand want) hand)
@@ -594,7 +508,6 @@ stopping_on messages m next said r h (Moves.passes_over free at why) = (stops_fr
 stopping_on messages m next said r h (Moves.tells free at) = (stops_front messages h at).1
 stopping_on messages m next said r h (Moves.sends free at near) = (stops_front messages h at).1
 stopping_on messages m next said r h (Moves.updates free at is near) = stops_front messages h at
-stopping_on messages m next said r h (Moves.greets free at is near) = h
 stopping_on messages m next said r h (Moves.notes free at) = (stops_front messages h at).1
 stopping_on messages m next said r h (Moves.unfolds {hand} {choice} {rest} free at) =
     chosen_tells r at.in_hand choice rest (λ is. bound_at_choice r at is) (stops_front messages h at).1
@@ -602,18 +515,12 @@ stopping_on messages m next said r h (Moves.queues free is) =
     subst (λ (held : Option Hand). HandTells messages held) is h
 stopping_on messages m next said r h (Moves.asks {want = want} free room is are) =
     asked_tells messages want m.hand h
-stopping_on messages m next said r h (Moves.hears read is) = h
-stopping_on messages m next said r h (Moves.greeted read is) = h
 stopping_on messages m next said r h (Moves.answers {question} {replied} is waits reply stays) =
     replied_tells messages (a_question question) replied m.hand h
 stopping_on messages m next said r h (Moves.replies {effect} {replied} is flies reply stays) =
     replied_tells messages (an_effect effect) replied m.hand h
-stopping_on messages m next said r h (Moves.late before after is reply) = h
-stopping_on messages m next said r h (Moves.ends gone) = h
 stopping_on messages m next said r h (Moves.loses late near why) = given_tells messages m.hand
-stopping_on messages m next said r h (Moves.comes read sized taken) = h
-stopping_on messages m next said r h (Moves.keeps is) = h
-stopping_on messages m next said r h (Moves.reads before after read is none taken) = h
+stopping_on messages m next said r h _ = h
 
 said_tells : (messages : List Message) (said : Option Message) (hand : Option Hand) → HandTells messages hand
     → HandTells (with_said messages said) hand
@@ -646,11 +553,9 @@ no_hit none hit = no_halt (subst (λ (events : List ATargetEvent). HasHalted hit
 told_stop : (messages : List Message) (m : Machine) (hand : Hand) (stopping : Stopping) (stop : Stopped)
     → m.hand ≡ Some hand → IsToldAs m.state stopping stop → IsBoundFirst m.state → (item : Item) → hand.item ≡ item
     → IsHit messages hand.item stopping → IsStop messages m stop
-told_stop messages m hand stopping stop is told bound (a_request request) item hit = no_hit (ap events_in item) hit
 told_stop messages m hand stopping stop is told bound (a_composite at composite) item hit =
     IsStop.by_hit stopping is item hit told bound
-told_stop messages m hand stopping stop is told bound (a_raw at body) item hit = no_hit (ap events_in item) hit
-told_stop messages m hand stopping stop is told bound target_end item hit = no_hit (ap events_in item) hit
+told_stop messages m hand stopping stop is told bound _ item hit = no_hit (ap events_in item) hit
 
 asked_stop : (messages : List Message) (m : Machine) (hand : Hand) (stop : Stopped) → m.hand ≡ Some hand → stop.reason ≡ reasons.Pause
     → m.state.stopped ≡ true → (item : Item) → hand.item ≡ item → is_pause item ≡ true → IsStop messages m stop
@@ -658,36 +563,11 @@ asked_stop messages m hand stop is reason stopped (a_request request) item pause
   where
     by_command : (command : Command) → request.command ≡ command → is_pause_command command ≡ true → IsStop messages m stop
     by_command (Pause arguments) same pauses = IsStop.by_pause is item same reason stopped
-    by_command (Initialize arguments) same pauses = cc
-    by_command (Attach arguments) same pauses = cc
-    by_command ConfigurationDone same pauses = cc
-    by_command (SetBreakpoints arguments) same pauses = cc
-    by_command (SetFunctionBreakpoints arguments) same pauses = cc
-    by_command (SetExceptionBreakpoints arguments) same pauses = cc
-    by_command (Next arguments) same pauses = cc
-    by_command (StepIn arguments) same pauses = cc
-    by_command (StepOut arguments) same pauses = cc
-    by_command (ExceptionInfo arguments) same pauses = cc
-    by_command Threads same pauses = cc
-    by_command (Continue arguments) same pauses = cc
-    by_command (StackTrace arguments) same pauses = cc
-    by_command (Scopes arguments) same pauses = cc
-    by_command (Variables arguments) same pauses = cc
-    by_command (SetVariable arguments) same pauses = cc
-    by_command (Evaluate arguments) same pauses = cc
-    by_command (Disconnect arguments) same pauses = cc
-    by_command Unsupported same pauses = cc
-    by_command (BadArguments name) same pauses = cc
-asked_stop messages m hand stop is reason stopped (a_composite at composite) item pauses = cc
-asked_stop messages m hand stop is reason stopped (a_raw at body) item pauses = cc
-asked_stop messages m hand stop is reason stopped target_end item pauses = cc
+    by_command _ same pauses = cc
+asked_stop messages m hand stop is reason stopped _ item pauses = cc
 
 stop_at : {messages : List Message} (m next : Machine) (said : Option Message) (stop : Stopped) → Run messages m
     → said ≡ Some (Message.tells (an_event (events.Stopped stop))) → Moves m said next → IsStop messages m stop
-stop_at m next said stop r is (Moves.tells {event = Initialized} free at) = cc
-stop_at m next said stop r is (Moves.tells {event = some_news (entry_verified entry)} free at) = cc
-stop_at m next said stop r is (Moves.tells {event = some_news (thread_changed started thread)} free at) = cc
-stop_at m next said stop r is (Moves.tells {event = Terminated} free at) = cc
 stop_at {messages} m next said stop r is (Moves.tells {hand} {rest} {event = a_stop stopping} free at) =
     by_cause stopping.cause refl (stops_front messages (always_stopping r) at).0 (first_may (may_front (holding r) at))
   where
@@ -710,15 +590,10 @@ stop_at {messages} m next said stop r is (Moves.tells {hand} {rest} {event = a_s
 
     by_cause : (cause : StopCause) → stopping.cause ≡ cause → StopOf messages hand.item stopping cause
         → may_stop cause m.state.stopped rest ≡ true → IsStop messages m stop
-    by_cause (Hit place) same hit may = by_hit hit
-    by_cause (by_exception text) same hit may = by_hit hit
-    by_cause by_step same hit may = by_hit hit
     by_cause by_client same pauses may =
         asked_stop messages m hand stop at.in_hand (reason_is ∙ ap (λ (cause : StopCause).
         reason_told cause (after_event (a_stop stopping) m.state)) same) may hand.item refl pauses
-stop_at m next said stop r is (Moves.loses late near Loses.by_end) = cc
-stop_at m next said stop r is (Moves.loses late near (Loses.by_question held waits reply last)) = cc
-stop_at m next said stop r is (Moves.loses late near (Loses.by_effect held flies reply last)) = cc
+    by_cause _ same hit may = by_hit hit
 stop_at m next said stop r is _ = cc
 
 -- A surplus -----------------------------------------------------------------------------------------------------------
@@ -742,24 +617,18 @@ still_free m hand stopping deed rest free near is =
   where
     none_read : (gone read : Bool) (load : Load) → gone ≡ false → cond gone clear (cond read busy load) ≡ clear
         → read ≡ false
-    none_read true read load near is = cc
-    none_read false true load near is = cc
     none_read false false load near is = refl
+    none_read _ _ load near is = cc
 
     by_parts : (gone read : Bool) (load : Load) → gone ≡ false → read ≡ false → load ≡ clear
         → cond gone clear (cond read busy load) ≡ clear
-    by_parts true read load near none is = cc
-    by_parts false true load near none is = cc
     by_parts false false load near none is = is
+    by_parts _ _ load near none is = cc
 
 surplus_at : {messages : List Message} (m next : Machine) (said : Option Message) (stop : Stopped) → Run messages m
     → m.state.stopped ≡ true → ¬ (stop.reason ≡ reasons.Pause)
     → said ≡ Some (Message.tells (an_event (events.Stopped stop))) → Moves m said next
     → (due false next).act ≡ Act.Sends (Does (Resume of_composite))
-surplus_at m next said stop r stopped hit is (Moves.tells {event = Initialized} free at) = cc
-surplus_at m next said stop r stopped hit is (Moves.tells {event = some_news (entry_verified entry)} free at) = cc
-surplus_at m next said stop r stopped hit is (Moves.tells {event = some_news (thread_changed started thread)} free at) = cc
-surplus_at m next said stop r stopped hit is (Moves.tells {event = Terminated} free at) = cc
 surplus_at m next said stop r stopped hit is (Moves.tells {hand} {rest} {event = a_stop stopping} free at) =
     by_cause stopping.cause refl (first_may (may_front (holding r) at))
   where
@@ -799,15 +668,10 @@ surplus_at m next said stop r stopped hit is (Moves.tells {hand} {rest} {event =
     by_cause : (cause : StopCause) → stopping.cause ≡ cause → may_stop cause m.state.stopped rest ≡ true
         → (due false (left (knowing m (after_event (a_stop stopping) m.state)) hand rest)).act
         ≡ Act.Sends (Does (Resume of_composite))
-    by_cause (Hit place) same may = by_hit may
-    by_cause (by_exception text) same may = by_hit may
-    by_cause by_step same may = by_hit may
     by_cause by_client same may =
         absurd (hit (reason_is ∙ ap (λ (cause : StopCause). reason_told cause (after_event (a_stop stopping) m.state))
         same))
-surplus_at m next said stop r stopped hit is (Moves.loses late near Loses.by_end) = cc
-surplus_at m next said stop r stopped hit is (Moves.loses late near (Loses.by_question held waits reply last)) = cc
-surplus_at m next said stop r stopped hit is (Moves.loses late near (Loses.by_effect held flies reply last)) = cc
+    by_cause _ same may = by_hit may
 surplus_at m next said stop r stopped hit is _ = cc
 
 pub undoes_surplus : (messages : List Message) (m : Machine) (stop : Stopped) → Run messages m

@@ -78,10 +78,8 @@ tail_bare part rest is = by_tests (ends_one part) (ends_ahead rest) (is_bare par
     by_tests : (ends behind bare others : Bool) → cond (cond ends true behind) (cond bare others false) true ≡ true
         → cond behind others true ≡ true
     by_tests ends false bare others is = refl
-    by_tests true true true others is = is
-    by_tests false true true others is = is
-    by_tests true true false others is = cc
-    by_tests false true false others is = cc
+    by_tests _ true true others is = is
+    by_tests _ true false others is = cc
 
 begun_bare : (state : State) (item : Item) → bare_ends false (parts_of state item) ≡ true
 begun_bare state item = grind arith
@@ -103,8 +101,7 @@ chosen_bare Stepped state hand rest is = by_code (refused_with hand.effect)
     by_code : (code : Option ℕ) → bare_ends false (stepped_by code ++ rest) ≡ true
     by_code None = is
     by_code (Some code) = grind (arith, is)
-chosen_bare (Written seen) state hand rest is = grind (arith, is)
-chosen_bare (Leaves exits) state hand rest is = grind (arith, is)
+chosen_bare _ state hand rest is = grind (arith, is)
 
 found_bare : (lookup : Lookup) (result : Result Finding) (state : State) (rest : List Part)
     → bare_ends false (Part.Looks lookup ∷ rest) ≡ true → bare_ends false (finished lookup result state ++ rest) ≡ true
@@ -115,14 +112,8 @@ found_bare lookup result state rest is = by_lookup lookup
     no_end false bare is = refl
 
     by_lookup : (lookup : Lookup) → bare_ends false (finished lookup result state ++ rest) ≡ true
-    by_lookup all_threads = no_end (ends_ahead rest) _ is
-    by_lookup (thread_frames thread start levels) = no_end (ends_ahead rest) _ is
-    by_lookup (container_children thing filter start count) = no_end (ends_ahead rest) _ is
-    by_lookup (expression_value frame expression) = no_end (ends_ahead rest) _ is
     by_lookup (variable_write thing name text) = grind (arith, is)
-    by_lookup (exception_text thread object) = no_end (ends_ahead rest) _ is
-    by_lookup (exception_info thrown) = no_end (ends_ahead rest) _ is
-    by_lookup class_facts = no_end (ends_ahead rest) _ is
+    by_lookup _ = no_end (ends_ahead rest) _ is
 
 pub bare_test : IsTest bare_ends
 bare_test = record {
@@ -143,8 +134,7 @@ bare_parts {m = m} {part = part} {rest} r at ends =
     by_tests : (ends behind bare others : Bool) → ends ≡ true
         → cond (cond ends true behind) (cond bare others false) true ≡ true → others ≡ true
     by_tests true behind true others ends is = is
-    by_tests true behind false others ends is = cc
-    by_tests false behind bare others ends is = cc
+    by_tests _ behind _ others ends is = cc
 
 -- Frames that are asked for -------------------------------------------------------------------------------------------
 
@@ -164,13 +154,12 @@ IsCalmSent sent = IsCalm sent.want
 
 -- the look-up of classes asks for no frames
 fact_calm : (want : Want) → wants_fact want ≡ true → IsCalm want
-fact_calm (Want.Must question) is = cc
-fact_calm (Want.May question) is = cc
 fact_calm (Want.Fact question) is = by_question question is
   where
     by_question : (question : Question) → is_fact question ≡ true → asks_frames question ≡ false
     by_question (questions.Frames thread start length) is = cc
     by_question _ is = refl
+fact_calm _ is = cc
 
 no_true : (is : Bool) → not is ≡ true → is ≡ false
 no_true true is = cc
@@ -207,10 +196,9 @@ lacked_calm state hand parts none = by_apart (looks_apart parts) refl
     by_apart true is = cc
 
 pub lacked_none : (state : State) (hand : Hand) (parts : List Part) → are_bare parts ≡ true → lacked_by state hand parts ≡ []
-lacked_none state hand [] bare = refl
 lacked_none state hand (Part.Looks lookup ∷ rest) bare = cc
 lacked_none state hand (Part.Awaits guard ∷ rest) bare = cc
-lacked_none state hand (_ ∷ rest) bare = refl
+lacked_none state hand _ bare = refl
 
 pub taken_calm : (asked : List Sent) (queue wants : List Want) → All IsCalm queue → All IsCalm wants
     → All IsCalm (with_wants asked queue wants)
@@ -219,6 +207,5 @@ taken_calm asked queue (want ∷ wants) h k = taken_calm asked (with_want asked 
     (by_test (is_waiting (question_of want) asked) (is_listed (question_of want) queue)) k.1
   where
     by_test : (waits listed : Bool) → All IsCalm (cond (waits || listed) queue (queue ++ want ∷ []))
-    by_test true listed = h
-    by_test false true = h
     by_test false false = all_joined IsCalm queue (want ∷ []) h (k.0, tt)
+    by_test _ _ = h

@@ -78,9 +78,8 @@ row_last failure command state = grind arith
 
 begun_last : (state : State) (item : Item) → resume_last (parts_of state item) ≡ true
 begun_last state (a_request request) = row_last (failure_of (wanting request.command) state) request.command state
-begun_last state target_end = grind arith
-begun_last state (a_composite at composite) = grind arith
 begun_last state (a_raw at body) = refl
+begun_last state _ = grind arith
 
 rest_last : (part : Part) (rest : List Part) → resume_last (part ∷ rest) ≡ true → resume_last rest ≡ true
 rest_last part rest is = grind (arith, is)
@@ -96,9 +95,7 @@ chosen_last Decides state hand rest is = let last = rest_last (Part.Unfolds Deci
     by_stop : (stopped : Bool) (cause : HaltCause) (thread : ThreadId)
         → resume_last (told_part cause thread ∷ surplus stopped ++ rest) ≡ true
     by_stop stopped cause thread = grind (arith, is)
-chosen_last Stepped state hand rest is = grind (arith, is)
-chosen_last (Written seen) state hand rest is = grind (arith, is)
-chosen_last (Leaves exits) state hand rest is = grind (arith, is)
+chosen_last _ state hand rest is = grind (arith, is)
 
 last_test : IsTest ends_resumed
 last_test = record {
@@ -140,9 +137,7 @@ row_resumed state command = grind arith
 
 begun_resumed : (state : State) (item : Item) → resumes_attached state.phase (parts_of state item) ≡ true
 begun_resumed state (a_request request) = row_resumed state request.command
-begun_resumed state target_end = grind arith
-begun_resumed state (a_composite at composite) = grind arith
-begun_resumed state (a_raw at body) = grind arith
+begun_resumed state _ = grind arith
 
 at_front : {m : Machine} {hand : Hand} {part : Part} {rest : List Part} → IsResumed m → IsAt m hand part rest
     → resumes_attached m.state.phase (part ∷ rest) ≡ true
@@ -155,14 +150,8 @@ rest_resumed phase part rest is = grind (arith, is)
 
 found_same : (lookup : Lookup) (result : Result Finding) (state : State) (rest : List Part)
     → has_resume (finished lookup result state ++ rest) ≡ has_resume (Part.Looks lookup ∷ rest)
-found_same all_threads result state rest = refl
-found_same (thread_frames thread start levels) result state rest = refl
-found_same (container_children thing filter start count) result state rest = refl
-found_same (expression_value frame expression) result state rest = refl
 found_same (variable_write thing name text) result state rest = grind arith
-found_same (exception_text thread object) result state rest = refl
-found_same (exception_info thrown) result state rest = refl
-found_same class_facts result state rest = refl
+found_same _ result state rest = refl
 
 chosen_resumed : (choice : Choice) (state : State) (hand : Hand) (rest : List Part)
     → resumes_attached state.phase (Part.Unfolds choice ∷ rest) ≡ true
@@ -173,17 +162,15 @@ chosen_resumed Decides state hand rest is =
     there (is_gone state.phase) (is_attached state.phase) (has_resume (decided state hand.item ++ rest)) is
   where
     there : (gone attached has : Bool) → cond gone true attached ≡ true → cond gone true (cond has attached true) ≡ true
-    there true attached has is = refl
     there false attached true is = is
-    there false attached false is = refl
+    there _ attached _ is = refl
 chosen_resumed Stepped state hand rest is =
     attached_there (is_gone state.phase) (is_attached state.phase) (has_resume (stepped_by (refused_with hand.effect) ++ rest)) is
   where
     attached_there : (gone attached has : Bool) → cond gone true attached ≡ true
         → cond gone true (cond has attached true) ≡ true
-    attached_there true attached has is = refl
     attached_there false attached true is = is
-    attached_there false attached false is = refl
+    attached_there _ attached _ is = refl
 chosen_resumed (Written seen) state hand rest is = by_code (refused_with hand.effect)
   where
     by_code : (code : Option ℕ) → resumes_attached state.phase (written_by seen code ++ rest) ≡ true
@@ -198,8 +185,7 @@ event_resumed event state rest is = grind (arith, is)
 replied_parts : (command : TargetCommand) (replied : Replied) (hand : Option Hand)
     → parts_in (option_map (hand_replied command replied) hand) ≡ parts_in hand
 replied_parts command replied None = refl
-replied_parts (a_question question) replied (Some hand) = refl
-replied_parts (an_effect effect) replied (Some hand) = refl
+replied_parts _ replied _ = refl
 
 asked_parts : (want : Want) (hand : Option Hand) → parts_in (option_map (asked_hand want) hand) ≡ parts_in hand
 asked_parts want None = refl
@@ -221,7 +207,6 @@ resumed_on m next said h (Moves.tells {rest = rest} {event} free at) =
 resumed_on m next said h (Moves.sends {rest = rest} {deed} free at near) =
     rest_resumed m.state.phase (Part.Sends deed) rest (at_front h at)
 resumed_on m next said h (Moves.updates free at is near) = at_front h at
-resumed_on m next said h (Moves.greets free at is near) = h
 resumed_on m next said h (Moves.notes {note = note} {rest} free at) =
     rw (same_noted note m.state) (rest_resumed m.state.phase (Part.Notes note) rest (at_front h at))
 resumed_on m next said h (Moves.unfolds {hand} {choice} {rest} free at) =
@@ -229,18 +214,12 @@ resumed_on m next said h (Moves.unfolds {hand} {choice} {rest} free at) =
 resumed_on m next said h (Moves.queues free is) =
     subst (λ (held : Option Hand). resumes_attached m.state.phase (parts_in held) ≡ true) is h
 resumed_on m next said h (Moves.asks {want = want} free room is are) = rw (asked_parts want m.hand) h
-resumed_on m next said h (Moves.hears read is) = h
-resumed_on m next said h (Moves.greeted read is) = h
 resumed_on m next said h (Moves.answers {question} {replied} is waits reply stays) =
     rw (same_replied (a_question question) replied m.state, replied_parts (a_question question) replied m.hand) h
 resumed_on m next said h (Moves.replies {effect} {replied} is flies reply stays) =
     rw (same_replied (an_effect effect) replied m.state, replied_parts (an_effect effect) replied m.hand) h
-resumed_on m next said h (Moves.late before after is reply) = h
-resumed_on m next said h (Moves.ends gone) = h
 resumed_on m next said h (Moves.loses late near why) = refl
-resumed_on m next said h (Moves.comes read sized taken) = h
-resumed_on m next said h (Moves.keeps is) = h
-resumed_on m next said h (Moves.reads before after read is none taken) = h
+resumed_on m next said h _ = h
 
 resumed : {messages : List Message} {m : Machine} → Run messages m → IsResumed m
 resumed r = by_runs {Holds = λ (messages : List Message) (m : Machine). IsResumed m} (record {
@@ -329,11 +308,7 @@ resume_at m next said suspension s b t h is close (Moves.updates {effect = effec
         → may_send (an_effect (Does (Resume suspension))) (record (view_of m) { held = 0; stopped = false }) ≡ true
         → IsBoundFirst m.state
     no_resume of_composite may = cc
-    no_resume of_entry may = cc
-    no_resume of_stop may = cc
-resume_at m next said suspension s b t h is close (Moves.loses late near Loses.by_end) = cc
-resume_at m next said suspension s b t h is close (Moves.loses late near (Loses.by_question held waits reply last)) = cc
-resume_at m next said suspension s b t h is close (Moves.loses late near (Loses.by_effect held flies reply last)) = cc
+    no_resume _ may = cc
 resume_at m next said suspension s b t h is close _ = cc
 
 near_sends : (m next : Machine) (said : Option Message) (suspension : Suspension)

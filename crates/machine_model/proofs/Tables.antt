@@ -178,15 +178,12 @@ chosen_block (TellsNews below) state hand =
     by_phase state.phase (news_of below state hand.item)
   where
     by_phase : (phase : Phase) (news : List News) → is_block false (told_in phase news) ≡ true
-    by_phase Fresh news = refl
     by_phase Attached news = rw (told_once news, told_silent news) (told_plain news)
-    by_phase Gone news = refl
+    by_phase _ news = refl
 chosen_block Decides state hand =
     of_decided (λ (parts : List Part). is_block false parts ≡ true) refl refl refl (λ stopped thrown halt. grind arith)
     state hand.item
-chosen_block Stepped state hand = grind arith
-chosen_block (Written seen) state hand = grind arith
-chosen_block (Leaves exits) state hand = grind arith
+chosen_block _ state hand = grind arith
 
 pub finished_block : (lookup : Lookup) (result : Result Finding) (state : State)
     → is_block (lookup_responds lookup) (finished lookup result state) ≡ true
@@ -247,11 +244,9 @@ row_is failure command state = row_facts (parts_by failure (row_of command state
 pub told_alike : {A : Type 0} (f : List Part → A)
     → ((news : News) (parts : List Part) → f (Part.Tells (some_news news) ∷ parts) ≡ f parts)
     → (phase : Phase) (news : List News) (rest : List Part) → f (told_in phase news ++ rest) ≡ f rest
-told_alike f each Fresh news rest = refl
-told_alike f each Gone news rest = refl
-told_alike f each Attached [] rest = refl
 told_alike f each Attached (one ∷ news) rest =
     each one (each_told news ++ rest) ∙ told_alike f each Attached news rest
+told_alike f each _ _ rest = refl
 
 pub has_joined : (parts rest : List Part) → has_response (parts ++ rest) ≡ (has_response parts || has_response rest)
 has_joined [] rest = refl
@@ -292,9 +287,8 @@ responds_once gone parts = once_in parts
 
 once_begun : (state : State) (item : Item) → once_in (parts_of state item) ≡ true
 once_begun state (a_request request) = (row_is (failure_of (wanting request.command) state) request.command state).once
-once_begun state target_end = grind arith
-once_begun state (a_composite at composite) = grind arith
 once_begun state (a_raw at body) = refl
+once_begun state _ = grind arith
 
 pub once : IsTest responds_once
 once = record {
@@ -310,9 +304,8 @@ once = record {
 
 free_begun : (state : State) (item : Item) → free_once (is_gone state.phase) (parts_of state item) ≡ true
 free_begun state (a_request request) = row_free state request.command (is_gone state.phase) refl
-free_begun state target_end = grind arith
-free_begun state (a_composite at composite) = grind arith
 free_begun state (a_raw at body) = refl
+free_begun state _ = grind arith
 
 front_free : (gone : Bool) (part : Part) (rest : List Part) → free_once gone (part ∷ rest) ≡ true
     → cond gone (is_free part) true ≡ true
@@ -370,9 +363,8 @@ row_silent failure command state = grind arith
 
 silent_begun : (state : State) (item : Item) → last_silent (parts_of state item) ≡ true
 silent_begun state (a_request request) = row_silent (failure_of (wanting request.command) state) request.command state
-silent_begun state target_end = grind arith
-silent_begun state (a_composite at composite) = grind arith
 silent_begun state (a_raw at body) = refl
+silent_begun state _ = grind arith
 
 silent_tail : (part : Part) (rest : List Part) → last_silent (part ∷ rest) ≡ true → last_silent rest ≡ true
 silent_tail part rest is = grind (arith, is)
@@ -409,9 +401,8 @@ row_followed failure command state = grind arith
 followed_begun : (state : State) (item : Item) → are_followed (parts_of state item) ≡ true
 followed_begun state (a_request request) =
     row_followed (failure_of (wanting request.command) state) request.command state
-followed_begun state target_end = grind arith
-followed_begun state (a_composite at composite) = grind arith
 followed_begun state (a_raw at body) = refl
+followed_begun state _ = grind arith
 
 followed_chosen : (choice : Choice) (state : State) (hand : Hand) (rest : List Part) → are_followed rest ≡ true
     → are_followed (chosen choice state hand ++ rest) ≡ true
@@ -420,9 +411,7 @@ followed_chosen (TellsNews below) state hand rest is =
 followed_chosen Decides state hand rest is =
     decided_alike are_followed (λ thrown parts. refl) (λ stopping parts. refl) (λ thread object parts. refl)
     (λ parts. refl) (λ parts. refl) state hand.item rest ∙ is
-followed_chosen Stepped state hand rest is = grind (arith, is)
-followed_chosen (Written seen) state hand rest is = grind (arith, is)
-followed_chosen (Leaves exits) state hand rest is = grind (arith, is)
+followed_chosen _ state hand rest is = grind (arith, is)
 
 pub followed_test : IsTest followed
 followed_test = record {

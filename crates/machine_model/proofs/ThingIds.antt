@@ -68,14 +68,6 @@ of_variables P (one ∷ shown) h = by_thing one.seen.thing h.0 (of_variables P s
 -- behind a response
 responded_things : (P : Id → Type 0) (outcome : Outcome) (state : State) → OfOutcome P outcome
     → AreThings P state.numbers → AreThings P (numbered_by outcome state).numbers
-responded_things P (Failed failure) state k h = h
-responded_things P (Success Nothing) state k h = h
-responded_things P (Success Capabilities) state k h = h
-responded_things P (Success (breakpoint_list rooted listed)) state k h = h
-responded_things P (Success Continued) state k h = h
-responded_things P (Success (an_exception id mode)) state k h = h
-responded_things P (Success (a_written seen)) state k h = h
-responded_things P (Success (thread_list named)) state k h = h
 responded_things P (Success (frame_list total frames)) state k h =
     some_more P (things_of (frame_list total frames)) state.numbers (of_frames P frames k) h
 responded_things P (Success (scope_list one)) state k h = one_more P (some_locals one) state.numbers k h
@@ -87,6 +79,7 @@ responded_things P (Success (a_value seen)) state k h =
     of_option : (thing : Option Thing) → OnSome (OfThing P) thing → All (OfThing P) (option_to_list thing)
     of_option None k = tt
     of_option (Some thing) k = (k, tt)
+responded_things P _ state k h = h
 
 -- where a stop is over nothing is told in it
 over_things : (P : Id → Type 0) (stopped : Bool) (numbers : InHand) → AreThings P numbers
@@ -96,21 +89,13 @@ over_things P true numbers h = tt
 
 event_things : (P : Id → Type 0) (event : Event) (state : State) → AreThings P state.numbers
     → AreThings P (after_event event state).numbers
-event_things P Initialized state h = h
-event_things P (some_news (entry_verified entry)) state h = h
-event_things P (some_news (thread_changed started thread)) state h = h
-event_things P (a_stop stopping) state h = h
 event_things P Terminated state h = over_things P state.stopped state.numbers h
+event_things P _ state h = h
 
 deed_things : (P : Id → Type 0) (deed : Deed) (state : State) → AreThings P state.numbers
     → AreThings P (after_deed deed state).numbers
-deed_things P Suspend state h = h
-deed_things P (Resume of_composite) state h = h
-deed_things P (Resume of_entry) state h = h
 deed_things P (Resume of_stop) state h = over_things P state.stopped state.numbers h
-deed_things P Dispose state h = h
-deed_things P Exit state h = h
-deed_things P (Writes write) state h = h
+deed_things P _ state h = h
 
 same_things : (P : Id → Type 0) (numbers now : InHand) → now ≡ numbers → AreThings P numbers → AreThings P now
 same_things P numbers now is h = subst (λ (numbers : InHand). AreThings P numbers) (sym is) h

@@ -104,35 +104,21 @@ some_more P threads (first ∷ others) k h =
 -- behind a response
 pub responded_threads : (P : Id → Type 0) (outcome : Outcome) (state : State) → PartStands P (Part.Responds outcome)
     → All (OfThread P) state.threads → All (OfThread P) (numbered_by outcome state).threads
-responded_threads P (Failed failure) state k h = h
-responded_threads P (Success Nothing) state k h = h
-responded_threads P (Success Capabilities) state k h = h
-responded_threads P (Success (breakpoint_list rooted listed)) state k h = h
-responded_threads P (Success (frame_list total frames)) state k h = h
-responded_threads P (Success (scope_list frame)) state k h = h
-responded_threads P (Success (variable_list shown)) state k h = h
-responded_threads P (Success (a_value seen)) state k h = h
-responded_threads P (Success (a_written seen)) state k h = h
-responded_threads P (Success Continued) state k h = h
-responded_threads P (Success (an_exception id mode)) state k h = h
 responded_threads P (Success (thread_list named)) state k h = some_more P state.threads named k h
+responded_threads P _ state k h = h
 
 -- behind an event
 pub event_threads : (P : Id → Type 0) (event : Event) (state : State) → TellStands P (Part.Tells event)
     → All (OfThread P) state.threads → All (OfThread P) (after_event event state).threads
-event_threads P Initialized state k h = h
-event_threads P (some_news (entry_verified entry)) state k h = h
 event_threads P (some_news (thread_changed started thread)) state k h = one_more P state.threads thread k h
 event_threads P (a_stop stopping) state k h = one_more P state.threads stopping.thread k h
-event_threads P Terminated state k h = h
+event_threads P _ state k h = h
 
 -- where an item is taken
 pub taken_threads : (P : Id → Type 0) (item : Item) (state : State) → All (OfThread P) state.threads
     → All (OfThread P) (taken item state).threads
 taken_threads P (a_request request) state h = h
-taken_threads P (a_composite at composite) state h = h
-taken_threads P (a_raw at body) state h = h
-taken_threads P target_end state h = h
+taken_threads P _ state h = h
 
 -- behind a note, and a reply
 pub noted_threads : (note : Note) (state : State) → (noted note state).threads ≡ state.threads
@@ -151,14 +137,11 @@ step_tells P depth (Some thread) = (tt, (tt, (tt, tt)))
 row_tells : (P : Id → Type 0) (command : Command) (state : State) → All (OfThread P) state.threads
     → All (TellStands P) (row_of command state)
 row_tells P (Initialize arguments) state told = (tt, (tt, tt))
-row_tells P (Attach arguments) state told = (tt, (tt, (tt, (tt, (tt, (tt, tt))))))
 row_tells P ConfigurationDone state told = by_entry state.entry
   where
     by_entry : (entry : Bool) → All (TellStands P) (configured_parts entry)
     by_entry true = (tt, (tt, (tt, tt)))
     by_entry false = (tt, (tt, tt))
-row_tells P (SetBreakpoints arguments) state told = (tt, (tt, (tt, (tt, (tt, (tt, tt))))))
-row_tells P (SetFunctionBreakpoints arguments) state told = (tt, (tt, (tt, (tt, (tt, (tt, tt))))))
 row_tells P (SetExceptionBreakpoints arguments) state told = (tt, (tt, (tt, tt)))
 row_tells P Threads state told = (tt, tt)
 row_tells P (Next arguments) state told = step_tells P Over (stepped_thread state arguments.thread_id)
@@ -180,9 +163,8 @@ row_tells P (Pause arguments) state told = by_stop state.stopped (thread_with st
   where
     by_stop : (stopped : Bool) (thread : Option ThreadId) → OnSome (OfThread P) thread
         → All (TellStands P) (pause_parts stopped thread)
-    by_stop stopped None k = (tt, tt)
-    by_stop true (Some thread) k = (tt, tt)
     by_stop false (Some thread) k = (tt, (tt, (tt, (tt, (k, tt)))))
+    by_stop _ _ k = (tt, tt)
 row_tells P (StackTrace arguments) state told = by_thread (thread_with state.threads arguments.thread_id)
   where
     by_thread : (thread : Option ThreadId) → All (TellStands P) (stack_parts thread arguments)
@@ -209,11 +191,11 @@ row_tells P (Evaluate arguments) state told =
     by_frame : (read : prelude.Result Expr ℕ) (found : prelude.Result FrameThing RefFault)
         → All (TellStands P) (evaluate_by read found)
     by_frame (Ok expression) (Ok one) = (tt, tt)
-    by_frame (Err place) (Ok one) = (tt, tt)
-    by_frame read (Err fault) = (tt, tt)
+    by_frame _ _ = (tt, tt)
 row_tells P (Disconnect arguments) state told = (tt, (tt, (tt, tt)))
 row_tells P Unsupported state told = (tt, tt)
 row_tells P (BadArguments name) state told = (tt, tt)
+row_tells P _ state told = (tt, (tt, (tt, (tt, (tt, (tt, tt))))))
 
 unless_fails : (P : Id → Type 0) (failure : Option Failure) (row : List Part) → All (TellStands P) row
     → All (TellStands P) (parts_by failure row)
@@ -234,38 +216,21 @@ begun_tells P state (a_composite at composite) told =
   where
     by_phase : (phase : Phase) (dies : Bool) (policy : Policy)
         → All (TellStands P) (composite_parts phase dies policy at state.next_entry)
-    by_phase Fresh dies policy = tt
-    by_phase Attached true NoThread = (tt, tt)
-    by_phase Attached true EventThread = (tt, tt)
-    by_phase Attached true AllThreads = (tt, tt)
     by_phase Attached false NoThread = (tt, (tt, (tt, tt)))
-    by_phase Attached false EventThread = (tt, tt)
     by_phase Attached false AllThreads = (tt, (tt, (tt, (tt, tt))))
-    by_phase Gone dies policy = tt
+    by_phase Attached _ _ = (tt, tt)
+    by_phase _ dies policy = tt
 begun_tells P state (a_raw at body) told = tt
 
 pub found_tells : (P : Id → Type 0) (lookup : Lookup) (result : Result Finding) (state : State) (rest : List Part)
     → LookTells P lookup → All (TellStands P) rest → All (TellStands P) (finished lookup result state ++ rest)
-found_tells P all_threads result state rest k h = (tt, h)
-found_tells P (thread_frames thread start levels) result state rest k h = (tt, h)
-found_tells P (container_children thing filter start count) result state rest k h = (tt, h)
-found_tells P (expression_value frame expression) result state rest k h = (tt, h)
 found_tells P (variable_write thing name text) result state rest k h = by_result result
   where
     by_result : (result : Result Finding) → All (TellStands P) (written_parts result ++ rest)
-    by_result (refused code) = (tt, h)
     by_result (gave (write_found write seen)) = (tt, (tt, h))
-    by_result (gave (no_value failure)) = (tt, h)
-    by_result (gave (threads_found named)) = (tt, h)
-    by_result (gave (classes_found classes)) = (tt, h)
-    by_result (gave (frames_found total frames)) = (tt, h)
-    by_result (gave (variables_found shown)) = (tt, h)
-    by_result (gave (value_found seen)) = (tt, h)
-    by_result (gave (text_found text)) = (tt, h)
-    by_result (gave (exception_found id mode)) = (tt, h)
+    by_result _ = (tt, h)
 found_tells P (exception_text thread one) result state rest k h = (k, h)
-found_tells P (exception_info thrown) result state rest k h = (tt, h)
-found_tells P class_facts result state rest k h = (tt, h)
+found_tells P _ result state rest k h = (tt, h)
 
 -- What a composite tells ----------------------------------------------------------------------------------------------
 
@@ -276,11 +241,9 @@ change_stands P (happened.ThreadDeath request thread) h = (h.0, tt)
 change_stands P _ h = tt
 
 changes_stand : (P : Id → Type 0) (item : Item) → ItemStands P item → All (OfNews P) (changes_in item)
-changes_stand P (a_request request) h = tt
 changes_stand P (a_composite at composite) h =
     each_event P (OfNews P) change_told (change_stands P) composite.events h
-changes_stand P (a_raw at body) h = tt
-changes_stand P target_end h = tt
+changes_stand P _ h = tt
 
 -- Choices -------------------------------------------------------------------------------------------------------------
 
@@ -296,16 +259,13 @@ chosen_tells P (TellsNews below) state hand rest item h = by_news state.phase (n
     (changes_stand P hand.item item))
   where
     by_news : (phase : Phase) (news : List News) → All (OfNews P) news → All (TellStands P) (told_in phase news ++ rest)
-    by_news Fresh news k = h
-    by_news Gone news k = h
-    by_news Attached [] k = h
     by_news Attached (one ∷ news) k = (k.0, by_news Attached news k.1)
+    by_news _ _ k = h
 chosen_tells P (Leaves exits) state hand rest item h = by_phase state.phase
   where
     by_phase : (phase : Phase) → All (TellStands P) (leaves phase exits ++ rest)
-    by_phase Fresh = h
     by_phase Attached = (tt, h)
-    by_phase Gone = h
+    by_phase _ = h
 chosen_tells P Decides state hand rest item h =
     by_stop (is_attached state.phase) state.stopped (holds_entry state (events_in hand.item))
     (thrown_in state.wishes (events_in hand.item)) (all_thrown P state.wishes hand.item item)
@@ -313,8 +273,7 @@ chosen_tells P Decides state hand rest item h =
   where
     told : (cause : HaltCause) (thread : ThreadId) → OfThread P thread → TellStands P (told_part cause thread)
     told (came_to at) thread k = k
-    told (threw one) thread k = k
-    told has_stepped thread k = k
+    told _ thread k = k
 
     by_surplus : (stopped : Bool) → All (TellStands P) (surplus stopped ++ rest)
     by_surplus false = h
@@ -323,10 +282,9 @@ chosen_tells P Decides state hand rest item h =
     by_stop : (attached stopped holds : Bool) (thrown : List Thrown) → All (OfThrown P) thrown → (stop : Option Halt)
         → OnSome (OfHalt P) stop → All (TellStands P) (cond attached (decided_by stopped holds thrown stop) [] ++ rest)
     by_stop false stopped holds thrown k stop hit = h
-    by_stop true stopped true thrown k None hit = (tt, h)
-    by_stop true stopped false thrown k None hit = (tt, h)
     by_stop true stopped holds thrown k (Some halt) hit =
         (k, (tt, (tt, (told halt.cause halt.thread hit.0, by_surplus stopped))))
+    by_stop true stopped _ thrown k None hit = (tt, h)
 chosen_tells P (Written seen) state hand rest item h = by_code (refused_with hand.effect)
   where
     by_code : (code : Option ℕ) → All (TellStands P) (written_by seen code ++ rest)
@@ -351,6 +309,4 @@ given_tells P false (a_request request) = by_tail request.command
     by_tail : (command : Command) → All (TellStands P) (gone_tail command)
     by_tail (Disconnect arguments) = (tt, tt)
     by_tail _ = tt
-given_tells P responds (a_composite at composite) = tt
-given_tells P responds (a_raw at body) = tt
-given_tells P responds target_end = tt
+given_tells P responds _ = tt

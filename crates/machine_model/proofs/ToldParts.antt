@@ -138,9 +138,8 @@ module _ (id : ℕ) where
   pub none_noted : (asked : Bool) (phase : Phase) (next : ℕ) (parts : List Part) → has_lists parts ≡ false
       → AreNoted asked phase next parts
   none_noted asked phase next [] is = tt
-  none_noted asked phase next (Part.Notes (Lines key path entries) ∷ rest) is = cc
-  none_noted asked phase next (Part.Notes (Functions entries) ∷ rest) is = cc
   none_noted asked phase next (_ ∷ rest) is = is
+  none_noted asked phase next _ is = cc
 
   -- Of the breakpoint: where it is verified, the client was told, or what is left tells it; and what is left tells it
   -- behind all that may verify it.
@@ -299,9 +298,6 @@ module _ (id : ℕ) where
   row_noted : (failure : Option Failure) (command : Command) (state : State)
       → failure_of (wanting command) state ≡ failure
       → AreNoted true state.phase state.next_entry (parts_by failure (row_of command state))
-  row_noted (Some failure) command state same = refl
-  row_noted None (Initialize arguments) state same = refl
-  row_noted None (Attach arguments) state same = refl
   row_noted None ConfigurationDone state same = by_entry state.entry
     where
       by_entry : (entry : Bool) → AreNoted true state.phase state.next_entry (configured_parts entry)
@@ -329,7 +325,6 @@ module _ (id : ℕ) where
       (plains_of arguments.breakpoints) (map function_listed entries) (near_phase state.phase same)
       (functions_marked state.next_entry arguments.breakpoints)
       (functions_counted state.next_entry arguments.breakpoints) (functions_shown entries)
-  row_noted None (SetExceptionBreakpoints arguments) state same = refl
   row_noted None (Next arguments) state same =
       step_noted state.phase state.next_entry Over (stepped_thread state arguments.thread_id)
   row_noted None (StepIn arguments) state same =
@@ -342,7 +337,6 @@ module _ (id : ℕ) where
       by_thrown : (thrown : Option Thrown) → AreNoted true state.phase state.next_entry (exception_parts thrown)
       by_thrown None = refl
       by_thrown (Some thrown) = refl
-  row_noted None Threads state same = refl
   row_noted None (Continue arguments) state same = by_thread (thread_with state.threads arguments.thread_id)
     where
       by_thread : (thread : Option ThreadId) → AreNoted true state.phase state.next_entry (continue_parts thread)
@@ -353,8 +347,7 @@ module _ (id : ℕ) where
       by_stop : (stopped : Bool) (thread : Option ThreadId)
           → AreNoted true state.phase state.next_entry (pause_parts stopped thread)
       by_stop stopped None = refl
-      by_stop true (Some thread) = refl
-      by_stop false (Some thread) = refl
+      by_stop _ _ = refl
   row_noted None (StackTrace arguments) state same = by_thread (thread_with state.threads arguments.thread_id)
     where
       by_thread : (thread : Option ThreadId) → AreNoted true state.phase state.next_entry (stack_parts thread arguments)
@@ -383,11 +376,8 @@ module _ (id : ℕ) where
       by_frame : (read : Result Expr ℕ) (found : Result FrameThing RefFault)
           → AreNoted true state.phase state.next_entry (evaluate_by read found)
       by_frame (Ok expression) (Ok one) = refl
-      by_frame (Err place) (Ok one) = refl
-      by_frame read (Err fault) = refl
-  row_noted None (Disconnect arguments) state same = refl
-  row_noted None Unsupported state same = refl
-  row_noted None (BadArguments name) state same = refl
+      by_frame _ _ = refl
+  row_noted _ _ state same = refl
 
   begun_noted : (state : State) (item : Item)
       → AreNoted (is_asked item) state.phase state.next_entry (parts_of state item)
@@ -559,19 +549,6 @@ module _ (id : ℕ) where
       → Covers asked state.wishes state.phase state.next_entry state.bound (Part.Notes note ∷ rest)
       → Covers asked (noted note state).wishes (noted note state).phase (noted note state).next_entry
       (noted note state).bound rest
-  noted_covers (Options options) state rest c =
-      skips state.phase (Part.Notes (Options options)) rest c c.noted (as_bare (is_bare id state.wishes))
-      (λ fresh. fresh) refl
-  noted_covers (Roots roots) state rest c =
-      skips state.phase (Part.Notes (Roots roots)) rest c c.noted (as_bare (is_bare id state.wishes))
-      (λ fresh. fresh) refl
-  noted_covers (Throws thrown) state rest c =
-      skips state.phase (Part.Notes (Throws thrown)) rest c c.noted (as_bare (is_bare id state.wishes))
-      (λ fresh. fresh) refl
-  noted_covers EntryHeld state rest c =
-      skips state.phase (Part.Notes EntryHeld) rest c c.noted (as_bare (is_bare id state.wishes)) (λ fresh. fresh) refl
-  noted_covers Configured state rest c =
-      skips state.phase (Part.Notes Configured) rest c c.noted (as_bare (is_bare id state.wishes)) (λ fresh. fresh) refl
   noted_covers (StopsAt caught uncaught) state rest c =
       others_noted (with_exceptions caught uncaught state.wishes.wanted) (StopsAt caught uncaught) rest refl refl refl
       c.noted c
@@ -602,3 +579,5 @@ module _ (id : ℕ) where
         told = λ is placed. or_right (has_id state.bound id) (will_tell asked rest)
             (rebound asked (is_bare id state.wishes) (Classes classes) rest refl (c.covered (sym same ∙ is))).0;
       }
+  noted_covers note state rest c =
+      skips state.phase (Part.Notes note) rest c c.noted (as_bare (is_bare id state.wishes)) (λ fresh. fresh) refl

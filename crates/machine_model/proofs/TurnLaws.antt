@@ -117,8 +117,7 @@ none_late m h near = by_late (is_gone m.state.phase) m.late h near
     by_late : (gone : Bool) (late : List TargetCommand) → cond gone true (is_empty late) ≡ true → gone ≡ false
         → late ≡ []
     by_late gone [] is near = refl
-    by_late true (command ∷ late) is near = cc
-    by_late false (command ∷ late) is near = cc
+    by_late _ (command ∷ late) is near = cc
 
 pub record Holds (m : Machine) : Type 0 where
   pub quiet : IsQuiet m
@@ -215,8 +214,7 @@ unsent m Handshake is = by_flags m.state.greeting_sent m.state.greeting_heard is
   where
     by_flags : (sent heard : Bool) → greeted_by sent heard ≡ greets_way → sent ≡ false
     by_flags false heard is = refl
-    by_flags true false is = cc
-    by_flags true true is = cc
+    by_flags true _ is = cc
 unsent m IdSizes is = by_sizes m.state.sizes is
   where
     by_sizes : (sizes : Option SizesRead) → sized_by sizes ≡ greets_way → m.state.greeting_sent ≡ false
@@ -243,8 +241,6 @@ turned m next said h (Moves.unfolds {hand} free at) = Turns.stays refl (same_han
 turned m next said h (Moves.queues {hand} free is) = Turns.stays refl (same_hand m hand is)
 turned m next said h (Moves.asks {hand} {want} {wants} free room is are) = asked_turn m hand want wants h free room is
     are
-turned m next said h (Moves.hears read is) = Turns.stays refl refl
-turned m next said h (Moves.greeted read is) = Turns.stays refl refl
 turned m next said h (Moves.answers {question} {replied} {hand} is waits reply here) =
     answered_turn m hand question replied is waits
 turned m next said h (Moves.replies {effect} {replied} {hand} is flies reply here) =
@@ -254,7 +250,6 @@ turned m next said h (Moves.late {command} {replied} before after is reply) =
     Turns.answers command replied before (after ++ more)
     (ap (λ (late : List TargetCommand). late ++ more) is ∙ append_assoc before (command ∷ after) more)
     (append_assoc before after more)
-turned m next said h (Moves.ends gone) = Turns.stays refl refl
 turned m next said h (Moves.loses late near Loses.by_end) =
     given_turn m (Some Message.ends) (pending_in m.hand) (Turns.stays refl refl)
 turned m next said h (Moves.loses late near (Loses.by_question {question} {replied} {hand} is waits reply last)) =
@@ -262,6 +257,4 @@ turned m next said h (Moves.loses late near (Loses.by_question {question} {repli
     (answered_turn m hand question replied is waits)
 turned m next said h (Moves.loses late near (Loses.by_effect {effect} {replied} {hand} is flies reply last)) =
     given_turn m (Some (Message.answers (an_effect effect) replied)) late (replied_turn m hand effect replied is flies)
-turned m next said h (Moves.comes read sized taken) = Turns.stays refl refl
-turned m next said h (Moves.keeps is) = Turns.stays refl refl
-turned m next said h (Moves.reads before after read is none taken) = Turns.stays refl refl
+turned m next said h _ = Turns.stays refl refl

@@ -172,11 +172,10 @@ full_waits messages id_pending m hand o w full = by_two (has_waiting hand.asked)
 
     by_two : (waits id : Bool) → has_waiting hand.asked ≡ waits → (id || nat_le 16 (length (pending_of m))) ≡ true
         → (waits || id) ≡ true
-    by_two true id is full = refl
-    by_two false true is full = refl
     by_two false false is full =
         let none : length (pending_of m) ≡ 0 = rw (pending, none_out hand.asked is) refl in
         let no : false ≡ true = sym (ap (λ (n : ℕ). nat_le 16 n) none) ∙ full in no
+    by_two _ _ is full = refl
 
 pub is_wait : (messages : List Message) (m : Machine) (id_pending : Bool) (hand : Hand) → Run messages m
     → WaitsWith id_pending m hand → IsWait id_pending m hand

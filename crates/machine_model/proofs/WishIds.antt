@@ -377,9 +377,8 @@ module _ (P : Id → Type 0) where
     where
       by_name : (named : Bool) (start : Option ℕ) → OnSome (OfLocation P)
           (if named then option_map (location_at known.0 known.1 one.id) start else None)
-      by_name false start = tt
-      by_name true None = tt
       by_name true (Some index) = (h.itself, k)
+      by_name _ _ = tt
 
   named_stand : (known : ClassId × KnownClass) → IsBound P known → (name : List ℕ)
       → All (OfLocation P) (function_locations known.0 known.1 name)

@@ -73,13 +73,10 @@ nulls make k text = by_text (bytes_eq text (codes "null"))
 plain_in : (tag : Tag) (text : List ℕ) → OnValue (value_in tag text)
 plain_in tags.Byte text = mapped values.Byte (λ n. record { no_ids = refl; some = refl }) (whole_in (2 ^ 7) text)
 plain_in tags.Char text = mapped values.Char (λ n. record { no_ids = refl; some = refl }) (char_in text)
-plain_in tags.Double text = tt
-plain_in tags.Float text = tt
 plain_in tags.Int text = mapped values.Int (λ n. record { no_ids = refl; some = refl }) (whole_in (2 ^ 31) text)
 plain_in tags.Long text = mapped values.Long (λ n. record { no_ids = refl; some = refl }) (whole_in (2 ^ 63) text)
 plain_in tags.Short text = mapped values.Short (λ n. record { no_ids = refl; some = refl }) (whole_in (2 ^ 15) text)
 plain_in tags.Boolean text = mapped values.Boolean (λ n. record { no_ids = refl; some = refl }) (truth_in text)
-plain_in tags.Void text = tt
 plain_in tags.Object text = nulls values.Object (record { no_ids = refl; some = refl }) text
 plain_in tags.Array text = nulls values.Array (record { no_ids = refl; some = refl }) text
 plain_in tags.String text = nulls values.String (record { no_ids = refl; some = refl }) text
@@ -87,6 +84,7 @@ plain_in tags.Thread text = nulls values.Thread (record { no_ids = refl; some = 
 plain_in tags.ThreadGroup text = nulls values.ThreadGroup (record { no_ids = refl; some = refl }) text
 plain_in tags.ClassLoader text = nulls values.ClassLoader (record { no_ids = refl; some = refl }) text
 plain_in tags.ClassObject text = nulls values.ClassObject (record { no_ids = refl; some = refl }) text
+plain_in _ text = tt
 
 abbrev pub OfValueRead : Result Value Failure → Type 0
 OfValueRead (Ok value) = IsPlain value
