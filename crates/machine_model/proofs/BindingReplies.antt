@@ -347,7 +347,8 @@ notes_on {state} (Functions entries) rest c is h =
     lists_on (noted (Functions entries) state) (Part.Notes (Functions entries)) rest refl refl refl c is refl refl h
 notes_on (Classes classes) rest c is h = classes_on classes rest c is h
 notes_on {state} note rest c is h =
-    goes_by (noted note state) (Part.Notes note) rest rest (as_before (noted note state) state refl refl refl) c refl is (are_same rest) (λ needs w. w needs) h
+    goes_by (noted note state) (Part.Notes note) rest rest (as_before (noted note state) state refl refl refl) c refl is
+    (are_same rest) (λ needs w. w needs) h
 
 -- a look-up that is done
 pub finds_on : {state : State} (hand : Hand) (lookup : Lookup) (found : Need Finding) (rest : List Part)
@@ -388,4 +389,5 @@ finds_on {state} hand class_facts found rest c is needs done h = record {
         ∙ ap is_done needs ∙ done in cc)
     complete false listed = found_complete state hand found listed h.learnt needs done
 finds_on {state} hand lookup found rest c is needs done h =
-    goes_by state (Part.Looks lookup) rest (finished lookup (result_of found) state ++ rest) (itself state) c refl is (record { ahead = refl; needs = λ so. so; notes = refl; binds = refl }) (λ so w. w so) h
+    goes_by state (Part.Looks lookup) rest (finished lookup (result_of found) state ++ rest) (itself state) c refl is
+        (record { ahead = refl; needs = λ so. so; notes = refl; binds = refl }) (λ so w. w so) h

@@ -43,6 +43,7 @@ pub mod NewsLaws
 pub mod NotingLaws
 pub mod NumberLaws
 pub mod OutcomeLaws
+pub mod PartTests
 pub mod PendingLaws
 pub mod PlanIds
 pub mod PlanLaws

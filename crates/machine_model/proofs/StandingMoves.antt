@@ -70,6 +70,7 @@ use Rattle.stop_refs.specs.declared.thing.Thing.TheVariants as things
 use Rattle.machine_model.proofs.WishIds.{AreWished, IsShortFunction, IsShortKey, classes_stand, functions_stand}
 use Rattle.machine_model.proofs.WishIds.{lines_stand, step_stands}
 use Rattle.machine_model.specs.Composites.{composite_parts, has_death}
+use Rattle.machine_model.proofs.PartTests.{of_failure}
 
 -- Tables --------------------------------------------------------------------------------------------------------------
 
@@ -317,14 +318,10 @@ row_parts P (Evaluate arguments) state told told_things threw_them =
 row_parts P (Disconnect arguments) state told told_things threw_them = (tt, (tt, (tt, tt)))
 row_parts P _ state told told_things threw_them = (tt, tt)
 
-unless_fails : (P : Id → Type 0) (failure : Option Failure) (row : List Part) → All (PartStands P) row
-    → All (PartStands P) (parts_by failure row)
-unless_fails P (Some failure) row h = (tt, tt)
-unless_fails P None row h = h
-
 pub begun_parts : (P : Id → Type 0) (state : State) (item : Item) → All (OfThread P) state.threads
     → All (OfThing P) state.numbers.things → All (OfThrown P) state.thrown → All (PartStands P) (parts_of state item)
-begun_parts P state (a_request request) told told_things threw_them = unless_fails P (failure_of (wanting request.command) state)
+begun_parts P state (a_request request) told told_things threw_them =
+    of_failure (PartStands P) (λ failure. tt) (failure_of (wanting request.command) state)
     (row_of request.command state) (row_parts P request.command state told told_things threw_them)
 begun_parts P state target_end told told_things threw_them = by_end state.terminated
   where

@@ -65,6 +65,7 @@ use Rattle.machine_model.proofs.Stepping.{IsAt, Loses, Moves, by_runs, moved, wi
 use Rattle.machine_model.proofs.SuspendLaws.{bound_at_choice, bound_at_stop}
 use Rattle.machine_model.proofs.Tables.{free as free_test, free_once}
 use Rattle.machine_model.proofs.Testing.{tested, whole}
+use Rattle.machine_model.proofs.PartTests.{all_pass, all_passing, begun_mute, chosen_mute, found_mute, given_mute, is_mute, is_pause_command, of_failure, row_mute}
 
 -- Hits ----------------------------------------------------------------------------------------------------------------
 
@@ -141,9 +142,6 @@ told_halt P w hits h = with_test (is_at_line w) _ (with_test is_breakpoint _ (wi
 
 -- What an item is still to tell ---------------------------------------------------------------------------------------
 
-abbrev is_pause_command : Command → Bool
-is_pause_command (Pause arguments) = true
-is_pause_command _ = false
 
 abbrev is_pause : Item → Bool
 is_pause (a_request request) = is_pause_command request.command
@@ -255,38 +253,14 @@ tells_still messages more (Some hand) h = parts_still messages more hand.item ha
 
 -- The tables ----------------------------------------------------------------------------------------------------------
 
-step_tells : (messages : List Message) (item : Item) (depth : Depth) (thread : Option ThreadId)
-    → All (PartTells messages item) (step_parts depth thread)
-step_tells messages item depth None = (tt, tt)
-step_tells messages item depth (Some thread) = (tt, (tt, (tt, tt)))
+-- a part that tells of no thread
+mute_tells : (messages : List Message) (item : Item) (part : Part) → is_mute part ≡ true → PartTells messages item part
+mute_tells messages item (Part.Tells (a_stop stopping)) is = cc
+mute_tells messages item (Part.Looks (exception_text thread object)) is = cc
+mute_tells messages item _ is = tt
 
 row_tells : (messages : List Message) (item : Item) (command : Command) (state : State)
     → (is_pause_command command ≡ true → is_pause item ≡ true) → All (PartTells messages item) (row_of command state)
-row_tells messages item (Initialize arguments) state is = (tt, (tt, tt))
-row_tells messages item ConfigurationDone state is = by_entry state.entry
-  where
-    by_entry : (entry : Bool) → All (PartTells messages item) (configured_parts entry)
-    by_entry true = (tt, (tt, (tt, tt)))
-    by_entry false = (tt, (tt, tt))
-row_tells messages item (SetExceptionBreakpoints arguments) state is = (tt, (tt, (tt, tt)))
-row_tells messages item Threads state is = (tt, tt)
-row_tells messages item (Next arguments) state is =
-    step_tells messages item Over (stepped_thread state arguments.thread_id)
-row_tells messages item (StepIn arguments) state is =
-    step_tells messages item Into (stepped_thread state arguments.thread_id)
-row_tells messages item (StepOut arguments) state is =
-    step_tells messages item Out (stepped_thread state arguments.thread_id)
-row_tells messages item (ExceptionInfo arguments) state is =
-    by_thrown (option_and_then (thrown_first state.thrown) (thread_with state.threads arguments.thread_id))
-  where
-    by_thrown : (thrown : Option Thrown) → All (PartTells messages item) (exception_parts thrown)
-    by_thrown None = (tt, tt)
-    by_thrown (Some thrown) = (tt, tt)
-row_tells messages item (Continue arguments) state is = by_thread (thread_with state.threads arguments.thread_id)
-  where
-    by_thread : (thread : Option ThreadId) → All (PartTells messages item) (continue_parts thread)
-    by_thread None = (tt, tt)
-    by_thread (Some thread) = (tt, (tt, tt))
 row_tells messages item (Pause arguments) state is =
     by_stop state.stopped (thread_with state.threads arguments.thread_id) (is refl)
   where
@@ -294,73 +268,20 @@ row_tells messages item (Pause arguments) state is =
         → All (PartTells messages item) (pause_parts stopped thread)
     by_stop false (Some thread) is = (tt, (tt, (tt, (tt, (is, tt)))))
     by_stop _ _ is = (tt, tt)
-row_tells messages item (StackTrace arguments) state is = by_thread (thread_with state.threads arguments.thread_id)
-  where
-    by_thread : (thread : Option ThreadId) → All (PartTells messages item) (stack_parts thread arguments)
-    by_thread None = (tt, tt)
-    by_thread (Some thread) = (tt, tt)
-row_tells messages item (Scopes arguments) state is = by_frame (frame arguments.frame_id state.numbers)
-  where
-    by_frame : (found : prelude.Result FrameThing RefFault) → All (PartTells messages item) (scopes_parts state.numbers found)
-    by_frame (Ok one) = (tt, tt)
-    by_frame (Err fault) = (tt, tt)
-row_tells messages item (Variables arguments) state is = by_thing (container arguments.variables_reference state.numbers)
-  where
-    by_thing : (found : prelude.Result Thing RefFault) → All (PartTells messages item) (variables_parts arguments found)
-    by_thing (Ok thing) = (tt, tt)
-    by_thing (Err fault) = (tt, tt)
-row_tells messages item (SetVariable arguments) state is =
-    by_thing (container arguments.variables_reference state.numbers)
-  where
-    by_thing : (found : prelude.Result Thing RefFault) → All (PartTells messages item) (write_by arguments found)
-    by_thing (Ok thing) = (tt, tt)
-    by_thing (Err fault) = (tt, tt)
-row_tells messages item (Evaluate arguments) state is =
-    by_frame (parsed arguments.expression) (frame arguments.frame_id state.numbers)
-  where
-    by_frame : (read : prelude.Result Expr ℕ) (found : prelude.Result FrameThing RefFault)
-        → All (PartTells messages item) (evaluate_by read found)
-    by_frame (Ok expression) (Ok one) = (tt, tt)
-    by_frame _ _ = (tt, tt)
-row_tells messages item (Disconnect arguments) state is = (tt, (tt, (tt, tt)))
-row_tells messages item Unsupported state is = (tt, tt)
-row_tells messages item (BadArguments name) state is = (tt, tt)
-row_tells messages item _ state is = (tt, (tt, (tt, (tt, (tt, (tt, tt))))))
-
-unless_fails : (messages : List Message) (item : Item) (failure : Option Failure) (row : List Part) → All (PartTells messages item) row
-    → All (PartTells messages item) (parts_by failure row)
-unless_fails messages item (Some failure) row h = (tt, tt)
-unless_fails messages item None row h = h
+row_tells messages item command state is =
+    all_pass is_mute (mute_tells messages item) (row_of command state) (row_mute command state refl)
 
 begun_tells : (messages : List Message) (state : State) (item : Item) → All (PartTells messages item) (parts_of state item)
 begun_tells messages state (a_request request) =
-    unless_fails messages (a_request request) (failure_of (wanting request.command) state) (row_of request.command state)
-    (row_tells messages (a_request request) request.command state (λ is. is))
-begun_tells messages state target_end = by_end state.terminated
-  where
-    by_end : (told : Bool) → All (PartTells messages target_end) (end_parts told)
-    by_end true = tt
-    by_end false = (tt, tt)
-begun_tells messages state (a_composite at composite) =
-    by_phase state.phase (has_death composite.events) composite.policy
-  where
-    by_phase : (phase : Phase) (dies : Bool) (policy : Policy)
-        → All (PartTells messages (a_composite at composite)) (composite_parts phase dies policy at state.next_entry)
-    by_phase Attached false NoThread = (tt, (tt, (tt, tt)))
-    by_phase Attached false AllThreads = (tt, (tt, (tt, (tt, tt))))
-    by_phase Attached _ _ = (tt, tt)
-    by_phase _ dies policy = tt
-begun_tells messages state (a_raw at body) = tt
+    of_failure (PartTells messages (a_request request)) (λ failure. tt) (failure_of (wanting request.command) state)
+    (row_of request.command state) (row_tells messages (a_request request) request.command state (λ is. is))
+begun_tells messages state item =
+    all_pass is_mute (mute_tells messages item) (parts_of state item) (begun_mute state item refl)
 
 found_tells : {messages : List Message} {m : Machine} {hand : Hand} → Run messages m → m.hand ≡ Some hand
     → (lookup : Lookup) (found : Need Finding) → found_for lookup m.state hand ≡ found → is_done found ≡ true
     → (rest : List Part) → LookTells messages hand.item lookup → All (PartTells messages hand.item) rest
     → All (PartTells messages hand.item) (finished lookup (result_of found) m.state ++ rest)
-found_tells {messages} {hand = hand} r is (variable_write thing name text) found needs done rest looks h = by_result (result_of found)
-  where
-    by_result : (result : Result Finding) → All (PartTells messages hand.item) (written_parts result ++ rest)
-    by_result (gave (write_found write seen)) = (tt, (tt, h))
-    by_result _ = (tt, h)
 found_tells {messages} {m} {hand} r is (exception_text thread object) found needs done rest looks h = (
   record {
     halt = record { cause = threw object; thread = thread };
@@ -380,7 +301,9 @@ found_tells {messages} {m} {hand} r is (exception_text thread object) found need
   },
   h,
 )
-found_tells r is _ found needs done rest looks h = (tt, h)
+found_tells {messages} {m} {hand} r is lookup found needs done rest looks h =
+    all_passing is_mute (mute_tells messages hand.item) (finished lookup (result_of found) m.state) rest
+    (found_mute lookup (result_of found) m.state refl) h
 
 -- what is decided of a composite tells of what halted a thread in it
 decided_tells : {messages : List Message} {m : Machine} {hand : Hand} → Run messages m → m.hand ≡ Some hand
@@ -444,39 +367,16 @@ chosen_tells {messages} {m} {hand} r is (TellsNews below) rest bound h =
     by_news : (phase : Phase) (news : List News) → All (PartTells messages hand.item) (told_in phase news ++ rest)
     by_news Attached (one ∷ news) = (tt, by_news Attached news)
     by_news _ _ = h
-chosen_tells {messages} {m} {hand} r is (Leaves exits) rest bound h = by_phase m.state.phase
-  where
-    by_phase : (phase : Phase) → All (PartTells messages hand.item) (leaves phase exits ++ rest)
-    by_phase Attached = (tt, h)
-    by_phase _ = h
 chosen_tells r is Decides rest bound h = decided_tells r is (bound refl) rest h
-chosen_tells {messages} {m} {hand} r is (Written seen) rest bound h = by_code (refused_with hand.effect)
-  where
-    by_code : (code : Option ℕ) → All (PartTells messages hand.item) (written_by seen code ++ rest)
-    by_code None = (tt, h)
-    by_code (Some code) = (tt, h)
-chosen_tells {messages} {m} {hand} r is Stepped rest bound h = by_code (refused_with hand.effect)
-  where
-    by_code : (code : Option ℕ) → All (PartTells messages hand.item) (stepped_by code ++ rest)
-    by_code None = (tt, (tt, h))
-    by_code (Some code) = (tt, (tt, (tt, h)))
+chosen_tells {messages} {m} {hand} r is choice rest bound h =
+    all_passing is_mute (mute_tells messages hand.item) (chosen choice m.state hand) rest
+    (chosen_mute choice m.state hand refl) h
 
 given_tells : (messages : List Message) (hand : Option Hand) → HandTells messages (option_map given_up hand)
 given_tells messages None = tt
-given_tells messages (Some hand) = by_item (has_response hand.parts) hand.item
-  where
-    by_row : (item : Item) (command : Command) → All (PartTells messages item) (gone_row command)
-    by_row item (Disconnect arguments) = (tt, (tt, tt))
-    by_row item _ = (tt, tt)
-
-    by_tail : (item : Item) (command : Command) → All (PartTells messages item) (gone_tail command)
-    by_tail item (Disconnect arguments) = (tt, tt)
-    by_tail item _ = tt
-
-    by_item : (responds : Bool) (item : Item) → All (PartTells messages item) (gone_parts responds item)
-    by_item true (a_request request) = by_row (a_request request) request.command
-    by_item false (a_request request) = by_tail (a_request request) request.command
-    by_item responds _ = tt
+given_tells messages (Some hand) =
+    all_pass is_mute (mute_tells messages hand.item) (gone_parts (has_response hand.parts) hand.item)
+    (given_mute (has_response hand.parts) hand.item)
 
 -- In runs -------------------------------------------------------------------------------------------------------------
 

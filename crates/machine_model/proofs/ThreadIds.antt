@@ -56,6 +56,7 @@ use Rattle.stop_refs.specs.Numbers.{container, frame}
 use Rattle.stop_refs.specs.declared.fault.RefFault.{RefFault}
 use Rattle.stop_refs.specs.declared.thing.FrameThing.{FrameThing}
 use Rattle.stop_refs.specs.declared.thing.Thing.{Thing}
+use Rattle.machine_model.proofs.PartTests.{all_pass, all_passing, begun_mute, chosen_mute, found_mute, is_mute, of_failure, row_mute}
 
 -- What a part tells ---------------------------------------------------------------------------------------------------
 
@@ -130,34 +131,16 @@ replied_threads command replied state = grind arith
 
 -- Rows ----------------------------------------------------------------------------------------------------------------
 
-step_tells : (P : Id → Type 0) (depth : Depth) (thread : Option ThreadId) → All (TellStands P) (step_parts depth thread)
-step_tells P depth None = (tt, tt)
-step_tells P depth (Some thread) = (tt, (tt, (tt, tt)))
+-- a part that tells of no thread
+mute_tells : (P : Id → Type 0) (part : Part) → is_mute part ≡ true → TellStands P part
+mute_tells P (Part.Tells (a_stop stopping)) is = cc
+mute_tells P (Part.Tells (some_news (thread_changed started thread))) is = cc
+mute_tells P (Part.Looks (exception_text thread one)) is = cc
+mute_tells P (Part.Notes (Throws thrown)) is = cc
+mute_tells P _ is = tt
 
 row_tells : (P : Id → Type 0) (command : Command) (state : State) → All (OfThread P) state.threads
     → All (TellStands P) (row_of command state)
-row_tells P (Initialize arguments) state told = (tt, (tt, tt))
-row_tells P ConfigurationDone state told = by_entry state.entry
-  where
-    by_entry : (entry : Bool) → All (TellStands P) (configured_parts entry)
-    by_entry true = (tt, (tt, (tt, tt)))
-    by_entry false = (tt, (tt, tt))
-row_tells P (SetExceptionBreakpoints arguments) state told = (tt, (tt, (tt, tt)))
-row_tells P Threads state told = (tt, tt)
-row_tells P (Next arguments) state told = step_tells P Over (stepped_thread state arguments.thread_id)
-row_tells P (StepIn arguments) state told = step_tells P Into (stepped_thread state arguments.thread_id)
-row_tells P (StepOut arguments) state told = step_tells P Out (stepped_thread state arguments.thread_id)
-row_tells P (ExceptionInfo arguments) state told =
-    by_thrown (option_and_then (thrown_first state.thrown) (thread_with state.threads arguments.thread_id))
-  where
-    by_thrown : (thrown : Option Thrown) → All (TellStands P) (exception_parts thrown)
-    by_thrown None = (tt, tt)
-    by_thrown (Some thrown) = (tt, tt)
-row_tells P (Continue arguments) state told = by_thread (thread_with state.threads arguments.thread_id)
-  where
-    by_thread : (thread : Option ThreadId) → All (TellStands P) (continue_parts thread)
-    by_thread None = (tt, tt)
-    by_thread (Some thread) = (tt, (tt, tt))
 row_tells P (Pause arguments) state told = by_stop state.stopped (thread_with state.threads arguments.thread_id)
     (told_thread P state.threads arguments.thread_id told)
   where
@@ -165,72 +148,20 @@ row_tells P (Pause arguments) state told = by_stop state.stopped (thread_with st
         → All (TellStands P) (pause_parts stopped thread)
     by_stop false (Some thread) k = (tt, (tt, (tt, (tt, (k, tt)))))
     by_stop _ _ k = (tt, tt)
-row_tells P (StackTrace arguments) state told = by_thread (thread_with state.threads arguments.thread_id)
-  where
-    by_thread : (thread : Option ThreadId) → All (TellStands P) (stack_parts thread arguments)
-    by_thread None = (tt, tt)
-    by_thread (Some thread) = (tt, tt)
-row_tells P (Scopes arguments) state told = by_frame (frame arguments.frame_id state.numbers)
-  where
-    by_frame : (found : prelude.Result FrameThing RefFault) → All (TellStands P) (scopes_parts state.numbers found)
-    by_frame (Ok one) = (tt, tt)
-    by_frame (Err fault) = (tt, tt)
-row_tells P (Variables arguments) state told = by_thing (container arguments.variables_reference state.numbers)
-  where
-    by_thing : (found : prelude.Result Thing RefFault) → All (TellStands P) (variables_parts arguments found)
-    by_thing (Ok thing) = (tt, tt)
-    by_thing (Err fault) = (tt, tt)
-row_tells P (SetVariable arguments) state told = by_thing (container arguments.variables_reference state.numbers)
-  where
-    by_thing : (found : prelude.Result Thing RefFault) → All (TellStands P) (write_by arguments found)
-    by_thing (Ok thing) = (tt, tt)
-    by_thing (Err fault) = (tt, tt)
-row_tells P (Evaluate arguments) state told =
-    by_frame (parsed arguments.expression) (frame arguments.frame_id state.numbers)
-  where
-    by_frame : (read : prelude.Result Expr ℕ) (found : prelude.Result FrameThing RefFault)
-        → All (TellStands P) (evaluate_by read found)
-    by_frame (Ok expression) (Ok one) = (tt, tt)
-    by_frame _ _ = (tt, tt)
-row_tells P (Disconnect arguments) state told = (tt, (tt, (tt, tt)))
-row_tells P Unsupported state told = (tt, tt)
-row_tells P (BadArguments name) state told = (tt, tt)
-row_tells P _ state told = (tt, (tt, (tt, (tt, (tt, (tt, tt))))))
-
-unless_fails : (P : Id → Type 0) (failure : Option Failure) (row : List Part) → All (TellStands P) row
-    → All (TellStands P) (parts_by failure row)
-unless_fails P (Some failure) row h = (tt, tt)
-unless_fails P None row h = h
+row_tells P command state told = all_pass is_mute (mute_tells P) (row_of command state) (row_mute command state refl)
 
 pub begun_tells : (P : Id → Type 0) (state : State) (item : Item) → All (OfThread P) state.threads
     → All (TellStands P) (parts_of state item)
-begun_tells P state (a_request request) told = unless_fails P (failure_of (wanting request.command) state)
+begun_tells P state (a_request request) told =
+    of_failure (TellStands P) (λ failure. tt) (failure_of (wanting request.command) state)
     (row_of request.command state) (row_tells P request.command state told)
-begun_tells P state target_end told = by_end state.terminated
-  where
-    by_end : (ended : Bool) → All (TellStands P) (end_parts ended)
-    by_end true = tt
-    by_end false = (tt, tt)
-begun_tells P state (a_composite at composite) told =
-    by_phase state.phase (has_death composite.events) composite.policy
-  where
-    by_phase : (phase : Phase) (dies : Bool) (policy : Policy)
-        → All (TellStands P) (composite_parts phase dies policy at state.next_entry)
-    by_phase Attached false NoThread = (tt, (tt, (tt, tt)))
-    by_phase Attached false AllThreads = (tt, (tt, (tt, (tt, tt))))
-    by_phase Attached _ _ = (tt, tt)
-    by_phase _ dies policy = tt
-begun_tells P state (a_raw at body) told = tt
+begun_tells P state item told = all_pass is_mute (mute_tells P) (parts_of state item) (begun_mute state item refl)
 
 pub found_tells : (P : Id → Type 0) (lookup : Lookup) (result : Result Finding) (state : State) (rest : List Part)
     → LookTells P lookup → All (TellStands P) rest → All (TellStands P) (finished lookup result state ++ rest)
-found_tells P (variable_write thing name text) result state rest k h = by_result result
-  where
-    by_result : (result : Result Finding) → All (TellStands P) (written_parts result ++ rest)
-    by_result (gave (write_found write seen)) = (tt, (tt, h))
-    by_result _ = (tt, h)
 found_tells P (exception_text thread one) result state rest k h = (k, h)
-found_tells P _ result state rest k h = (tt, h)
+found_tells P lookup result state rest k h =
+    all_passing is_mute (mute_tells P) (finished lookup result state) rest (found_mute lookup result state refl) h
 
 -- What a composite tells ----------------------------------------------------------------------------------------------
 
@@ -261,11 +192,6 @@ chosen_tells P (TellsNews below) state hand rest item h = by_news state.phase (n
     by_news : (phase : Phase) (news : List News) → All (OfNews P) news → All (TellStands P) (told_in phase news ++ rest)
     by_news Attached (one ∷ news) k = (k.0, by_news Attached news k.1)
     by_news _ _ k = h
-chosen_tells P (Leaves exits) state hand rest item h = by_phase state.phase
-  where
-    by_phase : (phase : Phase) → All (TellStands P) (leaves phase exits ++ rest)
-    by_phase Attached = (tt, h)
-    by_phase _ = h
 chosen_tells P Decides state hand rest item h =
     by_stop (is_attached state.phase) state.stopped (holds_entry state (events_in hand.item))
     (thrown_in state.wishes (events_in hand.item)) (all_thrown P state.wishes hand.item item)
@@ -285,28 +211,5 @@ chosen_tells P Decides state hand rest item h =
     by_stop true stopped holds thrown k (Some halt) hit =
         (k, (tt, (tt, (told halt.cause halt.thread hit.0, by_surplus stopped))))
     by_stop true stopped _ thrown k None hit = (tt, h)
-chosen_tells P (Written seen) state hand rest item h = by_code (refused_with hand.effect)
-  where
-    by_code : (code : Option ℕ) → All (TellStands P) (written_by seen code ++ rest)
-    by_code None = (tt, h)
-    by_code (Some code) = (tt, h)
-chosen_tells P Stepped state hand rest item h = by_code (refused_with hand.effect)
-  where
-    by_code : (code : Option ℕ) → All (TellStands P) (stepped_by code ++ rest)
-    by_code None = (tt, (tt, h))
-    by_code (Some code) = (tt, (tt, (tt, h)))
-
--- An item that is given up --------------------------------------------------------------------------------------------
-
-pub given_tells : (P : Id → Type 0) (responds : Bool) (item : Item) → All (TellStands P) (gone_parts responds item)
-given_tells P true (a_request request) = by_row request.command
-  where
-    by_row : (command : Command) → All (TellStands P) (gone_row command)
-    by_row (Disconnect arguments) = (tt, (tt, tt))
-    by_row _ = (tt, tt)
-given_tells P false (a_request request) = by_tail request.command
-  where
-    by_tail : (command : Command) → All (TellStands P) (gone_tail command)
-    by_tail (Disconnect arguments) = (tt, tt)
-    by_tail _ = tt
-given_tells P responds _ = tt
+chosen_tells P choice state hand rest item h =
+    all_passing is_mute (mute_tells P) (chosen choice state hand) rest (chosen_mute choice state hand refl) h

@@ -194,7 +194,8 @@ module _ (id : ℕ) where
     told = c.told;
   }
   leaves_covers state exits rest _ c =
-      skips id state.phase (Part.Unfolds (Leaves exits)) rest c c.noted (as_bare id (is_bare id state.wishes)) (λ fresh. fresh) refl
+      skips id state.phase (Part.Unfolds (Leaves exits)) rest c c.noted (as_bare id (is_bare id state.wishes)) (λ fresh.
+      fresh) refl
 
   -- Where no location is bare, a part becomes parts that tell nothing and are as good as none.
   becomes : {asked : Bool} {w : Wishes} {phase : Phase} {next : ℕ} {ids : List ℕ} (choice : Choice)
@@ -449,7 +450,8 @@ module _ (id : ℕ) where
     told = c.told;
   }
   found_covers {asked} {w} lookup result state rest c =
-      found_silent lookup (Part.Responds (plain_outcome result)) rest refl (plain_shown asked result) (ap (λ b. covers id asked b rest) (as_bare id (is_bare id w))) c.noted c
+      found_silent lookup (Part.Responds (plain_outcome result)) rest refl (plain_shown asked result) (ap (λ b. covers
+      id asked b rest) (as_bare id (is_bare id w))) c.noted c
 
   -- where an item begins no location of a breakpoint that is listed is bare
   begun_calm : (m : Machine) → IsSet m → is_gone m.state.phase ≡ false → m.hand ≡ None

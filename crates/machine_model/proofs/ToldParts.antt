@@ -287,22 +287,9 @@ module _ (id : ℕ) where
       tells : (shown less : Bool) → shown ≡ true → (less || (shown || false)) ≡ true
       tells shown less is = grind (arith, is)
 
-  step_noted : (phase : Phase) (next : ℕ) (depth : Depth) (thread : Option ThreadId)
-      → AreNoted true phase next (step_parts depth thread)
-  step_noted phase next depth None = refl
-  step_noted phase next depth (Some thread) = refl
-
-  near_phase : (phase : Phase) → if_attached phase ≡ None → is_fresh phase ≡ false
-  near_phase phase is = grind (arith, is)
-
   row_noted : (failure : Option Failure) (command : Command) (state : State)
       → failure_of (wanting command) state ≡ failure
       → AreNoted true state.phase state.next_entry (parts_by failure (row_of command state))
-  row_noted None ConfigurationDone state same = by_entry state.entry
-    where
-      by_entry : (entry : Bool) → AreNoted true state.phase state.next_entry (configured_parts entry)
-      by_entry true = refl
-      by_entry false = refl
   row_noted None (SetBreakpoints arguments) state same =
       by_key (key_of state.roots arguments.path) (near_phase state.phase same)
     where
@@ -325,59 +312,8 @@ module _ (id : ℕ) where
       (plains_of arguments.breakpoints) (map function_listed entries) (near_phase state.phase same)
       (functions_marked state.next_entry arguments.breakpoints)
       (functions_counted state.next_entry arguments.breakpoints) (functions_shown entries)
-  row_noted None (Next arguments) state same =
-      step_noted state.phase state.next_entry Over (stepped_thread state arguments.thread_id)
-  row_noted None (StepIn arguments) state same =
-      step_noted state.phase state.next_entry Into (stepped_thread state arguments.thread_id)
-  row_noted None (StepOut arguments) state same =
-      step_noted state.phase state.next_entry Out (stepped_thread state arguments.thread_id)
-  row_noted None (ExceptionInfo arguments) state same =
-      by_thrown (option_and_then (thrown_first state.thrown) (thread_with state.threads arguments.thread_id))
-    where
-      by_thrown : (thrown : Option Thrown) → AreNoted true state.phase state.next_entry (exception_parts thrown)
-      by_thrown None = refl
-      by_thrown (Some thrown) = refl
-  row_noted None (Continue arguments) state same = by_thread (thread_with state.threads arguments.thread_id)
-    where
-      by_thread : (thread : Option ThreadId) → AreNoted true state.phase state.next_entry (continue_parts thread)
-      by_thread None = refl
-      by_thread (Some thread) = refl
-  row_noted None (Pause arguments) state same = by_stop state.stopped (thread_with state.threads arguments.thread_id)
-    where
-      by_stop : (stopped : Bool) (thread : Option ThreadId)
-          → AreNoted true state.phase state.next_entry (pause_parts stopped thread)
-      by_stop stopped None = refl
-      by_stop _ _ = refl
-  row_noted None (StackTrace arguments) state same = by_thread (thread_with state.threads arguments.thread_id)
-    where
-      by_thread : (thread : Option ThreadId) → AreNoted true state.phase state.next_entry (stack_parts thread arguments)
-      by_thread None = refl
-      by_thread (Some thread) = refl
-  row_noted None (Scopes arguments) state same = by_frame (frame arguments.frame_id state.numbers)
-    where
-      by_frame : (found : Result FrameThing RefFault)
-          → AreNoted true state.phase state.next_entry (scopes_parts state.numbers found)
-      by_frame (Ok one) = refl
-      by_frame (Err fault) = refl
-  row_noted None (Variables arguments) state same = by_thing (container arguments.variables_reference state.numbers)
-    where
-      by_thing : (found : Result Thing RefFault)
-          → AreNoted true state.phase state.next_entry (variables_parts arguments found)
-      by_thing (Ok thing) = refl
-      by_thing (Err fault) = refl
-  row_noted None (SetVariable arguments) state same = by_thing (container arguments.variables_reference state.numbers)
-    where
-      by_thing : (found : Result Thing RefFault) → AreNoted true state.phase state.next_entry (write_by arguments found)
-      by_thing (Ok thing) = refl
-      by_thing (Err fault) = refl
-  row_noted None (Evaluate arguments) state same =
-      by_frame (parsed arguments.expression) (frame arguments.frame_id state.numbers)
-    where
-      by_frame : (read : Result Expr ℕ) (found : Result FrameThing RefFault)
-          → AreNoted true state.phase state.next_entry (evaluate_by read found)
-      by_frame (Ok expression) (Ok one) = refl
-      by_frame _ _ = refl
-  row_noted _ _ state same = refl
+  row_noted failure command state same = none_noted true state.phase state.next_entry
+      (parts_by failure (row_of command state)) (grind arith)
 
   begun_noted : (state : State) (item : Item)
       → AreNoted (is_asked item) state.phase state.next_entry (parts_of state item)
