@@ -1,6 +1,6 @@
 -- A fact that is learnt is known, and a class that is made known is bound by what is known of it.
-use Rattle.std.proofs.Common.{◌≡◌, ℕ, Bool, true, false, cond, List, [], ◌∷◌, Option, Some, None, refl}
-use Rattle.std.proofs.Common.{sym, ap, ◌∙◌, option_map, arith, ◌||◌}
+use Rattle.std.proofs.Common.{◌≡◌, ℕ, Bool, true, false, cond, List, [], ◌∷◌, Option, Some, None, refl, sym, ap, ◌∙◌}
+use Rattle.std.proofs.Common.{option_map, arith, ◌||◌}
 use Rattle.std.specs.List.{AllByRecursion as All}
 use Rattle.class_tables.specs.Facts.{Known, MethodOf, same_class, same_method}
 use Rattle.class_tables.specs.Lookups.{Lookups, found_in}

@@ -13,8 +13,8 @@ use Rattle.machine_model.specs.Binding.{sight_alone}
 use Rattle.machine_model.specs.Classes.{class_plan, classes_in, known_plan}
 use Rattle.machine_model.specs.Facts.{fact_known}
 use Rattle.machine_model.specs.Names.{Answer, Question, Sent, Want}
-use Rattle.machine_model.specs.Plans.{Need, Plan, after, beside, each, fact_heard, fails, gives, has, heard_of, joined}
-use Rattle.machine_model.specs.Plans.{lacks, made_with, need, pairs, question_of, wants}
+use Rattle.machine_model.specs.Plans.{Need, Plan, after, beside, each, fact_heard, gives, has, heard_of, joined}
+use Rattle.machine_model.specs.Plans.{made_with, need, pairs, question_of, wants}
 use Rattle.machine_model.specs.Replying.{knows_fact, learnt, with_heard}
 use Rattle.machine_model.specs.State.{is_some}
 use Rattle.machine_model.proofs.BindingFacts.{is_mapped}

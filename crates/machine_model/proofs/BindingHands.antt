@@ -1,15 +1,14 @@
 -- What the item in hand may ask of classes, and where it is changed what is wished in them.
-use Rattle.std.proofs.Common.{◌≡◌, Bool, true, false, cond, not, ◌||◌, List, [], ◌∷◌, Option, Some, None, refl, sym}
-use Rattle.std.proofs.Common.{ap, ◌∙◌, arith, ◌++◌, ℕ}
+use Rattle.std.proofs.Common.{◌≡◌, Bool, true, false, cond, not, ◌||◌, List, [], ◌∷◌, Option, Some, None, refl, sym, ap}
+use Rattle.std.proofs.Common.{◌∙◌, arith, ◌++◌, ℕ}
 use Rattle.std.specs.List.{AllByRecursion as All}
 use Rattle.class_tables.specs.Facts.{Known}
 use Rattle.class_tables.specs.Lookups.{found_in}
 use Rattle.jdwp_values.specs.declared.id.ClassId.{ClassId}
 use Rattle.machine_model.specs.Facts.{fact_known}
-use Rattle.machine_model.specs.Names.{Written}
-use Rattle.machine_model.specs.Names.{Attached, Choice, Classes, Command, Decides, Failure, Fresh, Gone, Item, Leaves}
-use Rattle.machine_model.specs.Names.{Lines, News, Part, Phase, Question, Replied, Sent, TellsNews, Want, a_composite}
-use Rattle.machine_model.specs.Names.{a_raw, a_request, class_facts, target_end, Functions, Stepped, Steps, Throws}
+use Rattle.machine_model.specs.Names.{Attached, Choice, Classes, Command, Decides, Failure, Item, Lines, News, Part}
+use Rattle.machine_model.specs.Names.{Phase, Question, Replied, Sent, TellsNews, Want, a_raw, a_request, class_facts}
+use Rattle.machine_model.specs.Names.{Functions, Stepped, Steps, Throws}
 use Rattle.machine_model.specs.Plans.{asks_for, question_of}
 use Rattle.machine_model.specs.Replying.{filled, waits_for, is_waiting}
 use Rattle.machine_model.specs.Rows.{chosen, failure_of, news_of, parts_by, parts_of, refused_with, row_of, stepped_by}
@@ -21,6 +20,8 @@ use Rattle.machine_model.proofs.BindingPlans.{IsLearnt, is_fact, is_listing}
 use Rattle.machine_model.proofs.KeyLaws.{is_one}
 use Rattle.machine_model.proofs.Tables.{is_updates, of_decided, of_told, told_alike}
 use Rattle.machine_model.proofs.Testing.{IsTest}
+use Rattle.machine_model.proofs.Bools.{never, or_more}
+use Rattle.std.proofs.lemmas.Bool.{or_right}
 
 -- Parts ---------------------------------------------------------------------------------------------------------------
 
@@ -195,10 +196,6 @@ awaited_is [] question waits lists = cc
 awaited_is (sent ∷ asked) question waits lists =
     by_tests (is_none sent.reply) (asks_for sent question) refl waits (awaited_is asked question)
   where
-    or_right : (a b : Bool) → b ≡ true → (a || b) ≡ true
-    or_right true b is = refl
-    or_right false b is = is
-
     by_tests : (none asks : Bool) → asks_for sent question ≡ asks
         → (cond none asks false || is_waiting question asked) ≡ true
         → (is_waiting question asked ≡ true → is_listing question ≡ true → awaits_listing asked ≡ true)
@@ -224,13 +221,6 @@ module _ (question : Question) (replied : Replied) where
   awaits_filled [] is = is
   awaits_filled (sent ∷ asked) is = by_test (waits_for sent question) (awaits_filled asked) is
     where
-      either : (a b c : Bool) → (a || b) ≡ true → (b ≡ true → c ≡ true) → (a || c) ≡ true
-      either a b c is rest = grind (arith, is, rest)
-
-      or_right : (a b : Bool) → b ≡ true → (a || b) ≡ true
-      or_right true b is = refl
-      or_right false b is = is
-
       by_test : (is : Bool) → (awaits_listing (filled question replied asked) ≡ true → awaits_listing asked ≡ true)
           → awaits_listing (cond is (record sent { reply = Some replied } ∷ asked)
           (sent ∷ filled question replied asked)) ≡ true
@@ -238,7 +228,7 @@ module _ (question : Question) (replied : Replied) where
       by_test true again now =
           or_right (cond (is_none sent.reply) (is_listing (question_of sent.want)) false) _ now
       by_test false again now =
-          either (cond (is_none sent.reply) (is_listing (question_of sent.want)) false) _ _ now again
+          or_more (cond (is_none sent.reply) (is_listing (question_of sent.want)) false) _ _ now again
 
   pub listed_filled : (asked : List Sent) → is_listing question ≡ false
       → was_listed (filled question replied asked) ≡ was_listed asked
@@ -246,10 +236,6 @@ module _ (question : Question) (replied : Replied) where
   listed_filled (sent ∷ asked) other =
       by_tests (is_none sent.reply) (asks_for sent question) refl (listed_filled asked other)
     where
-      never : (b : Bool) → cond b false false ≡ false
-      never true = refl
-      never false = refl
-
       by_tests : (none asks : Bool) → asks_for sent question ≡ asks
           → was_listed (filled question replied asked) ≡ was_listed asked
           → was_listed (cond (cond none asks false) (record sent { reply = Some replied } ∷ asked)

@@ -1,6 +1,6 @@
 -- What replies and notes keep of what binds breakpoints.
-use Rattle.std.proofs.Common.{◌≡◌, ℕ, Bool, true, false, not, ◌||◌, List, [], ◌∷◌, ◌++◌, Option, Some, None}
-use Rattle.std.proofs.Common.{refl, sym, ap, subst, ◌∙◌, arith, ◌⊎◌, inl, inr}
+use Rattle.std.proofs.Common.{◌≡◌, ℕ, Bool, true, false, not, ◌||◌, List, [], ◌∷◌, ◌++◌, Option, Some, None, refl, sym}
+use Rattle.std.proofs.Common.{ap, subst, ◌∙◌, arith, ◌⊎◌, inl, inr}
 use Rattle.std.specs.List.{AllByRecursion as All}
 use Rattle.class_tables.specs.Lookups.{found_in}
 use Rattle.jdwp_commands.specs.declared.question.Question.TheVariants as questions
@@ -8,29 +8,23 @@ use Rattle.jdwp_values.specs.declared.id.ClassId.{ClassId}
 use Rattle.machine_model.specs.Binding.{AreAllBound, sight_alone}
 use Rattle.machine_model.specs.Classes.{known_plan}
 use Rattle.machine_model.specs.Lookups.{classes_of, finished, found_for, written_parts}
-use Rattle.machine_model.specs.Names.{Finding, Outcome, Written, classes_found, exception_found, frames_found, no_value, text_found, threads_found, value_found, variable_write, variables_found, write_found}
-use Rattle.machine_model.specs.Names.{Choice, Classes, Clear, Configured, Decides, Does, Effect, EntryHeld, Finding}
-use Rattle.machine_model.specs.Names.{Leaves, Lines, Lookup, Note, Options, Part, Question, Replied, Roots, Sent, Set}
-use Rattle.machine_model.specs.Names.{TellsNews, Want, all_threads, an_effect, class_facts}
-use Rattle.machine_model.specs.Names.{container_children, exception_info, exception_text, expression_value, thread_frames, Attached, Fresh}
-use Rattle.machine_model.specs.Names.{Functions, Gone, Halt, Phase, Stepped, Steps, StopsAt, Throws, Thrown}
+use Rattle.machine_model.specs.Names.{Finding, Outcome, Written, variable_write, write_found, Choice, Classes, Decides}
+use Rattle.machine_model.specs.Names.{Effect, Leaves, Lines, Lookup, Note, Part, Question, Replied, Sent, Set}
+use Rattle.machine_model.specs.Names.{TellsNews, Want, an_effect, class_facts, Attached, Functions, Halt, Phase}
+use Rattle.machine_model.specs.Names.{Stepped, Steps, StopsAt, Thrown}
 use Rattle.machine_model.specs.Outcomes.{result_of}
-use Rattle.machine_model.specs.Plans.{Need, answer_in, need}
-use Rattle.machine_model.specs.Plans.{Result, gave, is_done, refused}
-use Rattle.machine_model.specs.Replying.{IsReply, done_by, filled, is_waiting}
-use Rattle.machine_model.specs.Replying.{told_by, unless_failed}
+use Rattle.machine_model.specs.Plans.{Need, answer_in, need, Result, gave, is_done}
+use Rattle.machine_model.specs.Replying.{IsReply, done_by, filled, is_waiting, told_by, unless_failed}
 use Rattle.machine_model.specs.Requests.{Wishes, wishes_after}
-use Rattle.machine_model.specs.Rows.{written_by}
-use Rattle.machine_model.specs.Rows.{chosen, leaves, news_of, noted, refused_with, stepped_by}
+use Rattle.machine_model.specs.Rows.{written_by, chosen, leaves, news_of, noted, refused_with, stepped_by}
 use Rattle.machine_model.specs.State.{Hand, State, is_some}
 use Rattle.machine_model.specs.Stops.{hit_parts, surplus, told_part}
 use Rattle.machine_model.proofs.BindingFacts.{all_bound, fact_learnt, only_classes, same_known}
 use Rattle.machine_model.proofs.BindingGrows.{Grows, grows_itself, learnt_grows, learnt_loaded}
 use Rattle.machine_model.proofs.BindingHands.{asks_listing, asks_filled, awaited_is, awaits_listing, awaits_filled}
-use Rattle.machine_model.proofs.BindingHands.{binds_ahead, first_note, has_note, is_placed}
-use Rattle.machine_model.proofs.BindingHands.{learnt_filled, listed_asks, listed_filled, looks_ahead}
-use Rattle.machine_model.proofs.BindingHands.{looks_first, needs_none, needs_watches, notes_list}
-use Rattle.machine_model.proofs.BindingHands.{queues_listing, was_listed}
+use Rattle.machine_model.proofs.BindingHands.{binds_ahead, first_note, has_note, is_placed, learnt_filled, listed_asks}
+use Rattle.machine_model.proofs.BindingHands.{listed_filled, looks_ahead, looks_first, needs_none, needs_watches}
+use Rattle.machine_model.proofs.BindingHands.{notes_list, queues_listing, was_listed}
 use Rattle.machine_model.proofs.BindingPlans.{IsLearnt, is_fact, is_listing}
 use Rattle.machine_model.proofs.RequestLaws.{IsDue}
 use Rattle.machine_model.proofs.RequestSteps.{is_deed}
@@ -38,13 +32,12 @@ use Rattle.machine_model.proofs.Tables.{decided_alike, of_decided, of_told, star
 use Rattle.wish_sets.specs.Wanted.{Wanted, with_exceptions, with_known, with_step}
 use Rattle.wish_sets.specs.declared.wish.Wish.TheVariants as wishes
 use Rattle.machine_model.specs.Facts.{fact_known}
-use Rattle.machine_model.proofs.BindingWatches.{WatchesSet, due_unset, replied_set, known_set}
-use Rattle.machine_model.proofs.BindingWatches.{classes_alike, watch_alike}
+use Rattle.machine_model.proofs.BindingWatches.{WatchesSet, due_unset, replied_set, known_set, classes_alike}
+use Rattle.machine_model.proofs.BindingWatches.{watch_alike}
 use Rattle.machine_model.proofs.BindingParts.{IsComplete, Binding, Same, as_before, still_bound, still_complete}
-use Rattle.machine_model.proofs.BindingParts.{still_binding, IsClear, quiet}
-use Rattle.machine_model.proofs.BindingParts.{none_ahead, note_had, placed_note}
-use Rattle.machine_model.proofs.BindingParts.{AreLike, are_same, goes_by, wanted_same}
-use Rattle.machine_model.proofs.BindingParts.{itself, found_complete, unlisted_waits}
+use Rattle.machine_model.proofs.BindingParts.{still_binding, IsClear, quiet, none_ahead, note_had, placed_note, AreLike}
+use Rattle.machine_model.proofs.BindingParts.{are_same, goes_by, wanted_same, itself, found_complete, unlisted_waits}
+use Rattle.std.proofs.lemmas.Bool.{not-true, or_left}
 
 -- Replies -------------------------------------------------------------------------------------------------------------
 
@@ -93,9 +86,6 @@ fewer_queued false queue is = is
 
 pub either_more : (a b c d : Bool) → (a ≡ true → c ≡ true) → (b ≡ true → d ≡ true) → (a || b) ≡ true → (c || d) ≡ true
 either_more a b c d one other is = grind (arith, one, other, is)
-
-pub or_left : (a b : Bool) → a ≡ true → (a || b) ≡ true
-or_left a b is = rw is refl
 
 pub front_binds : (parts : List Part) → looks_first parts ≡ true → binds_ahead parts ≡ true
 front_binds [] is = cc
@@ -215,11 +205,7 @@ replies_on {state} {parts} {queue} {asked} effect replied due reply h = by_case 
 -- Parts that become others --------------------------------------------------------------------------------------------
 
 none_behind : (rest : List Part) → is_placed rest ≡ true → not (looks_ahead rest) ≡ true → needs_watches rest ≡ true
-none_behind rest is none = needs_none rest is (by_test (looks_ahead rest) none)
-  where
-    by_test : (b : Bool) → not b ≡ true → b ≡ false
-    by_test true is = cc
-    by_test false is = refl
+none_behind rest is none = needs_none rest is (not-true (looks_ahead rest) none)
 
 -- the parts of a hit need the watches to be set only where nothing is looked up behind them
 hit_needs : (stopped : Bool) (thrown : List Thrown) (halt : Halt) (rest : List Part) → is_placed rest ≡ true

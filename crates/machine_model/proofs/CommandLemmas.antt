@@ -1,7 +1,7 @@
 -- Two wishes have two commands (JDWP, EventRequest command set, Set).
 use Rattle.std.proofs.Common.{◌≡◌, ℕ, Bool, true, false, List, [], ◌∷◌, ◌++◌, length, take, refl, sym, ap, ◌∙◌, arith}
-use Rattle.std.specs.Prelude.{ℤ, pos, negsuc, ◌==◌, ◌-◌, if◌then◌else◌, codes}
 use Rattle.std.proofs.Common.{length-append}
+use Rattle.std.specs.Prelude.{ℤ, pos, negsuc, ◌==◌, ◌-◌, if◌then◌else◌, codes}
 use Rattle.std.proofs.Math.Seq.{take-append_seam}
 use Rattle.jdwp_commands.specs.declared.effect.Effect.{Effect as WireEffect}
 use Rattle.jdwp_commands.specs.declared.effect.Effect.TheVariants as effects

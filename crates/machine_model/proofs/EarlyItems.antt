@@ -4,14 +4,11 @@ use Rattle.std.proofs.Common.{sym, ap, subst, ◌∙◌, option_map, arith, ℕ}
 use Rattle.machine_model.specs.Due.{Picked, after_deed, greets as greets_way, passed_by, pick, sized_by, way}
 use Rattle.machine_model.specs.Knowing.{is_fresh}
 use Rattle.machine_model.specs.Lookups.{finished}
-use Rattle.machine_model.specs.Names.{Written}
-use Rattle.machine_model.specs.Names.{Attached, Choice, Command, Composite, Decides, Event, Failure, Fresh, Gone}
-use Rattle.machine_model.specs.Names.{Guard, Handshake, IdSizes, Initialized, Item, Leaves, Note, Outcome, Part, Phase}
-use Rattle.machine_model.specs.Names.{Question, Replied, TellsNews, Terminated, a_composite, a_question, a_raw}
-use Rattle.machine_model.specs.Names.{a_request, a_stop, some_news, target_end}
+use Rattle.machine_model.specs.Names.{Choice, Command, Composite, Decides, Event, Failure, Fresh, Guard, Handshake}
+use Rattle.machine_model.specs.Names.{IdSizes, Initialized, Item, Note, Outcome, Part, Phase, Question, Replied}
+use Rattle.machine_model.specs.Names.{TellsNews, Terminated, a_composite, a_question, a_raw, a_request}
 use Rattle.machine_model.specs.Outcomes.{result_of}
-use Rattle.machine_model.specs.Replying.{IsReply, given_up, is_end, is_waiting, replied_machine}
-use Rattle.machine_model.specs.Replying.{replied_to, shows_end}
+use Rattle.machine_model.specs.Replying.{IsReply, given_up, is_end, is_waiting, replied_machine, replied_to, shows_end}
 use Rattle.machine_model.specs.Rows.{chosen, failure_of, news_of, noted, parts_by, parts_of, row_of, wanting}
 use Rattle.machine_model.specs.Runs.{Message, Run}
 use Rattle.machine_model.specs.State.{Hand, Machine, SizesRead, State, has_raw, has_waiting, is_gone, is_none, is_raw}
@@ -21,12 +18,13 @@ use Rattle.machine_model.proofs.HandshakeLaws.{IsBehind, both_queued}
 use Rattle.machine_model.proofs.ItemLaws.{has_composite, has_more, has_rest, is_composite}
 use Rattle.machine_model.proofs.PendingLaws.{all_open}
 use Rattle.machine_model.proofs.QuietLaws.{attached_gone, waits_some}
-use Rattle.machine_model.proofs.SizeLaws.{near_end, parts_in, question_sizes}
+use Rattle.machine_model.proofs.SizeLaws.{parts_in, question_sizes}
 use Rattle.machine_model.proofs.Standing.{asked_in}
 use Rattle.machine_model.proofs.Stepping.{IsAt, Moves, Skips, by_runs}
 use Rattle.machine_model.proofs.Tables.{chosen_is, decided_alike, finished_is, has_attach, plain_attach, told_alike}
 use Rattle.machine_model.proofs.Testing.{IsTest, Passed, same_noted, same_numbered, same_replied, tested, whole}
-use Rattle.machine_model.specs.Names.{Stepped}
+use Rattle.machine_model.proofs.Bools.{first_holds, other_fails}
+use Rattle.std.proofs.lemmas.Bool.{or_right}
 
 -- The test ------------------------------------------------------------------------------------------------------------
 
@@ -202,7 +200,7 @@ answers_early m hand question replied h is waits reply stays = record {
         (by_bools (has_composite m.waiting) (is_some m.state.sizes) _ (sized_near (is_gone m.state.phase) (has_composite m.waiting)
         (is_some m.state.sizes) near h.sized)
         (question_sizes m.state question replied reply
-        (near_end (is_gone m.state.phase) (is_end (a_question question) replied) near stays)))
+        (other_fails (is_gone m.state.phase) (is_end (a_question question) replied) near stays)))
       where
         sized_near : (gone has known : Bool) → gone ≡ false → cond gone true (cond has known true) ≡ true
             → cond has known true ≡ true
@@ -276,12 +274,9 @@ early_on m next said t b h (Moves.queues {hand} free is) = record {
 early_on m next said t b h (Moves.asks {hand} {want} {wants} free room is are) = record {
   attaches = rw is (ap (λ (held : Option Hand). cond (is_fresh m.state.phase) (cond m.state.greeting_sent
       (has_attach (parts_in held)) true) true) (sym is) ∙ h.attaches);
-  unsent = rw (first_of m.state.greeting_sent m.state.greeting_heard (both_queued m hand want wants b is are)) refl;
+  unsent = rw (first_holds m.state.greeting_sent m.state.greeting_heard (both_queued m hand want wants b is are)) refl;
   sized = h.sized;
 }
-  where
-    first_of : (sent heard : Bool) → cond sent heard false ≡ true → sent ≡ true
-    first_of sent heard is = grind (arith, is)
 early_on m next said t b h (Moves.hears {request} read is) = record {
   attaches = h.attaches;
   unsent = h.unsent;
@@ -354,10 +349,6 @@ picked_waits gone (first ∷ items) picked at composite is item =
     by_raw (cond gone false (is_raw first)) (pick gone items)
     (λ other are same. picked_waits gone items other at composite are same) is
   where
-    or_right : (a b : Bool) → b ≡ true → (a || b) ≡ true
-    or_right true b is = refl
-    or_right false b is = is
-
     by_raw : (skips : Bool) (found : Option Picked)
         → ((other : Picked) → found ≡ Some other → other.item ≡ a_composite at composite
         → has_composite items ≡ true)

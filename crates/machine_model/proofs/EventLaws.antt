@@ -27,6 +27,7 @@ use Rattle.machine_model.proofs.Tables.{has_joined, none_attaches, once, plain_a
 use Rattle.machine_model.proofs.Testing.{passed, same_noted, same_numbered, same_replied, tested, whole}
 use Rattle.machine_model.specs.Breakpoints.{verified_told}
 use Rattle.machine_model.specs.Knowing.{has_last}
+use Rattle.machine_model.proofs.Bools.{never}
 
 -- What is left of an item: an `attach` tells `initialized` behind its success, and no other item does -----------------
 
@@ -290,10 +291,7 @@ none_gone {m = m} r gone = by_hand m.hand (subst (λ (gone : Bool). passed free_
   where
     by_hand : (hand : Option Hand) → passed free_once true hand ≡ true → hand_owes hand ≡ false
     by_hand None h = refl
-    by_hand (Some hand) h = rw (none_attaches hand.parts h) (none_owed (has_response hand.parts))
-      where
-        none_owed : (responds : Bool) → cond responds false false ≡ false
-        none_owed responds = grind arith
+    by_hand (Some hand) h = rw (none_attaches hand.parts h) (never (has_response hand.parts))
 
 now_told : {messages : List Message} {m : Machine} (next : Machine) → Tells messages m
     → IsLeft (without_response m) (without_response next) None → hand_owes m.hand ≡ hand_owes next.hand

@@ -3,16 +3,16 @@ use Rattle.std.proofs.Common.{◌≡◌, Bool, true, false, cond, ◌||◌, List
 use Rattle.std.proofs.Common.{ap, ◌∙◌, option_map, arith}
 use Rattle.machine_model.specs.Due.{asked_by, greeted_by, lacked_by, newly_lacked, passes, with_wants}
 use Rattle.machine_model.specs.Names.{Choice, Handshake, IdSizes, Initialized, Item, Part, Replied, TargetCommand, Want}
-use Rattle.machine_model.specs.Names.{a_question, an_effect}
+use Rattle.machine_model.specs.Names.{a_question, an_effect, Stepped}
 use Rattle.machine_model.specs.Pending.{has_such, have_handshake, is_greeted, is_greets}
 use Rattle.machine_model.specs.Replying.{given_up, hand_replied, is_failed, replied_machine, replied_to, unless_failed}
 use Rattle.machine_model.specs.Rows.{chosen, gone_parts, has_response, parts_of}
-use Rattle.machine_model.specs.Names.{Stepped}
 use Rattle.machine_model.specs.Runs.{Message}
 use Rattle.machine_model.specs.State.{Hand, Machine, State, is_attached, is_empty, left}
 use Rattle.machine_model.proofs.QuietLaws.{lacking_hand}
 use Rattle.machine_model.proofs.Testing.{same_replied}
-use Rattle.machine_model.proofs.Stepping.{IsAt, Loses, Moves, Skips, with_said}
+use Rattle.machine_model.proofs.Stepping.{IsAt, Moves, Skips, with_said}
+use Rattle.machine_model.proofs.Bools.{second_more}
 
 -- Lists of parts ------------------------------------------------------------------------------------------------------
 
@@ -146,12 +146,8 @@ hand_replied_behind : (command : TargetCommand) (replied : Replied) (hand : Opti
     → hand_behind (option_map (hand_replied command replied) hand) ≡ true
 hand_replied_behind command replied None is = refl
 hand_replied_behind (a_question question) replied (Some hand) is =
-    two (behind_handshake hand.parts) (is_empty hand.queue) _ is (unfailed
+    second_more (behind_handshake hand.parts) (is_empty hand.queue) _ is (unfailed
     (is_failed question replied hand.asked) hand.queue)
-  where
-    two : (behind queued now : Bool) → cond behind queued false ≡ true → (queued ≡ true → now ≡ true)
-        → cond behind now false ≡ true
-    two behind queued now is rest = grind (arith, is, rest)
 hand_replied_behind (an_effect effect) replied (Some hand) is = is
 
 behind_weak : (both attached was now : Bool) → (was ≡ true → now ≡ true) → behind_both both attached was ≡ true

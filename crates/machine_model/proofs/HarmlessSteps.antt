@@ -5,11 +5,9 @@ use Rattle.std.specs.List.{AllByRecursion as All}
 use Rattle.std.specs.Prelude.{map, option_and_then}
 use Rattle.class_tables.specs.Lookups.{found_in}
 use Rattle.machine_model.specs.Harmless.{is_harmless_effect, is_harmless_wish, is_there}
-use Rattle.machine_model.specs.Names.{Written}
-use Rattle.machine_model.specs.Names.{Choice, Classes, Clear, Command, Decides, Does, Effect, Failure}
-use Rattle.machine_model.specs.Names.{Item, Leaves, Lines, Next, Note, Part}
-use Rattle.machine_model.specs.Names.{Set, StepIn, StepOut, Stepped, Steps, TargetCommand, TellsNews, ThreadId}
-use Rattle.machine_model.specs.Names.{a_composite, a_raw, a_request, an_effect, target_end}
+use Rattle.machine_model.specs.Names.{Choice, Classes, Command, Decides, Effect, Failure, Item, Next, Note, Part, Set}
+use Rattle.machine_model.specs.Names.{StepIn, StepOut, Stepped, Steps, TargetCommand, TellsNews, ThreadId, a_raw}
+use Rattle.machine_model.specs.Names.{a_request, an_effect}
 use Rattle.machine_model.specs.Requests.{Wishes, effect_due}
 use Rattle.machine_model.specs.Rows.{chosen, failure_of, news_of, noted, parts_by, parts_of, refused_with, row_of}
 use Rattle.machine_model.specs.Rows.{step_parts, stepped_by, thread_there, thread_with, wanting}

@@ -3,38 +3,32 @@ use Rattle.std.proofs.Common.{◌≡◌, ℕ, Bool, true, false, cond, not, List
 use Rattle.std.proofs.Common.{ap, subst, ◌∙◌, option_map, arith}
 use Rattle.std.specs.Prelude.{nat_lt, ◌-◌, ◌+◌}
 use Rattle.jdwp_events.specs.declared.kind.Policy.{Policy}
-use Rattle.jdwp_events.specs.declared.kind.Policy.TheVariants.{NoThread, EventThread, All}
+use Rattle.jdwp_events.specs.declared.kind.Policy.TheVariants.{NoThread}
 use Rattle.machine_model.specs.Composites.{composite_parts}
 use Rattle.machine_model.specs.Due.{after_deed, asked_hand, entry_by, sent, stopped_by}
-use Rattle.machine_model.specs.Knowing.{View, begins, dies, dying_by, held_in, held_with, has_last, may_send}
-use Rattle.machine_model.specs.Knowing.{owed_by, owed_in, sent_view, stopped_behind, view_of}
+use Rattle.machine_model.specs.Knowing.{View, begins, dies, dying_by, held_in, held_with, has_last, may_send, owed_by}
+use Rattle.machine_model.specs.Knowing.{owed_in, sent_view, stopped_behind, view_of}
 use Rattle.machine_model.specs.Lookups.{finished}
-use Rattle.machine_model.specs.Names.{Writes, Written, variable_write}
-use Rattle.machine_model.specs.Names.{Attached, Choice, Clear, Command, Decides, Deed, Dispose, Does, Effect, EntryHeld}
-use Rattle.machine_model.specs.Names.{Exit, Finding, Fresh, Gone, Hit, Item, Leaves, Lookup, Part, Phase, Replied}
-use Rattle.machine_model.specs.Names.{Resume, Set, StopCause, Stopping, Suspend, TargetCommand, TellsNews}
-use Rattle.machine_model.specs.Names.{Want, a_question, a_stop, all_threads, an_effect}
-use Rattle.machine_model.specs.Names.{by_client, class_facts, of_composite, of_entry, of_stop}
-use Rattle.machine_model.specs.Names.{thread_frames}
-use Rattle.machine_model.specs.Names.{container_children, expression_value}
+use Rattle.machine_model.specs.Names.{Written, variable_write, Attached, Choice, Clear, Command, Decides, Deed, Does}
+use Rattle.machine_model.specs.Names.{Effect, EntryHeld, Finding, Fresh, Item, Leaves, Lookup, Part, Phase, Replied}
+use Rattle.machine_model.specs.Names.{Resume, Set, StopCause, Stopping, Suspend, TargetCommand, TellsNews, Want, a_stop}
+use Rattle.machine_model.specs.Names.{an_effect, by_client, of_composite, of_entry, of_stop, Halt, Stepped, ThreadId}
+use Rattle.machine_model.specs.Names.{Thrown, HaltCause, exception_text}
 use Rattle.machine_model.specs.Plans.{Result}
 use Rattle.machine_model.specs.Replying.{given_up, hand_replied}
 use Rattle.machine_model.specs.Requests.{Wishes, effect_due, effect_of}
-use Rattle.machine_model.specs.Rows.{written_by}
-use Rattle.machine_model.specs.Rows.{chosen, end_parts, gone_parts, has_response, leaves, news_of, request_parts}
+use Rattle.machine_model.specs.Rows.{written_by, chosen, end_parts, gone_parts, has_response, leaves, news_of}
+use Rattle.machine_model.specs.Rows.{request_parts, refused_with, stepped_by}
 use Rattle.machine_model.specs.State.{Hand, Machine, State, is_attached, is_empty, is_gone, knowing}
-use Rattle.machine_model.specs.Stops.{decided, decided_by, events_in, has_start, hits_in, stop_among, surplus, thrown_in}
-use Rattle.machine_model.specs.Stops.{told_part}
-use Rattle.machine_model.specs.Names.{Halt, Stepped, ThreadId, Thrown, by_step, exception_info}
-use Rattle.machine_model.specs.Rows.{refused_with}
+use Rattle.machine_model.specs.Stops.{decided, decided_by, events_in, has_start, hits_in, stop_among, surplus}
+use Rattle.machine_model.specs.Stops.{thrown_in, told_part}
 use Rattle.suspend_ledger.specs.Suspensions.{suspensions_by}
 use Rattle.wish_sets.specs.Wishes.{WishChange, clears, next_change, sets}
 use Rattle.machine_model.proofs.HoldingParts.{IsHolding, may_all, may_do_so, may_front, may_stop}
 use Rattle.machine_model.proofs.Stepping.{IsAt, Skips}
 use Rattle.machine_model.proofs.Tables.{free_once, told_alike}
 use Rattle.machine_model.proofs.Testing.{passed}
-use Rattle.machine_model.specs.Names.{HaltCause, by_exception, exception_text}
-use Rattle.machine_model.specs.Rows.{stepped_by}
+use Rattle.machine_model.proofs.Bools.{first_holds}
 
 pub held_front : {m : Machine} {hand : Hand} {part : Part} {rest : List Part} → IsAt m hand part rest
     → held_in m.state m.hand ≡ held_with m.state.stopped m.state.entry (owed_in m.state.stopped (part ∷ rest))
@@ -202,11 +196,7 @@ due_sends w effect view due = by_change (next_change w) due
 
 first_may : {m : Machine} {hand : Hand} {deed : Deed} {rest : List Part} → IsHolding m
     → IsAt m hand (Part.Sends deed) rest → may_do_so deed m.state.stopped m.state.entry ≡ true
-first_may {m} {deed = deed} h at = first (may_do_so deed m.state.stopped m.state.entry) _ (may_front h at)
-  where
-    first : (one others : Bool) → cond one others false ≡ true → one ≡ true
-    first true others is = refl
-    first false others is = cc
+first_may {m} {deed = deed} h at = first_holds (may_do_so deed m.state.stopped m.state.entry) _ (may_front h at)
 
 suspends : (stopped entry : Bool) (owed held : ℕ) → not stopped ≡ true → held ≡ held_with stopped entry owed
     → held_with true entry owed ≡ held + 1
@@ -284,12 +274,8 @@ pub stop_held : {m : Machine} {hand : Hand} {stopping : Stopping} {rest : List P
     × (nat_lt 0 (held_in m.state m.hand) ≡ true)
 stop_held {m} {stopping = stopping} {rest} h at =
     by_cause stopping.cause m.state.stopped m.state.entry (owed_in true rest) (held_in m.state m.hand)
-    (first (may_stop stopping.cause m.state.stopped rest) _ (may_front h at)) (held_front at)
+    (first_holds (may_stop stopping.cause m.state.stopped rest) _ (may_front h at)) (held_front at)
   where
-    first : (one others : Bool) → cond one others false ≡ true → one ≡ true
-    first true others is = refl
-    first false others is = cc
-
     by_hit : (stopped entry : Bool) (owed held : ℕ) → held ≡ held_with stopped entry (cond (not stopped) (owed + 1) owed)
         → (held_with true entry owed ≡ held) × (nat_lt 0 held ≡ true)
     by_hit true entry owed held is = (sym is, grind (arith, is))
@@ -307,12 +293,8 @@ pub entry_held : {m : Machine} {hand : Hand} {rest : List Part} → IsHolding m 
     → held_with m.state.stopped true (owed_in m.state.stopped rest) ≡ held_in m.state m.hand
 entry_held {m} {rest = rest} h at =
     by_entry m.state.entry (owed_in m.state.stopped rest) (held_in m.state m.hand)
-    (first (not m.state.entry) _ (may_front h at)) (held_front at)
+    (first_holds (not m.state.entry) _ (may_front h at)) (held_front at)
   where
-    first : (one others : Bool) → cond one others false ≡ true → one ≡ true
-    first true others is = refl
-    first false others is = cc
-
     by_entry : (entry : Bool) (owed held : ℕ) → not entry ≡ true
         → held ≡ held_with m.state.stopped entry (owed + 1) → held_with m.state.stopped true owed ≡ held
     by_entry true owed held may is = cc

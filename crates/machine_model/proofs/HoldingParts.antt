@@ -1,45 +1,33 @@
 -- What an item in hand does with suspensions of the target: it undoes only what is held, it begins a stop only where none
 -- is in hand, and it decides on a composite's suspension once, at its end.
-use Rattle.std.proofs.Common.{◌≡◌, Bool, true, false, cond, not, List, [], ◌∷◌, ◌++◌, Option, Some, None, refl}
-use Rattle.std.proofs.Common.{subst, ◌∙◌, option_map, arith}
-use Rattle.std.specs.Option.{option_or}
-use Rattle.std.specs.Prelude.{find}
-use Rattle.jdwp_events.specs.declared.event.Event.{Event as ATargetEvent}
-use Rattle.jdwp_events.specs.declared.event.Event.TheVariants as happened
+use Rattle.std.proofs.Common.{◌≡◌, Bool, true, false, cond, not, List, [], ◌∷◌, ◌++◌, Option, Some, None, refl, subst}
+use Rattle.std.proofs.Common.{◌∙◌, option_map, arith, ℕ}
 use Rattle.jdwp_events.specs.declared.kind.Policy.{Policy}
 use Rattle.machine_model.specs.Composites.{composite_parts, has_death}
 use Rattle.machine_model.specs.Due.{asked_hand, entry_by}
 use Rattle.machine_model.specs.Knowing.{stopped_behind, stopped_told}
 use Rattle.machine_model.specs.Lookups.{finished}
-use Rattle.machine_model.specs.Names.{Writes, Written, variable_write}
-use Rattle.machine_model.specs.Names.{Attached, Choice, Classes, Command, Configured, Decides, Deed, Dispose, EntryHeld}
-use Rattle.machine_model.specs.Names.{Event, Exit, Finding, Fresh, Gone, Hit, Initialized, Item, Leaves, Lines, Location}
-use Rattle.machine_model.specs.Names.{Lookup, Note, Options, Outcome, Part, Phase, Replied, Resume, Roots, StopCause}
-use Rattle.machine_model.specs.Names.{Stopping, Suspend, Suspension, TargetCommand, TellsNews, Terminated, ThreadId}
-use Rattle.machine_model.specs.Names.{Want}
-use Rattle.machine_model.specs.Names.{a_composite, a_question, a_raw, a_request, a_stop, all_threads, an_effect, by_client}
-use Rattle.machine_model.specs.Names.{class_facts, of_composite, of_entry, of_stop, some_news, target_end}
-use Rattle.machine_model.specs.Names.{thread_frames}
-use Rattle.machine_model.specs.Names.{container_children, expression_value}
+use Rattle.machine_model.specs.Names.{Writes, Written, variable_write, Choice, Command, Decides, Deed, Dispose}
+use Rattle.machine_model.specs.Names.{EntryHeld, Event, Exit, Finding, Fresh, Gone, Hit, Initialized, Item, Leaves}
+use Rattle.machine_model.specs.Names.{Lookup, Note, Outcome, Part, Phase, Replied, Resume, StopCause, Suspend}
+use Rattle.machine_model.specs.Names.{Suspension, TargetCommand, TellsNews, Terminated, ThreadId, Want, a_composite}
+use Rattle.machine_model.specs.Names.{a_question, a_raw, a_request, a_stop, an_effect, by_client, of_composite}
+use Rattle.machine_model.specs.Names.{of_entry, of_stop, some_news, target_end, Halt, Thrown, by_step, HaltCause}
+use Rattle.machine_model.specs.Names.{Stepped, by_exception, exception_text}
 use Rattle.machine_model.specs.Outcomes.{result_of}
 use Rattle.machine_model.specs.Plans.{Result}
 use Rattle.machine_model.specs.Replying.{given_up, hand_replied, replied_to}
-use Rattle.machine_model.specs.Rows.{written_by}
-use Rattle.machine_model.specs.Rows.{chosen, gone_parts, has_response, leaves, news_of, noted, parts_of}
-use Rattle.machine_model.specs.Rows.{request_parts}
+use Rattle.machine_model.specs.Rows.{written_by, chosen, gone_parts, has_response, leaves, news_of, noted, parts_of}
+use Rattle.machine_model.specs.Rows.{request_parts, refused_with, stepped_by}
 use Rattle.machine_model.specs.Runs.{Message, Run}
 use Rattle.machine_model.specs.State.{Hand, Machine, State, is_attached, is_empty, is_gone}
-use Rattle.machine_model.specs.Stops.{decided, decided_by, events_in, first_of, has_start, hit_by, hits_in, is_at_line}
-use Rattle.machine_model.specs.Stops.{stop_among, surplus, thrown_in, told_part}
-use Rattle.machine_model.specs.Names.{Halt, StopsAt, Steps, Throws, Thrown, by_step, exception_info}
-use Rattle.machine_model.specs.Rows.{refused_with, stepped_by}
+use Rattle.machine_model.specs.Stops.{decided, decided_by, events_in, has_start, hits_in, stop_among, surplus}
+use Rattle.machine_model.specs.Stops.{thrown_in, told_part}
 use Rattle.machine_model.specs.Telling.{after_event, attached_from, numbered_by}
-use Rattle.wish_sets.specs.Wishes.{Wishes}
 use Rattle.machine_model.proofs.Stepping.{IsAt, Moves, Skips, by_moves, by_runs}
 use Rattle.machine_model.proofs.Tables.{free, free_once, told_alike}
 use Rattle.machine_model.proofs.Testing.{Passed, same_numbered, same_replied, tested, whole}
-use Rattle.machine_model.specs.Names.{Functions, HaltCause, Stepped, by_exception, exception_text}
-use Rattle.std.proofs.Common.{ℕ}
+use Rattle.machine_model.proofs.Bools.{first_fails, second_holds}
 
 -- What a part needs, and what it leaves -------------------------------------------------------------------------------
 
@@ -228,11 +216,7 @@ chosen_may Stepped state hand rest is = by_rest rest state.stopped (refused_with
 tail_may : (phase : Phase) (stopped entry : Bool) (part : Part) (rest : List Part)
     → may_all phase stopped entry (part ∷ rest) ≡ true
     → may_all (phase_behind part phase) (stopped_behind part stopped) (entry_behind part entry) rest ≡ true
-tail_may phase stopped entry part rest is = second (may_part phase stopped entry part rest) _ is
-  where
-    second : (first others : Bool) → cond first others false ≡ true → others ≡ true
-    second true others is = is
-    second false others is = cc
+tail_may phase stopped entry part rest is = second_holds (may_part phase stopped entry part rest) _ is
 
 skipped_may : {m : Machine} {hand : Hand} {part : Part} (rest : List Part) → Skips m hand part
     → may_all m.state.phase m.state.stopped m.state.entry (part ∷ rest) ≡ true
@@ -353,11 +337,6 @@ lost_flags m h gone = by_flags (is_gone m.state.phase) m.state.stopped m.state.e
     by_flags true false false h is = (refl, refl)
     by_flags _ _ _ h is = cc
 
--- a part that isn't free is done while there is a target
-near_now : (gone others : Bool) → cond (cond gone false true) others false ≡ true → gone ≡ false
-near_now true others is = cc
-near_now false others is = refl
-
 lost_on : (m next : Machine) (said : Option Message) → Passed free_once m → IsLost m → Moves m said next → IsLost next
 lost_on m next said f h (Moves.responds {outcome = outcome} free at is) =
     rw (same_numbered outcome m.state, numbered_stop outcome m.state, numbered_entry outcome m.state) h
@@ -368,11 +347,11 @@ lost_on m next said f h (Moves.tells {event = Initialized} free at) = by_phase m
     by_phase Fresh h = h
     by_phase _ h = h
 lost_on m next said f h (Moves.tells {event = a_stop stopping} free at) =
-    rw (near_now (is_gone m.state.phase) _ (whole free_once f at)) refl
+    rw (first_fails (is_gone m.state.phase) _ (whole free_once f at)) refl
 lost_on m next said f h (Moves.tells {event = Terminated} free at) = refl
 lost_on m next said f h (Moves.sends free at near) = rw near refl
 lost_on m next said f h (Moves.notes {note = EntryHeld} free at) =
-    rw (near_now (is_gone m.state.phase) _ (whole free_once f at)) refl
+    rw (first_fails (is_gone m.state.phase) _ (whole free_once f at)) refl
 lost_on m next said f h (Moves.answers {question} {replied} is waits reply stays) =
     rw (
       same_replied (a_question question) replied m.state,

@@ -8,17 +8,17 @@ use Rattle.std.proofs.lemmas.List.Elements.{Contains-append_left, Contains-appen
 use Rattle.std.proofs.lemmas.List.Elements.{recursion_from_All}
 use Rattle.jdwp_commands.specs.Commands.{told_question}
 use Rattle.jdwp_commands.specs.declared.asked.Asked.TheVariants as commands
-use Rattle.machine_model.specs.Names.{a_written}
-use Rattle.machine_model.proofs.Standing.{needs_sizes}
+use Rattle.machine_model.specs.Names.{Store, Write, Writes, to_element, to_field, to_slot, variable_write, Classes}
+use Rattle.machine_model.specs.Names.{Clear, Deed, Does, Effect, Exit, Item, Lines, Part, Question, Sent, Set, Success}
+use Rattle.machine_model.specs.Names.{TargetCommand, Want, a_composite, a_question, an_effect, thread_list, a_stop}
+use Rattle.machine_model.specs.Names.{some_news, thread_changed, thread_frames, Functions, Steps, Throws, Thrown, Seen}
+use Rattle.machine_model.specs.Names.{exception_info, exception_text, Body, ShownVariable, a_value, container_children}
+use Rattle.machine_model.specs.Names.{expression_value, frame_list, scope_list, variable_list}
+use Rattle.machine_model.proofs.Standing.{needs_sizes, IsKept, Near, OfBody, PartStands, asked_in, at_front, ids_said}
+use Rattle.machine_model.proofs.Standing.{left_in, queue_in}
 use Rattle.machine_model.proofs.WriteIds.{IsWrite, OfDeed, OfStore, written_fits, written_ids, written_sized}
-use Rattle.machine_model.specs.Names.{Store, Write, Writes, to_element, to_field, to_slot, variable_write}
-use Rattle.machine_model.specs.Ids.{Id, IsNull, class, ids_asked, ids_given, ids_of_composite}
-use Rattle.machine_model.specs.Ids.{ids_read, thread_in}
+use Rattle.machine_model.specs.Ids.{Id, IsNull, class, ids_asked, ids_given, ids_of_composite, ids_read, thread_in}
 use Rattle.machine_model.specs.Ids.{frame, object}
-use Rattle.machine_model.specs.Names.{Classes, Clear, Deed, Dispose, Does, Effect, Exit, Item, Lines, Part, Question}
-use Rattle.machine_model.specs.Names.{Resume, Sent, Set, Success, Suspend, TargetCommand, Want, a_composite}
-use Rattle.machine_model.specs.Names.{a_question, a_raw, a_request, an_effect, target_end, thread_list}
-use Rattle.machine_model.specs.Names.{Initialized, Terminated, a_stop, all_threads, class_facts, entry_verified, some_news, thread_changed, thread_frames}
 use Rattle.machine_model.specs.Plans.{question_of}
 use Rattle.machine_model.specs.Replying.{wire}
 use Rattle.machine_model.specs.Requests.{Wishes, effect_due, effect_of}
@@ -31,23 +31,19 @@ use Rattle.machine_model.proofs.IdRows.{all_weak, plain_fits}
 use Rattle.machine_model.proofs.ItemIds.{HandStands, Waits, waiting_on}
 use Rattle.machine_model.proofs.HitIds.{ItemStands}
 use Rattle.machine_model.proofs.ThreadIds.{TellStands}
-use Rattle.machine_model.specs.Names.{Configured, EntryHeld, Functions, Options, Roots, Steps, StopsAt, Throws, Thrown}
-use Rattle.machine_model.specs.Names.{Seen, an_exception, exception_info, exception_text}
-use Rattle.machine_model.specs.Names.{Body, Capabilities, Continued, Failed, Nothing, ShownVariable, breakpoint_list}
-use Rattle.machine_model.specs.Names.{a_value, container_children, expression_value, frame_list, scope_list, variable_list}
 use Rattle.stop_refs.specs.declared.thing.FrameThing.{FrameThing}
 use Rattle.stop_refs.specs.declared.thing.Thing.{Thing}
 use Rattle.stop_refs.specs.declared.thing.Thing.TheVariants as things
 use Rattle.machine_model.proofs.PlanIds.{IsAskable, IsAsked, IsReplied, IsWanted, OfNamed, OfThread, OnSome, is_sizes}
-use Rattle.machine_model.proofs.PlanIds.{OfClass, OfFrameThing, OfObject, OfShownFrame, OfSeen, OfShownVariable, OfThing, OfThrown}
+use Rattle.machine_model.proofs.PlanIds.{OfClass, OfFrameThing, OfObject, OfShownFrame, OfSeen, OfShownVariable}
+use Rattle.machine_model.proofs.PlanIds.{OfThing, OfThrown}
 use Rattle.std.specs.Prelude.{zero, suc}
-use Rattle.machine_model.proofs.Standing.{IsKept, Near, OfBody, PartStands, asked_in, at_front, ids_said, left_in, queue_in}
 use Rattle.machine_model.proofs.StandingReplies.{queued_near, sizes_is}
 use Rattle.machine_model.proofs.StandingWalk.{kept_on}
-use Rattle.machine_model.proofs.Stepping.{Loses, Moves, by_moves, with_said}
-use Rattle.machine_model.proofs.WishIds.{AreWished, MaySend, SetMay, find_some, nothing_wished, weak_wished}
-use Rattle.machine_model.proofs.WishIds.{wished_may}
+use Rattle.machine_model.proofs.Stepping.{Moves, by_moves, with_said}
+use Rattle.machine_model.proofs.WishIds.{AreWished, MaySend, SetMay, find_some, nothing_wished, weak_wished, wished_may}
 use Rattle.machine_model.proofs.StandingMoves.{sized_by}
+use Rattle.machine_model.proofs.Bools.{always}
 
 -- A weaker test -------------------------------------------------------------------------------------------------------
 
@@ -275,11 +271,7 @@ question_may P sized question q = record {
   where
     by_sized : (sized : Bool) → is_sizes question ≡ not sized
         → cond (is_empty (ids_asked (commands.Question question))) true sized ≡ true
-    by_sized true first = by_empty (is_empty (ids_asked (commands.Question question)))
-      where
-        by_empty : (empty : Bool) → cond empty true true ≡ true
-        by_empty true = refl
-        by_empty false = refl
+    by_sized true first = always (is_empty (ids_asked (commands.Question question)))
     by_sized false first = subst (λ (q : Question). cond (is_empty (ids_asked (commands.Question q))) true false ≡ true)
         (sym (sizes_is question first)) refl
 

@@ -1,6 +1,7 @@
 -- Ids in rows: those of what has a spelling fit the sizes, and what has ids and numbers alone has a spelling by its
 -- ids.
-use Rattle.std.proofs.Common.{◌≡◌, ◌<◌, ◌^◌, ◌&&◌, ℕ, zero, suc, Bool, true, false, List, [], ◌∷◌, ◌++◌, refl, length, nat_lt, arith}
+use Rattle.std.proofs.Common.{◌≡◌, ◌<◌, ◌^◌, ◌&&◌, ℕ, zero, suc, Bool, true, false, List, [], ◌∷◌, ◌++◌, refl, length}
+use Rattle.std.proofs.Common.{nat_lt, arith}
 use Rattle.std.specs.List.{AllByRecursion as All, flat_map}
 use Rattle.jdwp_commands.specs.Answers.{told_answer}
 use Rattle.jdwp_commands.specs.Items as items
@@ -27,8 +28,8 @@ use Rattle.jdwp_values.specs.declared.value.Value.{Value}
 use Rattle.jdwp_values.specs.declared.value.Value.TheVariants as values
 use Rattle.jdwp_commands.specs.Listed.{class_status_row, frame_row, loaded_class_row}
 use Rattle.machine_model.specs.Ids.{Id, class, field, frame, id_of_object, ids_of_composite, ids_of_event, ids_of_item}
-use Rattle.machine_model.specs.Ids.{ids_of_listed, ids_of_part, ids_of_row}
-use Rattle.machine_model.specs.Ids.{ids_of_said, ids_of_saying, ids_of_simple, ids_of_value, method, no_thread, object}
+use Rattle.machine_model.specs.Ids.{ids_of_listed, ids_of_part, ids_of_row, ids_of_said, ids_of_saying, ids_of_simple}
+use Rattle.machine_model.specs.Ids.{ids_of_value, method, no_thread, object}
 use Rattle.machine_model.specs.Names.{Composite}
 
 -- Lists ---------------------------------------------------------------------------------------------------------------

@@ -7,16 +7,13 @@ use Rattle.jdwp_commands.specs.declared.listed.LoadedClass.{LoadedClass}
 use Rattle.jdwp_events.specs.declared.event.Event.{Event as ATargetEvent}
 use Rattle.jdwp_events.specs.declared.event.Event.TheVariants as happened
 use Rattle.jdwp_events.specs.declared.kind.Policy.{Policy}
-use Rattle.jdwp_events.specs.declared.kind.Policy.TheVariants.{NoThread, EventThread, All as AllThreads}
+use Rattle.jdwp_events.specs.declared.kind.Policy.TheVariants.{EventThread}
 use Rattle.machine_model.specs.Composites.{has_death, learnt_by, learnt_in, prepared_by, prepared_in, prepared_under}
 use Rattle.machine_model.specs.Due.{Picked, after_deed, asked_hand, passed_by, pick}
 use Rattle.machine_model.specs.Ids.{Id, class, ids_of_event}
-use Rattle.machine_model.specs.Names.{Writes}
-use Rattle.machine_model.specs.Names.{Attached, Fresh, Gone, Item, Phase, a_composite, a_raw, a_request}
-use Rattle.machine_model.specs.Names.{Part, Replied, TargetCommand, ThreadId, Want, a_question, an_effect, target_end}
-use Rattle.machine_model.specs.Names.{Classes, Configured, Deed, Dispose, EntryHeld, Event, Exit, Functions, Initialized}
-use Rattle.machine_model.specs.Names.{Lines, Note, Options, Outcome, Resume, Roots, Steps, StopsAt, Suspend, Terminated}
-use Rattle.machine_model.specs.Names.{Throws, a_stop, of_composite, of_entry, of_stop, some_news}
+use Rattle.machine_model.specs.Names.{Attached, Item, Phase, a_composite, a_raw, a_request, Part, Replied}
+use Rattle.machine_model.specs.Names.{TargetCommand, ThreadId, Want, a_question, an_effect, Deed, Event, Note, Outcome}
+use Rattle.machine_model.specs.Names.{Resume, Terminated, Throws, of_stop}
 use Rattle.machine_model.specs.Runs.{Message}
 use Rattle.machine_model.specs.Outcomes.{result_of}
 use Rattle.machine_model.specs.Replying.{hand_replied, replied_to}

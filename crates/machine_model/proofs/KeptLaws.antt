@@ -18,10 +18,11 @@ use Rattle.machine_model.specs.Telling.{after_event, numbered_by}
 use Rattle.machine_model.proofs.AskedLaws.{all_due, apart_asked, apart_filled, are_apart, need_due, was_filled}
 use Rattle.machine_model.proofs.AskedLaws.{was_more, waits_more, with_apart}
 use Rattle.machine_model.proofs.KeyLaws.{is_one}
-use Rattle.machine_model.proofs.SizeLaws.{near_end, question_sizes, sizes_replied}
+use Rattle.machine_model.proofs.SizeLaws.{question_sizes, sizes_replied}
 use Rattle.machine_model.proofs.RestLaws.{near_queue}
 use Rattle.machine_model.proofs.Stepping.{Moves, by_moves}
 use Rattle.machine_model.proofs.Testing.{same_noted, same_numbered, same_replied}
+use Rattle.machine_model.proofs.Bools.{both_hold, other_fails}
 
 -- the sizes of ids are known once they were asked and answered
 abbrev sizes_kept : Option SizesRead → List Sent → Bool
@@ -35,10 +36,6 @@ hand_kept state (Some hand) =
 
 abbrev IsKept : Machine → Type 0
 IsKept m = hand_kept m.state m.hand ≡ true
-
-both : (one other : Bool) → cond one other false ≡ true → (one ≡ true) × (other ≡ true)
-both true other is = (refl, is)
-both false other is = cc
 
 -- what is lacking is due
 way_due : (guard : Guard) (state : State) (asked : List Sent) → sizes_kept state.sizes asked ≡ true
@@ -152,7 +149,7 @@ answered_kept : (m : Machine) (hand : Hand) (question : Question) (replied : Rep
     → hand_kept (replied_to (a_question question) replied m.state) (Some (hand_replied
     (a_question question) replied hand)) ≡ true
 answered_kept m hand question replied reply stays h =
-    let (apart, kept) = both (are_apart hand.asked hand.queue) _ h in
+    let (apart, kept) = both_hold (are_apart hand.asked hand.queue) _ h in
     rw (
       failed_apart (filled question replied hand.asked) (is_failed question replied hand.asked) hand.queue
           (apart_filled question replied hand.asked hand.queue apart),
@@ -166,7 +163,7 @@ answered_kept m hand question replied reply stays h =
         (filled question replied hand.asked)) ≡ true
     by_gone true is k = refl
     by_gone false is k = sizes_answered m.state question replied hand.asked reply
-        (near_end (is_gone m.state.phase) (is_end (a_question question) replied) is stays) k
+        (other_fails (is_gone m.state.phase) (is_end (a_question question) replied) is stays) k
 
 kept_of : (m : Machine) (hand : Hand) → m.hand ≡ Some hand → IsKept m → hand_kept m.state (Some hand) ≡ true
 kept_of m hand is h = subst (λ (hand : Option Hand). hand_kept m.state hand ≡ true) is h
@@ -180,14 +177,14 @@ noted_sizes note state = grind arith
 queued_kept : (m : Machine) (hand : Hand) → is_gone m.state.phase ≡ false → hand_kept m.state (Some hand) ≡ true
     → hand_kept m.state (Some (record hand { queue = newly_lacked m.state hand })) ≡ true
 queued_kept m hand near h =
-    let (apart, kept) = both (are_apart hand.asked hand.queue) _ h in
+    let (apart, kept) = both_hold (are_apart hand.asked hand.queue) _ h in
     let sized : sizes_kept m.state.sizes hand.asked ≡ true = grind (arith, kept, near) in
     rw (new_apart m.state hand sized, near) sized
 
 asked_hand_kept : (m : Machine) (hand : Hand) (want : Want) (others : List Want) → hand.queue ≡ want ∷ others
     → hand_kept m.state (Some hand) ≡ true → hand_kept m.state (Some (asked_hand want hand)) ≡ true
 asked_hand_kept m hand want others are h =
-    let (apart, kept) = both (are_apart hand.asked hand.queue) _ h in
+    let (apart, kept) = both_hold (are_apart hand.asked hand.queue) _ h in
     let behind = (apart_asked want hand.asked others
     (subst (λ (queue : List Want). are_apart hand.asked queue ≡ true) are apart)).1 in
     rw (are, behind) (by_gone (is_gone m.state.phase) kept)
@@ -238,6 +235,6 @@ always_kept r = by_moves {Holds = λ (messages : List Message) (m : Machine). Is
 pub next_new : (m : Machine) (hand : Hand) (want : Want) (others : List Want) → IsKept m → m.hand ≡ Some hand
     → hand.queue ≡ want ∷ others → is_new want hand.asked ≡ true
 next_new m hand want others h is are =
-    let (apart, kept) = both (are_apart hand.asked hand.queue) _ (kept_of m hand is h) in
+    let (apart, kept) = both_hold (are_apart hand.asked hand.queue) _ (kept_of m hand is h) in
     (apart_asked want hand.asked others
     (subst (λ (queue : List Want). are_apart hand.asked queue ≡ true) are apart)).0

@@ -11,16 +11,11 @@ use Rattle.machine_model.specs.Knowing.{says_dead, sizes_said, thread_numbers, t
 use Rattle.machine_model.specs.Knowing.{waiting_composites, watch_set, with_facts}
 use Rattle.jdwp_commands.specs.Answers.{kind_of_answer}
 use Rattle.jdwp_commands.specs.Commands.{kind_of}
-use Rattle.machine_model.specs.Names.{a_written}
-use Rattle.machine_model.specs.Names.{Answer, Attached, Capabilities, Classes, Clear, Command, Composite, Configured}
-use Rattle.machine_model.specs.Names.{Continued, Does, Effect, EntryHeld, Event, Failed, Fresh, Gone, Initialized}
-use Rattle.machine_model.specs.Names.{Item, Lines, NamedThread, Note, Nothing, Options, Outcome, Part, Phase}
-use Rattle.machine_model.specs.Names.{Question, Replied, Roots, Set, Success, TargetCommand, Terminated, ThreadId}
-use Rattle.machine_model.specs.Names.{a_composite, a_question, a_raw, a_request, a_stop, an_answer, an_effect}
-use Rattle.machine_model.specs.Names.{an_event, breakpoint_list, entry_verified, some_news, target_end, thread_changed}
-use Rattle.machine_model.specs.Names.{thread_list}
-use Rattle.machine_model.specs.Names.{frame_list}
-use Rattle.machine_model.specs.Names.{a_value, scope_list, variable_list, Steps, StopsAt, Throws}
+use Rattle.machine_model.specs.Names.{Answer, Attached, Command, Composite, Does, Effect, EntryHeld, Event, Fresh, Gone}
+use Rattle.machine_model.specs.Names.{Initialized, Item, NamedThread, Note, Nothing, Options, Outcome, Part, Phase}
+use Rattle.machine_model.specs.Names.{Question, Replied, Success, TargetCommand, Terminated, ThreadId, a_composite}
+use Rattle.machine_model.specs.Names.{a_question, a_raw, a_request, a_stop, an_answer, an_effect, an_event, some_news}
+use Rattle.machine_model.specs.Names.{target_end, thread_changed, thread_list}
 use Rattle.machine_model.specs.Replying.{IsReply, ended_with, hand_replied, is_end, replied_to, sizes_in, unlisted_by}
 use Rattle.machine_model.specs.Replying.{knows_fact, learnt, still_unlisted, wire}
 use Rattle.machine_model.proofs.BindingFacts.{is_mapped}
@@ -43,11 +38,10 @@ use Rattle.class_tables.specs.Tables.{under}
 use Rattle.jdwp_commands.specs.declared.listed.LoadedClass.{LoadedClass}
 use Rattle.jdwp_events.specs.declared.kind.Policy.{Policy}
 use Rattle.machine_model.proofs.EarlyItems.{IsEarly, always_early, not_fresh}
-use Rattle.machine_model.proofs.HeldLaws.{asked_last, asked_owes, chosen_owes, composite_last, composite_owes}
-use Rattle.machine_model.proofs.HeldLaws.{deed_may, deed_view_is, dies_front, due_sends, end_owes, entry_held}
-use Rattle.machine_model.proofs.HeldLaws.{found_owes, free_owes, given_owes, gone_owed, held_as, held_front}
-use Rattle.machine_model.proofs.HeldLaws.{replied_last, replied_owes, row_last, row_owes, skipped_last, skipped_owes}
-use Rattle.machine_model.proofs.HeldLaws.{stop_held}
+use Rattle.machine_model.proofs.HeldLaws.{asked_last, asked_owes, chosen_owes, composite_last, composite_owes, deed_may}
+use Rattle.machine_model.proofs.HeldLaws.{deed_view_is, dies_front, due_sends, end_owes, entry_held, found_owes}
+use Rattle.machine_model.proofs.HeldLaws.{free_owes, given_owes, gone_owed, held_as, held_front, replied_last}
+use Rattle.machine_model.proofs.HeldLaws.{replied_owes, row_last, row_owes, skipped_last, skipped_owes, stop_held}
 use Rattle.machine_model.proofs.ItemLaws.{IsInOrder, in_order, ordered_on, picked_composites, read_composites}
 use Rattle.machine_model.proofs.ItemLaws.{waits_in_order}
 use Rattle.machine_model.proofs.ServedLaws.{one_more}
@@ -62,7 +56,7 @@ use Rattle.suspend_ledger.specs.Suspensions.{suspensions_by}
 use Rattle.machine_model.proofs.HoldingParts.{IsHolding, IsLost, holding, lost_flags, lost_held, numbered_entry}
 use Rattle.machine_model.proofs.HoldingParts.{numbered_stop, same_entry, same_stop}
 use Rattle.machine_model.specs.Lookups.{finished}
-use Rattle.machine_model.specs.Names.{Functions, an_exception}
+use Rattle.machine_model.proofs.Bools.{never, other_fails}
 
 -- Replies -------------------------------------------------------------------------------------------------------------
 
@@ -251,9 +245,6 @@ ended_is m command replied near last =
 same_closes : (command : Command) → is_disconnect command ≡ closes command
 same_closes command = grind arith
 
-stays_here : (gone last : Bool) → gone ≡ false → cond gone false last ≡ false → last ≡ false
-stays_here gone last near is = grind (arith, near, is)
-
 -- the target's end: nothing is held any more
 lost_seen : (m : Machine) (late : List TargetCommand) → view_of (ended_with late m) ≡ gone_view (view_of m)
 lost_seen m late = ap (λ (owed : ℕ). record (gone_view (view_of m)) { held = held_with false false owed })
@@ -365,17 +356,9 @@ begun_seen m item rest none late ends are = by_item item late ends are
     by_item (a_request request) late ends are = Sees.as_said
         (others (request_parts request.command m.state) (row_owes m.state request.command)
         (rw (row_last m.state request.command) (never (is_gone m.state.phase))) are)
-      where
-        never : (gone : Bool) → cond gone false false ≡ false
-        never true = refl
-        never false = refl
     by_item (a_composite at composite) late ends are =
         by_phase at composite m.state.phase refl (late at composite refl) are
     by_item (a_raw at body) late ends are = Sees.as_said (others [] refl (never (is_gone m.state.phase)) are)
-      where
-        never : (gone : Bool) → cond gone false false ≡ false
-        never true = refl
-        never false = refl
     by_item target_end late ends are = Sees.as_said
         (others (end_parts m.state.terminated) (end_owes m.state.stopped m.state.terminated) (rw (ends refl) refl) are)
 
@@ -458,13 +441,13 @@ view_on m next said q n k f o e h w l (Moves.asks {want = want} free room is are
     (asked_last want m.hand) refl)
 view_on m next said q n k f o e h w l (Moves.answers {question} {replied} {hand} is waits reply stays) =
     let near = near_waits m hand question q is waits in
-    let here = stays_here (is_gone m.state.phase) (is_end (a_question question) replied) near stays in
+    let here = other_fails (is_gone m.state.phase) (is_end (a_question question) replied) near stays in
     Sees.as_said (held_as m next (replied_held m (a_question question) replied)
     (replied_last (a_question question) replied m.hand)
     (replied_is m (a_question question) replied _ near here (learnt_is m question replied reply here)))
 view_on m next said q n k f o e h w l (Moves.replies {effect} {replied} {hand} is flies reply stays) =
     let near = near_flies m hand effect q is flies in
-    let here = stays_here (is_gone m.state.phase) (is_end (an_effect effect) replied) near stays in
+    let here = other_fails (is_gone m.state.phase) (is_end (an_effect effect) replied) near stays in
     Sees.as_said (held_as m next (replied_held m (an_effect effect) replied)
     (replied_last (an_effect effect) replied m.hand)
     (replied_is m (an_effect effect) replied _ near here

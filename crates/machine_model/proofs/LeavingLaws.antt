@@ -10,11 +10,9 @@ use Rattle.machine_model.specs.Due.Way.{greets as greets_way}
 use Rattle.machine_model.specs.Knowing.{is_farewell, is_fresh, view_of}
 use Rattle.machine_model.specs.Leaving.{IsFarewell, IsFirst, IsGreeting, IsInTurn, answers_farewell, deed_for}
 use Rattle.machine_model.specs.Leaving.{sends_farewell}
-use Rattle.machine_model.specs.Names.{Writes}
 use Rattle.machine_model.specs.Names.{Attach, Attached, Command, Deed, Disconnect, Dispose, Does, Doing, Exit, Fresh}
-use Rattle.machine_model.specs.Names.{Gone, Guard, Handshake, IdSizes, Item, Outcome, Part, Phase, Request, Resume}
-use Rattle.machine_model.specs.Names.{Suspend, TargetCommand, a_composite, a_question, a_raw, a_request, a_response}
-use Rattle.machine_model.specs.Names.{an_effect, target_end}
+use Rattle.machine_model.specs.Names.{Guard, Handshake, IdSizes, Item, Outcome, Part, Phase, Request, TargetCommand}
+use Rattle.machine_model.specs.Names.{a_question, a_request, a_response, an_effect}
 use Rattle.machine_model.specs.Pending.{has_such}
 use Rattle.machine_model.specs.Plans.{question_of}
 use Rattle.machine_model.specs.Rest.{request_in}
@@ -32,6 +30,7 @@ use Rattle.machine_model.proofs.ServedLaws.{owing}
 use Rattle.machine_model.proofs.Stepping.{IsAt, Loses, Moves, moved}
 use Rattle.machine_model.proofs.Tables.{once, responds_once}
 use Rattle.machine_model.proofs.Testing.{tested, whole}
+use Rattle.machine_model.proofs.Bools.{both_hold}
 
 -- Where a message stands ----------------------------------------------------------------------------------------------
 
@@ -293,7 +292,7 @@ greeting_at {messages} {m} {hand} {rest} r at =
     let h = stands_at attached sent replied at (standing r) in
     let may = split_fit (aim_of hand.item) (Part.Awaits Handshake) rest
     (fits_of attached sent replied (aim_of hand.item) (Part.Awaits Handshake ∷ rest) hand.effect h) in
-    let (for_attach, responds) = two (attaches (aim_of hand.item)) (has_response rest) may.0 in
+    let (for_attach, responds) = both_hold (attaches (aim_of hand.item)) (has_response rest) may.0 in
     let a = to_attach hand.item for_attach in
     record {
       request = a.request;
@@ -301,10 +300,6 @@ greeting_at {messages} {m} {hand} {rest} r at =
       first = first_in r at a.is_request responds;
       is_attach = a.is_attach;
     }
-  where
-    two : (first other : Bool) → cond first other false ≡ true → (first ≡ true) × (other ≡ true)
-    two true other h = (refl, h)
-    two false other h = cc
 
 -- only the guard of the handshake greets
 greeting_by : {messages : List Message} {m : Machine} {hand : Hand} {rest : List Part} (guard : Guard) → Run messages m

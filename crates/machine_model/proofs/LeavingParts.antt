@@ -3,16 +3,15 @@ use Rattle.std.proofs.Common.{◌≡◌, Bool, true, false, cond, not, ◌||◌,
 use Rattle.std.proofs.Common.{arith}
 use Rattle.machine_model.specs.Knowing.{is_farewell}
 use Rattle.machine_model.specs.Lookups.{finished}
-use Rattle.machine_model.specs.Names.{Written}
 use Rattle.machine_model.specs.Names.{Attach, Attached, Choice, Command, Decides, Deed, Disconnect, Dispose, Doing}
-use Rattle.machine_model.specs.Names.{Exit, Finding, Fresh, Gone, Handshake, Item, Leaves, Lookup, News, Part, Phase}
-use Rattle.machine_model.specs.Names.{TellsNews, a_composite, a_raw, a_request, an_effect, target_end}
+use Rattle.machine_model.specs.Names.{Exit, Finding, Handshake, Item, Leaves, Lookup, News, Part, Phase, TellsNews}
+use Rattle.machine_model.specs.Names.{a_request, an_effect}
 use Rattle.machine_model.specs.Plans.{Result}
 use Rattle.machine_model.specs.Rows.{chosen, gone_parts, gone_row, gone_tail, has_response, news_of, parts_of, told_in}
 use Rattle.machine_model.specs.Rows.{request_parts}
 use Rattle.machine_model.specs.State.{Hand, State, is_attached, is_none}
 use Rattle.machine_model.proofs.Tables.{of_decided, same}
-use Rattle.machine_model.specs.Names.{Stepped}
+use Rattle.machine_model.proofs.Bools.{both_hold, first_holds, second_more}
 
 -- What an item is for -------------------------------------------------------------------------------------------------
 
@@ -222,11 +221,7 @@ pub fits_joined : (aim : Aim) (parts rest : List Part)
 fits_joined aim [] rest is h = h
 fits_joined aim (part ∷ parts) rest is h =
     rw (responds_both parts rest, has_both is_ends parts rest, has_both is_leave parts rest)
-    (step _ _ _ is (λ others. fits_joined aim parts rest others h))
-  where
-    step : (may others now : Bool) → cond may others false ≡ true → (others ≡ true → now ≡ true)
-        → cond may now false ≡ true
-    step may others now is rest = grind (arith, is, rest)
+    (second_more _ _ _ is (λ others. fits_joined aim parts rest others h))
 
 -- an item that isn't to leave the target has no part that does
 none_leaves : (aim : Aim) (parts : List Part) → is_to_leave aim ≡ false → fits aim parts ≡ true
@@ -268,11 +263,8 @@ aside_stands attached replied aim parts effect not_so h =
 pub fits_of : (attached sent replied : Bool) (aim : Aim) (parts : List Part) (effect : Option Doing)
     → stands attached sent replied aim parts effect ≡ true → fits aim parts ≡ true
 fits_of attached sent replied aim parts effect h =
-    first_of (fits aim parts) (cond (sends_attached attached parts) (cond (cond sent (is_over aim parts) true)
+    first_holds (fits aim parts) (cond (sends_attached attached parts) (cond (cond sent (is_over aim parts) true)
     (was_left attached replied aim parts effect) false) false) h
-  where
-    first_of : (fit others : Bool) → cond fit others false ≡ true → fit ≡ true
-    first_of fit others h = grind (arith, h)
 
 pub left_of : (attached sent replied : Bool) (aim : Aim) (parts : List Part) (effect : Option Doing)
     → stands attached sent replied aim parts effect ≡ true → was_left attached replied aim parts effect ≡ true
@@ -343,11 +335,7 @@ pub split_fit : (aim : Aim) (part : Part) (rest : List Part) → fits aim (part 
     → (may_stand aim part (has_response rest) (has_part is_ends rest) (has_part is_leave rest) ≡ true)
     × (fits aim rest ≡ true)
 split_fit aim part rest h =
-    both (may_stand aim part (has_response rest) (has_part is_ends rest) (has_part is_leave rest)) (fits aim rest) h
-  where
-    both : (first others : Bool) → cond first others false ≡ true → (first ≡ true) × (others ≡ true)
-    both true others h = (refl, h)
-    both false others h = cc
+    both_hold (may_stand aim part (has_response rest) (has_part is_ends rest) (has_part is_leave rest)) (fits aim rest) h
 
 pub leaving_of : (attached sent replied : Bool) (aim : Aim) (part : Part) (rest : List Part) (effect : Option Doing)
     → is_leave part ≡ true → stands attached sent replied aim (part ∷ rest) effect ≡ true

@@ -25,6 +25,7 @@ use Rattle.machine_model.proofs.LeavingParts.{tail_stands, other_stands, split_f
 use Rattle.machine_model.proofs.LeavingParts.{sends_leave, other_deed}
 use Rattle.machine_model.proofs.Stepping.{IsAt, Loses, Moves, Skips, by_moves, by_runs, with_said}
 use Rattle.machine_model.proofs.Testing.{same_noted, same_numbered, same_replied}
+use Rattle.std.proofs.lemmas.Bool.{not-true}
 
 -- The item in hand ----------------------------------------------------------------------------------------------------
 
@@ -208,12 +209,8 @@ begun_on : (m : Machine) (item : Item) (sent replied : Bool) → m.hand ≡ None
     → hand_stands (is_attached m.state.phase) sent replied m.hand ≡ true
     → stands (is_attached m.state.phase) sent replied (aim_of item) (parts_of m.state item) None ≡ true
 begun_on m item sent replied none h =
-    rw (not_yet sent (subst (λ (held : Option Hand). hand_stands (is_attached m.state.phase) sent replied held ≡ true)
+    rw (not-true sent (subst (λ (held : Option Hand). hand_stands (is_attached m.state.phase) sent replied held ≡ true)
     none h)) (begun_stands m.state item replied)
-  where
-    not_yet : (sent : Bool) → not sent ≡ true → sent ≡ false
-    not_yet true is = cc
-    not_yet false is = refl
 
 -- an item that left the target is never done with, since the session ends with it
 dropped_on : (attached sent replied : Bool) (aim : Aim) (parts : List Part) (effect : Option Doing) → parts ≡ []

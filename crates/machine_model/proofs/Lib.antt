@@ -14,6 +14,7 @@ pub mod BindingPlans
 pub mod BindingReplies
 pub mod BindingSeen
 pub mod BindingWatches
+pub mod Bools
 pub mod BreakpointExamples
 pub mod CommandLemmas
 pub mod EarlyItems

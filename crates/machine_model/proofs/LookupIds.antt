@@ -1,10 +1,9 @@
 -- What a look-up lacks is asked with ids that its sight has: by row what its plan says.
-use Rattle.std.proofs.Common.{◌≡◌, ℕ, suc, Bool, true, false, cond, List, [], ◌∷◌, Option, Some, None, refl}
-use Rattle.std.proofs.Common.{sym, subst, zero, pos, ◌++◌, ◌==◌, ◌≤◌, arith, drop, filter, filter_map, length}
-use Rattle.std.proofs.Common.{map, nat_lt, take, zip}
-use Rattle.std.specs.List.{cons_option, list_any}
+use Rattle.std.proofs.Common.{◌≡◌, ℕ, suc, Bool, true, false, cond, List, [], ◌∷◌, Option, Some, None, refl, sym, subst}
+use Rattle.std.proofs.Common.{zero, pos, ◌++◌, ◌==◌, ◌≤◌, arith, drop, filter, filter_map, length, map, nat_lt, take}
+use Rattle.std.proofs.Common.{zip}
+use Rattle.std.specs.List.{cons_option, list_any, AllByRecursion as All, flat_map}
 use Rattle.jdwp_values.specs.Lossy.{lossy}
-use Rattle.std.specs.List.{AllByRecursion as All, flat_map}
 use Rattle.class_tables.specs.Facts.{Known}
 use Rattle.class_tables.specs.Lookups.{found_in}
 use Rattle.class_tables.specs.Tables.{keys}
@@ -14,18 +13,21 @@ use Rattle.jdwp_values.specs.declared.class.Field.{Field}
 use Rattle.jdwp_values.specs.declared.class.Method.{Method}
 use Rattle.jdwp_values.specs.declared.id.ClassId.{ClassId}
 use Rattle.jdwp_commands.specs.declared.listed.Frame.{Frame}
-use Rattle.machine_model.specs.Facts.{fact_known, lines_in, methods_in, signature_in, source_in}
+use Rattle.machine_model.specs.Facts.{fact_known, lines_in, methods_in, signature_in, source_in, above_in, fields_in}
 use Rattle.machine_model.specs.Frames.{count_from, count_in, counted_plan, frame_plan, frame_shown, frames_from}
 use Rattle.machine_model.specs.Frames.{frames_in, frames_plan, lines_plan as lines_of, methods_plan as methods_of}
 use Rattle.machine_model.specs.Frames.{shown_plan, signature_plan as signature_of, source_plan as source_of}
-use Rattle.machine_model.specs.Ids.{Id, class, ids_answered, ids_replied, method, object, thread_of}
+use Rattle.machine_model.specs.Ids.{Id, class, ids_answered, ids_replied, method, object, thread_of, field, frame}
+use Rattle.machine_model.specs.Ids.{id_of_object, ids_of_value}
 use Rattle.machine_model.specs.Lookups.{name_plan, named_by, names_plan, plan, threads_in, threads_plan}
-use Rattle.machine_model.specs.Names.{Answer, Lookup, NamedThread, Replied, ThreadId, Want}
-use Rattle.machine_model.specs.Names.{all_threads, an_answer, an_error, classes_found, class_facts}
-use Rattle.machine_model.specs.Names.{frames_found, thread_frames}
-use Rattle.machine_model.specs.Plans.{Found, Plan, Sight, answer_in, asking, beside, chained}
-use Rattle.machine_model.specs.Plans.{both, each, fact_heard, found_from, gives, heard_of}
-use Rattle.machine_model.specs.Plans.{made_with, may_hear, must_hear, need, pairs, joined, question_of}
+use Rattle.machine_model.specs.Names.{Answer, Lookup, NamedThread, Replied, ThreadId, Want, all_threads, an_answer}
+use Rattle.machine_model.specs.Names.{an_error, classes_found, class_facts, frames_found, thread_frames, Thrown}
+use Rattle.machine_model.specs.Names.{exception_found, exception_info, exception_text, text_found, Failure, Seen, Store}
+use Rattle.machine_model.specs.Names.{container_children, expression_value, no_value, value_found, variable_write}
+use Rattle.machine_model.specs.Names.{variables_found}
+use Rattle.machine_model.specs.Plans.{Found, Plan, Sight, answer_in, asking, beside, chained, both, each, fact_heard}
+use Rattle.machine_model.specs.Plans.{found_from, gives, heard_of, made_with, may_hear, must_hear, need, pairs, joined}
+use Rattle.machine_model.specs.Plans.{question_of}
 use Rattle.machine_model.specs.State.{State}
 use Rattle.machine_model.proofs.IdRows.{all_back, all_front, all_joined, is_short, none_in}
 use Rattle.class_tables.specs.declared.loaded.Loaded.{Loaded}
@@ -34,16 +36,16 @@ use Rattle.machine_model.specs.Classes.{methods_plan, package_plan, prepared_pla
 use Rattle.machine_model.specs.Exceptions.{exception_plan, heard_plan, mode_of, name_by, named_plan, text_by}
 use Rattle.machine_model.specs.Exceptions.{text_plan as text_of_exception}
 use Rattle.value_views.specs.Names.{class_name}
-use Rattle.machine_model.specs.Names.{Thrown, exception_found, exception_info, exception_text, text_found}
 use Rattle.class_tables.specs.Signatures.{package_in}
 use Rattle.wish_sets.specs.Places.{key_by}
 use Rattle.wish_sets.specs.Wanted.{Wanted}
 use Rattle.wish_sets.specs.Wished.{is_named, is_watched}
-use Rattle.std.specs.Prelude.{codes, ◌||◌}
-use Rattle.machine_model.proofs.PlanIds.{Any, AreKnown, IsAsked, IsFound, IsGood, IsHeard, IsHeardOf, IsWanted, NeedStands}
-use Rattle.machine_model.proofs.PlanIds.{OfClass, OfFrameThing, OfLookup, OfMethod, OfNamed, OfObject, OfShownFrame}
-use Rattle.machine_model.proofs.PlanIds.{OfShownVariable, OfThing, OfThread, OnSome, after_stands, beside_stands}
-use Rattle.machine_model.proofs.PlanIds.{fact_good, fact_some, found_some, need_chained, need_made, reply_heard}
+use Rattle.std.specs.Prelude.{codes, ◌||◌, Result, Ok, Err, bytes_eq, find}
+use Rattle.machine_model.proofs.PlanIds.{Any, AreKnown, IsAsked, IsFound, IsGood, IsHeard, IsHeardOf, IsWanted}
+use Rattle.machine_model.proofs.PlanIds.{NeedStands, OfClass, OfFrameThing, OfLookup, OfMethod, OfNamed, OfObject}
+use Rattle.machine_model.proofs.PlanIds.{OfShownFrame, OfShownVariable, OfThing, OfThread, OnSome, after_stands}
+use Rattle.machine_model.proofs.PlanIds.{beside_stands, fact_good, fact_some, found_some, need_chained, need_made}
+use Rattle.machine_model.proofs.PlanIds.{reply_heard}
 use Rattle.dap_messages.specs.declared.requests.Filter.{Filter}
 use Rattle.dap_messages.specs.declared.requests.Filter.TheVariants.{Both, Indexed, Named}
 use Rattle.jdwp_commands.specs.declared.listed.Slot.{Slot}
@@ -56,44 +58,36 @@ use Rattle.machine_model.specs.Children.{class_fields, elements_of, field_plan, 
 use Rattle.machine_model.specs.Children.{in_slot, is_known, is_visible, listed_variables, locals_plan}
 use Rattle.machine_model.specs.Children.{name_plan as field_name_plan, names_met, object_fields, object_named}
 use Rattle.machine_model.specs.Children.{of_classes, of_field, of_fields, of_index, of_this, of_variable, own_fields}
-use Rattle.machine_model.specs.Children.{reach, this_in, this_plan, variables_plan, visible_at}
-use Rattle.machine_model.specs.Children.{visible_plan, with_class, with_name, with_this}
-use Rattle.machine_model.specs.Facts.{above_in, fields_in}
-use Rattle.machine_model.specs.Ids.{field, frame, id_of_object, ids_of_value}
-use Rattle.machine_model.specs.Names.{Failure, Seen, Store, container_children, expression_value, no_value, value_found}
-use Rattle.machine_model.specs.Names.{variable_write}
-use Rattle.machine_model.specs.Children.{index_name}
+use Rattle.machine_model.specs.Children.{reach, this_in, this_plan, variables_plan, visible_at, visible_plan}
+use Rattle.machine_model.specs.Children.{with_class, with_name, with_this, index_name, first_byte}
 use Rattle.machine_model.specs.Writing.{Writing, child_named, child_written, digits_of, element_by, element_store}
-use Rattle.machine_model.specs.Writing.{field_store, field_written, index_written, is_index_name, local_written, slot_store}
-use Rattle.machine_model.specs.Writing.{value_for, write_by, write_with}
+use Rattle.machine_model.specs.Writing.{field_store, field_written, index_written, is_index_name, local_written}
+use Rattle.machine_model.specs.Writing.{slot_store, value_for, write_by, write_with}
 use Rattle.machine_model.proofs.WriteIds.{OfStore, OfValueRead, value_read}
 use Rattle.std.specs.Str.Parse.{digits_value}
-use Rattle.std.specs.Prelude.{Result}
-use Rattle.machine_model.specs.Names.{variables_found}
 use Rattle.dap_messages.specs.Telling.{bad_index, no_such_name}
 use Rattle.field_exprs.specs.declared.expr.Expr.{Expr}
 use Rattle.field_exprs.specs.declared.expr.Head.{Head}
 use Rattle.field_exprs.specs.declared.expr.Head.TheVariants as heads
 use Rattle.field_exprs.specs.declared.expr.Hop.{Hop}
 use Rattle.field_exprs.specs.declared.expr.Hop.TheVariants as hops
-use Rattle.machine_model.specs.Children.{first_byte}
-use Rattle.machine_model.specs.Expressions.{Sought, as_length, as_this, class_field, element_hop, element_if, field_from}
-use Rattle.machine_model.specs.Expressions.{field_hop, field_named, field_value, found_or, head_in, hop_on, hops_on}
-use Rattle.machine_model.specs.Expressions.{index_on, length_hop, length_if, missing, name_on, named_head, named_in}
-use Rattle.machine_model.specs.Expressions.{on_value, one_of, shown_value, this_by, value_plan, variable_named}
-use Rattle.std.specs.Prelude.{Ok, Err, bytes_eq, find}
+use Rattle.machine_model.specs.Expressions.{Sought, as_length, as_this, class_field, element_hop, element_if}
+use Rattle.machine_model.specs.Expressions.{field_from, field_hop, field_named, field_value, found_or, head_in, hop_on}
+use Rattle.machine_model.specs.Expressions.{hops_on, index_on, length_hop, length_if, missing, name_on, named_head}
+use Rattle.machine_model.specs.Expressions.{named_in, on_value, one_of, shown_value, this_by, value_plan}
+use Rattle.machine_model.specs.Expressions.{variable_named}
 use Rattle.stop_refs.specs.declared.thing.FrameThing.{FrameThing}
 use Rattle.stop_refs.specs.declared.thing.Thing.{Thing}
 use Rattle.stop_refs.specs.declared.thing.Thing.TheVariants as things
-use Rattle.machine_model.specs.Values.{Declared, Valued, array_plan, array_seen, by_id, class_in, class_plan as class_of}
-use Rattle.machine_model.specs.Values.{declared_plan, element_of, element_plan, is_signature, length_in, length_plan}
-use Rattle.machine_model.specs.Values.{null_plan, object_plan, object_seen, seen_by, seen_plan, string_plan, string_seen}
-use Rattle.machine_model.specs.Values.{text_in, text_plan, type_if, type_plan, typed}
+use Rattle.machine_model.specs.Values.{Declared, Valued, array_plan, array_seen, by_id, class_in}
+use Rattle.machine_model.specs.Values.{class_plan as class_of, declared_plan, element_of, element_plan, is_signature}
+use Rattle.machine_model.specs.Values.{length_in, length_plan, null_plan, object_plan, object_seen, seen_by, seen_plan}
+use Rattle.machine_model.specs.Values.{string_plan, string_seen, text_in, text_plan, type_if, type_plan, typed}
 use Rattle.machine_model.specs.Variables.{child_plan, children_plan, elements_page, elements_plan, elements_valued}
-use Rattle.machine_model.specs.Variables.{field_at, field_values, fields_of, fields_page, fields_valued}
-use Rattle.machine_model.specs.Variables.{known_at, locals_page, locals_valued, page, page_plan}
-use Rattle.machine_model.specs.Variables.{shown_as, shown_plan as values_shown, slot_at, slots_of, slots_plan}
-use Rattle.machine_model.specs.Variables.{values_in, values_known, with_known}
+use Rattle.machine_model.specs.Variables.{field_at, field_values, fields_of, fields_page, fields_valued, known_at}
+use Rattle.machine_model.specs.Variables.{locals_page, locals_valued, page, page_plan, shown_as}
+use Rattle.machine_model.specs.Variables.{shown_plan as values_shown, slot_at, slots_of, slots_plan, values_in}
+use Rattle.machine_model.specs.Variables.{values_known, with_known}
 
 abbrev OfFrame : (Id → Type 0) → ThreadId → Frame → Type 0
 OfFrame P thread one = P (frame thread.0 one.id.0) × P (class one.at.class.0) × P (method one.at.method.0)

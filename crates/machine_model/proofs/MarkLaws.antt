@@ -3,9 +3,9 @@ use Rattle.std.proofs.Common.{◌≡◌, Bool, true, false, cond, not, ◌||◌,
 use Rattle.std.proofs.Common.{subst, ◌∙◌, option_map, arith}
 use Rattle.machine_model.specs.Knowing.{has_last, is_fresh, is_last}
 use Rattle.machine_model.specs.Lookups.{finished}
-use Rattle.machine_model.specs.Names.{Attached, Command, Event, Failure, Fresh, Gone, Initialized, Item, Note, Outcome}
-use Rattle.machine_model.specs.Names.{Part, Phase, Replied, TargetCommand, Terminated, a_composite, a_question, a_raw}
-use Rattle.machine_model.specs.Names.{a_request, a_stop, an_effect, some_news, target_end}
+use Rattle.machine_model.specs.Names.{Command, Event, Failure, Fresh, Gone, Initialized, Item, Note, Outcome, Part}
+use Rattle.machine_model.specs.Names.{Phase, Replied, TargetCommand, Terminated, a_composite, a_question, a_raw}
+use Rattle.machine_model.specs.Names.{a_request, an_effect, target_end}
 use Rattle.machine_model.specs.Outcomes.{result_of}
 use Rattle.machine_model.specs.Replying.{given_up, hand_replied, replied_to}
 use Rattle.machine_model.specs.Rows.{chosen, end_parts, failure_of, gone_parts, has_response, noted, parts_by, parts_of}
@@ -18,6 +18,8 @@ use Rattle.machine_model.proofs.Tables.{are_plain, attaches, chosen_is, finished
 use Rattle.machine_model.proofs.Testing.{IsTest, Passed, same_noted, same_numbered, same_replied, whole}
 use Rattle.machine_model.specs.Composites.{composite_parts, has_death}
 use Rattle.jdwp_events.specs.declared.kind.Policy.{Policy}
+use Rattle.machine_model.proofs.Bools.{always, first_holds}
+use Rattle.std.proofs.lemmas.Bool.{not-true}
 
 -- Lists of parts ------------------------------------------------------------------------------------------------------
 
@@ -131,10 +133,7 @@ marked_none phase terminated parts over is = rw (over, mark_attach parts is, mar
 over_in : (phase : Phase) (terminated : Bool) (hand : Option Hand) → hand_marked phase terminated hand ≡ true
     → over_gone phase terminated ≡ true
 over_in phase terminated None h = h
-over_in phase terminated (Some hand) h = by_bools (over_gone phase terminated) _ h
-  where
-    by_bools : (over others : Bool) → cond over others false ≡ true → over ≡ true
-    by_bools over others is = grind (arith, is)
+over_in phase terminated (Some hand) h = first_holds (over_gone phase terminated) _ h
 
 pub none_over : (phase : Phase) (terminated : Bool) → over_gone phase terminated ≡ true → is_gone phase ≡ false
     → terminated ≡ false
@@ -182,24 +181,15 @@ told_marked : (event : Event) (state : State) (rest : List Part) → stand_once 
     → marked (after_event event state).phase (after_event event state).terminated rest ≡ true
 told_marked Initialized state rest is left =
     marked_none (after_event Initialized state).phase state.terminated rest
-    (still_over state.phase (over_of (over_gone state.phase state.terminated) _ left))
-    (unmarked (has_mark rest) is)
+    (still_over state.phase (first_holds (over_gone state.phase state.terminated) _ left))
+    (not-true (has_mark rest) is)
   where
-    unmarked : (has : Bool) → not has ≡ true → has ≡ false
-    unmarked has is = grind (arith, is)
-
-    over_of : (over others : Bool) → cond over others false ≡ true → over ≡ true
-    over_of over others is = grind (arith, is)
-
     still_over : (phase : Phase) → over_gone phase state.terminated ≡ true
         → over_gone (attached_from phase) state.terminated ≡ true
     still_over Fresh is = is
     still_over _ is = is
 told_marked Terminated state rest is left =
-    marked_none (after_event Terminated state).phase true rest refl (unmarked (has_mark rest) is)
-  where
-    unmarked : (has : Bool) → not has ≡ true → has ≡ false
-    unmarked has is = grind (arith, is)
+    marked_none (after_event Terminated state).phase true rest refl (not-true (has_mark rest) is)
 told_marked _ state rest is left = left
 
 -- what is left of a hand
@@ -246,14 +236,10 @@ marked_on m next said once h (Moves.replies {effect} {replied} is flies reply st
     (replied_marked m.state.phase m.state.terminated (an_effect effect) replied m.hand ∙ h)
 marked_on m next said once h (Moves.loses late near why) = given_marked m.hand
   where
-    gone_over : (told : Bool) → cond told true true ≡ true
-    gone_over true = refl
-    gone_over false = refl
-
     given_marked : (hand : Option Hand) → hand_marked Gone m.state.terminated (option_map given_up hand) ≡ true
-    given_marked None = gone_over m.state.terminated
+    given_marked None = always m.state.terminated
     given_marked (Some hand) =
         marked_none Gone m.state.terminated
-        (gone_parts (has_response hand.parts) hand.item) (gone_over m.state.terminated)
+        (gone_parts (has_response hand.parts) hand.item) (always m.state.terminated)
         (gone_none (has_response hand.parts) hand.item)
 marked_on m next said once h _ = h

@@ -19,27 +19,23 @@ use Rattle.machine_model.specs.Breakpoints.{has_id, is_news, with_id}
 use Rattle.machine_model.specs.Composites.{change_told, changes_in}
 use Rattle.machine_model.specs.Due.{due}
 use Rattle.machine_model.specs.Lookups.{finished}
-use Rattle.machine_model.specs.Names.{Written, variable_write}
-use Rattle.machine_model.specs.Names.{Act, Attached, Choice, Clear, Command, Decides, Does, Effect, Failure, Finding}
-use Rattle.machine_model.specs.Names.{Fresh, Gone, Initialized, Item, Leaves, Lookup, News, Part, Phase, Question}
-use Rattle.machine_model.specs.Names.{Replied, Set, TellsNews, Terminated, a_composite, a_question, a_raw, a_request}
-use Rattle.machine_model.specs.Names.{a_stop, all_threads, an_effect, an_event, class_facts, entry_verified, some_news}
-use Rattle.machine_model.specs.Names.{target_end, thread_changed}
-use Rattle.machine_model.specs.Names.{thread_frames}
-use Rattle.machine_model.specs.Names.{container_children, exception_info, exception_text, expression_value, Stepped}
+use Rattle.machine_model.specs.Names.{variable_write, Act, Attached, Choice, Command, Decides, Does, Effect, Failure}
+use Rattle.machine_model.specs.Names.{Finding, Initialized, Item, Lookup, News, Part, Phase, Question, Replied}
+use Rattle.machine_model.specs.Names.{TellsNews, Terminated, a_composite, a_question, a_raw, a_request, a_stop}
+use Rattle.machine_model.specs.Names.{an_effect, an_event, entry_verified, some_news, thread_changed, Stepped}
 use Rattle.machine_model.specs.Outcomes.{result_of}
 use Rattle.machine_model.specs.Plans.{Result}
 use Rattle.machine_model.specs.Replying.{given_up, told_by}
 use Rattle.machine_model.specs.Requests.{Wishes, wishes_after}
-use Rattle.machine_model.specs.Rows.{chosen, each_told, failure_of, gone_parts, has_response, news_of, noted}
-use Rattle.machine_model.specs.Rows.{parts_by, parts_of, refused_with, row_of, stepped_by, told_in, wanting}
+use Rattle.machine_model.specs.Rows.{chosen, each_told, failure_of, gone_parts, has_response, news_of, noted, parts_by}
+use Rattle.machine_model.specs.Rows.{parts_of, refused_with, row_of, stepped_by, told_in, wanting}
 use Rattle.machine_model.specs.Runs.{Allows, Message, Run, said}
 use Rattle.machine_model.specs.State.{Hand, Machine, State}
 use Rattle.machine_model.specs.Telling.{numbered_by}
 use Rattle.machine_model.proofs.QuietLaws.{IsQuiet, near_flies, quiet_on}
 use Rattle.machine_model.proofs.RequestLaws.{IsDue, settling, was_due}
 use Rattle.machine_model.proofs.RequestSteps.{asked_left, flying_in, flying_of, learnt_wishes, parts_left, replied_left}
-use Rattle.machine_model.proofs.Stepping.{IsAt, Loses, Moves, Skips, by_moves, by_runs, moved}
+use Rattle.machine_model.proofs.Stepping.{IsAt, Moves, Skips, by_moves, by_runs, moved}
 use Rattle.machine_model.proofs.Tables.{decided_alike, starts_updates}
 use Rattle.wish_sets.proofs.OrderLaws.{sorted-fold}
 use Rattle.wish_sets.specs.Entries.{all_entries, is_verified, verified}

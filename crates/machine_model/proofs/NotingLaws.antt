@@ -2,21 +2,18 @@
 use Rattle.std.proofs.Common.{◌≡◌, Bool, true, false, cond, not, ◌||◌, List, [], ◌∷◌, ◌++◌, Option, Some, None, refl}
 use Rattle.std.proofs.Common.{sym, ap, subst, ◌∙◌, append-nil, option_map, arith}
 use Rattle.machine_model.specs.Lookups.{finished}
-use Rattle.machine_model.specs.Names.{Written}
-use Rattle.machine_model.specs.Names.{Attached, Choice, Classes, ClientOptions, Command, Configured, Decides}
-use Rattle.machine_model.specs.Names.{EntryHeld, Event, Failure, Finding, Fresh, Gone, Initialized, Item, Leaves}
-use Rattle.machine_model.specs.Names.{Lines, Lookup, News, Note, Options, Outcome, Part, Phase, Replied, Request}
-use Rattle.machine_model.specs.Names.{Roots, TargetCommand, TellsNews, Terminated, Want, a_composite, a_question}
-use Rattle.machine_model.specs.Names.{a_raw, a_request, a_response, a_stop, an_effect, some_news, target_end}
+use Rattle.machine_model.specs.Names.{Attached, Choice, ClientOptions, Command, Decides, Event, Failure, Finding}
+use Rattle.machine_model.specs.Names.{Initialized, Item, Lookup, News, Note, Options, Outcome, Part, Phase, Replied}
+use Rattle.machine_model.specs.Names.{Request, TargetCommand, TellsNews, Terminated, Want, a_composite, a_question}
+use Rattle.machine_model.specs.Names.{a_raw, a_request, a_response, an_effect, target_end}
 use Rattle.machine_model.specs.Due.{asked_hand}
 use Rattle.machine_model.specs.Noting.{AreOptions, asked_options, options_in, options_noted, part_options}
 use Rattle.machine_model.specs.Outcomes.{result_of}
 use Rattle.machine_model.specs.Plans.{Result}
 use Rattle.machine_model.specs.Replying.{hand_replied, replied_machine, replied_to}
 use Rattle.machine_model.specs.Rest.{request_in, without_response}
-use Rattle.machine_model.specs.Rows.{chosen, failure_of, gone_parts, has_response, is_response, told_in, noted, parts_by}
-use Rattle.machine_model.specs.Rows.{news_of}
-use Rattle.machine_model.specs.Rows.{parts_of, request_parts, row_of, wanting}
+use Rattle.machine_model.specs.Rows.{chosen, failure_of, gone_parts, has_response, is_response, told_in, noted}
+use Rattle.machine_model.specs.Rows.{parts_by, news_of, parts_of, request_parts, row_of, wanting}
 use Rattle.machine_model.specs.Runs.{Message, Run}
 use Rattle.machine_model.specs.State.{Hand, Machine, State, is_gone, knowing, left}
 use Rattle.machine_model.specs.Telling.{after_event, numbered_by, outcome_told, response_to}
@@ -26,7 +23,7 @@ use Rattle.machine_model.proofs.Stepping.{IsAt, Loses, Moves, Skips, by_runs, wi
 use Rattle.machine_model.proofs.Tables.{chosen_is, finished_is, has_joined, of_decided, once, once_in, responds_once}
 use Rattle.machine_model.proofs.Tables.{row_is}
 use Rattle.machine_model.proofs.Testing.{IsTest, Passed, same_noted, same_numbered, same_replied, tested, whole}
-use Rattle.machine_model.specs.Names.{Functions, Stepped, Steps, StopsAt, Throws}
+use Rattle.std.proofs.lemmas.Bool.{not-true}
 
 -- Lists of parts ------------------------------------------------------------------------------------------------------
 
@@ -358,7 +355,7 @@ responded_on : (messages : List Message) (m : Machine) (hand : Hand) (rest : Lis
     → Noted (messages ++ Message.tells (response_to request (outcome_told outcome m.state)) ∷ [])
     (left (knowing m (numbered_by outcome m.state)) hand rest)
 responded_on messages m hand rest request outcome single last at is n =
-    let none : has_response rest ≡ false = unsaid (has_response rest) single in record {
+    let none : has_response rest ≡ false = not-true (has_response rest) single in record {
       said = λ near.
           let before = sym (ap is_gone (same_numbered outcome m.state)) ∙ near in
           let asks = subst (λ (item : Item). FitsItem item (Part.Responds outcome
@@ -374,9 +371,6 @@ responded_on messages m hand rest request outcome single last at is n =
       fits = λ near. fits_tail hand.item (Part.Responds outcome) rest last
           (fits_at at (n.fits (sym (ap is_gone (same_numbered outcome m.state)) ∙ near)));
     }
-  where
-    unsaid : (has : Bool) → not has ≡ true → has ≡ false
-    unsaid has is = grind (arith, is)
 
 asked_options_same : (want : Want) (hand : Option Hand) (options : ClientOptions)
     → options_in (option_map (asked_hand want) hand) options ≡ options_in hand options

@@ -8,15 +8,15 @@ use Rattle.machine_model.specs.Asking.{AreAsked, is_aside}
 use Rattle.machine_model.specs.Due.{Picked, asked_hand, asked_now, begun, pick}
 use Rattle.machine_model.specs.Lookups.{finished, found_for, lookup_responds}
 use Rattle.machine_model.specs.Names.{Choice, Does, Doing, Event, Finding, Initialized, Item, Lookup, Outcome, Part}
-use Rattle.machine_model.specs.Names.{Phase, Request, TargetCommand, Terminated, a_composite, a_question, a_raw}
-use Rattle.machine_model.specs.Names.{a_request, a_stop, an_effect, an_event, some_news, target_end}
+use Rattle.machine_model.specs.Names.{Phase, Request, TargetCommand, Terminated, a_question, a_request, an_effect}
+use Rattle.machine_model.specs.Names.{an_event}
 use Rattle.machine_model.specs.Outcomes.{AreExplained, IsExplained, IsInHand, Leads, Reason, answer_part, responds}
 use Rattle.machine_model.specs.Outcomes.{result_of}
 use Rattle.machine_model.specs.Plans.{Need, is_done, question_of}
 use Rattle.machine_model.specs.Replying.{given_up, hand_replied, replied_machine}
 use Rattle.machine_model.specs.Rest.{AreAnswered, request_in, requests_of, response_by, responses_of}
-use Rattle.machine_model.specs.Rows.{choice_responds, chosen, gone_parts, gone_row, has_response, is_response}
-use Rattle.machine_model.specs.Rows.{parts_of, taken}
+use Rattle.machine_model.specs.Rows.{choice_responds, chosen, gone_parts, gone_row, has_response, is_response, parts_of}
+use Rattle.machine_model.specs.Rows.{taken}
 use Rattle.machine_model.specs.Runs.{Message, Run}
 use Rattle.machine_model.specs.State.{Hand, Machine, State, in_hand, is_gone, knowing, left}
 use Rattle.machine_model.specs.Telling.{after_event, attached_from, event_told, outcome_told, response_to}

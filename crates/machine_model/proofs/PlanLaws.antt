@@ -1,6 +1,6 @@
 -- How a plan is read by the replies so far: it has its value, fails by its first error, or lacks what is open.
-use Rattle.std.proofs.Common.{◌≡◌, ◌≤◌, inl, inr, ℕ, zero, suc, Bool, true, false, cond, List, [], ◌∷◌, ◌++◌}
-use Rattle.std.proofs.Common.{Option, Some, None, refl, sym, ap, subst, ◌∙◌, arith, nat_le, Contains, ⊎_elim, ◌+◌}
+use Rattle.std.proofs.Common.{◌≡◌, ◌≤◌, inl, inr, ℕ, zero, suc, Bool, true, false, cond, List, [], ◌∷◌, ◌++◌, Option}
+use Rattle.std.proofs.Common.{Some, None, refl, sym, ap, subst, ◌∙◌, arith, nat_le, Contains, ⊎_elim, ◌+◌}
 use Rattle.std.proofs.lemmas.List.Elements.{Contains-append_cases, Contains-append_left, Contains-append_right}
 use Rattle.std.proofs.lemmas.List.Elements.{Contains-push, Contains-push_cases}
 use Rattle.machine_model.specs.Facts.{fact_known}
@@ -8,9 +8,8 @@ use Rattle.machine_model.specs.Names.{Answer, Question, Replied, Sent, Want, an_
 use Rattle.machine_model.specs.PlanLaws.{FailsFirst, Gives, HasMet, HasNoReply, Hears, IsMissing, IsOpen, IsRefused}
 use Rattle.machine_model.specs.PlanLaws.{IsUnheard, LacksOpen, Reaches, RepliedAt}
 use Rattle.machine_model.specs.Plans.{Fault, Found, Need, Plan, Sight, after, asks_for, beside, earlier, fact_heard}
-use Rattle.machine_model.specs.Plans.{fact_replied}
-use Rattle.machine_model.specs.Plans.{fails, found_at, found_from, gives, has, heard_of, lacks, may_hear, must_by}
-use Rattle.machine_model.specs.Plans.{must_hear, need, pairs, wants}
+use Rattle.machine_model.specs.Plans.{fact_replied, fails, found_at, found_from, gives, has, heard_of, lacks, may_hear}
+use Rattle.machine_model.specs.Plans.{must_by, must_hear, need, pairs, wants}
 
 -- What was heard ------------------------------------------------------------------------------------------------------
 

@@ -1,10 +1,10 @@
 -- What the gate says of the item in hand; and in a target that is gone, no command of it is pending.
-use Rattle.std.proofs.Common.{◌≡◌, Bool, true, false, cond, not, ◌||◌, List, [], ◌∷◌, ◌++◌, Option, Some, None}
-use Rattle.std.proofs.Common.{refl, sym, ap, subst, ◌∙◌, option_map, arith}
+use Rattle.std.proofs.Common.{◌≡◌, Bool, true, false, cond, not, ◌||◌, List, [], ◌∷◌, ◌++◌, Option, Some, None, refl}
+use Rattle.std.proofs.Common.{sym, ap, subst, ◌∙◌, option_map, arith}
 use Rattle.machine_model.specs.Due.{Load, Picked, busy, can_read, clear, hand_load, lacking_more, load_of, newly_lacked}
 use Rattle.machine_model.specs.Due.{passed_by, pick, queued, waiting}
 use Rattle.machine_model.specs.Names.{Effect, Event, Initialized, Item, Phase, Question, Sent, Terminated, a_composite}
-use Rattle.machine_model.specs.Names.{a_question, a_raw, a_request, a_stop, an_effect, some_news, target_end}
+use Rattle.machine_model.specs.Names.{a_question, a_raw, a_request, an_effect, target_end}
 use Rattle.machine_model.specs.Replying.{given_up, is_waiting, replied_to}
 use Rattle.machine_model.specs.Rest.{hand_silent}
 use Rattle.machine_model.specs.Runs.{Message}

@@ -1,21 +1,17 @@
 -- Frames and containers are numbered as they are first told in a stop: what each move keeps.
-use Rattle.std.proofs.Common.{◌≡◌, ◌≤◌, ◌<◌, ◌+◌, ℕ, zero, suc, Bool, true, false, cond, List, [], ◌∷◌, ◌++◌}
-use Rattle.std.proofs.Common.{filter, filter_map, length, map}
-use Rattle.std.proofs.Common.{Option, Some, None, refl, sym, ap, subst, ◌∙◌, arith, rules, append-nil, option_map}
+use Rattle.std.proofs.Common.{◌≡◌, ◌≤◌, ◌<◌, ◌+◌, ℕ, zero, suc, Bool, true, false, List, [], ◌∷◌, ◌++◌, filter}
+use Rattle.std.proofs.Common.{filter_map, length, map, Option, Some, None, refl, sym, ap, subst, ◌∙◌, arith, rules}
+use Rattle.std.proofs.Common.{append-nil, option_map}
 use Rattle.std.specs.Prelude.{if◌then◌else◌, option_to_list}
 use Rattle.std.specs.List.{cons_option, list_any, position_or_len}
 use Rattle.std.proofs.lemmas.List.{append_assoc, length-append}
 use Rattle.machine_model.specs.Due.{after_deed}
 use Rattle.machine_model.specs.Frames.{frame_by, frame_told}
 use Rattle.machine_model.specs.Knowing.{may_send, view_of}
-use Rattle.machine_model.specs.Names.{Writes, a_written}
-use Rattle.machine_model.specs.Names.{Capabilities, Clear, ClientOptions, Continued, Deed, Dispose, Does, Effect, Event}
-use Rattle.machine_model.specs.Names.{Exit, Failed, Initialized, Item, Note, Nothing, Outcome, Part, Replied, Request}
-use Rattle.machine_model.specs.Names.{Resume, Set, ShownFrame, ShownVariable, Spot, Success, Suspend, TargetCommand}
-use Rattle.machine_model.specs.Names.{Terminated}
-use Rattle.machine_model.specs.Names.{a_composite, a_question, a_raw, a_request, a_stop, an_effect, an_event}
-use Rattle.machine_model.specs.Names.{breakpoint_list, entry_verified, frame_list, of_composite, of_entry, of_stop}
-use Rattle.machine_model.specs.Names.{scope_list, some_news, target_end, thread_changed, thread_list, variable_list}
+use Rattle.machine_model.specs.Names.{Clear, ClientOptions, Deed, Does, Effect, Event, Item, Note, Outcome, Part}
+use Rattle.machine_model.specs.Names.{Replied, Request, Resume, Set, ShownFrame, ShownVariable, Spot, Success}
+use Rattle.machine_model.specs.Names.{TargetCommand, Terminated, a_question, a_request, an_effect, an_event, frame_list}
+use Rattle.machine_model.specs.Names.{of_stop, scope_list, variable_list, a_value}
 use Rattle.machine_model.specs.ReferenceNumbers.{AreNumbered, HaveReferences, ReferencesAre, ends_stop, frame_number}
 use Rattle.machine_model.specs.ReferenceNumbers.{not_zero, references_by, variable_number}
 use Rattle.machine_model.specs.References.{things_of, with_things}
@@ -25,7 +21,7 @@ use Rattle.machine_model.specs.Rows.{noted, taken}
 use Rattle.machine_model.specs.Runs.{Message, Run}
 use Rattle.machine_model.specs.State.{Hand, Machine, State, numbers_over}
 use Rattle.machine_model.specs.Telling.{after_event, event_told, numbered_by, outcome_told, response_to}
-use Rattle.machine_model.specs.Variables.{reference_of, value_told, variable_told}
+use Rattle.machine_model.specs.Variables.{reference_of, variable_told}
 use Rattle.machine_model.proofs.HeldLaws.{deed_may}
 use Rattle.machine_model.proofs.HoldingParts.{IsHolding, holding}
 use Rattle.machine_model.proofs.RequestSteps.{is_deed}
@@ -36,7 +32,7 @@ use Rattle.stop_refs.specs.Things.{same_thing}
 use Rattle.stop_refs.specs.declared.thing.Thing.{Thing}
 use Rattle.stop_refs.specs.declared.thing.Thing.TheVariants.{Frame as a_frame, Locals as some_locals}
 use Rattle.wish_sets.specs.Wishes.{WishChange, clears, next_change, sets}
-use Rattle.machine_model.specs.Names.{a_value, an_exception}
+use Rattle.machine_model.proofs.Bools.{first_holds}
 
 -- Places --------------------------------------------------------------------------------------------------------------
 
@@ -295,12 +291,8 @@ deed_on _ state in_stop h = aside state.numbers _ refl refl h
 
 in_its_stop : {m : Machine} {hand : Hand} {deed : Deed} {rest : List Part} → IsHolding m
     → IsAt m hand (Part.Sends deed) rest → deed ≡ Resume of_stop → m.state.stopped ≡ true
-in_its_stop {m} {hand} {deed} {rest} w at is = by_may m.state.stopped _
+in_its_stop {m} {hand} {deed} {rest} w at is = first_holds m.state.stopped _
     (subst (λ (deed : Deed). may_send (an_effect (Does deed)) (view_of m) ≡ true) is (deed_may m hand deed rest w at))
-  where
-    by_may : (stopped held : Bool) → cond stopped held false ≡ true → stopped ≡ true
-    by_may true held may = refl
-    by_may false held may = cc
 
 request_on : {messages : List Message} (numbers : InHand) (effect : Effect) → is_deed effect ≡ false
     → AreOf messages numbers → AreOf (messages ++ Message.sends (an_effect effect) ∷ []) numbers

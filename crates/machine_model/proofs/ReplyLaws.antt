@@ -6,10 +6,9 @@ use Rattle.jdwp_commands.specs.Answers.{kind_of_answer}
 use Rattle.jdwp_commands.specs.declared.answer.Answer.TheVariants as answers
 use Rattle.jdwp_commands.specs.declared.kind.CommandKind.TheVariants as kinds
 use Rattle.jdwp_commands.specs.declared.kind.EffectKind.TheVariants as effect_kinds
-use Rattle.machine_model.specs.EventRequests.{IsAsReplied, StandsAsReplied, is_set_of, refused_by_effect}
-use Rattle.machine_model.specs.EventRequests.{requests_of, about_set, set_since}
-use Rattle.machine_model.specs.Names.{Answer, Attached, Clear, Does, Effect, Part, Replied, Set}
-use Rattle.machine_model.specs.Names.{an_answer, an_effect, an_error}
+use Rattle.machine_model.specs.EventRequests.{IsAsReplied, StandsAsReplied, is_set_of, refused_by_effect, requests_of}
+use Rattle.machine_model.specs.EventRequests.{about_set, set_since}
+use Rattle.machine_model.specs.Names.{Answer, Attached, Clear, Effect, Part, Replied, Set, an_answer, an_effect}
 use Rattle.machine_model.specs.Replying.{IsReply}
 use Rattle.machine_model.specs.Requests.{Wishes, request_in, set_to, wishes_after, effect_due}
 use Rattle.machine_model.specs.Rest.{IsAtRest}

@@ -1,13 +1,11 @@
 -- The effect in flight is the one that is due, what stands is tidy, and at rest nothing is to be cleared or set.
-use Rattle.std.proofs.Common.{◌≡◌, ℕ, Bool, true, false, List, [], ◌∷◌, ◌++◌, Option, Some, None, refl}
-use Rattle.std.proofs.Common.{sym, ap, subst, ◌∙◌, inl, inr, arith}
+use Rattle.std.proofs.Common.{◌≡◌, ℕ, Bool, true, false, List, [], ◌∷◌, ◌++◌, Option, Some, None, refl, sym, ap, subst}
+use Rattle.std.proofs.Common.{◌∙◌, inl, inr, arith}
 use Rattle.machine_model.specs.EventRequests.{IsSettled}
 use Rattle.machine_model.specs.Lookups.{finished}
-use Rattle.machine_model.specs.Names.{Written}
-use Rattle.machine_model.specs.Names.{Attached, Choice, Clear, Command, Decides, Does, Effect, Finding, Fresh}
+use Rattle.machine_model.specs.Names.{Written, Attached, Choice, Clear, Command, Does, Effect, Finding, Fresh}
 use Rattle.machine_model.specs.Names.{Initialized, Item, Leaves, Lookup, Note, Part, Phase, Replied, Set, TellsNews}
-use Rattle.machine_model.specs.Names.{Terminated, a_composite, a_question, a_raw, a_request, a_stop, an_answer}
-use Rattle.machine_model.specs.Names.{an_effect, an_error, some_news, target_end}
+use Rattle.machine_model.specs.Names.{Terminated, a_question, a_raw, a_request, a_stop, an_answer, an_effect, some_news}
 use Rattle.machine_model.specs.Outcomes.{result_of}
 use Rattle.machine_model.specs.Replying.{replied_to}
 use Rattle.machine_model.specs.Requests.{Wishes, effect_due, request_in, set_to, wishes_after}
@@ -18,9 +16,7 @@ use Rattle.machine_model.specs.State.{Hand, Machine, State, is_attached, is_gone
 use Rattle.machine_model.proofs.RestLaws.{no_late}
 use Rattle.machine_model.proofs.SizeLaws.{is_idle}
 use Rattle.machine_model.proofs.Stepping.{IsAt, Moves, Skips, by_runs}
-use Rattle.machine_model.proofs.Tables.{are_followed, followed, followed_test, rewants, starts_updates}
-use Rattle.machine_model.specs.Names.{Stepped}
-use Rattle.machine_model.proofs.Tables.{told_alike}
+use Rattle.machine_model.proofs.Tables.{are_followed, followed, followed_test, rewants, starts_updates, told_alike}
 use Rattle.machine_model.proofs.Testing.{same_noted, same_numbered, same_replied, Passed, passed_on, whole}
 use Rattle.machine_model.proofs.WishLemmas.{new_set_due, none_due_change}
 use Rattle.wish_sets.proofs.LeftLaws.{at_rest}

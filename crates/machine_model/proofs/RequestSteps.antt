@@ -1,13 +1,11 @@
 -- What each move is to the event requests: nothing, an effect that is sent, or the reply to one.
-use Rattle.std.proofs.Common.{◌≡◌, Bool, true, false, cond, List, [], ◌∷◌, ◌++◌, Option, Some, None, refl, sym, ap}
-use Rattle.std.proofs.Common.{◌∙◌, ◌⊎◌, inl, inr, option_map, arith, ◌||◌}
+use Rattle.std.proofs.Common.{◌≡◌, Bool, true, false, cond, List, [], ◌∷◌, ◌++◌, Option, Some, None, refl, sym, ap, ◌∙◌}
+use Rattle.std.proofs.Common.{◌⊎◌, inl, inr, option_map, arith, ◌||◌}
 use Rattle.machine_model.specs.Due.{asked_hand, clear, load_of}
 use Rattle.machine_model.specs.Lookups.{finished}
-use Rattle.machine_model.specs.Names.{Written}
-use Rattle.machine_model.specs.Names.{Classes, Clear, Configured, Does, Doing, Effect, EntryHeld, Event, Lines, Note}
-use Rattle.machine_model.specs.Names.{Options, Outcome, Part, Phase, Question, Replied, Roots, Set, TargetCommand}
-use Rattle.machine_model.specs.Names.{Want, a_question, an_effect, Choice, Decides, Functions, Leaves, Stepped, Steps}
-use Rattle.machine_model.specs.Names.{StopsAt, TellsNews, Throws}
+use Rattle.machine_model.specs.Names.{Written, Classes, Clear, Does, Doing, Effect, Event, Lines, Note, Outcome, Part}
+use Rattle.machine_model.specs.Names.{Phase, Question, Replied, Set, TargetCommand, Want, a_question, an_effect, Choice}
+use Rattle.machine_model.specs.Names.{Decides, Functions, Leaves, Stepped, Steps, StopsAt, TellsNews}
 use Rattle.machine_model.specs.Outcomes.{result_of}
 use Rattle.machine_model.specs.Replying.{IsReply, hand_replied, told_by}
 use Rattle.machine_model.specs.Requests.{effect_due, wishes_after}

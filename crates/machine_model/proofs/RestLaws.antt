@@ -1,6 +1,6 @@
 -- At rest nothing is in hand, and no item waits but composites that can't be read yet.
-use Rattle.std.proofs.Common.{◌≡◌, Bool, true, false, cond, not, ◌||◌, ◌⊎◌, inl, inr, List, [], ◌∷◌, ◌++◌, Option}
-use Rattle.std.proofs.Common.{Some, None, refl, sym, subst, ◌∙◌, arith}
+use Rattle.std.proofs.Common.{◌≡◌, Bool, true, false, cond, not, ◌||◌, ◌⊎◌, inl, inr, List, [], ◌∷◌, ◌++◌, Option, Some}
+use Rattle.std.proofs.Common.{None, refl, sym, subst, ◌∙◌, arith}
 use Rattle.std.specs.List.{flat_map}
 use Rattle.machine_model.specs.Due.{Due, Load, Picked, asked_first, asked_next, busy, can_read, clear, due, due_by}
 use Rattle.machine_model.specs.Due.{gated, hand_due, hand_load, is_full, lacked_by, lacking_more, lets, load_of}

@@ -2,7 +2,7 @@
 -- frames: by row what its plan may want.
 use Rattle.std.proofs.Common.{◌==◌, ◌&&◌, ℕ, zero, suc, pos, Bool, true, false, not, List, [], ◌∷◌, ◌++◌, None, refl}
 use Rattle.std.proofs.Common.{Option, Some}
-use Rattle.std.specs.Prelude.{codes}
+use Rattle.std.specs.Prelude.{codes, Ok, Err, bytes_eq, nat_lt}
 use Rattle.std.specs.List.{list_any}
 use Rattle.dap_messages.specs.declared.requests.Filter.{Filter}
 use Rattle.dap_messages.specs.declared.requests.Filter.TheVariants.{Both, Indexed, Named}
@@ -18,22 +18,20 @@ use Rattle.machine_model.specs.Children.{Child, FieldOf, above_plan, chain, chai
 use Rattle.machine_model.specs.Children.{fields_named, fields_plan, listed_variables, locals_plan}
 use Rattle.machine_model.specs.Children.{name_plan as field_name_plan, object_fields, of_classes, of_field, reach}
 use Rattle.machine_model.specs.Children.{this_in, this_plan, variables_plan, visible_at, visible_plan, with_class}
-use Rattle.machine_model.specs.Children.{with_this}
+use Rattle.machine_model.specs.Children.{with_this, Place, index_name, of_index, first_byte}
 use Rattle.machine_model.specs.Exceptions.{exception_plan, heard_plan, mode_of, name_by, named_plan, text_by}
 use Rattle.machine_model.specs.Exceptions.{text_plan as thrown_text}
 use Rattle.machine_model.specs.Facts.{above_in, fields_in, signature_in}
 use Rattle.machine_model.specs.Frames.{count_from, count_in, counted_plan, frame_plan, frame_shown, frames_from}
-use Rattle.machine_model.specs.Frames.{frames_in}
-use Rattle.machine_model.specs.Frames.{frames_plan, lines_plan as lines_of, methods_plan as methods_of, shown_plan}
-use Rattle.machine_model.specs.Frames.{signature_plan as signature_of, source_plan as source_of}
+use Rattle.machine_model.specs.Frames.{frames_in, frames_plan, lines_plan as lines_of, methods_plan as methods_of}
+use Rattle.machine_model.specs.Frames.{shown_plan, signature_plan as signature_of, source_plan as source_of}
 use Rattle.machine_model.specs.Harmless.{is_harmless}
 use Rattle.machine_model.specs.Lookups.{name_plan, names_plan, threads_in, threads_plan}
-use Rattle.machine_model.specs.Names.{Answer, ClassId, ThreadId, Thrown, Want, exception_found, frames_found, text_found}
-use Rattle.machine_model.specs.Names.{Failure, Store, no_value, value_found, variables_found}
-use Rattle.machine_model.specs.Children.{Place, index_name, of_index}
+use Rattle.machine_model.specs.Names.{Answer, ClassId, ThreadId, Thrown, Want, exception_found, frames_found}
+use Rattle.machine_model.specs.Names.{text_found, Failure, Store, no_value, value_found, variables_found}
 use Rattle.machine_model.specs.Writing.{Writing, child_named, child_written, digits_of, element_by, element_store}
-use Rattle.machine_model.specs.Writing.{field_store, field_written, index_written, is_index_name, local_written, slot_store}
-use Rattle.machine_model.specs.Writing.{value_for, write_by, write_with}
+use Rattle.machine_model.specs.Writing.{field_store, field_written, index_written, is_index_name, local_written}
+use Rattle.machine_model.specs.Writing.{slot_store, value_for, write_by, write_with}
 use Rattle.std.specs.Str.Parse.{digits_value}
 use Rattle.dap_messages.specs.Telling.{bad_index, no_such_name}
 use Rattle.field_exprs.specs.declared.expr.Expr.{Expr}
@@ -43,22 +41,20 @@ use Rattle.field_exprs.specs.declared.expr.Hop.{Hop}
 use Rattle.field_exprs.specs.declared.expr.Hop.TheVariants as hops
 use Rattle.jdwp_values.specs.declared.class.Field.{Field}
 use Rattle.jdwp_values.specs.declared.class.Variable.{Variable}
-use Rattle.machine_model.specs.Children.{first_byte}
-use Rattle.machine_model.specs.Expressions.{Sought, as_length, as_this, class_field, element_hop, element_if, field_from}
-use Rattle.machine_model.specs.Expressions.{field_hop, field_named, field_value, found_or, head_in, hop_on, hops_on}
-use Rattle.machine_model.specs.Expressions.{index_on, length_hop, length_if, missing, name_on, named_head, named_in}
-use Rattle.machine_model.specs.Expressions.{on_value, one_of, shown_value, value_plan, variable_named}
-use Rattle.std.specs.Prelude.{Ok, Err, bytes_eq, nat_lt}
+use Rattle.machine_model.specs.Expressions.{Sought, as_length, as_this, class_field, element_hop, element_if}
+use Rattle.machine_model.specs.Expressions.{field_from, field_hop, field_named, field_value, found_or, head_in, hop_on}
+use Rattle.machine_model.specs.Expressions.{hops_on, index_on, length_hop, length_if, missing, name_on, named_head}
+use Rattle.machine_model.specs.Expressions.{named_in, on_value, one_of, shown_value, value_plan, variable_named}
 use Rattle.machine_model.specs.Plans.{Plan, asking, both, chained, each, gives, made_with, question_of}
 use Rattle.machine_model.specs.State.{State}
-use Rattle.machine_model.specs.Values.{Declared, Valued, array_plan, array_seen, by_id, class_in, class_plan as class_of}
-use Rattle.machine_model.specs.Values.{declared_plan, element_of, element_plan, is_signature, length_in, length_plan}
-use Rattle.machine_model.specs.Values.{null_plan, object_plan, object_seen, seen_by, seen_plan, string_plan, string_seen}
-use Rattle.machine_model.specs.Values.{text_in, text_plan, type_if, type_plan, typed}
+use Rattle.machine_model.specs.Values.{Declared, Valued, array_plan, array_seen, by_id, class_in}
+use Rattle.machine_model.specs.Values.{class_plan as class_of, declared_plan, element_of, element_plan, is_signature}
+use Rattle.machine_model.specs.Values.{length_in, length_plan, null_plan, object_plan, object_seen, seen_by, seen_plan}
+use Rattle.machine_model.specs.Values.{string_plan, string_seen, text_in, text_plan, type_if, type_plan, typed}
 use Rattle.machine_model.specs.Variables.{child_plan, children_plan, elements_page, elements_plan, elements_valued}
-use Rattle.machine_model.specs.Variables.{field_values, fields_of, fields_page, fields_valued, locals_page, locals_valued}
-use Rattle.machine_model.specs.Variables.{page, page_plan, shown_as, shown_plan as values_shown, slots_of, slots_plan}
-use Rattle.machine_model.specs.Variables.{values_in, with_known}
+use Rattle.machine_model.specs.Variables.{field_values, fields_of, fields_page, fields_valued, locals_page}
+use Rattle.machine_model.specs.Variables.{locals_valued, page, page_plan, shown_as, shown_plan as values_shown}
+use Rattle.machine_model.specs.Variables.{slots_of, slots_plan, values_in, with_known}
 use Rattle.machine_model.proofs.BindingPlans.{AllWants, asks, chains, every, makes, wants_other}
 use Rattle.value_views.specs.Names.{class_name}
 use Rattle.machine_model.proofs.Frameless.{asks_frames}

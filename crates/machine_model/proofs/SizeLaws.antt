@@ -7,8 +7,8 @@ use Rattle.jdwp_commands.specs.declared.question.Question.TheVariants as questio
 use Rattle.machine_model.specs.Due.{asked_hand, pick}
 use Rattle.machine_model.specs.Lookups.{finished}
 use Rattle.machine_model.specs.Names.{Answer, Attached, Event, Failure, Fresh, Gone, IdSizes, Item, Outcome, Part}
-use Rattle.machine_model.specs.Names.{Phase, Question, Replied, TargetCommand, Want, a_composite, a_question, a_raw}
-use Rattle.machine_model.specs.Names.{a_request, an_answer, an_effect, target_end, Command, Note}
+use Rattle.machine_model.specs.Names.{Phase, Question, Replied, TargetCommand, Want, a_question, a_raw, a_request}
+use Rattle.machine_model.specs.Names.{an_answer, an_effect, Command, Note}
 use Rattle.machine_model.specs.Replying.{IsReply, hand_replied, is_end, replied_to, shows_end, sizes_in, wire}
 use Rattle.machine_model.specs.Responses.{IsIdle, are_raw}
 use Rattle.machine_model.specs.Rest.{IsAtRest}
@@ -20,6 +20,7 @@ use Rattle.machine_model.proofs.RestLaws.{at_rest, none_waiting}
 use Rattle.machine_model.proofs.Stepping.{IsAt, Moves, Skips, by_moves}
 use Rattle.machine_model.specs.Outcomes.{result_of}
 use Rattle.machine_model.proofs.Tables.{are_plain, chosen_is, finished_is, has_attach, plain_attach}
+use Rattle.machine_model.proofs.Bools.{other_fails}
 
 -- it waits for the sizes of ids
 abbrev sizes_first : Part → Bool
@@ -96,9 +97,6 @@ sized_by phase sizes later parts grows h = by_tests (is_gone phase) (is_attached
         (then_ || guard) true) ≡ true
     by_tests gone needs now then_ guard grows h = grind (arith, grows, h)
 
-pub near_end : (gone last : Bool) → gone ≡ false → cond gone false last ≡ false → last ≡ false
-near_end gone last near is = grind (arith, near, is)
-
 -- a reply keeps the invariant
 replied_sized : (m : Machine) (command : TargetCommand) (replied : Replied) → IsReply m.state.sizes command replied
     → shows_end m.state.phase command replied ≡ false → IsSized m
@@ -111,7 +109,7 @@ replied_sized m (a_question question) replied reply stays h = by_gone (is_gone m
     by_gone true gone = rw gone refl
     by_gone false near = sized_by m.state.phase m.state.sizes (replied_to (a_question question) replied m.state).sizes
         (parts_in m.hand) (question_sizes m.state question replied reply
-        (near_end (is_gone m.state.phase) (is_end (a_question question) replied) near stays)) h
+        (other_fails (is_gone m.state.phase) (is_end (a_question question) replied) near stays)) h
 
 pub same_phase : (command : TargetCommand) (replied : Replied) (state : State)
     → (replied_to command replied state).phase ≡ state.phase

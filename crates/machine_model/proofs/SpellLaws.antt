@@ -8,12 +8,11 @@ use Rattle.jdwp_commands.specs.declared.kind.CommandKind.TheVariants as kinds
 use Rattle.jdwp_commands.specs.declared.kind.EffectKind.{EffectKind}
 use Rattle.jdwp_commands.specs.declared.question.Question.TheVariants as questions
 use Rattle.jdwp_values.specs.declared.sizes.IdSizes.{IdSizes}
-use Rattle.machine_model.specs.Due.{Load, asked_first, asked_next, busy, can_read, clear, due, due_by, is_full}
-use Rattle.machine_model.specs.Due.{lacking_more, load_of, queued, waiting}
-use Rattle.machine_model.specs.Ids.{Id, class, field, frame, ids_answered, ids_given, ids_replied, method}
-use Rattle.machine_model.specs.Ids.{ids_asked, ids_of_composite, no_thread, object, thread_of}
-use Rattle.machine_model.specs.Names.{Answer, Composite, Effect, Question, Replied, TargetCommand, Want}
-use Rattle.machine_model.specs.Names.{a_question, an_effect}
+use Rattle.machine_model.specs.Due.{Load, asked_first, asked_next, can_read, due, due_by, is_full, load_of, queued}
+use Rattle.machine_model.specs.Ids.{Id, class, field, frame, ids_answered, ids_given, ids_replied, method, ids_asked}
+use Rattle.machine_model.specs.Ids.{ids_of_composite, no_thread, object, thread_of}
+use Rattle.machine_model.specs.Names.{Answer, Composite, Effect, Question, Replied, TargetCommand, Want, a_question}
+use Rattle.machine_model.specs.Names.{an_effect}
 use Rattle.machine_model.specs.Replying.{IsReply, SizesFor, any_sizes, is_waiting, sizes_of, sizes_read, wire}
 use Rattle.machine_model.specs.Runs.{Allows, Message, Run, Takes, said}
 use Rattle.machine_model.specs.Spelling.{AreSpelled, IsSpelled, all_sizes, first_sizes, sizes_replied}

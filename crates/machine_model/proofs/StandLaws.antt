@@ -1,6 +1,6 @@
 -- Event requests stand as the messages say, each is set and cleared once, and at rest each is as the target replied.
-use Rattle.std.proofs.Common.{◌≡◌, Bool, true, false, cond, not, ◌||◌, List, [], ◌∷◌, Option, Some, None, refl, sym}
-use Rattle.std.proofs.Common.{ap, subst, ◌∙◌, arith, ◌&&◌}
+use Rattle.std.proofs.Common.{◌≡◌, Bool, true, false, cond, not, ◌||◌, List, [], ◌∷◌, Option, Some, None, refl, sym, ap}
+use Rattle.std.proofs.Common.{subst, ◌∙◌, arith, ◌&&◌}
 use Rattle.std.specs.Prelude.{◌&&◌}
 use Rattle.std.specs.List.{list_any}
 use Rattle.std.proofs.lemmas.List.Sums.{fold-append}
@@ -11,8 +11,8 @@ use Rattle.jdwp_commands.specs.declared.kind.EffectKind.TheVariants as effect_ki
 use Rattle.machine_model.specs.Due.{due}
 use Rattle.machine_model.specs.EventRequests.{AreStanding, Counted, IsNew, IsSentOnce, count, counted, installed_after}
 use Rattle.machine_model.specs.EventRequests.{is_request, refused_after, refused_by_effect, refused_since, set_answered}
-use Rattle.machine_model.specs.Names.{Act, Answer, Clear, Does, Effect, Part, Replied, Set, TargetCommand}
-use Rattle.machine_model.specs.Names.{an_answer, an_effect, an_error}
+use Rattle.machine_model.specs.Names.{Act, Answer, Clear, Does, Effect, Part, Replied, Set, TargetCommand, an_answer}
+use Rattle.machine_model.specs.Names.{an_effect}
 use Rattle.machine_model.specs.Replying.{IsReply}
 use Rattle.machine_model.specs.Requests.{Wishes, effect_due, request_in, set_to, wishes_after}
 use Rattle.machine_model.specs.Runs.{Allows, Message, Run, said}

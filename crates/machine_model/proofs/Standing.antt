@@ -6,11 +6,10 @@ use Rattle.std.specs.List.{AllByRecursion as All}
 use Rattle.std.proofs.lemmas.List.Concat.{flat_map-append}
 use Rattle.jdwp_commands.specs.declared.question.Question.TheVariants as questions
 use Rattle.machine_model.proofs.WriteIds.{OfDeed}
-use Rattle.machine_model.specs.Names.{Writes}
+use Rattle.machine_model.specs.Names.{Writes, Body, Classes, Failed, IdSizes, Initialized, Lines, Outcome, Part, Sent}
+use Rattle.machine_model.specs.Names.{Success, TargetCommand, Want, a_question, an_effect, frame_list, scope_list}
+use Rattle.machine_model.specs.Names.{thread_list, a_value, variable_list, Functions, Steps}
 use Rattle.machine_model.specs.Ids.{Id, ids_given}
-use Rattle.machine_model.specs.Names.{Body, Classes, Failed, IdSizes, Initialized, Lines, Outcome, Part, Sent, Success}
-use Rattle.machine_model.specs.Names.{TargetCommand, Want, a_question, an_effect, frame_list, scope_list, thread_list}
-use Rattle.machine_model.specs.Names.{a_value, variable_list, Functions, Steps}
 use Rattle.machine_model.specs.Plans.{question_of}
 use Rattle.machine_model.specs.Replying.{waits_for}
 use Rattle.machine_model.specs.Runs.{Message}

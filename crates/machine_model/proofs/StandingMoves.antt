@@ -1,24 +1,22 @@
 -- What each move keeps of the ids that stand in the machine: the parts.
-use Rattle.jdwp_events.specs.declared.kind.Policy.TheVariants.{All as AllThreads, EventThread, NoThread}
+use Rattle.jdwp_events.specs.declared.kind.Policy.TheVariants.{All as AllThreads, NoThread}
 use Rattle.jdwp_events.specs.declared.kind.Policy.{Policy}
-use Rattle.std.proofs.Common.{◌≡◌, Bool, true, false, cond, List, [], ◌∷◌, ◌++◌, Option}
-use Rattle.std.proofs.Common.{Some, None, refl, sym, ap, subst, ◌∙◌, arith}
+use Rattle.std.proofs.Common.{◌≡◌, Bool, true, false, cond, List, [], ◌∷◌, ◌++◌, Option, Some, None, refl, sym, ap}
+use Rattle.std.proofs.Common.{subst, ◌∙◌, arith}
 use Rattle.std.specs.List.{AllByRecursion as All}
-use Rattle.machine_model.specs.Names.{Deed, Dispose, Exit, Resume, Suspend, Writes}
-use Rattle.machine_model.specs.Ids.{Id, class}
-use Rattle.machine_model.specs.Lookups.{finished, found_for, sight_of}
-use Rattle.machine_model.specs.Names.{Written, variable_write, write_found}
-use Rattle.machine_model.specs.Names.{Attach, Attached, BadArguments, Choice, Classes, Command}
-use Rattle.machine_model.specs.Names.{ConfigurationDone, Configured, Continue, Decides, Disconnect, Effect, EntryHeld}
-use Rattle.machine_model.specs.Names.{Event, Failed, Failure, Finding, Fresh, Gone, Initialize, Initialized, Item}
-use Rattle.machine_model.specs.Names.{Leaves, Lines, Lookup, News, Note, Options, Outcome, Part}
-use Rattle.machine_model.specs.Names.{Pause, Phase, Replied, Roots, Sent, SetBreakpoints, Success, TargetCommand}
-use Rattle.machine_model.specs.Names.{TellsNews, Terminated, ThreadId, Threads, Unsupported, Want, a_composite, a_raw}
-use Rattle.machine_model.specs.Names.{a_request, a_stop, all_threads, class_facts, classes_found}
-use Rattle.machine_model.specs.Names.{some_news, target_end, threads_found}
+use Rattle.machine_model.specs.Names.{Deed, Writes, Written, variable_write, write_found, Attach, Attached, Choice}
+use Rattle.machine_model.specs.Names.{Classes, Command, ConfigurationDone, Continue, Decides, Disconnect, Effect, Event}
+use Rattle.machine_model.specs.Names.{Failed, Finding, Initialize, Initialized, Item, Leaves, Lines, Lookup, News, Note}
+use Rattle.machine_model.specs.Names.{Outcome, Part, Pause, Phase, Replied, Sent, SetBreakpoints, Success}
+use Rattle.machine_model.specs.Names.{TargetCommand, TellsNews, Terminated, ThreadId, Want, a_composite, a_raw}
+use Rattle.machine_model.specs.Names.{a_request, all_threads, class_facts, classes_found, target_end, threads_found}
 use Rattle.machine_model.specs.Names.{Body, Scopes, StackTrace, Variables, container_children, frames_found, scope_list}
-use Rattle.machine_model.specs.Names.{Evaluate, SetVariable, expression_value, no_value, thread_frames, value_found, variables_found}
-use Rattle.machine_model.specs.Lookups.{body_of, outcome_by, shown_by, value_outcome}
+use Rattle.machine_model.specs.Names.{Evaluate, SetVariable, expression_value, no_value, thread_frames, value_found}
+use Rattle.machine_model.specs.Names.{variables_found, ExceptionInfo, Functions, Halt, HaltCause, Next}
+use Rattle.machine_model.specs.Names.{SetExceptionBreakpoints, SetFunctionBreakpoints, StepIn, StepOut, Stepped, Steps}
+use Rattle.machine_model.specs.Names.{StopsAt, Thrown, exception_info, threw}
+use Rattle.machine_model.specs.Ids.{Id, class}
+use Rattle.machine_model.specs.Lookups.{finished, found_for, sight_of, body_of, outcome_by, shown_by, value_outcome}
 use Rattle.machine_model.specs.References.{has_room, things_of}
 use Rattle.dap_messages.specs.Telling.{references_spent}
 use Rattle.machine_model.specs.Plans.{Need, fails, has, lacks}
@@ -26,40 +24,31 @@ use Rattle.machine_model.specs.Replying.{done_by}
 use Rattle.machine_model.proofs.Testing.{same_numbered}
 use Rattle.field_exprs.specs.Parsing.{parsed}
 use Rattle.field_exprs.specs.declared.expr.Expr.{Expr}
-use Rattle.machine_model.specs.Rows.{write_by, written_by}
-use Rattle.machine_model.specs.Rows.{evaluate_by}
-use Rattle.machine_model.specs.Rows.{chosen, configured_parts, continue_parts, failure_of, leaves, news_of, noted}
-use Rattle.machine_model.specs.Rows.{parts_by, parts_of, pause_parts, request_parts, row_of, thread_with, told_in}
-use Rattle.machine_model.specs.Rows.{wanting}
-use Rattle.machine_model.specs.Rows.{scopes_parts, stack_parts, variables_parts}
+use Rattle.machine_model.specs.Rows.{write_by, written_by, evaluate_by, chosen, configured_parts, continue_parts}
+use Rattle.machine_model.specs.Rows.{failure_of, leaves, news_of, noted, parts_of, pause_parts, request_parts, row_of}
+use Rattle.machine_model.specs.Rows.{thread_with, told_in, wanting, scopes_parts, stack_parts, variables_parts}
+use Rattle.machine_model.specs.Rows.{exception_parts, refused_with, step_parts, stepped_by, thread_there, thrown_first}
 use Rattle.machine_model.specs.Runs.{Message}
 use Rattle.machine_model.specs.State.{Hand, Machine, State, is_attached, is_gone, is_some, left}
 use Rattle.machine_model.specs.Telling.{after_event, numbered_by}
 use Rattle.machine_model.proofs.IdRows.{all_joined}
 use Rattle.machine_model.proofs.LookupIds.{rows_stand}
-use Rattle.machine_model.proofs.PlanIds.{AreKnown, IsAsked, IsGood, NeedStands, OfFrameThing, OfLookup, OfThing, OfThread}
-use Rattle.machine_model.proofs.PlanIds.{OfThrown, OnSome}
+use Rattle.machine_model.proofs.PlanIds.{AreKnown, IsAsked, IsGood, NeedStands, OfFrameThing, OfLookup, OfThing}
+use Rattle.machine_model.proofs.PlanIds.{OfThread, OfThrown, OnSome}
 use Rattle.machine_model.proofs.Stepping.{IsAt, Skips}
 use Rattle.machine_model.specs.Outcomes.{result_of}
 use Rattle.machine_model.proofs.Standing.{IsKept, Kept, Near, OfBody, OfOutcome, PartStands, Same, at_front, in_order}
-use Rattle.machine_model.proofs.Standing.{same_state}
-use Rattle.machine_model.proofs.Standing.{awaits_sizes, needs_sizes, stays}
+use Rattle.machine_model.proofs.Standing.{same_state, awaits_sizes, needs_sizes, stays}
 use Rattle.machine_model.proofs.HitIds.{ItemStands, OfCause, OfHalt, found_one, halt_stands}
 use Rattle.machine_model.proofs.Tables.{told_alike}
 use Rattle.machine_model.specs.Stops.{decided, decided_by, events_in, hits_in, holds_entry, stop_among, surplus}
 use Rattle.machine_model.specs.Stops.{thrown_in, told_part}
 use Rattle.dap_messages.specs.declared.requests.FunctionBreakpoint.{FunctionBreakpoint}
-use Rattle.machine_model.specs.Breakpoints.{functions_from}
-use Rattle.machine_model.specs.Names.{ExceptionInfo, Functions, Halt, HaltCause, Next, SetExceptionBreakpoints}
-use Rattle.machine_model.specs.Names.{SetFunctionBreakpoints, StepIn, StepOut, Stepped, Steps, StopsAt, Throws, Thrown}
-use Rattle.machine_model.specs.Names.{came_to, exception_found, exception_info, exception_text, has_stepped, text_found}
-use Rattle.machine_model.specs.Names.{threw}
-use Rattle.machine_model.specs.Rows.{exception_parts, refused_with, step_parts, stepped_by, thread_there, thrown_first}
+use Rattle.machine_model.specs.Breakpoints.{functions_from, behind_roots, key_of, longest_key, short_key, slashed}
 use Rattle.wish_sets.specs.declared.wish.Depth.{Depth}
 use Rattle.wish_sets.specs.declared.wish.Depth.TheVariants.{Into, Out, Over}
-use Rattle.machine_model.specs.Breakpoints.{behind_roots, key_of, longest_key, short_key, slashed}
-use Rattle.std.specs.Prelude.{ℕ, zero, suc, ◌-◌, ◌==◌, nat_le, nat_lt, length, slice_get, if◌then◌else◌}
-use Rattle.std.specs.Prelude.{Result, Ok, Err, ◌+◌, ◌≤◌, option_and_then}
+use Rattle.std.specs.Prelude.{ℕ, zero, suc, ◌-◌, ◌==◌, nat_le, nat_lt, length, slice_get, if◌then◌else◌, Result, Ok}
+use Rattle.std.specs.Prelude.{Err, ◌+◌, ◌≤◌, option_and_then}
 use Rattle.stop_refs.specs.Numbers.{InHand, and_then, container, frame, next_in, or_unknown, refused_in, stop_with}
 use Rattle.stop_refs.specs.Numbers.{thing_with}
 use Rattle.stop_refs.specs.Things.{as_container, as_frame}

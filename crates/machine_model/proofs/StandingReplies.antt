@@ -12,13 +12,14 @@ use Rattle.jdwp_values.specs.declared.class.Field.{Field}
 use Rattle.jdwp_values.specs.declared.class.Method.{Method}
 use Rattle.jdwp_values.specs.declared.id.ClassId.{ClassId}
 use Rattle.machine_model.specs.Due.{asked_by, asked_hand, lacked_by, lacking_more, load_of, newly_lacked, queued}
-use Rattle.machine_model.specs.Due.{is_listed, way, with_want, with_wants}
+use Rattle.machine_model.specs.Due.{is_listed, way, with_want, with_wants, asked_now, behind_first, Load, clear}
+use Rattle.machine_model.specs.Due.{greeted_by, queueing, sized_by as due_sized}
 use Rattle.machine_model.specs.Facts.{above_in, fields_in, methods_in}
 use Rattle.machine_model.specs.Ids.{Id, class, ids_of, ids_replied, thread_of}
 use Rattle.machine_model.specs.Lookups.{found_for}
 use Rattle.machine_model.specs.Names.{Answer, Guard, Handshake, IdSizes, Part, Phase, Question, Replied, Sent}
 use Rattle.machine_model.specs.Names.{TargetCommand, Want, a_question, an_answer, an_effect}
-use Rattle.machine_model.specs.Plans.{Need, answer_in, asks_for, fails, has, lacking, lacks, question_of}
+use Rattle.machine_model.specs.Plans.{Need, answer_in, asks_for, lacking, lacks, question_of}
 use Rattle.machine_model.specs.Replying.{wire, replied_machine, is_failed, IsReply, ended_with, filled, given_up}
 use Rattle.machine_model.specs.Replying.{hand_replied, is_waiting, knows_fact, learnt, pending_in, shows_end, sizes_in}
 use Rattle.machine_model.specs.Replying.{told_by, unanswered, unless_failed, unanswered_effect, waits_for}
@@ -28,12 +29,11 @@ use Rattle.machine_model.specs.Spelling.{listed, all_sizes, first_sizes, sizes_b
 use Rattle.machine_model.specs.State.{Hand, Machine, SizesRead, State, is_attached, is_gone, is_none, is_some}
 use Rattle.machine_model.proofs.IdRows.{all_front, all_joined, all_weak}
 use Rattle.machine_model.proofs.KeyLaws.{is_one}
-use Rattle.machine_model.proofs.PlanIds.{AreKnown, IsAsked, IsGood, IsHeard, IsHeardOf, IsWanted, NeedStands}
-use Rattle.machine_model.proofs.PlanIds.{is_sizes, put_all, put_key, reply_heard}
+use Rattle.machine_model.proofs.PlanIds.{AreKnown, IsAsked, IsGood, IsHeard, IsHeardOf, IsWanted, NeedStands, is_sizes}
+use Rattle.machine_model.proofs.PlanIds.{put_all, put_key, reply_heard}
 use Rattle.machine_model.proofs.Stepping.{Loses}
 use Rattle.machine_model.proofs.Testing.{same_replied}
 use Rattle.machine_model.specs.Keys.{same_question}
-use Rattle.machine_model.specs.Due.{asked_now, behind_first, Load, clear, greeted_by, queueing, sized_by as due_sized}
 use Rattle.machine_model.proofs.StandingMoves.{in_any_order, looks_stand, sized_by}
 use Rattle.machine_model.proofs.Standing.{IsKept, Kept, KeptHand, Near, asked_in, by_command, by_sent, by_want, one_if}
 use Rattle.machine_model.proofs.Standing.{put_back, queue_in, same_sizes, sizes_more, taken_out, total}
@@ -41,6 +41,7 @@ use Rattle.class_tables.specs.declared.loaded.Loaded.{Loaded}
 use Rattle.jdwp_commands.specs.declared.listed.LoadedClass.{LoadedClass}
 use Rattle.machine_model.specs.Classes.{classes_in, with_listed}
 use Rattle.std.specs.Prelude.{fold}
+use Rattle.machine_model.proofs.Bools.{second_holds}
 
 -- Numbers -------------------------------------------------------------------------------------------------------------
 
@@ -278,17 +279,13 @@ filled_all P sized question replied [] r h = tt
 filled_all P sized question replied (sent ∷ asked) r h =
     by_test (waits_for sent question) refl (filled_all P sized question replied asked r h.1)
   where
-    asks_it : (open_one asks : Bool) → cond open_one asks false ≡ true → asks ≡ true
-    asks_it true asks is = is
-    asks_it false asks is = cc
-
     by_test : (waits : Bool) → waits_for sent question ≡ waits → All (IsAsked P sized) (filled question replied asked)
         → All (IsAsked P sized)
         (cond waits (record sent { reply = Some replied } ∷ asked) (sent ∷ filled question replied asked))
     by_test true is rest = (
       record {
         reply = subst (λ (q : Question). All P (ids_replied (thread_of q) replied))
-            (sym (is_one (question_of sent.want) question (asks_it (is_none sent.reply) (asks_for sent question) is))) r;
+            (sym (is_one (question_of sent.want) question (second_holds (is_none sent.reply) (asks_for sent question) is))) r;
         first = h.0.first;
       },
       h.1,

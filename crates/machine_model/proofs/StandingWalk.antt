@@ -11,10 +11,9 @@ use Rattle.machine_model.proofs.Testing.{same_noted, same_numbered, same_replied
 use Rattle.machine_model.proofs.Standing.{IsKept, at_front, ids_said, put_back, quiet_kept, same_state, stays}
 use Rattle.machine_model.proofs.Standing.{taken_out}
 use Rattle.machine_model.proofs.StandingMoves.{begun_order, begun_parts, chosen_order, chosen_parts, dropped_kept}
-use Rattle.machine_model.proofs.StandingMoves.{sent_order}
-use Rattle.machine_model.proofs.StandingMoves.{effect_same, event_order, event_same, found_kept}
-use Rattle.machine_model.proofs.StandingMoves.{note_same, skipped_order, told_same}
-use Rattle.machine_model.proofs.StandingMoves.{effect_wanted, event_wanted, told_wanted, note_wished}
+use Rattle.machine_model.proofs.StandingMoves.{sent_order, effect_same, event_order, event_same, found_kept, note_same}
+use Rattle.machine_model.proofs.StandingMoves.{skipped_order, told_same, effect_wanted, event_wanted, told_wanted}
+use Rattle.machine_model.proofs.StandingMoves.{note_wished}
 use Rattle.machine_model.proofs.StandingReplies.{answered_kept, asked_kept, late_kept, lost_kept, queued_kept}
 use Rattle.machine_model.specs.Rows.{chosen, noted}
 use Rattle.machine_model.specs.Replying.{done_by, hand_replied}

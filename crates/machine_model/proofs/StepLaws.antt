@@ -1,37 +1,35 @@
 -- A step is cleared where a stop is told, and at rest none is installed but the one in flight.
-use Rattle.std.proofs.Common.{◌≡◌, Bool, true, false, cond, not, ◌||◌, ◌&&◌, List, [], ◌∷◌, ◌++◌, Option, Some, None, refl}
-use Rattle.std.proofs.Common.{sym, ap, subst, ◌∙◌, option_map, arith, ℕ}
+use Rattle.std.proofs.Common.{◌≡◌, Bool, true, false, cond, not, ◌||◌, ◌&&◌, List, [], ◌∷◌, ◌++◌, Option, Some, None}
+use Rattle.std.proofs.Common.{refl, sym, ap, subst, ◌∙◌, option_map, arith, ℕ}
 use Rattle.std.specs.Prelude.{map}
 use Rattle.dap_messages.specs.declared.told.Event.TheVariants as events
 use Rattle.dap_messages.specs.declared.told.Stopped.{Stopped}
 use Rattle.class_tables.specs.Lookups.{found_in}
-use Rattle.machine_model.specs.Due.{after_deed, asked_hand, due}
+use Rattle.machine_model.specs.Due.{asked_hand, due}
 use Rattle.machine_model.specs.Knowing.{lookup_stops, stopped_behind, stopped_told}
 use Rattle.machine_model.specs.Lookups.{finished}
-use Rattle.machine_model.specs.Names.{Written}
-use Rattle.machine_model.specs.Names.{Act, Attached, Choice, Classes, Command, Configured, Decides, Deed, Effect, EntryHeld, Event}
-use Rattle.machine_model.specs.Names.{Finding, Functions, HaltCause, Initialized, Item, Leaves, Lines, Lookup, Note, Options}
-use Rattle.machine_model.specs.Names.{Outcome, Part, Replied, Roots, Stepped, Steps, StopsAt, TargetCommand, TellsNews}
-use Rattle.machine_model.specs.Names.{Terminated, ThreadId, Throws, Want, a_composite, a_question, a_raw, a_request, a_stop}
-use Rattle.machine_model.specs.Names.{an_effect, an_event, entry_verified, some_news, target_end, thread_changed}
+use Rattle.machine_model.specs.Names.{Written, Act, Attached, Choice, Classes, Command, Decides, Effect, Event, Finding}
+use Rattle.machine_model.specs.Names.{HaltCause, Initialized, Item, Leaves, Lookup, Note, Part, Replied, Stepped, Steps}
+use Rattle.machine_model.specs.Names.{TargetCommand, TellsNews, ThreadId, Want, a_question, a_raw, a_request, a_stop}
+use Rattle.machine_model.specs.Names.{an_effect, an_event}
 use Rattle.machine_model.specs.Outcomes.{result_of}
 use Rattle.machine_model.specs.Plans.{Result}
-use Rattle.machine_model.specs.Replying.{given_up, hand_replied, replied_to}
-use Rattle.machine_model.specs.Requests.{Wishes, effect_due, wishes_after}
+use Rattle.machine_model.specs.Replying.{given_up, hand_replied}
+use Rattle.machine_model.specs.Requests.{Wishes, wishes_after}
 use Rattle.machine_model.specs.Rest.{IsAtRest}
-use Rattle.machine_model.specs.Rows.{chosen, gone_parts, has_response, news_of, noted, parts_of, refused_with, request_parts}
-use Rattle.machine_model.specs.Rows.{stepped_by}
+use Rattle.machine_model.specs.Rows.{chosen, gone_parts, has_response, news_of, noted, parts_of, refused_with}
+use Rattle.machine_model.specs.Rows.{request_parts, stepped_by}
 use Rattle.machine_model.specs.Runs.{Allows, Message, Run, said}
 use Rattle.machine_model.specs.State.{Hand, Machine, State, is_empty, is_gone, is_some}
 use Rattle.machine_model.specs.Steps.{HasNoStep, IsStepAtRest}
 use Rattle.machine_model.specs.Stops.{surplus, told_part}
-use Rattle.machine_model.specs.Telling.{after_event, numbered_by}
+use Rattle.machine_model.specs.Telling.{after_event}
 use Rattle.machine_model.proofs.BindingFacts.{only_classes}
 use Rattle.machine_model.proofs.BindingWatches.{or_false}
 use Rattle.machine_model.proofs.HoldingParts.{numbered_stop, same_stop}
 use Rattle.machine_model.proofs.RequestLaws.{settles, settling}
 use Rattle.machine_model.proofs.RequestSteps.{learnt_wishes, numbered_wishes}
-use Rattle.machine_model.proofs.Stepping.{IsAt, Loses, Moves, Skips, by_moves, moved}
+use Rattle.machine_model.proofs.Stepping.{IsAt, Moves, Skips, by_moves, moved}
 use Rattle.machine_model.proofs.SuspendLaws.{bound_at_stop}
 use Rattle.machine_model.proofs.Tables.{free as free_test, free_once, of_decided, told_alike}
 use Rattle.machine_model.proofs.Testing.{tested, whole}
@@ -47,9 +45,10 @@ use Rattle.wish_sets.specs.declared.wish.Depth.TheVariants.{Over}
 use Rattle.wish_sets.specs.declared.wish.Wish.{Wish}
 use Rattle.wish_sets.specs.declared.wish.StepWish.{StepWish}
 use Rattle.wish_sets.specs.declared.wish.Wish.TheVariants as wishes
-use Rattle.wish_sets.specs.Wanted.{Wanted, with_known}
+use Rattle.wish_sets.specs.Wanted.{Wanted}
 use Rattle.wish_sets.specs.Wished.{stepping, stops, thrown, watched, wished}
 use Rattle.wish_sets.specs.Wishes.{is_installed}
+use Rattle.machine_model.proofs.Bools.{and_first, first_fails, second_holds}
 
 -- What is left of an item ----------------------------------------------------------------------------------------------
 
@@ -147,11 +146,7 @@ gone_steps steps responds item = grind arith
 
 tail_steps : (stopped steps : Bool) (part : Part) (rest : List Part) → steps_well stopped steps (part ∷ rest) ≡ true
     → steps_well (stopped_behind part stopped) (steps_behind part steps) rest ≡ true
-tail_steps stopped steps part rest is = second (may_part steps part rest) _ is
-  where
-    second : (first others : Bool) → cond first others false ≡ true → others ≡ true
-    second true others is = is
-    second false others is = cc
+tail_steps stopped steps part rest is = second_holds (may_part steps part rest) _ is
 
 -- what changes of the step in a state
 noted_steps : (note : Note) (state : State) → steps_in (noted note state) ≡ steps_noted note (steps_in state)
@@ -282,12 +277,8 @@ only_step : (w : Wishes) (thread : ThreadId) (depth : Depth)
     → is_installed w.installed (wishes.Step thread depth) ≡ true
     → w.wanted.step ≡ Some (record { thread = thread; depth = depth })
 only_step w thread depth is installed =
-    by_step w.wanted.step (sym (step_wished w.wanted thread depth) ∙ first _ _ (sym is ∙ installed))
+    by_step w.wanted.step (sym (step_wished w.wanted thread depth) ∙ and_first _ _ (sym is ∙ installed))
   where
-    first : (a b : Bool) → (a && b) ≡ true → a ≡ true
-    first true b is = refl
-    first false b is = cc
-
     by_step : (step : Option StepWish) → has_wish (stepping step) (wishes.Step thread depth) ≡ true
         → step ≡ Some (record { thread = thread; depth = depth })
     by_step None is = cc
@@ -315,15 +306,11 @@ none_of (Some step) is = cc
 cleared_at : {messages : List Message} (m next : Machine) (said : Option Message) (stop : Stopped) → Run messages m
     → said ≡ Some (Message.tells (an_event (events.Stopped stop))) → Moves m said next → HasNoStep m.state.wishes
 cleared_at m next said stop r is (Moves.tells {hand} {rest} {event = a_stop stopping} free at) =
-    let near = near_stop (is_gone m.state.phase) _ (whole free_once (tested free_test r) at) in
+    let near = first_fails (is_gone m.state.phase) _ (whole free_once (tested free_test r) at) in
     no_step m.state.wishes (λ thread depth. at_rest m.state.wishes (settling r near).tidy
     (none_due_change m.state.wishes (bound_at_stop r at).none_due) (wishes.Step thread depth))
     (none_of m.state.wishes.wanted.step (none_steps (steps_in m.state) _ (steps_front (steps_kept r) at)))
   where
-    near_stop : (gone others : Bool) → cond (cond gone false true) others false ≡ true → gone ≡ false
-    near_stop true others is = cc
-    near_stop false others is = refl
-
     none_steps : (steps others : Bool) → cond (not steps) others false ≡ true → steps ≡ false
     none_steps true others is = cc
     none_steps false others is = refl

@@ -1,18 +1,15 @@
 -- What the item in hand does in a stop: frames are asked for in a stop alone, and an item that ends the stop has asked
 -- nothing.
-use Rattle.std.proofs.Common.{◌≡◌, Bool, true, false, cond, not, ◌||◌, List, [], ◌∷◌, ◌++◌, Option, Some, None, refl}
-use Rattle.std.proofs.Common.{sym, ap, subst, ◌∙◌, arith, option_map, ℕ}
+use Rattle.std.proofs.Common.{◌≡◌, Bool, true, false, cond, ◌||◌, List, [], ◌∷◌, ◌++◌, Option, Some, None, refl, sym}
+use Rattle.std.proofs.Common.{ap, subst, ◌∙◌, arith, option_map, ℕ}
 use Rattle.std.specs.List.{AllByRecursion as All}
 use Rattle.machine_model.specs.Due.{asked_hand, behind_first, lacked_by, newly_lacked, stopped_by, with_wants}
 use Rattle.machine_model.specs.Lookups.{finished}
-use Rattle.machine_model.specs.Names.{Writes, Written, variable_write}
-use Rattle.machine_model.specs.Names.{Attached, Choice, Decides, Deed, Dispose, Event, Exit, Finding, Fresh, Gone}
-use Rattle.machine_model.specs.Names.{Initialized, Item, Leaves, Lookup, Part, Phase, Question, Replied, Resume, Sent}
-use Rattle.machine_model.specs.Names.{Suspend, TellsNews, Terminated, Want, a_question, a_stop, all_threads}
-use Rattle.machine_model.specs.Names.{an_effect, class_facts, container_children, of_composite, of_entry, of_stop}
-use Rattle.machine_model.specs.Names.{Stepped, exception_info, exception_text, expression_value, some_news, thread_frames}
+use Rattle.machine_model.specs.Names.{variable_write, Choice, Decides, Deed, Event, Finding, Gone, Initialized, Item}
+use Rattle.machine_model.specs.Names.{Lookup, Part, Phase, Question, Replied, Resume, Sent, Suspend, TellsNews, Want}
+use Rattle.machine_model.specs.Names.{a_question, an_effect, of_stop, Stepped, some_news}
 use Rattle.machine_model.specs.Outcomes.{result_of}
-use Rattle.machine_model.specs.Plans.{Result, asks_for, lacking, question_of}
+use Rattle.machine_model.specs.Plans.{Result, asks_for, question_of}
 use Rattle.machine_model.specs.Replying.{filled, given_up, hand_replied, is_failed, is_waiting, unless_failed}
 use Rattle.machine_model.specs.Replying.{waits_for}
 use Rattle.machine_model.specs.Rows.{chosen, news_of, noted, parts_of, refused_with, stepped_by}

@@ -1,71 +1,50 @@
 -- A stop is told of what halted a thread, or that the client asked for.
-use Rattle.std.proofs.Common.{◌≡◌, ℕ, Bool, true, false, cond, not, ◌||◌, List, [], ◌∷◌, ◌++◌, Option, Some, None}
-use Rattle.std.proofs.Common.{refl, sym, ap, subst, ◌∙◌, option_map, arith, append_assoc, append-nil}
+use Rattle.std.proofs.Common.{◌≡◌, ℕ, Bool, true, false, cond, ◌||◌, List, [], ◌∷◌, ◌++◌, Option, Some, None, refl, sym}
+use Rattle.std.proofs.Common.{ap, subst, ◌∙◌, option_map, append_assoc, append-nil}
 use Rattle.std.specs.List.{AllByRecursion as All}
 use Rattle.std.specs.Option.{option_or}
-use Rattle.std.specs.Prelude as prelude
-use Rattle.std.specs.Prelude.{find, Ok, Err, option_and_then}
-use Rattle.stop_refs.specs.Numbers.{container, frame}
-use Rattle.stop_refs.specs.declared.fault.RefFault.{RefFault}
-use Rattle.stop_refs.specs.declared.thing.FrameThing.{FrameThing}
-use Rattle.stop_refs.specs.declared.thing.Thing.{Thing}
+use Rattle.std.specs.Prelude.{find}
 use Rattle.dap_messages.specs.declared.told.Event.TheVariants as events
 use Rattle.dap_messages.specs.declared.told.StopReason.TheVariants as reasons
 use Rattle.dap_messages.specs.declared.told.Stopped.{Stopped}
 use Rattle.jdwp_events.specs.declared.event.Event.{Event as ATargetEvent}
 use Rattle.jdwp_events.specs.declared.event.Event.TheVariants as happened
 use Rattle.jdwp_events.specs.declared.kind.EventKind.TheVariants as kinds
-use Rattle.jdwp_events.specs.declared.kind.Policy.{Policy}
-use Rattle.jdwp_events.specs.declared.kind.Policy.TheVariants.{NoThread, EventThread, All as AllThreads}
 use Rattle.jdwp_values.specs.declared.id.ObjectId.{ObjectId}
 use Rattle.machine_model.specs.Children.{object_named}
-use Rattle.machine_model.specs.Composites.{composite_parts, has_death}
 use Rattle.machine_model.specs.Due.{Load, asked_hand, busy, can_read, clear, due, hand_load, load_of, newly_lacked}
 use Rattle.machine_model.specs.Due.{wanted}
-use Rattle.machine_model.specs.Lookups.{finished, found_for, text_of, written_parts}
-use Rattle.machine_model.specs.Names.{Written, classes_found, exception_found, frames_found, no_value, text_found, threads_found, value_found, variable_write, variables_found, write_found}
-use Rattle.machine_model.specs.Names.{Act, Attach, Attached, BadArguments, Choice, Command, ConfigurationDone}
-use Rattle.machine_model.specs.Names.{Continue, Decides, Deed, Disconnect, Does, Event, ExceptionInfo, Failure, Finding}
-use Rattle.machine_model.specs.Names.{Fresh, Gone, Halt, HaltCause, Hit, Initialize, Initialized, Item, Leaves, Lookup}
-use Rattle.machine_model.specs.Names.{News, Next, Part, Pause, Phase, Replied, Resume, Scopes, SetBreakpoints}
-use Rattle.machine_model.specs.Names.{SetExceptionBreakpoints, SetFunctionBreakpoints, StackTrace, StepIn, StepOut}
-use Rattle.machine_model.specs.Names.{Stepped, StopCause, Stopping, TargetCommand, TellsNews, Terminated, ThreadId}
-use Rattle.machine_model.specs.Names.{Threads, Thrown, Unsupported, Variables, Want, a_composite, a_question, a_raw}
-use Rattle.machine_model.specs.Names.{a_request, a_stop, all_threads, an_effect, an_event, by_client, by_exception}
-use Rattle.machine_model.specs.Names.{Evaluate, SetVariable, by_step, came_to, class_facts, container_children, entry_verified, expression_value}
-use Rattle.machine_model.specs.Names.{exception_info, exception_text, has_stepped, of_composite, some_news, target_end}
-use Rattle.machine_model.specs.Names.{thread_changed, thread_frames, threw}
+use Rattle.machine_model.specs.Lookups.{finished, found_for, text_of}
+use Rattle.machine_model.specs.Names.{Act, Attached, Choice, Command, Decides, Deed, Does, Event, Finding, Halt}
+use Rattle.machine_model.specs.Names.{HaltCause, Hit, Initialized, Item, Lookup, News, Part, Pause, Phase, Replied}
+use Rattle.machine_model.specs.Names.{Resume, StopCause, Stopping, TargetCommand, TellsNews, Terminated, ThreadId}
+use Rattle.machine_model.specs.Names.{Thrown, Want, a_composite, a_question, a_request, a_stop, an_effect, an_event}
+use Rattle.machine_model.specs.Names.{by_client, by_exception, by_step, came_to, exception_text, has_stepped}
+use Rattle.machine_model.specs.Names.{of_composite, some_news, threw}
 use Rattle.machine_model.specs.Outcomes.{result_of}
-use Rattle.machine_model.specs.Plans.{Need, Result, gave, is_done, refused}
+use Rattle.machine_model.specs.Plans.{Need, is_done}
 use Rattle.machine_model.specs.Replying.{given_up, hand_replied}
 use Rattle.machine_model.specs.Requests.{Wishes}
-use Rattle.field_exprs.specs.Parsing.{parsed}
-use Rattle.field_exprs.specs.declared.expr.Expr.{Expr}
-use Rattle.machine_model.specs.Rows.{write_by, written_by}
-use Rattle.machine_model.specs.Rows.{evaluate_by}
-use Rattle.machine_model.specs.Rows.{chosen, configured_parts, continue_parts, end_parts, exception_parts, failure_of}
-use Rattle.machine_model.specs.Rows.{gone_parts, gone_row, gone_tail, has_response, leaves, news_of, parts_by, parts_of}
-use Rattle.machine_model.specs.Rows.{pause_parts, refused_with, request_parts, row_of, scopes_parts, stack_parts}
-use Rattle.machine_model.specs.Rows.{step_parts, stepped_by, stepped_thread, thread_with, thrown_first, told_in}
-use Rattle.machine_model.specs.Rows.{variables_parts, wanting}
+use Rattle.machine_model.specs.Rows.{chosen, failure_of, gone_parts, has_response, news_of, parts_of, pause_parts}
+use Rattle.machine_model.specs.Rows.{row_of, thread_with, told_in, wanting}
 use Rattle.machine_model.specs.Runs.{Allows, Message, Run, said}
 use Rattle.machine_model.specs.State.{Hand, Machine, State, is_attached, is_gone, knowing, left}
 use Rattle.machine_model.specs.Stopping.{HasHalted, IsHalt, IsHit, IsStop, IsToldAs, IsToldOf, WasHalted, WasNamed}
-use Rattle.machine_model.specs.Stops.{decided, decided_by, events_in, first_of, first_with, hit_by, hits_in, holds_entry}
-use Rattle.machine_model.specs.Stops.{is_at_line, is_breakpoint, is_live, is_thrown, stop_among, surplus, thrown_in}
-use Rattle.machine_model.specs.Stops.{told_part}
+use Rattle.machine_model.specs.Stops.{decided, decided_by, events_in, first_of, first_with, hit_by, hits_in}
+use Rattle.machine_model.specs.Stops.{holds_entry, is_at_line, is_breakpoint, is_live, is_thrown, stop_among, surplus}
+use Rattle.machine_model.specs.Stops.{thrown_in, told_part}
 use Rattle.machine_model.specs.Suspending.{IsBoundFirst}
 use Rattle.machine_model.specs.Telling.{after_event, reason_told}
-use Rattle.wish_sets.specs.declared.wish.Depth.{Depth}
-use Rattle.wish_sets.specs.declared.wish.Depth.TheVariants.{Into, Out, Over}
 use Rattle.machine_model.proofs.HoldingParts.{holding, may_all, may_front, may_stop, only_resumes}
 use Rattle.machine_model.proofs.RequestSteps.{decides}
 use Rattle.machine_model.proofs.RestLaws.{is_free}
-use Rattle.machine_model.proofs.Stepping.{IsAt, Loses, Moves, by_runs, moved, with_said}
+use Rattle.machine_model.proofs.Stepping.{IsAt, Moves, by_runs, moved, with_said}
 use Rattle.machine_model.proofs.SuspendLaws.{bound_at_choice, bound_at_stop}
 use Rattle.machine_model.proofs.Tables.{free as free_test, free_once}
 use Rattle.machine_model.proofs.Testing.{tested, whole}
-use Rattle.machine_model.proofs.PartTests.{all_pass, all_passing, begun_mute, chosen_mute, found_mute, given_mute, is_mute, is_pause_command, of_failure, row_mute}
+use Rattle.machine_model.proofs.PartTests.{all_pass, all_passing, begun_mute, chosen_mute, found_mute, given_mute}
+use Rattle.machine_model.proofs.PartTests.{is_mute, is_pause_command, of_failure, row_mute}
+use Rattle.machine_model.proofs.Bools.{first_fails, first_holds}
 
 -- Hits ----------------------------------------------------------------------------------------------------------------
 
@@ -476,11 +455,7 @@ stop_at {messages} m next said stop r is (Moves.tells {hand} {rest} {event = a_s
 
     first_may : may_all m.state.phase m.state.stopped m.state.entry (Part.Tells (a_stop stopping) ∷ rest) ≡ true
         → may_stop stopping.cause m.state.stopped rest ≡ true
-    first_may may = first (may_stop stopping.cause m.state.stopped rest) _ may
-      where
-        first : (one others : Bool) → cond one others false ≡ true → one ≡ true
-        first true others is = refl
-        first false others is = cc
+    first_may may = first_holds (may_stop stopping.cause m.state.stopped rest) _ may
 
     reason_is : stop.reason ≡ reason_told stopping.cause (after_event (a_stop stopping) m.state)
     reason_is = cc
@@ -533,19 +508,11 @@ surplus_at m next said stop r stopped hit is (Moves.tells {hand} {rest} {event =
     by_cause stopping.cause refl (first_may (may_front (holding r) at))
   where
     near : is_gone m.state.phase ≡ false
-    near = near_stop (is_gone m.state.phase) _ (whole free_once (tested free_test r) at)
-      where
-        near_stop : (gone others : Bool) → cond (cond gone false true) others false ≡ true → gone ≡ false
-        near_stop true others is = cc
-        near_stop false others is = refl
+    near = first_fails (is_gone m.state.phase) _ (whole free_once (tested free_test r) at)
 
     first_may : may_all m.state.phase m.state.stopped m.state.entry (Part.Tells (a_stop stopping) ∷ rest) ≡ true
         → may_stop stopping.cause m.state.stopped rest ≡ true
-    first_may may = first (may_stop stopping.cause m.state.stopped rest) _ may
-      where
-        first : (one others : Bool) → cond one others false ≡ true → one ≡ true
-        first true others is = refl
-        first false others is = cc
+    first_may may = first_holds (may_stop stopping.cause m.state.stopped rest) _ may
 
     reason_is : stop.reason ≡ reason_told stopping.cause (after_event (a_stop stopping) m.state)
     reason_is = cc

@@ -1,20 +1,17 @@
 -- Which parts an item has that ends the stop: such as ask nothing and show nothing by numbers. And the look-up of frames
 -- alone asks for them.
-use Rattle.std.proofs.Common.{◌≡◌, Bool, true, false, cond, not, ◌&&◌, ◌||◌, List, [], ◌∷◌, ◌++◌, refl, ◌∙◌, arith}
-use Rattle.std.proofs.Common.{ap, ℕ, Option, Some, None}
+use Rattle.std.proofs.Common.{◌≡◌, Bool, true, false, cond, not, ◌&&◌, ◌||◌, List, [], ◌∷◌, ◌++◌, refl, ◌∙◌, arith, ap}
+use Rattle.std.proofs.Common.{ℕ, Option, Some, None}
 use Rattle.std.specs.List.{AllByRecursion as All}
 use Rattle.class_tables.specs.Lookups.{found_in}
 use Rattle.jdwp_commands.specs.declared.question.Question.TheVariants as questions
-use Rattle.machine_model.specs.Names.{Writes, a_written}
+use Rattle.machine_model.specs.Names.{Writes, a_written, variable_write, Body, Capabilities, Choice, Continued, Decides}
+use Rattle.machine_model.specs.Names.{Failed, Finding, Item, Lookup, Nothing, Outcome, Part, Question, Resume, Sent}
+use Rattle.machine_model.specs.Names.{Success, TellsNews, Want, breakpoint_list, class_facts, classes_found, Stepped}
+use Rattle.machine_model.specs.Names.{of_stop, thread_frames}
 use Rattle.machine_model.specs.Classes.{classes_plan}
 use Rattle.machine_model.specs.Due.{is_listed, lacked_by, with_want, with_wants}
 use Rattle.machine_model.specs.Lookups.{finished, sight_of}
-use Rattle.machine_model.specs.Names.{Written, variable_write}
-use Rattle.machine_model.specs.Names.{Body, Capabilities, Choice, Continued, Decides, Failed, Finding, Item, Leaves}
-use Rattle.machine_model.specs.Names.{Lookup, Nothing, Outcome, Part, Question, Resume, Sent, Success, TellsNews}
-use Rattle.machine_model.specs.Names.{Want, all_threads, breakpoint_list, class_facts, classes_found}
-use Rattle.machine_model.specs.Names.{Stepped, container_children, exception_info, exception_text, expression_value, of_stop}
-use Rattle.machine_model.specs.Names.{thread_frames}
 use Rattle.machine_model.specs.Plans.{Result, lacking, made_with, need, question_of}
 use Rattle.machine_model.specs.Replying.{is_waiting}
 use Rattle.machine_model.specs.Rows.{chosen, news_of, parts_of, refused_with, stepped_by}
@@ -29,6 +26,8 @@ use Rattle.machine_model.proofs.Stepping.{IsAt}
 use Rattle.machine_model.proofs.Tables.{decided_alike, told_alike}
 use Rattle.machine_model.proofs.Testing.{IsTest, tested, whole}
 use Rattle.wish_sets.specs.Wanted.{Wanted}
+use Rattle.machine_model.proofs.Bools.{and_second}
+use Rattle.std.proofs.lemmas.Bool.{not-true}
 
 -- The end of a stop ---------------------------------------------------------------------------------------------------
 
@@ -161,19 +160,11 @@ fact_calm (Want.Fact question) is = by_question question is
     by_question _ is = refl
 fact_calm _ is = cc
 
-no_true : (is : Bool) → not is ≡ true → is ≡ false
-no_true true is = cc
-no_true false is = refl
-
-second_of : (first second : Bool) → (first && second) ≡ true → second ≡ true
-second_of true second is = is
-second_of false second is = cc
-
 classes_calm : (unlisted : Bool) (wanted : Wanted) (state : State) (hand : Hand)
     → All IsCalm (lacking (need (sight_of state hand)
     (made_with classes_found (classes_plan unlisted wanted (found_in state.classes)))))
 classes_calm true wanted state hand = all_weak (λ want. not (asks_frames (question_of want)) ≡ true) IsCalm
-    (λ want is. no_true (asks_frames (question_of want)) is) _
+    (λ want is. not-true (asks_frames (question_of want)) is) _
     (plan_lacks (λ want. not (asks_frames (question_of want))) (sight_of state hand)
     (made_with classes_found (classes_plan true wanted (found_in state.classes)))
     (makes _ classes_found _ (asks _ _ (Want.Must questions.AllClasses) refl)))
@@ -190,8 +181,8 @@ lacked_calm state hand parts none = by_apart (looks_apart parts) refl
   where
     by_apart : (apart : Bool) → looks_apart parts ≡ apart → All IsCalm (lacked_by state hand parts)
     by_apart false is = all_weak (λ want. is_safe want ≡ true) IsCalm
-        (λ want safe. no_true (asks_frames (question_of want))
-        (second_of (is_meek want) (not (asks_frames (question_of want))) safe)) (lacked_by state hand parts)
+        (λ want safe. not-true (asks_frames (question_of want))
+        (and_second (is_meek want) (not (asks_frames (question_of want))) safe)) (lacked_by state hand parts)
         (lacked_safe state hand parts is)
     by_apart true is = cc
 

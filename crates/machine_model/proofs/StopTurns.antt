@@ -1,11 +1,9 @@
 -- What each move is to the stop in hand: it goes on, or one begins, or it is over, also with its target.
-use Rattle.std.proofs.Common.{◌≡◌, Bool, true, false, List, [], ◌∷◌, Option, Some, None, refl, option_map, arith}
-use Rattle.machine_model.specs.Due.{after_deed, sent, stopped_by}
+use Rattle.std.proofs.Common.{◌≡◌, Bool, true, false, List, [], ◌∷◌, Option, Some, None, refl, arith}
+use Rattle.machine_model.specs.Due.{after_deed, sent}
 use Rattle.machine_model.specs.Ids.{begins_stop, ids_given}
-use Rattle.machine_model.specs.Names.{Writes}
-use Rattle.machine_model.specs.Names.{Clear, Deed, Dispose, Does, Effect, Event, Exit, Initialized, Note, Part, Resume, Set}
-use Rattle.machine_model.specs.Names.{Suspend, Terminated, a_question, a_stop, an_effect, of_composite, of_entry, of_stop}
-use Rattle.machine_model.specs.Names.{some_news}
+use Rattle.machine_model.specs.Names.{Does, Effect, Note, Part, Resume, Suspend, Terminated, a_question, a_stop}
+use Rattle.machine_model.specs.Names.{an_effect, of_stop}
 use Rattle.machine_model.specs.ReferenceNumbers.{ends_stop}
 use Rattle.machine_model.specs.Rows.{noted}
 use Rattle.machine_model.specs.Runs.{Message}
@@ -13,7 +11,7 @@ use Rattle.machine_model.specs.State.{Hand, Machine, State, is_gone, knowing}
 use Rattle.machine_model.proofs.HoldingParts.{numbered_stop, same_stop}
 use Rattle.machine_model.proofs.ReferenceLaws.{due_request}
 use Rattle.machine_model.proofs.RequestSteps.{is_deed}
-use Rattle.machine_model.proofs.Stepping.{IsAt, Loses, Moves}
+use Rattle.machine_model.proofs.Stepping.{IsAt, Moves}
 
 abbrev pub says_end : Option Message → Bool
 says_end None = false

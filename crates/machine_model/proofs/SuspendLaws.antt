@@ -4,19 +4,17 @@ use Rattle.std.proofs.Common.{◌∙◌, option_map, arith, ℕ}
 use Rattle.machine_model.specs.Due.{asked_hand, due}
 use Rattle.machine_model.specs.Knowing.{held_in, held_with, lookup_stops, may_send, view_of}
 use Rattle.machine_model.specs.Lookups.{finished}
-use Rattle.machine_model.specs.Names.{Written, variable_write}
-use Rattle.machine_model.specs.Names.{Act, Attached, Choice, Command, Configured, Decides, Deed, Does, EntryHeld}
-use Rattle.machine_model.specs.Names.{Event, Failure, Finding, Item, Leaves, Lookup, Note, Part, Phase, Replied}
-use Rattle.machine_model.specs.Names.{Resume, Stopping, Suspension, TargetCommand, TellsNews, Want, a_composite}
-use Rattle.machine_model.specs.Names.{a_question, a_raw, a_request, a_stop, all_threads, an_effect, class_facts}
-use Rattle.machine_model.specs.Names.{of_composite, of_entry, of_stop, target_end}
-use Rattle.machine_model.specs.Names.{thread_frames}
-use Rattle.machine_model.specs.Names.{container_children, exception_info, exception_text, expression_value, HaltCause, Stepped, ThreadId}
+use Rattle.machine_model.specs.Names.{Written, variable_write, Act, Attached, Choice, Command, Configured, Decides}
+use Rattle.machine_model.specs.Names.{Deed, Does, EntryHeld, Event, Failure, Finding, Item, Leaves, Lookup, Note, Part}
+use Rattle.machine_model.specs.Names.{Phase, Replied, Resume, Stopping, Suspension, TargetCommand, TellsNews, Want}
+use Rattle.machine_model.specs.Names.{a_question, a_raw, a_request, a_stop, an_effect, of_composite, HaltCause, Stepped}
+use Rattle.machine_model.specs.Names.{ThreadId}
 use Rattle.machine_model.specs.Outcomes.{result_of}
 use Rattle.machine_model.specs.Plans.{Result}
 use Rattle.machine_model.specs.Replying.{hand_replied}
 use Rattle.machine_model.specs.Rest.{IsAtRest}
 use Rattle.machine_model.specs.Rows.{chosen, failure_of, news_of, parts_by, parts_of, request_parts, row_of, wanting}
+use Rattle.machine_model.specs.Rows.{refused_with, stepped_by, written_by}
 use Rattle.machine_model.specs.Runs.{Allows, Message, Run, said}
 use Rattle.machine_model.specs.State.{Hand, Machine, State, is_attached, is_gone}
 use Rattle.machine_model.specs.Suspending.{IsBoundFirst, IsHeld}
@@ -27,11 +25,10 @@ use Rattle.machine_model.proofs.HeldLaws.{due_sends}
 use Rattle.machine_model.proofs.KnowingLaws.{is_known}
 use Rattle.machine_model.proofs.RequestLaws.{Settling, front_set, settles, settling}
 use Rattle.machine_model.proofs.SizeLaws.{parts_in}
-use Rattle.machine_model.proofs.Stepping.{IsAt, Loses, Moves, by_runs, moved}
+use Rattle.machine_model.proofs.Stepping.{IsAt, Moves, by_runs, moved}
 use Rattle.machine_model.proofs.Tables.{free, free_once, of_decided, told_alike}
 use Rattle.machine_model.proofs.Testing.{IsTest, Passed, same_noted, same_numbered, same_replied, tested, whole}
 use Rattle.machine_model.specs.Stops.{decided, surplus, told_part}
-use Rattle.machine_model.specs.Rows.{refused_with, stepped_by, written_by}
 use Rattle.machine_model.specs.Pending.{bit}
 use Rattle.machine_model.proofs.BindingHands.{binds_ahead}
 use Rattle.std.specs.Prelude.{◌+◌}

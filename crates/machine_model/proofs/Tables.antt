@@ -2,13 +2,11 @@
 use Rattle.std.proofs.Common.{◌≡◌, Bool, true, false, cond, not, ◌||◌, List, [], ◌∷◌, ◌++◌, Option, refl, arith, ◌∙◌}
 use Rattle.std.proofs.Common.{Some, None}
 use Rattle.machine_model.specs.Lookups.{finished, lookup_responds}
-use Rattle.machine_model.specs.Names.{Written}
-use Rattle.machine_model.specs.Names.{Attached, Choice, Classes, Command, Decides, EntryHeld, Failure, Finding, Fresh}
-use Rattle.machine_model.specs.Names.{Gone, Initialized, Item, Leaves, Lines, Lookup, News, Note, Part, Phase, Resume}
-use Rattle.machine_model.specs.Names.{Stopping, TellsNews, Terminated, a_composite, a_raw, a_request, a_stop}
-use Rattle.machine_model.specs.Names.{by_step, came_to, class_facts, exception_text, has_stepped, of_composite, some_news}
-use Rattle.machine_model.specs.Names.{target_end, threw, Functions, Halt, HaltCause, Hit, Stepped, Steps, StopsAt, ThreadId}
-use Rattle.machine_model.specs.Names.{Throws, Thrown}
+use Rattle.machine_model.specs.Names.{Attached, Choice, Classes, Command, Decides, EntryHeld, Failure, Finding}
+use Rattle.machine_model.specs.Names.{Initialized, Item, Leaves, Lines, Lookup, News, Note, Part, Phase, Resume}
+use Rattle.machine_model.specs.Names.{Stopping, TellsNews, Terminated, a_raw, a_request, a_stop, by_step, came_to}
+use Rattle.machine_model.specs.Names.{class_facts, exception_text, has_stepped, of_composite, some_news, threw}
+use Rattle.machine_model.specs.Names.{Functions, Halt, HaltCause, Hit, Steps, StopsAt, ThreadId, Throws, Thrown}
 use Rattle.jdwp_values.specs.declared.id.ObjectId.{ObjectId}
 use Rattle.machine_model.specs.Plans.{Result}
 use Rattle.machine_model.specs.Rows.{choice_responds, chosen, each_told, failure_of, gone_parts, has_response, news_of}
@@ -18,6 +16,7 @@ use Rattle.machine_model.proofs.Testing.{IsTest, gone_behind}
 use Rattle.machine_model.specs.Stops.{decided, decided_by, events_in, hit_parts, hits_in, holds_entry, stop_among}
 use Rattle.machine_model.specs.Stops.{surplus, thrown_in, told_part}
 use Rattle.machine_model.specs.Knowing.{is_last}
+use Rattle.machine_model.proofs.Bools.{first_holds}
 
 -- Tests of parts ------------------------------------------------------------------------------------------------------
 
@@ -309,11 +308,7 @@ free_begun state _ = grind arith
 
 front_free : (gone : Bool) (part : Part) (rest : List Part) → free_once gone (part ∷ rest) ≡ true
     → cond gone (is_free part) true ≡ true
-front_free gone part rest is = first (cond gone (is_free part) true) _ is
-  where
-    first : (one others : Bool) → cond one others false ≡ true → one ≡ true
-    first true others is = refl
-    first false others is = cc
+front_free gone part rest is = first_holds (cond gone (is_free part) true) _ is
 
 chosen_free : (choice : Choice) (state : State) (hand : Hand) (gone : Bool) → is_gone state.phase ≡ gone
     → cond gone (is_free (Part.Unfolds choice)) true ≡ true → free_once gone (chosen choice state hand) ≡ true

@@ -1,6 +1,6 @@
 -- Tests on what is left of the item in hand: what each row passes, each tail, choice and result, holds in every run.
-use Rattle.std.proofs.Common.{◌≡◌, Bool, true, List, [], ◌∷◌, ◌++◌, Option, Some, None, refl, sym, ap, subst}
-use Rattle.std.proofs.Common.{◌∙◌, option_map, arith}
+use Rattle.std.proofs.Common.{◌≡◌, Bool, true, List, [], ◌∷◌, ◌++◌, Option, Some, None, refl, sym, ap, subst, ◌∙◌}
+use Rattle.std.proofs.Common.{option_map, arith}
 use Rattle.machine_model.specs.Due.{asked_hand}
 use Rattle.machine_model.specs.Lookups.{finished}
 use Rattle.machine_model.specs.Names.{Choice, Event, Finding, Item, Lookup, Note, Outcome, Part, Phase, Replied}

@@ -5,12 +5,8 @@ use Rattle.std.specs.Prelude.{if◌then◌else◌, option_to_list}
 use Rattle.std.specs.List.{AllByRecursion as All, cons_option, list_any}
 use Rattle.machine_model.specs.Due.{after_deed}
 use Rattle.machine_model.specs.Ids.{Id}
-use Rattle.machine_model.specs.Names.{Writes, a_written}
-use Rattle.machine_model.specs.Names.{Capabilities, Continued, Deed, Dispose, Event, Exit, Failed, Initialized}
-use Rattle.machine_model.specs.Names.{Nothing, Outcome, Resume, ShownFrame, ShownVariable, Success, Suspend}
-use Rattle.machine_model.specs.Names.{Terminated, a_question, a_stop, breakpoint_list, entry_verified, frame_list}
-use Rattle.machine_model.specs.Names.{of_composite, of_entry, of_stop, scope_list, some_news, thread_changed, thread_list}
-use Rattle.machine_model.specs.Names.{a_value, variable_list}
+use Rattle.machine_model.specs.Names.{Deed, Event, Outcome, Resume, ShownFrame, ShownVariable, Success, Terminated}
+use Rattle.machine_model.specs.Names.{a_question, frame_list, of_stop, scope_list, a_value, variable_list}
 use Rattle.machine_model.specs.References.{things_of, with_things}
 use Rattle.machine_model.specs.Runs.{Message}
 use Rattle.machine_model.specs.State.{Machine, State, is_gone, numbers_over}
@@ -25,7 +21,6 @@ use Rattle.stop_refs.specs.Numbers.{InHand, with_thing}
 use Rattle.stop_refs.specs.Things.{same_thing}
 use Rattle.stop_refs.specs.declared.thing.Thing.{Thing}
 use Rattle.stop_refs.specs.declared.thing.Thing.TheVariants.{Frame as a_frame, Locals as some_locals}
-use Rattle.machine_model.specs.Names.{an_exception}
 
 -- what was told in a stop passes
 abbrev pub AreThings : (Id → Type 0) → InHand → Type 0

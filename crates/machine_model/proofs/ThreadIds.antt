@@ -1,62 +1,33 @@
 -- The ids of threads that are told were read: those in composites that are in hand, and those in answers.
-use Rattle.std.proofs.Common.{◌≡◌, Bool, true, false, cond, List, [], ◌∷◌, ◌++◌, Option, Some, None}
-use Rattle.std.proofs.Common.{arith}
-use Rattle.std.specs.Prelude.{find, map, ◌==◌}
-use Rattle.std.specs.List.{AllByRecursion as All, flat_map}
-use Rattle.std.specs.Option.{option_or}
+use Rattle.std.proofs.Common.{◌≡◌, Bool, true, false, cond, List, [], ◌∷◌, ◌++◌, Option, Some, None, arith}
+use Rattle.std.specs.Prelude.{map, ◌==◌}
+use Rattle.std.specs.List.{AllByRecursion as All}
 use Rattle.jdwp_events.specs.declared.event.Event.{Event as ATargetEvent}
 use Rattle.jdwp_events.specs.declared.event.Event.TheVariants as happened
-use Rattle.jdwp_events.specs.declared.kind.Policy.{Policy}
-use Rattle.jdwp_events.specs.declared.kind.Policy.TheVariants.{NoThread, EventThread, All as AllThreads}
 use Rattle.machine_model.specs.Breakpoints.{newly_verified}
-use Rattle.machine_model.specs.Composites.{change_told, changes_in, composite_parts, has_death}
-use Rattle.machine_model.specs.Ids.{Id, ids_of_composite, ids_of_event}
-use Rattle.machine_model.specs.Names.{Written, a_written, classes_found, exception_found, frames_found, no_value, text_found, threads_found, value_found, variable_write, variables_found, write_found}
-use Rattle.machine_model.specs.Names.{Attach, Attached, BadArguments, Choice, Command, ConfigurationDone, Continue}
-use Rattle.machine_model.specs.Names.{Decides, Disconnect, Event, Failed, Failure, Fresh, Gone, Initialize, Initialized}
-use Rattle.machine_model.specs.Names.{Item, Leaves, Lookup, NamedThread, News, Outcome, Part, Pause, Phase, Replied}
-use Rattle.machine_model.specs.Names.{SetBreakpoints, StackTrace, Stopping, Success, TargetCommand, TellsNews, Terminated}
-use Rattle.machine_model.specs.Names.{ThreadId, Threads, Unsupported, a_composite, a_raw, a_request, a_stop}
-use Rattle.machine_model.specs.Names.{breakpoint_list, class_facts, all_threads, thread_frames, Capabilities, Continued}
-use Rattle.machine_model.specs.Names.{Nothing, Note}
-use Rattle.machine_model.specs.Names.{entry_verified, frame_list, some_news, target_end, thread_changed, thread_list}
-use Rattle.machine_model.specs.Lookups.{finished, written_parts}
-use Rattle.machine_model.specs.Names.{Finding, Hit}
-use Rattle.machine_model.specs.Names.{Evaluate, SetVariable, a_value, container_children, expression_value, scope_list, variable_list}
-use Rattle.machine_model.specs.Plans.{Result, gave, refused}
+use Rattle.machine_model.specs.Composites.{change_told, changes_in}
+use Rattle.machine_model.specs.Ids.{Id, ids_of_event}
+use Rattle.machine_model.specs.Names.{Attached, Choice, Command, Decides, Event, Initialized, Item, Lookup, NamedThread}
+use Rattle.machine_model.specs.Names.{News, Outcome, Part, Pause, Phase, Replied, Success, TargetCommand, TellsNews}
+use Rattle.machine_model.specs.Names.{Terminated, ThreadId, a_composite, a_request, a_stop, Note, entry_verified}
+use Rattle.machine_model.specs.Names.{some_news, thread_changed, thread_list, Finding, Halt, HaltCause, Throws, Thrown}
+use Rattle.machine_model.specs.Names.{came_to, exception_text}
+use Rattle.machine_model.specs.Lookups.{finished}
+use Rattle.machine_model.specs.Plans.{Result}
 use Rattle.machine_model.specs.Replying.{replied_to}
-use Rattle.field_exprs.specs.Parsing.{parsed}
-use Rattle.field_exprs.specs.declared.expr.Expr.{Expr}
-use Rattle.machine_model.specs.Rows.{write_by, written_by}
-use Rattle.machine_model.specs.Rows.{evaluate_by}
-use Rattle.machine_model.specs.Rows.{chosen, configured_parts, continue_parts, end_parts, failure_of}
-use Rattle.machine_model.specs.Rows.{leaves, news_of, noted, parts_by, parts_of, pause_parts, row_of, stack_parts}
-use Rattle.machine_model.specs.Rows.{taken, thread_with, told_in, wanting, gone_parts, gone_row, gone_tail}
+use Rattle.machine_model.specs.Rows.{chosen, failure_of, news_of, noted, parts_of, pause_parts, row_of, taken}
+use Rattle.machine_model.specs.Rows.{thread_with, told_in, wanting}
 use Rattle.machine_model.specs.State.{Hand, State, is_attached}
 use Rattle.machine_model.specs.Stops.{decided_by, events_in, holds_entry, hits_in, stop_among, surplus, thrown_in}
 use Rattle.machine_model.specs.Stops.{told_part}
 use Rattle.machine_model.proofs.HitIds.{ItemStands, OfHalt, all_thrown, each_event, halt_stands}
-use Rattle.machine_model.specs.Names.{ExceptionInfo, Halt, HaltCause, Next, SetExceptionBreakpoints, StepIn, StepOut}
-use Rattle.machine_model.specs.Names.{SetFunctionBreakpoints, Stepped, Throws, Thrown, an_exception, came_to}
-use Rattle.machine_model.specs.Names.{exception_info, exception_text, has_stepped, threw}
-use Rattle.machine_model.specs.Rows.{exception_parts, refused_with, step_parts, stepped_by, stepped_thread, thrown_first}
-use Rattle.wish_sets.specs.declared.wish.Depth.{Depth}
-use Rattle.wish_sets.specs.declared.wish.Depth.TheVariants.{Into, Out, Over}
 use Rattle.machine_model.specs.Telling.{after_event, is_among, numbered_by, with_thread, with_threads}
-use Rattle.machine_model.proofs.IdRows.{all_back, all_front, all_joined}
+use Rattle.machine_model.proofs.IdRows.{all_joined}
 use Rattle.machine_model.proofs.PlanIds.{OfNamed, OfThread, OfThrown, OnSome}
 use Rattle.machine_model.proofs.Standing.{PartStands}
 use Rattle.machine_model.proofs.StandingMoves.{told_thread}
-use Rattle.wish_sets.specs.Wishes.{Wishes}
-use Rattle.machine_model.specs.Names.{Scopes, Variables}
-use Rattle.machine_model.specs.Rows.{scopes_parts, variables_parts}
-use Rattle.std.specs.Prelude as prelude
-use Rattle.std.specs.Prelude.{Ok, Err, option_and_then, ℕ}
-use Rattle.stop_refs.specs.Numbers.{container, frame}
-use Rattle.stop_refs.specs.declared.fault.RefFault.{RefFault}
-use Rattle.stop_refs.specs.declared.thing.FrameThing.{FrameThing}
-use Rattle.stop_refs.specs.declared.thing.Thing.{Thing}
-use Rattle.machine_model.proofs.PartTests.{all_pass, all_passing, begun_mute, chosen_mute, found_mute, is_mute, of_failure, row_mute}
+use Rattle.machine_model.proofs.PartTests.{all_pass, all_passing, begun_mute, chosen_mute, found_mute, is_mute}
+use Rattle.machine_model.proofs.PartTests.{of_failure, row_mute}
 
 -- What a part tells ---------------------------------------------------------------------------------------------------
 

@@ -1,40 +1,33 @@
 -- At rest the client was told of each breakpoint that is verified.
-use Rattle.std.proofs.Common.{◌≡◌, ℕ, Bool, true, false, cond, List, [], ◌∷◌, ◌++◌, Option, Some, None, refl, ap}
-use Rattle.std.proofs.Common.{subst, ◌∙◌, sym, ◌||◌, ◌==◌, map, option_map, arith, filter, fold, nat_lt}
-use Rattle.std.proofs.lemmas.Bool.{eqb-true}
+use Rattle.std.proofs.Common.{◌≡◌, ℕ, Bool, true, false, cond, List, [], ◌∷◌, ◌++◌, Option, Some, None, refl, ap, subst}
+use Rattle.std.proofs.Common.{◌∙◌, sym, ◌||◌, ◌==◌, map, option_map, arith, filter, fold, nat_lt}
+use Rattle.std.proofs.lemmas.Bool.{eqb-true, or_left, or_right}
 use Rattle.std.specs.BTreeSet.{insert_key}
 use Rattle.std.specs.List.{AllByRecursion as All, list_any}
 use Rattle.std.specs.Ordering.{nat_cmp, on}
 use Rattle.machine_model.specs.Breakpoints.{breakpoint_told, has_id, newly_verified, is_verified as is_told_verified}
 use Rattle.machine_model.specs.Breakpoints.{with_id, with_told}
-use Rattle.machine_model.specs.Lookups.{finished, plain_outcome, text_of}
-use Rattle.machine_model.specs.Names.{Seen, Written, a_written, variable_write, write_found}
-use Rattle.machine_model.specs.Names.{Attached, Capabilities, Choice, Clear, Continued, Decides, Does, Effect}
-use Rattle.machine_model.specs.Names.{Failed, Finding, Fresh, Gone, Initialized, Item, Leaves}
-use Rattle.machine_model.specs.Names.{ListedBreakpoint, Lookup, Nothing, Outcome, Part, Phase, Question, Replied}
-use Rattle.machine_model.specs.Names.{Set, Success, TargetCommand, TellsNews, Terminated, Want, a_composite}
-use Rattle.machine_model.specs.Names.{a_question, a_raw, a_request, a_stop, all_threads, an_answer, an_effect}
-use Rattle.machine_model.specs.Names.{an_error, breakpoint_list, class_facts, entry_verified, some_news}
-use Rattle.machine_model.specs.Names.{target_end, thread_changed, thread_list}
-use Rattle.machine_model.specs.Names.{classes_found, container_children, frame_list, frames_found, scope_list}
-use Rattle.machine_model.specs.Names.{thread_frames, threads_found, variable_list, variables_found, an_exception, a_value, expression_value, no_value, value_found}
-use Rattle.machine_model.specs.Names.{by_exception, exception_found, exception_info, exception_text, Stepped}
-use Rattle.machine_model.specs.Names.{text_found}
-use Rattle.machine_model.specs.Lookups.{body_of, outcome_by, refusal, value_outcome, written_parts}
+use Rattle.machine_model.specs.Lookups.{finished, plain_outcome, text_of, body_of, outcome_by, refusal, value_outcome}
+use Rattle.machine_model.specs.Lookups.{written_parts}
+use Rattle.machine_model.specs.Names.{Seen, Written, variable_write, write_found, Attached, Choice, Clear, Decides}
+use Rattle.machine_model.specs.Names.{Effect, Failed, Finding, Fresh, Gone, Initialized, Item, Leaves, ListedBreakpoint}
+use Rattle.machine_model.specs.Names.{Lookup, Nothing, Outcome, Part, Phase, Question, Replied, Set, Success}
+use Rattle.machine_model.specs.Names.{TargetCommand, TellsNews, Terminated, Want, a_question, a_request, a_stop}
+use Rattle.machine_model.specs.Names.{an_answer, an_effect, breakpoint_list, class_facts, entry_verified, some_news}
+use Rattle.machine_model.specs.Names.{thread_changed, container_children, thread_frames, expression_value, no_value}
+use Rattle.machine_model.specs.Names.{by_exception, exception_text, Stepped}
 use Rattle.machine_model.specs.References.{has_room, things_of}
 use Rattle.stop_refs.specs.Numbers.{InHand}
 use Rattle.dap_messages.specs.Telling.{references_spent}
 use Rattle.machine_model.specs.Due.{asked_hand}
 use Rattle.machine_model.specs.Knowing.{is_fresh}
 use Rattle.machine_model.specs.Outcomes.{result_of}
-use Rattle.machine_model.specs.Plans.{Result}
-use Rattle.machine_model.specs.Plans.{gave, refused}
+use Rattle.machine_model.specs.Plans.{Result, gave, refused}
 use Rattle.machine_model.specs.Replying.{hand_replied, told_by}
 use Rattle.machine_model.specs.Requests.{Wishes, request_in as request_id, set_to, wishes_after}
 use Rattle.machine_model.specs.Rest.{IsAtRest, request_in}
 use Rattle.machine_model.specs.Composites.{changes_in}
-use Rattle.machine_model.specs.Rows.{written_by}
-use Rattle.machine_model.specs.Rows.{chosen, each_told, leaves, news_of, refused_with, stepped_by, told_in}
+use Rattle.machine_model.specs.Rows.{written_by, chosen, each_told, leaves, news_of, refused_with, stepped_by, told_in}
 use Rattle.machine_model.specs.Runs.{Message, Run}
 use Rattle.machine_model.specs.State.{Hand, Machine, State, is_attached, is_gone}
 use Rattle.machine_model.specs.Telling.{attached_from, numbered_by}
@@ -42,8 +35,8 @@ use Rattle.machine_model.proofs.NewsLaws.{breakpoints_told, changes_alike, each_
 use Rattle.machine_model.proofs.BareLaws.{bare_cleared, bare_installed, bare_none, bare_refused, is_bare}
 use Rattle.machine_model.proofs.BareLaws.{placed_cleared, placed_installed}
 use Rattle.machine_model.proofs.RequestLaws.{IsDue, IsSet, front_set, settles, settling, was_due}
-use Rattle.machine_model.proofs.RequestSteps.{asked_left, flying_in, flying_of, learnt_wishes, near_before}
-use Rattle.machine_model.proofs.RequestSteps.{is_choice, needs_set, parts_left, replied_left}
+use Rattle.machine_model.proofs.RequestSteps.{asked_left, flying_in, flying_of, learnt_wishes, near_before, is_choice}
+use Rattle.machine_model.proofs.RequestSteps.{needs_set, parts_left, replied_left}
 use Rattle.machine_model.proofs.Stepping.{IsAt, Moves, Skips, by_runs}
 use Rattle.machine_model.proofs.Tables.{decided_alike, starts_updates}
 use Rattle.machine_model.proofs.Testing.{same_replied}
@@ -52,12 +45,13 @@ use Rattle.wish_sets.specs.Entries.{all_entries, is_verified, state_of, verified
 use Rattle.wish_sets.specs.Wishes.{cleared, installed_as, is_installed, refused_now}
 use Rattle.wish_sets.specs.declared.entry.EntryState.TheVariants.{Verified}
 use Rattle.wish_sets.specs.declared.entry.VerifiedEntry.{VerifiedEntry}
-use Rattle.machine_model.proofs.VerifiedLaws.{both, has_now, has_still, is_listed, is_placed, is_shown, or_left}
-use Rattle.machine_model.proofs.VerifiedLaws.{or_right, placed_listed, stands_verified, verified_news}
+use Rattle.machine_model.proofs.VerifiedLaws.{has_now, has_still, is_listed, is_placed, is_shown, placed_listed}
+use Rattle.machine_model.proofs.VerifiedLaws.{stands_verified, verified_news}
 use Rattle.machine_model.proofs.ToldParts.{AreNoted, Covers, as_bare, begun, calmer, covers, covers_rest, has_lists}
 use Rattle.machine_model.proofs.ToldParts.{is_asked, none_noted, noted_covers, passes, rebinds, skips, tells_it}
 use Rattle.machine_model.proofs.ToldParts.{will_tell}
 use Rattle.machine_model.specs.Stops.{decided}
+use Rattle.machine_model.proofs.Bools.{both_hold}
 
 module _ (id : ℕ) where
   -- Replies -----------------------------------------------------------------------------------------------------------
@@ -86,7 +80,7 @@ module _ (id : ℕ) where
 
       behind : (bare : Bool) → covers id asked bare (Part.Updates ∷ rest) ≡ true → bare ≡ true
           → will_tell id asked rest ≡ true
-      behind true h is = (both (will_tell id asked rest) (covers id asked false rest) h).0
+      behind true h is = (both_hold (will_tell id asked rest) (covers id asked false rest) h).0
       behind false h is = cc
 
       told_now : (known tells placed bare : Bool) → (placed || bare) ≡ true

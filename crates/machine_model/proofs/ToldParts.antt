@@ -7,29 +7,14 @@ use Rattle.dap_messages.specs.declared.requests.SourceBreakpoint.{SourceBreakpoi
 use Rattle.jdwp_values.specs.declared.id.ClassId.{ClassId}
 use Rattle.dap_messages.specs.declared.requests.FunctionBreakpoint.{FunctionBreakpoint}
 use Rattle.machine_model.specs.Breakpoints.{entry_of, function_listed, functions_from, has_id, key_of, numbered_from}
-use Rattle.machine_model.specs.Names.{Attach, BadArguments, Classes, Command, ConfigurationDone, Configured, Continue}
-use Rattle.machine_model.specs.Names.{Disconnect, EntryHeld, Failure, Initialize, Item, Lines, ListedBreakpoint, Note}
-use Rattle.machine_model.specs.Names.{Options, Part, Pause, Phase, Roots, SetBreakpoints, Success, TellsNews, ThreadId}
-use Rattle.machine_model.specs.Names.{Threads, Unsupported, a_composite, a_raw, a_request, breakpoint_list}
-use Rattle.machine_model.specs.Names.{class_facts, entry_verified, some_news, target_end}
-use Rattle.machine_model.specs.Names.{Scopes, StackTrace, Variables, Evaluate, SetVariable, ExceptionInfo, Functions, Next}
-use Rattle.machine_model.specs.Names.{SetExceptionBreakpoints, SetFunctionBreakpoints, StepIn, StepOut, Steps}
-use Rattle.machine_model.specs.Names.{StopsAt, Throws, Thrown}
-use Rattle.std.specs.Prelude.{Result, Ok, Err, option_and_then}
-use Rattle.stop_refs.specs.Numbers.{container, frame}
-use Rattle.stop_refs.specs.declared.fault.RefFault.{RefFault}
-use Rattle.stop_refs.specs.declared.thing.FrameThing.{FrameThing}
-use Rattle.stop_refs.specs.declared.thing.Thing.{Thing}
+use Rattle.machine_model.specs.Names.{Attach, Classes, Command, Failure, Item, Lines, ListedBreakpoint, Note, Part}
+use Rattle.machine_model.specs.Names.{Phase, SetBreakpoints, Success, TellsNews, a_composite, a_raw, a_request}
+use Rattle.machine_model.specs.Names.{breakpoint_list, class_facts, entry_verified, some_news, target_end, Functions}
+use Rattle.machine_model.specs.Names.{SetFunctionBreakpoints, Steps, StopsAt}
 use Rattle.machine_model.specs.Knowing.{is_fresh}
 use Rattle.machine_model.specs.Requests.{Wishes}
-use Rattle.field_exprs.specs.Parsing.{parsed}
-use Rattle.field_exprs.specs.declared.expr.Expr.{Expr}
-use Rattle.machine_model.specs.Rows.{write_by}
-use Rattle.machine_model.specs.Rows.{evaluate_by}
-use Rattle.machine_model.specs.Rows.{breakpoint_parts, configured_parts, continue_parts, end_parts, failure_of}
-use Rattle.machine_model.specs.Rows.{if_attached, noted, parts_by, parts_of, pause_parts, row_of, thread_with, wanting}
-use Rattle.machine_model.specs.Rows.{exception_parts, scopes_parts, stack_parts}
-use Rattle.machine_model.specs.Rows.{step_parts, stepped_thread, thrown_first, variables_parts}
+use Rattle.machine_model.specs.Rows.{breakpoint_parts, end_parts, failure_of, noted, parts_by, parts_of, row_of}
+use Rattle.machine_model.specs.Rows.{wanting}
 use Rattle.machine_model.specs.State.{State}
 use Rattle.class_tables.specs.Lookups.{Lookups, found_in}
 use Rattle.class_tables.specs.Tables.{put}
@@ -40,11 +25,11 @@ use Rattle.wish_sets.specs.Places.{places}
 use Rattle.wish_sets.specs.Wishes.{is_installed, is_missing, rewished}
 use Rattle.wish_sets.specs.declared.entry.FunctionEntry.{FunctionEntry}
 use Rattle.wish_sets.specs.declared.entry.LineEntry.{LineEntry}
-use Rattle.wish_sets.specs.declared.wish.Depth.{Depth}
-use Rattle.wish_sets.specs.declared.wish.Depth.TheVariants.{Into, Out, Over}
 use Rattle.machine_model.proofs.BareLaws.{bare_rewished, is_bare}
-use Rattle.machine_model.proofs.VerifiedLaws.{both, function_mark, is_it, is_listed, is_placed, is_shown, line_mark}
-use Rattle.machine_model.proofs.VerifiedLaws.{line_marks, marks, or_right}
+use Rattle.machine_model.proofs.VerifiedLaws.{function_mark, is_it, is_listed, is_placed, is_shown, line_mark}
+use Rattle.machine_model.proofs.VerifiedLaws.{line_marks, marks}
+use Rattle.std.proofs.lemmas.Bool.{or_right}
+use Rattle.machine_model.proofs.Bools.{both_hold}
 
 -- Parts ---------------------------------------------------------------------------------------------------------------
 
@@ -111,7 +96,7 @@ module _ (id : ℕ) where
   pub calmer : (asked bare : Bool) (parts : List Part) → covers asked true parts ≡ true → covers asked bare parts ≡ true
   calmer asked bare [] is = refl
   calmer asked true (part ∷ parts) is = is
-  calmer asked false (Part.Updates ∷ parts) is = (both (will_tell asked parts) (covers asked false parts) is).1
+  calmer asked false (Part.Updates ∷ parts) is = (both_hold (will_tell asked parts) (covers asked false parts) is).1
   calmer asked false (part ∷ parts) is = by_test (rebinds part) is (calmer asked false parts)
     where
       by_test : (binds : Bool) → cond (cond binds (will_tell asked parts) true) (covers asked true parts) false ≡ true
@@ -154,7 +139,7 @@ module _ (id : ℕ) where
   pub covers_rest : (asked bare : Bool) (part : Part) (rest : List Part) → covers asked bare (part ∷ rest) ≡ true
       → covers asked (bare_behind bare part) rest ≡ true
   covers_rest asked bare part rest is =
-      (both (cond (verifies bare part) (will_tell asked rest) true) (covers asked (bare_behind bare part) rest) is).1
+      (both_hold (cond (verifies bare part) (will_tell asked rest) true) (covers asked (bare_behind bare part) rest) is).1
 
   -- a part is done that told the breakpoint, or doesn't tell it
   pub passes : {asked : Bool} {w : Wishes} {phase : Phase} {next : ℕ} {ids : List ℕ} (now : Phase) (known : List ℕ)
@@ -431,8 +416,8 @@ module _ (id : ℕ) where
       by_tests : (bare binds : Bool) → binds ≡ true
           → cond (cond binds (will_tell asked rest) true) (covers asked (bare || binds) rest) false ≡ true
           → (will_tell asked rest ≡ true) × (covers asked true rest ≡ true)
-      by_tests true true binds is = both (will_tell asked rest) (covers asked true rest) is
-      by_tests false true binds is = both (will_tell asked rest) (covers asked true rest) is
+      by_tests true true binds is = both_hold (will_tell asked rest) (covers asked true rest) is
+      by_tests false true binds is = both_hold (will_tell asked rest) (covers asked true rest) is
       by_tests bare false binds is = cc
 
   -- a list is written down
