@@ -16,14 +16,15 @@ use Rattle.machine_model.specs.Telling.{after_event, numbered_by}
 use Rattle.machine_model.proofs.BindingHands.{begun_noted, binds_ahead, placed, placed_rest, placed_test}
 use Rattle.machine_model.proofs.RequestLaws.{IsDue, Settling, settles, settling, was_due}
 use Rattle.machine_model.proofs.RequestSteps.{flying_in, flying_of, near_before, numbered_wishes, parts_left}
+use Rattle.machine_model.proofs.RequestSteps.{told_wishes}
 use Rattle.machine_model.proofs.Standing.{asked_in, queue_in}
 use Rattle.machine_model.proofs.Stepping.{IsAt, Moves, Skips, by_runs}
 use Rattle.machine_model.proofs.Tables.{is_updates}
 use Rattle.machine_model.proofs.Testing.{Passed, whole, tested}
 use Rattle.machine_model.proofs.BindingWatches.{none_wished, due_set}
 use Rattle.machine_model.proofs.BindingParts.{AreLike, Binding, IsBinding, Same, are_same, as_before, asks_on}
-use Rattle.machine_model.proofs.BindingParts.{clear_now, event_same, event_wishes, goes_by, is_other, itself}
-use Rattle.machine_model.proofs.BindingParts.{leaves_watches, queues_on, still_binding, still_bound, told_same}
+use Rattle.machine_model.proofs.BindingParts.{clear_now, event_same, goes_by, is_other, itself, leaves_watches}
+use Rattle.machine_model.proofs.BindingParts.{queues_on, still_binding, still_bound, told_same}
 use Rattle.machine_model.proofs.BindingReplies.{answers_on, replies_on, chosen_like, notes_on, finds_on}
 use Rattle.machine_model.specs.Composites.{composite_parts, has_death, learnt_in}
 
@@ -117,7 +118,7 @@ binding_on m next said near p s h (Moves.finds {hand} {rest} {lookup} found free
 binding_on m next said near p s h (Moves.passes_over free at why) here = skips_on free near p s at why h
 binding_on m next said near p s h (Moves.tells {rest = rest} {event = event} free at) here =
     passes_on (after_event event m.state) rest free near p at (event_same event m.state)
-    (event_wishes event m.state) refl refl (are_same rest) h
+    (told_wishes event m.state) refl refl (are_same rest) h
 binding_on m next said near p s h (Moves.sends {rest = rest} {deed} free at is) here =
     passes_on (after_deed deed m.state) rest free near p at (as_before (after_deed deed m.state) m.state refl refl refl)
     refl refl refl (are_same rest) h

@@ -226,9 +226,6 @@ told_same outcome state = as_before (numbered_by outcome state) state (grind ari
 pub event_same : (event : Event) (state : State) → Same (after_event event state) state
 event_same event state = as_before (after_event event state) state (grind arith) (grind arith) (grind arith)
 
-pub event_wishes : (event : Event) (state : State) → (after_event event state).wishes ≡ state.wishes
-event_wishes event state = grind arith
-
 pub itself : (state : State) → Same state state
 itself state = as_before state state refl refl refl
 

@@ -27,7 +27,7 @@ use Rattle.machine_model.proofs.BindingHands.{listed_filled, looks_ahead, looks_
 use Rattle.machine_model.proofs.BindingHands.{notes_list, queues_listing, was_listed}
 use Rattle.machine_model.proofs.BindingPlans.{IsLearnt, is_fact, is_listing}
 use Rattle.machine_model.proofs.RequestLaws.{IsDue}
-use Rattle.machine_model.proofs.RequestSteps.{is_deed}
+use Rattle.machine_model.proofs.RequestSteps.{is_deed, learnt_wishes}
 use Rattle.machine_model.proofs.Tables.{decided_alike, of_decided, of_told, starts_updates, told_alike}
 use Rattle.wish_sets.specs.Wanted.{Wanted, with_exceptions, with_known, with_step}
 use Rattle.wish_sets.specs.declared.wish.Wish.TheVariants as wishes
@@ -38,12 +38,9 @@ use Rattle.machine_model.proofs.BindingParts.{IsComplete, Binding, Same, as_befo
 use Rattle.machine_model.proofs.BindingParts.{still_binding, IsClear, quiet, none_ahead, note_had, placed_note, AreLike}
 use Rattle.machine_model.proofs.BindingParts.{are_same, goes_by, wanted_same, itself, found_complete, unlisted_waits}
 use Rattle.std.proofs.lemmas.Bool.{not-true, or_left}
+use Rattle.machine_model.proofs.ReplyLaws.{wanted_replied}
 
 -- Replies -------------------------------------------------------------------------------------------------------------
-
-pub told_wishes : (question : Question) (replied : Replied) (state : State)
-    → (told_by question replied state).wishes ≡ state.wishes
-told_wishes question replied state = grind arith
 
 told_grows : (question : Question) (replied : Replied) (state : State)
     → Grows state.classes (told_by question replied state).classes
@@ -74,7 +71,7 @@ pub other_reply : (question : Question) (replied : Replied) (state : State) → 
 other_reply question replied state is = record {
   unlisted = told_unlisted question replied state is;
   wanted = wanted_same (told_by question replied state) state
-      (ap (λ (w : Wishes). w.wanted) (told_wishes question replied state));
+      (ap (λ (w : Wishes). w.wanted) (learnt_wishes question replied state));
   loaded = told_loaded question replied state is;
   grows = told_grows question replied state;
 }
@@ -100,7 +97,7 @@ pub answers_on : {state : State} {parts : List Part} {queue : List Want} {asked 
     (replied : Replied) (failed : Bool) → is_waiting question asked ≡ true → Binding state parts queue asked
     → Binding (told_by question replied state) parts (unless_failed failed queue) (filled question replied asked)
 answers_on {state} {parts} {queue} {asked} question replied failed waits h = record {
-  watches = λ needs. subst (λ (w : Wishes). WatchesSet w) (sym (told_wishes question replied state)) (h.watches needs);
+  watches = λ needs. subst (λ (w : Wishes). WatchesSet w) (sym (learnt_wishes question replied state)) (h.watches needs);
   learnt = learnt_filled question replied state.classes (told_by question replied state).classes asked
       (told_grows question replied state) (told_learnt question replied state) h.learnt;
   waits = λ is. h.waits (either_more _ _ (awaits_listing asked) (queues_listing queue)
@@ -141,9 +138,6 @@ pub unlisted_case : (effect : Effect) (replied : Replied) (state : State)
 unlisted_case (Set (wishes.Watch path)) replied state = inr (path, refl)
 unlisted_case _ replied state = inl refl
 
-pub effect_wanted : (effect : Effect) (replied : Replied) (w : Wishes) → (wishes_after effect replied w).wanted ≡ w.wanted
-effect_wanted effect replied w = grind arith
-
 pub ahead_binds : (parts : List Part) → looks_ahead parts ≡ true → binds_ahead parts ≡ true
 ahead_binds [] is = cc
 ahead_binds (part ∷ parts) is = grind (arith, is, ahead_binds parts)
@@ -164,7 +158,7 @@ pub replies_on : {state : State} {parts : List Part} {queue : List Want} {asked 
 replies_on {state} {parts} {queue} {asked} effect replied due reply h = by_case (unlisted_case effect replied state)
   where
     sets : WatchesSet state.wishes → WatchesSet (wishes_after effect replied state.wishes)
-    sets = replied_set state.sizes state.wishes parts effect replied due reply (effect_wanted effect replied state.wishes)
+    sets = replied_set state.sizes state.wishes parts effect replied due reply (wanted_replied effect replied state.wishes)
 
     needs_none : (path : List ℕ) → effect ≡ Set (wishes.Watch path) → (needs : Bool) → needs_watches parts ≡ needs
         → needs ≡ false
@@ -176,7 +170,7 @@ replies_on {state} {parts} {queue} {asked} effect replied due reply h = by_case 
         ⊎ ((path : List ℕ) × (effect ≡ Set (wishes.Watch path)))
         → Binding (done_by effect replied state) parts queue asked
     by_case (inl same) = still_binding (done_by effect replied state)
-        (as_before (done_by effect replied state) state same (effect_wanted effect replied state.wishes) refl)
+        (as_before (done_by effect replied state) state same (wanted_replied effect replied state.wishes) refl)
         (λ needs w. sets w) h
     by_case (inr (path, is)) =
         let starts = (due (ap is_deed is)).1 in

@@ -14,23 +14,20 @@ use Rattle.machine_model.specs.Runs.{Message, Run}
 use Rattle.machine_model.specs.State.{Hand, Machine, SizesRead, State, has_raw, has_waiting, is_gone, is_none, is_raw}
 use Rattle.machine_model.specs.State.{is_some, knowing, left}
 use Rattle.machine_model.specs.Telling.{after_event, attached_from, numbered_by}
-use Rattle.machine_model.proofs.HandshakeLaws.{IsBehind, both_queued}
+use Rattle.machine_model.proofs.HandshakeLaws.{IsBehind, both_queued, is_handshake}
 use Rattle.machine_model.proofs.ItemLaws.{has_composite, has_more, has_rest, is_composite}
 use Rattle.machine_model.proofs.PendingLaws.{all_open}
 use Rattle.machine_model.proofs.QuietLaws.{attached_gone, waits_some}
-use Rattle.machine_model.proofs.SizeLaws.{parts_in, question_sizes}
+use Rattle.machine_model.proofs.SizeLaws.{question_sizes}
 use Rattle.machine_model.proofs.Standing.{asked_in}
 use Rattle.machine_model.proofs.Stepping.{IsAt, Moves, Skips, by_runs}
 use Rattle.machine_model.proofs.Tables.{chosen_is, decided_alike, finished_is, has_attach, plain_attach, told_alike}
 use Rattle.machine_model.proofs.Testing.{IsTest, Passed, same_noted, same_numbered, same_replied, tested, whole}
 use Rattle.machine_model.proofs.Bools.{first_holds, other_fails}
 use Rattle.std.proofs.lemmas.Bool.{or_right}
+use Rattle.machine_model.proofs.RequestSteps.{parts_left}
 
 -- The test ------------------------------------------------------------------------------------------------------------
-
-abbrev is_handshake : Part → Bool
-is_handshake (Part.Awaits Handshake) = true
-is_handshake _ = false
 
 -- what waits for the handshake attaches the session behind it
 abbrev pub greets_first : List Part → Bool
@@ -77,7 +74,7 @@ greets_test = record {
 -- Before the session is attached, and once the handshake went out, what attaches it is in hand; before the handshake
 -- went out nothing is asked, and no sizes are known; and where a composite waits they are.
 pub record IsEarly (m : Machine) : Type 0 where
-  pub attaches : cond (is_fresh m.state.phase) (cond m.state.greeting_sent (has_attach (parts_in m.hand)) true) true
+  pub attaches : cond (is_fresh m.state.phase) (cond m.state.greeting_sent (has_attach (parts_left m.hand)) true) true
       ≡ true
   pub unsent : cond m.state.greeting_sent true (cond (has_waiting (asked_in m.hand)) false (is_none m.state.sizes))
       ≡ true
@@ -89,7 +86,7 @@ front : {m : Machine} {hand : Hand} {part : Part} {rest : List Part} → IsEarly
 front {m} h at = subst (λ (parts : List Part). cond (is_fresh m.state.phase) (cond m.state.greeting_sent
     (has_attach parts) true) true ≡ true) at.parts
     (subst (λ (held : Option Hand). cond (is_fresh m.state.phase) (cond m.state.greeting_sent
-    (has_attach (parts_in held)) true) true ≡ true) at.in_hand h.attaches)
+    (has_attach (parts_left held)) true) true ≡ true) at.in_hand h.attaches)
 
 asked_now : {m : Machine} {hand : Hand} → IsEarly m → m.hand ≡ Some hand
     → cond m.state.greeting_sent true (cond (has_waiting hand.asked) false (is_none m.state.sizes)) ≡ true
@@ -159,11 +156,11 @@ greets_early m hand guard rest t h at is = record {
         by_sizes None is = cc
         by_sizes (Some sizes) is = cc
 
-    there : has_attach (parts_in m.hand) ≡ true
-    there = ap (λ (held : Option Hand). has_attach (parts_in held)) at.in_hand ∙ ap has_attach at.parts
+    there : has_attach (parts_left m.hand) ≡ true
+    there = ap (λ (held : Option Hand). has_attach (parts_left held)) at.in_hand ∙ ap has_attach at.parts
         ∙ first guard is (whole greets_to_attach t at)
 
-    by_fresh : (fresh : Bool) → cond fresh (has_attach (parts_in m.hand)) true ≡ true
+    by_fresh : (fresh : Bool) → cond fresh (has_attach (parts_left m.hand)) true ≡ true
     by_fresh true = there
     by_fresh false = refl
 
@@ -174,7 +171,7 @@ answers_early : (m : Machine) (hand : Hand) (question : Question) (replied : Rep
     → IsEarly (replied_machine m (a_question question) replied)
 answers_early m hand question replied h is waits reply stays = record {
   attaches = rw (same_replied (a_question question) replied m.state, sent_same question replied m.state, is) (ap (λ (held : Option Hand).
-      cond (is_fresh m.state.phase) (cond m.state.greeting_sent (has_attach (parts_in held)) true) true) (sym is)
+      cond (is_fresh m.state.phase) (cond m.state.greeting_sent (has_attach (parts_left held)) true) true) (sym is)
       ∙ h.attaches);
   unsent = rw (sent_same question replied m.state ∙ sent) refl;
   sized = by_gone (is_gone m.state.phase) refl;
@@ -215,7 +212,7 @@ pub early_on : (m next : Machine) (said : Option Message) → Passed greets_to_a
 early_on m next said t b h (Moves.begins picked free none is) = record {
   attaches = by_bools (is_fresh m.state.phase) m.state.greeting_sent (has_attach (parts_of m.state picked.item))
       (ap (λ (held : Option Hand). cond (is_fresh m.state.phase) (cond m.state.greeting_sent
-      (has_attach (parts_in held)) true) true) (sym none) ∙ h.attaches);
+      (has_attach (parts_left held)) true) true) (sym none) ∙ h.attaches);
   unsent = ap (λ (held : Option Hand). cond m.state.greeting_sent true (cond (has_waiting (asked_in held)) false
       (is_none m.state.sizes))) (sym none) ∙ h.unsent;
   sized = fewer (is_gone m.state.phase) (has_composite m.waiting) (has_composite picked.rest) (is_some m.state.sizes)
@@ -232,7 +229,7 @@ early_on m next said t b h (Moves.begins picked free none is) = record {
 early_on m next said t b h (Moves.drops {hand} free is none) = record {
   attaches = ap (λ (parts : List Part). cond (is_fresh m.state.phase) (cond m.state.greeting_sent
       (has_attach parts) true) true) (sym none) ∙ ap (λ (held : Option Hand). cond (is_fresh m.state.phase)
-      (cond m.state.greeting_sent (has_attach (parts_in held)) true) true) (sym is) ∙ h.attaches;
+      (cond m.state.greeting_sent (has_attach (parts_left held)) true) true) (sym is) ∙ h.attaches;
   unsent = by_bools m.state.greeting_sent (has_waiting (asked_in m.hand)) (is_none m.state.sizes) h.unsent;
   sized = h.sized;
 }
@@ -267,13 +264,13 @@ early_on m next said t b h (Moves.unfolds {hand} {choice} {rest} free at) =
     (plain_attach (chosen choice m.state hand) rest (chosen_is choice m.state hand).plain)
 early_on m next said t b h (Moves.queues {hand} free is) = record {
   attaches = ap (λ (held : Option Hand). cond (is_fresh m.state.phase) (cond m.state.greeting_sent
-      (has_attach (parts_in held)) true) true) (sym is) ∙ h.attaches;
+      (has_attach (parts_left held)) true) true) (sym is) ∙ h.attaches;
   unsent = asked_now h is;
   sized = h.sized;
 }
 early_on m next said t b h (Moves.asks {hand} {want} {wants} free room is are) = record {
   attaches = rw is (ap (λ (held : Option Hand). cond (is_fresh m.state.phase) (cond m.state.greeting_sent
-      (has_attach (parts_in held)) true) true) (sym is) ∙ h.attaches);
+      (has_attach (parts_left held)) true) true) (sym is) ∙ h.attaches);
   unsent = rw (first_holds m.state.greeting_sent m.state.greeting_heard (both_queued m hand want wants b is are)) refl;
   sized = h.sized;
 }
@@ -286,7 +283,7 @@ early_on m next said t b h (Moves.answers {question} {replied} {hand} is waits r
     answers_early m hand question replied h is waits reply stays
 early_on m next said t b h (Moves.replies {effect} {replied} {hand} is flies reply stays) = record {
   attaches = rw is (ap (λ (held : Option Hand). cond (is_fresh m.state.phase) (cond m.state.greeting_sent
-      (has_attach (parts_in held)) true) true) (sym is) ∙ h.attaches);
+      (has_attach (parts_left held)) true) true) (sym is) ∙ h.attaches);
   unsent = rw is (asked_now h is);
   sized = h.sized;
 }
@@ -373,7 +370,7 @@ not_fresh m picked at composite h none is item =
     (is_some m.state.sizes) (is_none m.state.sizes) (never_both m.state.phase) (some_or_none m.state.sizes)
     (picked_waits (is_gone m.state.phase) m.waiting picked at composite is item)
     (ap (λ (held : Option Hand). cond (is_fresh m.state.phase) (cond m.state.greeting_sent
-    (has_attach (parts_in held)) true) true) (sym none) ∙ h.attaches)
+    (has_attach (parts_left held)) true) true) (sym none) ∙ h.attaches)
     (ap (λ (held : Option Hand). cond m.state.greeting_sent true (cond (has_waiting (asked_in held)) false
     (is_none m.state.sizes))) (sym none) ∙ h.unsent) h.sized
   where

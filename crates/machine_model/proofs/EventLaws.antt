@@ -6,10 +6,10 @@ use Rattle.std.proofs.lemmas.List.Concat.{flat_map-append}
 use Rattle.machine_model.specs.Due.{asked_hand}
 use Rattle.machine_model.specs.Events.{AreTold, EventsAre, ends_target, is_attach, is_clients, is_success}
 use Rattle.machine_model.specs.Lookups.{finished, lookup_responds}
-use Rattle.machine_model.specs.Names.{Command, Event, Failed, Failure, Initialized, Item, News, Note, Outcome, Part}
-use Rattle.machine_model.specs.Names.{Replied, Request, Success, TargetCommand, Terminated, Want, a_composite}
-use Rattle.machine_model.specs.Names.{a_question, a_raw, a_request, a_stop, an_effect, an_event, entry_verified}
-use Rattle.machine_model.specs.Names.{some_news, target_end, thread_changed}
+use Rattle.machine_model.specs.Names.{Command, Event, Failed, Failure, Initialized, Item, News, Outcome, Part, Replied}
+use Rattle.machine_model.specs.Names.{Request, Success, TargetCommand, Terminated, Want, a_composite, a_question, a_raw}
+use Rattle.machine_model.specs.Names.{a_request, a_stop, an_effect, an_event, entry_verified, some_news, target_end}
+use Rattle.machine_model.specs.Names.{thread_changed}
 use Rattle.machine_model.specs.Outcomes.{result_of}
 use Rattle.machine_model.specs.Replying.{given_up, hand_replied, is_end, replied_to}
 use Rattle.machine_model.specs.Rest.{request_by, request_in, response_by, without_response}
@@ -28,6 +28,7 @@ use Rattle.machine_model.proofs.Testing.{passed, same_noted, same_numbered, same
 use Rattle.machine_model.specs.Breakpoints.{verified_told}
 use Rattle.machine_model.specs.Knowing.{has_last}
 use Rattle.machine_model.proofs.Bools.{never}
+use Rattle.machine_model.proofs.MarkLaws.{same_reply, same_told, same_note}
 
 -- What is left of an item: an `attach` tells `initialized` behind its success, and no other item does -----------------
 
@@ -490,16 +491,6 @@ skipped_lasts : {m : Machine} {hand : Hand} {part : Part} (rest : List Part) →
 skipped_lasts rest (Skips.by_guard is) = refl
 skipped_lasts rest _ = refl
 
-numbered_end : (outcome : Outcome) (state : State) → (numbered_by outcome state).terminated ≡ state.terminated
-numbered_end outcome state = grind arith
-
-noted_end : (note : Note) (state : State) → (noted note state).terminated ≡ state.terminated
-noted_end note state = grind arith
-
-replied_end : (command : TargetCommand) (replied : Replied) (state : State)
-    → (replied_to command replied state).terminated ≡ state.terminated
-replied_end command replied state = grind arith
-
 replied_lasts : (command : TargetCommand) (replied : Replied) (hand : Option Hand)
     → hand_lasts hand ≡ hand_lasts (option_map (hand_replied command replied) hand)
 replied_lasts command replied None = refl
@@ -540,7 +531,7 @@ end_on m next said h (Moves.drops {hand} free is none) =
     same_end m m.state false _ refl refl (ap hand_lasts is ∙ ap has_last none) refl h
 end_on m next said h (Moves.responds {rest = rest} {outcome = outcome} free at is) =
     same_end m (numbered_by outcome m.state) (has_last rest) _ (same_numbered outcome m.state)
-    (numbered_end outcome m.state) (front_lasts at refl) refl h
+    (same_told outcome m.state) (front_lasts at refl) refl h
 end_on m next said h (Moves.finds {lookup = lookup} found free at needs done) =
     block_lasts (finished lookup (result_of found) m.state) at refl h
 end_on m next said h (Moves.passes_over {rest = rest} free at why) =
@@ -555,7 +546,7 @@ end_on m next said h (Moves.updates {rest = rest} free at is near) =
     same_end m m.state (has_last (Part.Updates ∷ rest)) _ refl refl
     (ap hand_lasts at.in_hand ∙ ap has_last at.parts) refl h
 end_on m next said h (Moves.notes {note = note} {rest} free at) =
-    same_end m (noted note m.state) (has_last rest) _ (same_noted note m.state) (noted_end note m.state)
+    same_end m (noted note m.state) (has_last rest) _ (same_noted note m.state) (same_note note m.state)
     (front_lasts at refl) refl h
 end_on m next said h (Moves.unfolds {hand} {choice} free at) = block_lasts (chosen choice m.state hand) at refl h
 end_on m next said h (Moves.queues {hand} free is) =
@@ -566,10 +557,10 @@ end_on m next said h (Moves.hears {request} read is) = one_waits m (a_request re
 end_on m next said h (Moves.answers {question} {replied} is waits reply stays) =
     same_end m (replied_to (a_question question) replied m.state) _ _ (same_replied
     (a_question question) replied m.state)
-    (replied_end (a_question question) replied m.state) (replied_lasts (a_question question) replied m.hand) refl h
+    (same_reply (a_question question) replied m.state) (replied_lasts (a_question question) replied m.hand) refl h
 end_on m next said h (Moves.replies {effect} {replied} is flying reply stays) =
     same_end m (replied_to (an_effect effect) replied m.state) _ _ (same_replied (an_effect effect) replied m.state)
-    (replied_end (an_effect effect) replied m.state) (replied_lasts (an_effect effect) replied m.hand) refl h
+    (same_reply (an_effect effect) replied m.state) (replied_lasts (an_effect effect) replied m.hand) refl h
 end_on m next said h (Moves.loses late near why) = rw (flat_map-append end_in m.waiting (target_end ∷ []))
     (some_end m.state.terminated (hand_lasts (option_map given_up m.hand)) (flat_map end_in m.waiting))
   where

@@ -26,7 +26,7 @@ needs (Part.Tells Initialized) = true
 needs (Part.Unfolds Stepped) = true
 needs _ = false
 
-abbrev is_handshake : Part → Bool
+abbrev pub is_handshake : Part → Bool
 is_handshake (Part.Awaits Handshake) = true
 is_handshake _ = false
 

@@ -14,11 +14,9 @@ use Rattle.machine_model.specs.Rows.{step_parts, stepped_by, thread_there, threa
 use Rattle.machine_model.specs.Runs.{Message, Run}
 use Rattle.machine_model.specs.State.{Hand, Machine, State}
 use Rattle.machine_model.proofs.BindingFacts.{only_classes}
-use Rattle.machine_model.proofs.BindingParts.{event_wishes}
-use Rattle.machine_model.proofs.BindingReplies.{effect_wanted}
 use Rattle.machine_model.proofs.BindingWatches.{or_false, without_mid}
 use Rattle.machine_model.proofs.IdRows.{all_joined}
-use Rattle.machine_model.proofs.RequestSteps.{learnt_wishes, numbered_wishes}
+use Rattle.machine_model.proofs.RequestSteps.{learnt_wishes, numbered_wishes, told_wishes}
 use Rattle.machine_model.proofs.Stepping.{Loses, Moves, by_moves, with_said}
 use Rattle.machine_model.proofs.Tables.{decided_alike, told_alike}
 use Rattle.machine_model.proofs.Testing.{IsTest, Passed, passed_on, whole}
@@ -34,6 +32,7 @@ use Rattle.wish_sets.specs.declared.wish.Depth.TheVariants.{Into, Out, Over}
 use Rattle.wish_sets.specs.declared.wish.StepWish.{StepWish}
 use Rattle.wish_sets.specs.declared.wish.Wish.{Wish}
 use Rattle.wish_sets.specs.declared.wish.Wish.TheVariants as wishes
+use Rattle.machine_model.proofs.ReplyLaws.{wanted_replied}
 
 -- Parts ---------------------------------------------------------------------------------------------------------------
 
@@ -206,13 +205,13 @@ there_on : (m next : Machine) (said : Option Message) → has_thread m.state.wis
 there_on m next said there p (Moves.responds {outcome = outcome} free at is) =
     ap (λ (w : Wishes). has_thread w.wanted.step) (numbered_wishes outcome m.state) ∙ there
 there_on m next said there p (Moves.tells {event = event} free at) =
-    ap (λ (w : Wishes). has_thread w.wanted.step) (event_wishes event m.state) ∙ there
+    ap (λ (w : Wishes). has_thread w.wanted.step) (told_wishes event m.state) ∙ there
 there_on m next said there p (Moves.notes {note = note} {rest = rest} free at) =
     noted_thread note m.state there (front_threaded (Part.Notes note) rest (whole threaded p at))
 there_on m next said there p (Moves.answers {question} {replied} is waits reply stays) =
     ap (λ (w : Wishes). has_thread w.wanted.step) (learnt_wishes question replied m.state) ∙ there
 there_on m next said there p (Moves.replies {effect} {replied} is flying reply stays) =
-    ap (λ (wanted : Wanted). has_thread wanted.step) (effect_wanted effect replied m.state.wishes) ∙ there
+    ap (λ (wanted : Wanted). has_thread wanted.step) (wanted_replied effect replied m.state.wishes) ∙ there
 there_on m next said there p _ = there
 
 are_threaded_all : {messages : List Message} {m : Machine} → Run messages m → AreThreaded messages m

@@ -15,7 +15,7 @@ use Rattle.machine_model.specs.Names.{some_news, thread_changed, thread_frames, 
 use Rattle.machine_model.specs.Names.{exception_info, exception_text, Body, ShownVariable, a_value, container_children}
 use Rattle.machine_model.specs.Names.{expression_value, frame_list, scope_list, variable_list}
 use Rattle.machine_model.proofs.Standing.{needs_sizes, IsKept, Near, OfBody, PartStands, asked_in, at_front, ids_said}
-use Rattle.machine_model.proofs.Standing.{left_in, queue_in}
+use Rattle.machine_model.proofs.Standing.{queue_in}
 use Rattle.machine_model.proofs.WriteIds.{IsWrite, OfDeed, OfStore, written_fits, written_ids, written_sized}
 use Rattle.machine_model.specs.Ids.{Id, IsNull, class, ids_asked, ids_given, ids_of_composite, ids_read, thread_in}
 use Rattle.machine_model.specs.Ids.{frame, object}
@@ -44,6 +44,7 @@ use Rattle.machine_model.proofs.Stepping.{Moves, by_moves, with_said}
 use Rattle.machine_model.proofs.WishIds.{AreWished, MaySend, SetMay, find_some, nothing_wished, weak_wished, wished_may}
 use Rattle.machine_model.proofs.StandingMoves.{sized_by}
 use Rattle.machine_model.proofs.Bools.{always}
+use Rattle.machine_model.proofs.RequestSteps.{parts_left}
 
 -- A weaker test -------------------------------------------------------------------------------------------------------
 
@@ -140,7 +141,7 @@ module _ (P Q : Id → Type 0) (k : (id : Id) → P id → Q id) where
     once = h.once;
     sizes = h.sizes;
     none_late = h.none_late;
-    near = λ near. weak_near m.state (left_in m.hand) (queue_in m.hand) (asked_in m.hand) (h.near near);
+    near = λ near. weak_near m.state (parts_left m.hand) (queue_in m.hand) (asked_in m.hand) (h.near near);
   }
 
 -- Runs ----------------------------------------------------------------------------------------------------------------

@@ -57,6 +57,7 @@ use Rattle.machine_model.proofs.HoldingParts.{IsHolding, IsLost, holding, lost_f
 use Rattle.machine_model.proofs.HoldingParts.{numbered_stop, same_entry, same_stop}
 use Rattle.machine_model.specs.Lookups.{finished}
 use Rattle.machine_model.proofs.Bools.{never, other_fails}
+use Rattle.machine_model.proofs.ThreadIds.{replied_threads}
 
 -- Replies -------------------------------------------------------------------------------------------------------------
 
@@ -540,15 +541,11 @@ note_numbers : (numbers : List ℕ) (note : Note) (state : State)
 note_numbers numbers (Options options) state = no_numbers numbers state.threads
 note_numbers numbers _ state = no_numbers numbers state.threads
 
-same_threads : (command : TargetCommand) (replied : Replied) (state : State)
-    → (replied_to command replied state).threads ≡ state.threads
-same_threads command replied state = grind arith
-
 reply_numbers : (numbers : List ℕ) (command : TargetCommand) (replied : Replied) (state : State)
     → Numbers numbers state.threads (replied_to command replied state).threads []
 reply_numbers numbers command replied state =
     subst (λ (threads : List ThreadId). Numbers numbers state.threads threads []) (sym
-    (same_threads command replied state))
+    (replied_threads command replied state))
     (no_numbers numbers state.threads)
 
 numbers_on : (numbers : List ℕ) (m next : Machine) (said : Option Message) → Moves m said next

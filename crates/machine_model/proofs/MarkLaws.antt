@@ -161,13 +161,13 @@ begun_marked state (a_composite at composite) over =
     by_phase phase dies policy told over = grind (arith, over)
 begun_marked state (a_raw at body) over = rw over refl
 
-same_told : (outcome : Outcome) (state : State) → (numbered_by outcome state).terminated ≡ state.terminated
+pub same_told : (outcome : Outcome) (state : State) → (numbered_by outcome state).terminated ≡ state.terminated
 same_told outcome state = grind arith
 
-same_note : (note : Note) (state : State) → (noted note state).terminated ≡ state.terminated
+pub same_note : (note : Note) (state : State) → (noted note state).terminated ≡ state.terminated
 same_note note state = grind arith
 
-same_reply : (command : TargetCommand) (replied : Replied) (state : State)
+pub same_reply : (command : TargetCommand) (replied : Replied) (state : State)
     → (replied_to command replied state).terminated ≡ state.terminated
 same_reply command replied state = grind arith
 

@@ -10,6 +10,7 @@ use Rattle.machine_model.specs.Runs.{Message, Run}
 use Rattle.machine_model.specs.State.{Hand, Machine, is_gone}
 use Rattle.machine_model.proofs.RestLaws.{near_queue}
 use Rattle.machine_model.proofs.Stepping.{Loses, Moves, by_runs, with_said}
+use Rattle.machine_model.proofs.Standing.{queue_in}
 
 -- each of these has the property
 abbrev All : (Want → Type 0) → List Want → Type 0
@@ -45,10 +46,6 @@ all_of P all done (want ∷ wants) is each = (
 )
 
 -- The invariant -------------------------------------------------------------------------------------------------------
-
-abbrev queue_in : Option Hand → List Want
-queue_in None = []
-queue_in (Some hand) = hand.queue
 
 record Asks (messages : List Message) (m : Machine) : Type 0 where
   sent : AreLacked messages

@@ -16,8 +16,8 @@ use Rattle.machine_model.specs.Runs.{Message, Run}
 use Rattle.machine_model.specs.State.{Machine, SizesRead, is_gone}
 use Rattle.machine_model.proofs.RequestLaws.{IsDue, Settling, settles, settling, step_of, was_due}
 use Rattle.machine_model.proofs.RequestSteps.{Step, flying_in, is_deed, near_before, parts_left, says_aside}
-use Rattle.machine_model.proofs.StandLaws.{refused_replied, goes_on}
-use Rattle.machine_model.proofs.Stepping.{Moves, moved}
+use Rattle.machine_model.proofs.StandLaws.{refused_replied}
+use Rattle.machine_model.proofs.Stepping.{Moves, moved, gone_on}
 use Rattle.machine_model.proofs.WishLemmas.{due_clear, left_inserted, left_same, new_set_due, none_left}
 use Rattle.machine_model.proofs.WishLemmas.{none_due_change}
 use Rattle.wish_sets.proofs.NextLaws.{surplus_clear}
@@ -196,7 +196,7 @@ unfolding set_since
 unwished_none Run.starts wish is = refl
 unwished_none _ wish is = rw is refl
 
-wanted_replied : (effect : Effect) (reply : Replied) (w : Wishes) → (wishes_after effect reply w).wanted ≡ w.wanted
+pub wanted_replied : (effect : Effect) (reply : Replied) (w : Wishes) → (wishes_after effect reply w).wanted ≡ w.wanted
 wanted_replied effect reply w = grind arith
 
 -- once all that is wished is set, what isn't wished is neither installed nor refused
@@ -285,7 +285,7 @@ is_told Run.starts near wish asked = IsTold.unset (refl, refl) refl
 is_told (Run.goes {m} r is) here wish asked =
     rw asked (subst (λ (those : List Message). IsTold wish (due false m).next.state.wishes
     (flying_in (due false m).next.hand) those) (append-nil (set_since wish r))
-    (told_move wish r (due false m).next None (goes_on is) here (λ near. is_told r near wish) asked))
+    (told_move wish r (due false m).next None (gone_on is) here (λ near. is_told r near wish) asked))
 is_told (Run.moves {m} {next} {message} r allows) here wish asked =
     rw asked (told_move wish r next (Some message) (moved allows) here (λ near. is_told r near wish) asked)
 

@@ -90,7 +90,7 @@ replied_left _ replied _ = refl
 pub numbered_wishes : (outcome : Outcome) (state : State) → (numbered_by outcome state).wishes ≡ state.wishes
 numbered_wishes outcome state = grind arith
 
-told_wishes : (event : Event) (state : State) → (after_event event state).wishes ≡ state.wishes
+pub told_wishes : (event : Event) (state : State) → (after_event event state).wishes ≡ state.wishes
 told_wishes event state = grind arith
 
 pub noted_wishes : (note : Note) (state : State) → rewants (Part.Notes note) ≡ false

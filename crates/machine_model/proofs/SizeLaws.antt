@@ -21,9 +21,11 @@ use Rattle.machine_model.proofs.Stepping.{IsAt, Moves, Skips, by_moves}
 use Rattle.machine_model.specs.Outcomes.{result_of}
 use Rattle.machine_model.proofs.Tables.{are_plain, chosen_is, finished_is, has_attach, plain_attach}
 use Rattle.machine_model.proofs.Bools.{other_fails}
+use Rattle.machine_model.proofs.Testing.{same_replied}
+use Rattle.machine_model.proofs.RequestSteps.{parts_left}
 
 -- it waits for the sizes of ids
-abbrev sizes_first : Part → Bool
+abbrev pub sizes_first : Part → Bool
 sizes_first (Part.Awaits IdSizes) = true
 sizes_first _ = false
 
@@ -36,12 +38,8 @@ abbrev parts_sized : Phase → Option SizesRead → List Part → Bool
 parts_sized phase sizes parts =
     cond (is_gone phase) true (cond (is_attached phase || has_attach parts) (is_some sizes || has_sizes parts) true)
 
-abbrev pub parts_in : Option Hand → List Part
-parts_in None = []
-parts_in (Some hand) = hand.parts
-
 abbrev IsSized : Machine → Type 0
-IsSized m = parts_sized m.state.phase m.state.sizes (parts_in m.hand) ≡ true
+IsSized m = parts_sized m.state.phase m.state.sizes (parts_left m.hand) ≡ true
 
 row_sized : (failure : Option Failure) (command : Command) (state : State)
     → cond (has_attach (parts_by failure (row_of command state))) (has_sizes (parts_by failure (row_of command state))) true ≡ true
@@ -68,7 +66,7 @@ noted_sizes : (note : Note) (state : State)
 noted_sizes note state = (grind arith, grind arith)
 
 -- a reply that isn't the target's end gives sizes where they were asked for
-good_answer : (answer : Answer) → kind_of_answer answer ≡ kind_of (wire (a_question questions.IdSizes))
+pub good_answer : (answer : Answer) → kind_of_answer answer ≡ kind_of (wire (a_question questions.IdSizes))
     → is_some (sizes_in (an_answer answer)) ≡ true
 good_answer answer is = grind (arith, is)
 
@@ -100,27 +98,23 @@ sized_by phase sizes later parts grows h = by_tests (is_gone phase) (is_attached
 -- a reply keeps the invariant
 replied_sized : (m : Machine) (command : TargetCommand) (replied : Replied) → IsReply m.state.sizes command replied
     → shows_end m.state.phase command replied ≡ false → IsSized m
-    → parts_sized m.state.phase (replied_to command replied m.state).sizes (parts_in m.hand) ≡ true
+    → parts_sized m.state.phase (replied_to command replied m.state).sizes (parts_left m.hand) ≡ true
 replied_sized m (an_effect effect) replied reply stays h = h
 replied_sized m (a_question question) replied reply stays h = by_gone (is_gone m.state.phase) refl
   where
     by_gone : (gone : Bool) → is_gone m.state.phase ≡ gone
-        → parts_sized m.state.phase (replied_to (a_question question) replied m.state).sizes (parts_in m.hand) ≡ true
+        → parts_sized m.state.phase (replied_to (a_question question) replied m.state).sizes (parts_left m.hand) ≡ true
     by_gone true gone = rw gone refl
     by_gone false near = sized_by m.state.phase m.state.sizes (replied_to (a_question question) replied m.state).sizes
-        (parts_in m.hand) (question_sizes m.state question replied reply
+        (parts_left m.hand) (question_sizes m.state question replied reply
         (other_fails (is_gone m.state.phase) (is_end (a_question question) replied) near stays)) h
 
-pub same_phase : (command : TargetCommand) (replied : Replied) (state : State)
-    → (replied_to command replied state).phase ≡ state.phase
-same_phase command replied state = grind arith
-
-replied_parts : (command : TargetCommand) (replied : Replied) (hand : Option Hand)
-    → parts_in (option_map (hand_replied command replied) hand) ≡ parts_in hand
+pub replied_parts : (command : TargetCommand) (replied : Replied) (hand : Option Hand)
+    → parts_left (option_map (hand_replied command replied) hand) ≡ parts_left hand
 replied_parts command replied None = refl
 replied_parts _ replied _ = refl
 
-asked_parts : (want : Want) (hand : Option Hand) → parts_in (option_map (asked_hand want) hand) ≡ parts_in hand
+pub asked_parts : (want : Want) (hand : Option Hand) → parts_left (option_map (asked_hand want) hand) ≡ parts_left hand
 asked_parts want None = refl
 asked_parts want (Some hand) = refl
 
@@ -164,11 +158,11 @@ same_sized : (m : Machine) (state : State) (parts : List Part)
 same_sized m state parts same h = rw (same.0, same.1) h
 
 held_sized : (m : Machine) (hand : Option Hand) (hand_now : Option Hand) → m.hand ≡ hand
-    → parts_in hand_now ≡ parts_in hand
-    → IsSized m → parts_sized m.state.phase m.state.sizes (parts_in hand_now) ≡ true
+    → parts_left hand_now ≡ parts_left hand
+    → IsSized m → parts_sized m.state.phase m.state.sizes (parts_left hand_now) ≡ true
 held_sized m hand hand_now is same h =
     subst (λ (parts : List Part). parts_sized m.state.phase m.state.sizes parts ≡ true) (sym same)
-    (subst (λ (hand : Option Hand). parts_sized m.state.phase m.state.sizes (parts_in hand) ≡ true) is h)
+    (subst (λ (hand : Option Hand). parts_sized m.state.phase m.state.sizes (parts_left hand) ≡ true) is h)
 
 sized_on : (m next : Machine) (said : Option Message) → IsSized m → Moves m said next → IsSized next
 sized_on m next said h (Moves.begins picked free none is) = begun_on m picked.item none h
@@ -196,7 +190,7 @@ sized_on m next said h (Moves.queues {hand} free is) = held_sized m (Some hand) 
 sized_on m next said h (Moves.asks {hand} {want} free room is are) =
     held_sized m m.hand (option_map (asked_hand want) m.hand) refl (asked_parts want m.hand) h
 sized_on m next said h (Moves.answers {question} {replied} is waits reply stays) =
-    rw (replied_parts (a_question question) replied m.hand, same_phase (a_question question) replied m.state)
+    rw (replied_parts (a_question question) replied m.hand, same_replied (a_question question) replied m.state)
     (replied_sized m (a_question question) replied reply stays h)
 sized_on m next said h (Moves.replies {effect} {replied} is flying reply stays) =
     rw (replied_parts (an_effect effect) replied m.hand) h

@@ -1,6 +1,6 @@
 -- The sizes of ids are replied once, and each command has a spelling with them.
-use Rattle.std.proofs.Common.{◌≡◌, ◌<◌, ◌^◌, ℕ, zero, suc, Bool, true, false, cond, List, [], ◌∷◌, ◌++◌, Option, Some}
-use Rattle.std.proofs.Common.{None, refl, sym, ap, subst, ◌∙◌, arith}
+use Rattle.std.proofs.Common.{◌≡◌, ◌<◌, ◌^◌, ℕ, Bool, true, false, cond, List, [], ◌∷◌, ◌++◌, Option, Some, None, refl}
+use Rattle.std.proofs.Common.{sym, ap, subst, ◌∙◌, arith}
 use Rattle.std.specs.List.{AllByRecursion as All}
 use Rattle.jdwp_commands.specs.Answers.{kind_of_answer, limit_of, told_answer}
 use Rattle.jdwp_commands.specs.Commands.{kind_of}
@@ -25,16 +25,13 @@ use Rattle.machine_model.proofs.StandingReplies.{not_empty, only_sizes, sizes_is
 use Rattle.machine_model.proofs.Stepping.{Moves, moved}
 use Rattle.machine_model.proofs.Testing.{same_replied}
 use Rattle.machine_model.proofs.WishIds.{MaySend}
+use Rattle.machine_model.proofs.WriteIds.{power}
 
 -- The ids that an answer brings ---------------------------------------------------------------------------------------
 
 -- an id fits the sizes that were replied; before that it fits any
 abbrev Fits : Option SizesRead → Id → Type 0
 Fits sizes id = (used : IdSizes) → SizesFor sizes used → FitsId used id
-
-power : (n : ℕ) → 0 < 256 ^ n
-power zero = omega arith
-power (suc n) = omega (arith, power n)
 
 first_grows : (all more : List SizesRead) (used : IdSizes) → SizesFor (first_sizes (all ++ more)) used
     → SizesFor (first_sizes all) used

@@ -19,7 +19,7 @@ use Rattle.machine_model.specs.Runs.{Allows, Message, Run, said}
 use Rattle.machine_model.specs.State.{Machine, SizesRead, is_gone}
 use Rattle.machine_model.proofs.RequestLaws.{IsDue, Settling, settling, settling_on, step_of, was_due}
 use Rattle.machine_model.proofs.RequestSteps.{Step, flying_in, is_deed, lands, near_before, parts_left, says_aside}
-use Rattle.machine_model.proofs.Stepping.{Loses, Moves, by_runs, moved, walks_due, with_said}
+use Rattle.machine_model.proofs.Stepping.{Loses, Moves, by_runs, moved, with_said, gone_on}
 use Rattle.machine_model.proofs.WishLemmas.{any_kept, any_with, cleared_once, due_clear, new_set_due}
 use Rattle.wish_sets.proofs.NextLaws.{clears-is, installed_clear, surplus_clear}
 use Rattle.wish_sets.proofs.OrderLaws.{any-insert}
@@ -176,17 +176,13 @@ refused_on {messages} {m} r wish next said was moved here is = by_step said (ste
         ∙ refused_replied m.state.sizes m.state.wishes (parts_left m.hand) effect replied wish
         (was_due m effect s.awaited flew) reply ∙ ap (refused_said wish said) is)
 
--- a silent step of a run is a move
-pub goes_on : {m : Machine} → (due false m).act ≡ Act.Goes → Moves m None (due false m).next
-goes_on {m} is = rw is at (walks_due m)
-
 are_refused : {messages : List Message} {m : Machine} (r : Run messages m) → is_gone m.state.phase ≡ false
     → (wish : Wish)
     → has_wish m.state.wishes.refused wish ≡ refused_since wish r
 unfolding refused_since
 are_refused Run.starts near wish = refl
 are_refused (Run.goes {m} r is) here wish =
-    let move = goes_on is in
+    let move = gone_on is in
     refused_on r wish (due false m).next None (refused_since wish r) move here
     (are_refused r (near_before m (due false m).next None move here) wish)
 are_refused (Run.moves {m} {next} {message} r allows) here wish =

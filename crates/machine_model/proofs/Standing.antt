@@ -17,15 +17,11 @@ use Rattle.machine_model.specs.Spelling.{all_sizes, first_sizes, sizes_by, sizes
 use Rattle.machine_model.specs.State.{State, Hand, Machine, SizesRead, is_attached, is_gone, is_some}
 use Rattle.machine_model.proofs.PlanIds.{AreKnown, IsAsked, IsWanted, OfClass, OfFrameThing, OfLookup, OfNamed}
 use Rattle.machine_model.proofs.PlanIds.{OfShownFrame, OfSeen, OfShownVariable, OnSome, is_sizes}
-use Rattle.machine_model.proofs.RequestSteps.{is_choice}
+use Rattle.machine_model.proofs.RequestSteps.{is_choice, parts_left}
 use Rattle.machine_model.proofs.Stepping.{IsAt, with_said}
 use Rattle.machine_model.proofs.WishIds.{AreWished, IsShortFunction, IsShortKey, OfStep}
 
 -- The item in hand ----------------------------------------------------------------------------------------------------
-
-abbrev pub left_in : Option Hand → List Part
-left_in None = []
-left_in (Some hand) = hand.parts
 
 abbrev pub queue_in : Option Hand → List Want
 queue_in None = []
@@ -129,7 +125,7 @@ pub record Kept (P : Id → Type 0) (messages : List Message) (state : State) (l
 
 -- it holds of this hand, and of a machine
 abbrev pub KeptHand : (Id → Type 0) → List Message → State → Option Hand → List TargetCommand → Type 0
-KeptHand P messages state hand late = Kept P messages state (left_in hand) (queue_in hand) (asked_in hand) late
+KeptHand P messages state hand late = Kept P messages state (parts_left hand) (queue_in hand) (asked_in hand) late
 
 abbrev pub IsKept : (Id → Type 0) → List Message → Machine → Type 0
 IsKept P messages m = KeptHand P messages m.state m.hand m.late

@@ -3,8 +3,6 @@ use Rattle.std.proofs.Common.{◌≡◌, ◌≤◌, ◌+◌, ℕ, Bool, true, fa
 use Rattle.std.proofs.Common.{Some, None, refl, sym, ap, subst, ◌∙◌, option_map, arith, length-append}
 use Rattle.std.specs.List.{AllByRecursion as All, flat_map}
 use Rattle.class_tables.specs.Facts.{Known, same_class}
-use Rattle.jdwp_commands.specs.Answers.{kind_of_answer}
-use Rattle.jdwp_commands.specs.Commands.{kind_of}
 use Rattle.jdwp_commands.specs.declared.answer.Answer.TheVariants as answers
 use Rattle.jdwp_commands.specs.declared.question.Question.TheVariants as questions
 use Rattle.jdwp_values.specs.Classes.{field_row, method_row}
@@ -18,9 +16,9 @@ use Rattle.machine_model.specs.Facts.{above_in, fields_in, methods_in}
 use Rattle.machine_model.specs.Ids.{Id, class, ids_of, ids_replied, thread_of}
 use Rattle.machine_model.specs.Lookups.{found_for}
 use Rattle.machine_model.specs.Names.{Answer, Guard, Handshake, IdSizes, Part, Phase, Question, Replied, Sent}
-use Rattle.machine_model.specs.Names.{TargetCommand, Want, a_question, an_answer, an_effect}
+use Rattle.machine_model.specs.Names.{TargetCommand, Want, a_question, an_effect}
 use Rattle.machine_model.specs.Plans.{Need, answer_in, asks_for, lacking, lacks, question_of}
-use Rattle.machine_model.specs.Replying.{wire, replied_machine, is_failed, IsReply, ended_with, filled, given_up}
+use Rattle.machine_model.specs.Replying.{replied_machine, is_failed, IsReply, ended_with, filled, given_up}
 use Rattle.machine_model.specs.Replying.{hand_replied, is_waiting, knows_fact, learnt, pending_in, shows_end, sizes_in}
 use Rattle.machine_model.specs.Replying.{told_by, unanswered, unless_failed, unanswered_effect, waits_for}
 use Rattle.machine_model.specs.Replying.{still_unlisted, with_heard}
@@ -42,6 +40,8 @@ use Rattle.jdwp_commands.specs.declared.listed.LoadedClass.{LoadedClass}
 use Rattle.machine_model.specs.Classes.{classes_in, with_listed}
 use Rattle.std.specs.Prelude.{fold}
 use Rattle.machine_model.proofs.Bools.{second_holds}
+use Rattle.machine_model.proofs.RestLaws.{near_queue}
+use Rattle.machine_model.proofs.SizeLaws.{good_answer}
 
 -- Numbers -------------------------------------------------------------------------------------------------------------
 
@@ -133,10 +133,6 @@ near_by : (gone : Bool) (load other : Load) → cond gone clear load ≡ other �
 near_by true load other is apart = apart is
 near_by false load other is apart = refl
 
-lacking_near : (m : Machine) → load_of m ≡ lacking_more → is_gone m.state.phase ≡ false
-unfolding load_of
-lacking_near m is = near_by (is_gone m.state.phase) _ lacking_more is (λ no. cc)
-
 pub queued_near : (m : Machine) → load_of m ≡ queued → is_gone m.state.phase ≡ false
 unfolding load_of
 queued_near m is = near_by (is_gone m.state.phase) _ queued is (λ no. cc)
@@ -172,7 +168,7 @@ pub queued_kept : {P : Id → Type 0} {messages : List Message} (m : Machine) {h
 unfolding newly_lacked
 queued_kept {P} {messages} m {hand} null kept load is =
     let k = taken_out m kept is in
-    let gone = lacking_near m load in
+    let gone = near_queue m load in
     let n = k.near gone in
     let late : total by_command m.late ≡ 0 = ap (total by_command) (k.none_late gone) in
     let few = new_few hand (is_some m.state.sizes) null k gone refl in
@@ -408,11 +404,6 @@ only_sizes P question (sent ∷ asked) h waits =
     by_test _ _ _ waits rest = rest waits
 
 -- What a reply to a question leaves -----------------------------------------------------------------------------------
-
--- a reply that isn't the target's end gives the sizes where they were asked for
-good_answer : (answer : Answer) → kind_of_answer answer ≡ kind_of (wire (a_question questions.IdSizes))
-    → is_some (sizes_in (an_answer answer)) ≡ true
-good_answer answer is = grind (arith, is)
 
 sizes_given : (sizes : Option SizesRead) (phase : Phase) (replied : Replied) → IsReply sizes
     (a_question questions.IdSizes) replied

@@ -154,7 +154,7 @@ noted_steps (Classes classes) state = ap (λ (wanted : Wanted). is_some wanted.s
     (only_classes (found_in state.classes) classes state.wishes.wanted)
 noted_steps _ state = refl
 
-noted_stop : (note : Note) (state : State) → (noted note state).stopped ≡ state.stopped
+pub noted_stop : (note : Note) (state : State) → (noted note state).stopped ≡ state.stopped
 noted_stop note state = grind arith
 
 replied_steps : (effect : Effect) (replied : Replied) (w : Wishes)

@@ -239,7 +239,7 @@ acted Act.Goes is w = cc
 acted (Act.Over finish) is w = cc
 acted {m} {next} _ is w = subst (λ (s : Option Message). Moves m s next) is w
 
-gone_on : {m : Machine} → (due false m).act ≡ Act.Goes → Moves m None (due false m).next
+pub gone_on : {m : Machine} → (due false m).act ≡ Act.Goes → Moves m None (due false m).next
 gone_on {m} is = subst (λ (act : Act). Walked m act (due false m).next) is (walks_due m)
 
 lost : {m : Machine} (gone : Bool) → is_gone m.state.phase ≡ gone → Moves m (Some Message.ends) (ended gone m)

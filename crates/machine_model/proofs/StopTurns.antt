@@ -1,17 +1,17 @@
 -- What each move is to the stop in hand: it goes on, or one begins, or it is over, also with its target.
-use Rattle.std.proofs.Common.{◌≡◌, Bool, true, false, List, [], ◌∷◌, Option, Some, None, refl, arith}
+use Rattle.std.proofs.Common.{◌≡◌, Bool, true, false, List, [], ◌∷◌, Option, Some, None, refl}
 use Rattle.machine_model.specs.Due.{after_deed, sent}
 use Rattle.machine_model.specs.Ids.{begins_stop, ids_given}
-use Rattle.machine_model.specs.Names.{Does, Effect, Note, Part, Resume, Suspend, Terminated, a_question, a_stop}
-use Rattle.machine_model.specs.Names.{an_effect, of_stop}
+use Rattle.machine_model.specs.Names.{Does, Effect, Part, Resume, Suspend, Terminated, a_question, a_stop, an_effect}
+use Rattle.machine_model.specs.Names.{of_stop}
 use Rattle.machine_model.specs.ReferenceNumbers.{ends_stop}
-use Rattle.machine_model.specs.Rows.{noted}
 use Rattle.machine_model.specs.Runs.{Message}
-use Rattle.machine_model.specs.State.{Hand, Machine, State, is_gone, knowing}
+use Rattle.machine_model.specs.State.{Hand, Machine, is_gone, knowing}
 use Rattle.machine_model.proofs.HoldingParts.{numbered_stop, same_stop}
 use Rattle.machine_model.proofs.ReferenceLaws.{due_request}
 use Rattle.machine_model.proofs.RequestSteps.{is_deed}
 use Rattle.machine_model.proofs.Stepping.{IsAt, Moves}
+use Rattle.machine_model.proofs.StepLaws.{noted_stop}
 
 abbrev pub says_end : Option Message → Bool
 says_end None = false
@@ -28,9 +28,6 @@ pub data Turns (m : Machine) : Option Message → Machine → Type 0 where
       (sent (knowing m (after_deed (Resume of_stop) m.state)) hand rest (Does (Resume of_stop)))
   loses : {said : Option Message} {next : Machine} → is_gone next.state.phase ≡ true → next.state.stopped ≡ false
       → Turns m said next
-
-pub noted_stop : (note : Note) (state : State) → (noted note state).stopped ≡ state.stopped
-noted_stop note state = grind arith
 
 request_quiet : (effect : Effect) → is_deed effect ≡ false → ends_stop (Message.sends (an_effect effect)) ≡ false
 request_quiet (Does deed) is = cc

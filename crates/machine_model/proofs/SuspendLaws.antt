@@ -1,17 +1,15 @@
 -- What is done before a suspension is undone, and that at rest none is held.
 use Rattle.std.proofs.Common.{◌≡◌, Bool, true, false, cond, List, [], ◌∷◌, ◌++◌, Option, Some, None, refl, ap, subst}
-use Rattle.std.proofs.Common.{◌∙◌, option_map, arith, ℕ}
-use Rattle.machine_model.specs.Due.{asked_hand, due}
+use Rattle.std.proofs.Common.{◌∙◌, arith, ℕ}
+use Rattle.machine_model.specs.Due.{due}
 use Rattle.machine_model.specs.Knowing.{held_in, held_with, lookup_stops, may_send, view_of}
 use Rattle.machine_model.specs.Lookups.{finished}
 use Rattle.machine_model.specs.Names.{Written, variable_write, Act, Attached, Choice, Command, Configured, Decides}
 use Rattle.machine_model.specs.Names.{Deed, Does, EntryHeld, Event, Failure, Finding, Item, Leaves, Lookup, Note, Part}
-use Rattle.machine_model.specs.Names.{Phase, Replied, Resume, Stopping, Suspension, TargetCommand, TellsNews, Want}
-use Rattle.machine_model.specs.Names.{a_question, a_raw, a_request, a_stop, an_effect, of_composite, HaltCause, Stepped}
-use Rattle.machine_model.specs.Names.{ThreadId}
+use Rattle.machine_model.specs.Names.{Phase, Resume, Stopping, Suspension, TellsNews, a_question, a_raw, a_request}
+use Rattle.machine_model.specs.Names.{a_stop, an_effect, of_composite, HaltCause, Stepped, ThreadId}
 use Rattle.machine_model.specs.Outcomes.{result_of}
 use Rattle.machine_model.specs.Plans.{Result}
-use Rattle.machine_model.specs.Replying.{hand_replied}
 use Rattle.machine_model.specs.Rest.{IsAtRest}
 use Rattle.machine_model.specs.Rows.{chosen, failure_of, news_of, parts_by, parts_of, request_parts, row_of, wanting}
 use Rattle.machine_model.specs.Rows.{refused_with, stepped_by, written_by}
@@ -24,7 +22,7 @@ use Rattle.machine_model.proofs.BindingParts.{IsBinding}
 use Rattle.machine_model.proofs.HeldLaws.{due_sends}
 use Rattle.machine_model.proofs.KnowingLaws.{is_known}
 use Rattle.machine_model.proofs.RequestLaws.{Settling, front_set, settles, settling}
-use Rattle.machine_model.proofs.SizeLaws.{parts_in}
+use Rattle.machine_model.proofs.SizeLaws.{replied_parts, asked_parts}
 use Rattle.machine_model.proofs.Stepping.{IsAt, Moves, by_runs, moved}
 use Rattle.machine_model.proofs.Tables.{free, free_once, of_decided, told_alike}
 use Rattle.machine_model.proofs.Testing.{IsTest, Passed, same_noted, same_numbered, same_replied, tested, whole}
@@ -32,7 +30,7 @@ use Rattle.machine_model.specs.Stops.{decided, surplus, told_part}
 use Rattle.machine_model.specs.Pending.{bit}
 use Rattle.machine_model.proofs.BindingHands.{binds_ahead}
 use Rattle.std.specs.Prelude.{◌+◌}
-use Rattle.machine_model.proofs.RequestSteps.{decides, is_choice, needs_set}
+use Rattle.machine_model.proofs.RequestSteps.{decides, is_choice, needs_set, parts_left}
 
 -- Behind a Resume nothing more is set or bound ----------------------------------------------------------------------
 
@@ -126,7 +124,7 @@ abbrev resumes_attached : Phase → List Part → Bool
 resumes_attached phase parts = cond (is_gone phase) true (cond (has_resume parts) (is_attached phase) true)
 
 abbrev IsResumed : Machine → Type 0
-IsResumed m = resumes_attached m.state.phase (parts_in m.hand) ≡ true
+IsResumed m = resumes_attached m.state.phase (parts_left m.hand) ≡ true
 
 row_resumed : (state : State) (command : Command)
     → resumes_attached state.phase (request_parts command state) ≡ true
@@ -139,7 +137,7 @@ begun_resumed state _ = grind arith
 at_front : {m : Machine} {hand : Hand} {part : Part} {rest : List Part} → IsResumed m → IsAt m hand part rest
     → resumes_attached m.state.phase (part ∷ rest) ≡ true
 at_front {m} h at = subst (λ (parts : List Part). resumes_attached m.state.phase parts ≡ true) at.parts
-    (subst (λ (held : Option Hand). resumes_attached m.state.phase (parts_in held) ≡ true) at.in_hand h)
+    (subst (λ (held : Option Hand). resumes_attached m.state.phase (parts_left held) ≡ true) at.in_hand h)
 
 rest_resumed : (phase : Phase) (part : Part) (rest : List Part) → resumes_attached phase (part ∷ rest) ≡ true
     → resumes_attached phase rest ≡ true
@@ -179,20 +177,11 @@ event_resumed : (event : Event) (state : State) (rest : List Part) → resumes_a
     → resumes_attached (after_event event state).phase rest ≡ true
 event_resumed event state rest is = grind (arith, is)
 
-replied_parts : (command : TargetCommand) (replied : Replied) (hand : Option Hand)
-    → parts_in (option_map (hand_replied command replied) hand) ≡ parts_in hand
-replied_parts command replied None = refl
-replied_parts _ replied _ = refl
-
-asked_parts : (want : Want) (hand : Option Hand) → parts_in (option_map (asked_hand want) hand) ≡ parts_in hand
-asked_parts want None = refl
-asked_parts want (Some hand) = refl
-
 resumed_on : (m next : Machine) (said : Option Message) → IsResumed m → Moves m said next → IsResumed next
 resumed_on m next said h (Moves.begins picked free none is) = begun_resumed m.state picked.item
 resumed_on m next said h (Moves.drops {hand} free is none) =
     subst (λ (parts : List Part). resumes_attached m.state.phase parts ≡ true) none
-    (subst (λ (held : Option Hand). resumes_attached m.state.phase (parts_in held) ≡ true) is h)
+    (subst (λ (held : Option Hand). resumes_attached m.state.phase (parts_left held) ≡ true) is h)
 resumed_on m next said h (Moves.responds {rest = rest} {outcome = outcome} free at is) =
     rw (same_numbered outcome m.state) (rest_resumed m.state.phase (Part.Responds outcome) rest (at_front h at))
 resumed_on m next said h (Moves.finds {rest = rest} {lookup} found free at needs done) =
@@ -209,7 +198,7 @@ resumed_on m next said h (Moves.notes {note = note} {rest} free at) =
 resumed_on m next said h (Moves.unfolds {hand} {choice} {rest} free at) =
     chosen_resumed choice m.state hand rest (at_front h at)
 resumed_on m next said h (Moves.queues free is) =
-    subst (λ (held : Option Hand). resumes_attached m.state.phase (parts_in held) ≡ true) is h
+    subst (λ (held : Option Hand). resumes_attached m.state.phase (parts_left held) ≡ true) is h
 resumed_on m next said h (Moves.asks {want = want} free room is are) = rw (asked_parts want m.hand) h
 resumed_on m next said h (Moves.answers {question} {replied} is waits reply stays) =
     rw (same_replied (a_question question) replied m.state, replied_parts (a_question question) replied m.hand) h

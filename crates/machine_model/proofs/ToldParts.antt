@@ -30,6 +30,7 @@ use Rattle.machine_model.proofs.VerifiedLaws.{function_mark, is_it, is_listed, i
 use Rattle.machine_model.proofs.VerifiedLaws.{line_marks, marks}
 use Rattle.std.proofs.lemmas.Bool.{or_right}
 use Rattle.machine_model.proofs.Bools.{both_hold}
+use Rattle.machine_model.proofs.BindingHands.{notes_list}
 
 -- Parts ---------------------------------------------------------------------------------------------------------------
 
@@ -51,14 +52,9 @@ abbrev pub bare_behind : Bool → Part → Bool
 bare_behind bare Part.Updates = false
 bare_behind bare part = bare || rebinds part
 
-abbrev pub is_list : Part → Bool
-is_list (Part.Notes (Lines key path entries)) = true
-is_list (Part.Notes (Functions entries)) = true
-is_list _ = false
-
 abbrev pub has_lists : List Part → Bool
 has_lists [] = false
-has_lists (part ∷ parts) = cond (is_list part) true (has_lists parts)
+has_lists (part ∷ parts) = cond (notes_list part) true (has_lists parts)
 
 abbrev pub is_asked : Item → Bool
 is_asked (a_request request) = true

@@ -125,7 +125,7 @@ written_ids P write k = by_store write.store k.of_store
 pub written_sized : (write : Write) → cond (is_empty (ids_asked (wire (an_effect (Does (Writes write)))))) true true ≡ true
 written_sized write = always (is_empty (ids_asked (wire (an_effect (Does (Writes write))))))
 
-power : (n : ℕ) → 0 < 256 ^ n
+pub power : (n : ℕ) → 0 < 256 ^ n
 power zero = omega arith
 power (suc n) = omega (arith, power n)
 
