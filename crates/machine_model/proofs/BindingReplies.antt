@@ -370,4 +370,4 @@ finds_on {state} hand class_facts found rest c is needs done h = record {
     complete false listed = found_complete state hand found listed h.learnt needs done
 finds_on {state} hand lookup found rest c is needs done h =
     goes_by state (Part.Looks lookup) rest (finished lookup (result_of found) state ++ rest) (itself state) c refl is
-        (record { ahead = refl; needs = λ so. so; notes = refl; binds = refl }) (λ so w. w so) h
+    (record { ahead = refl; needs = λ so. so; notes = refl; binds = refl }) (λ so w. w so) h

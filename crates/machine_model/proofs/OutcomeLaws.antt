@@ -518,8 +518,8 @@ skipped_held {messages} {m} {hand} {part} {rest} h at (Skips.no_request is) = re
   leads = λ request item answer answers. let no : request ∷ [] ≡ [] = sym (ap request_in item) ∙ is in cc;
 }
 skipped_held {hand = hand} {rest = rest} h at _ =
-    none_more (passed_on_held [] (record hand { parts =
-        rest }) h at refl refl refl refl refl (λ near. asked_still h near))
+    none_more (passed_on_held [] (record hand { parts = rest }) h at refl refl refl refl refl
+    (λ near. asked_still h near))
 
 told_event : {messages : List Message} {m : Machine} {hand : Hand} {rest : List Part} (event : Event)
     (h : Held messages m hand) → Run messages m → IsAt m hand (Part.Tells event) rest
@@ -622,10 +622,10 @@ explains_on messages m next said r h (Moves.loses {message} late near why) now =
   explained = AreExplained.aside message (loss_aside why) h.explained;
   held = given_held messages m next m.hand message (loss_silent why).1 near refl h.held;
 }
-explains_on messages m next said r h _ now =
-    record { explained =
-        AreExplained.aside _ refl h.explained; held = same_all messages m next m.hand _ refl refl (λ still. refl)
-        h.held; }
+explains_on messages m next said r h _ now = record {
+  explained = AreExplained.aside _ refl h.explained;
+  held = same_all messages m next m.hand _ refl refl (λ still. refl) h.held;
+}
 
 pub are_explained : (messages : List Message) (m : Machine) → Run messages m → AreExplained messages
 are_explained messages m r = (by_runs {Holds = Explains} (record {

@@ -121,7 +121,6 @@ told_halt P w hits h = with_test (is_at_line w) _ (with_test is_breakpoint _ (wi
 
 -- What an item is still to tell ---------------------------------------------------------------------------------------
 
-
 abbrev is_pause : Item → Bool
 is_pause (a_request request) = is_pause_command request.command
 is_pause _ = false
