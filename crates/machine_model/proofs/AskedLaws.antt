@@ -49,7 +49,8 @@ unheard place (sent ∷ asked) question is = by_test (asks_for sent question) se
         || not (asks || was_asked question asked)) ≡ true
     by_test true None is rest = refl
     by_test true (Some replied) is rest = cc
-    by_test false _ is rest = rest is
+    by_test false None is rest = rest is
+    by_test false (Some replied) is rest = rest is
 
 new_or : (waits new : Bool) → (waits || new) ≡ true → cond (waits || new) true false ≡ true
 new_or waits new is = grind (arith, is)
@@ -92,6 +93,7 @@ after_due asked (lacks want others) go h rest = h
 beside_due : {A B : Type 0} (asked : List Sent) (n : Need A) (k : Need B) → all_due asked (lacking n) ≡ true
     → all_due asked (lacking k) ≡ true → all_due asked (lacking (beside n k)) ≡ true
 beside_due asked (has a) (lacks want others) h k = k
+beside_due asked (fails fault) (has b) h k = refl
 beside_due asked (lacks want others) (has b) h k = h
 beside_due asked (lacks want others) (lacks other more) h k = due_joined asked (want ∷ others) (other ∷ more) h k
 beside_due asked _ _ h k = refl

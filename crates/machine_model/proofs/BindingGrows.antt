@@ -13,8 +13,8 @@ use Rattle.machine_model.specs.Binding.{sight_alone}
 use Rattle.machine_model.specs.Classes.{class_plan, classes_in, known_plan}
 use Rattle.machine_model.specs.Facts.{fact_known}
 use Rattle.machine_model.specs.Names.{Answer, Question, Sent, Want}
-use Rattle.machine_model.specs.Plans.{Need, Plan, after, beside, each, fact_heard, gives, has, heard_of, joined}
-use Rattle.machine_model.specs.Plans.{made_with, need, pairs, question_of, wants}
+use Rattle.machine_model.specs.Plans.{Need, Plan, after, beside, each, fact_heard, gives, has, heard_of, joined, fails}
+use Rattle.machine_model.specs.Plans.{made_with, need, pairs, question_of, wants, lacks}
 use Rattle.machine_model.specs.Replying.{knows_fact, learnt, with_heard}
 use Rattle.machine_model.specs.State.{is_some}
 use Rattle.machine_model.proofs.BindingFacts.{is_mapped}
@@ -135,6 +135,8 @@ after_still _ m f g h k b is = cc
 beside_still : {A B : Type 0} (n m : Need A) (k l : Need B) → StillHas n m → StillHas k l
     → StillHas (beside n k) (beside m l)
 beside_still (has a) m (has b) l h i two is = ap (λ n. beside n l) (h a refl) ∙ ap (beside (has a)) (i b refl) ∙ is
+beside_still (fails fault) m (has b) l h i two is = cc
+beside_still (lacks want others) m (has b) l h i two is = cc
 beside_still _ m _ l h i two is = cc
 
 module _ (known now : Known) (grows : Grows known now) where

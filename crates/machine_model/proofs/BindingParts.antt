@@ -351,7 +351,8 @@ lacked_safe state hand (Part.Awaits guard ∷ rest) none = guards guard
       where
         by_tests : (sent heard : Bool) → All (λ want. is_safe want ≡ true) (asked_by (greeted_by sent heard))
         by_tests false heard = tt
-        by_tests _ _ = tt
+        by_tests true false = tt
+        by_tests true true = tt
     guards IdSizes = by_sizes state.sizes
       where
         by_sizes : (sizes : Option SizesRead) → All (λ want. is_safe want ≡ true) (asked_by (sized_by sizes))

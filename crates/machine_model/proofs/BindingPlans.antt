@@ -155,6 +155,7 @@ beside_lacks : {A B : Type 0} (test : Want → Bool) (n : Need A) (k : Need B)
     → All (λ want. test want ≡ true) (lacking n) → All (λ want. test want ≡ true) (lacking k)
     → All (λ want. test want ≡ true) (lacking (beside n k))
 beside_lacks test (has a) (lacks want others) h k = k
+beside_lacks test (fails fault) (has b) h k = tt
 beside_lacks test (lacks want others) (has b) h k = h
 beside_lacks test (lacks want others) (lacks other more) h k =
     all_joined (λ want. test want ≡ true) (want ∷ others) (other ∷ more) h k

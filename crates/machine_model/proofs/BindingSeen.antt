@@ -58,6 +58,8 @@ after_has Good Best _ f h k = tt
 beside_has : {A B : Type 0} (Good : A → Type 0) (Best : B → Type 0) (n : Need A) (k : Need B) → Has Good n → Has Best k
     → Has (λ (two : A × B). Good two.0 × Best two.1) (beside n k)
 beside_has Good Best (has a) (has b) h i = (h, i)
+beside_has Good Best (fails fault) (has b) h i = tt
+beside_has Good Best (lacks want others) (has b) h i = tt
 beside_has Good Best _ _ h i = tt
 
 abbrev Any : {A : Type 0} → A → Type 0

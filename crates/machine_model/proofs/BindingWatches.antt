@@ -102,7 +102,8 @@ without_mid it first mid third last none =
 -- nor on the step and the exceptions that stop
 no_thrown : (path : List ℕ) (caught uncaught : Bool) → has_wish (thrown caught uncaught) (wishes.Watch path) ≡ false
 no_thrown path true uncaught = refl
-no_thrown path _ _ = refl
+no_thrown path false true = refl
+no_thrown path false false = refl
 
 no_step : (path : List ℕ) (step : Option StepWish) → has_wish (stepping step) (wishes.Watch path) ≡ false
 no_step path None = refl

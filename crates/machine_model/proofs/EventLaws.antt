@@ -28,7 +28,7 @@ use Rattle.machine_model.proofs.Testing.{passed, same_noted, same_numbered, same
 use Rattle.machine_model.specs.Breakpoints.{verified_told}
 use Rattle.machine_model.specs.Knowing.{has_last}
 use Rattle.machine_model.proofs.Bools.{never}
-use Rattle.machine_model.proofs.MarkLaws.{same_reply, same_told, same_note}
+use Rattle.machine_model.proofs.MarkLaws.{same_reply, same_told as numbered_end, same_note}
 
 -- What is left of an item: an `attach` tells `initialized` behind its success, and no other item does -----------------
 
@@ -136,7 +136,8 @@ front_fits {hand = hand} h at = subst (λ (parts : List Part). fits hand.item pa
 replied_fits : (command : TargetCommand) (replied : Replied) (hand : Option Hand)
     → hand_fits (option_map (hand_replied command replied) hand) ≡ hand_fits hand
 replied_fits command replied None = refl
-replied_fits _ replied _ = refl
+replied_fits (a_question question) replied (Some hand) = refl
+replied_fits (an_effect effect) replied (Some hand) = refl
 
 given_fits : (hand : Option Hand) → hand_fits (option_map given_up hand) ≡ true
 given_fits None = refl
@@ -206,7 +207,8 @@ becomes_owes parts at same = ap hand_owes at.in_hand ∙ ap owes_event at.parts 
 replied_owes : (command : TargetCommand) (replied : Replied) (hand : Option Hand)
     → hand_owes (option_map (hand_replied command replied) hand) ≡ hand_owes hand
 replied_owes command replied None = refl
-replied_owes _ replied _ = refl
+replied_owes (a_question question) replied (Some hand) = refl
+replied_owes (an_effect effect) replied (Some hand) = refl
 
 -- an item that is begun owes no event
 begun_owes : (state : State) (item : Item) → owes_event (parts_of state item) ≡ false
@@ -313,7 +315,8 @@ attached_last item rest is = by_rest rest (item_attaches item) is
   where
     by_rest : (rest : List Part) (attaches : Bool) → cond attaches (is_empty rest) false ≡ true → rest ≡ []
     by_rest [] attaches is = refl
-    by_rest (part ∷ rest) _ is = cc
+    by_rest (part ∷ rest) true is = cc
+    by_rest (part ∷ rest) false is = cc
 
 none_owed : (attaches responds has : Bool) → cond attaches false (not has) ≡ true → cond responds false has ≡ false
 none_owed false true has is = refl
@@ -494,7 +497,8 @@ skipped_lasts rest _ = refl
 replied_lasts : (command : TargetCommand) (replied : Replied) (hand : Option Hand)
     → hand_lasts hand ≡ hand_lasts (option_map (hand_replied command replied) hand)
 replied_lasts command replied None = refl
-replied_lasts _ replied _ = refl
+replied_lasts (a_question question) replied (Some hand) = refl
+replied_lasts (an_effect effect) replied (Some hand) = refl
 
 asked_lasts : (want : Want) (hand : Option Hand) → hand_lasts hand ≡ hand_lasts (option_map (asked_hand want) hand)
 asked_lasts want None = refl
@@ -531,7 +535,7 @@ end_on m next said h (Moves.drops {hand} free is none) =
     same_end m m.state false _ refl refl (ap hand_lasts is ∙ ap has_last none) refl h
 end_on m next said h (Moves.responds {rest = rest} {outcome = outcome} free at is) =
     same_end m (numbered_by outcome m.state) (has_last rest) _ (same_numbered outcome m.state)
-    (same_told outcome m.state) (front_lasts at refl) refl h
+    (numbered_end outcome m.state) (front_lasts at refl) refl h
 end_on m next said h (Moves.finds {lookup = lookup} found free at needs done) =
     block_lasts (finished lookup (result_of found) m.state) at refl h
 end_on m next said h (Moves.passes_over {rest = rest} free at why) =

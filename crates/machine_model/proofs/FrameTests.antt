@@ -10,7 +10,9 @@ use Rattle.jdwp_values.specs.declared.class.Field.{Field}
 use Rattle.jdwp_values.specs.declared.class.Method.{Method}
 use Rattle.jdwp_values.specs.declared.id.ClassId.{ClassId}
 use Rattle.machine_model.specs.Names.{Writes, Classes, Item, Lines, Part, Sent, Success, ThreadId, Want, a_composite}
-use Rattle.machine_model.specs.Names.{of_stop, Functions, Thrown, Throws}
+use Rattle.machine_model.specs.Names.{of_stop, Functions, Thrown, Throws, Dispose, Exit, Resume, Suspend, a_written}
+use Rattle.machine_model.specs.Names.{Capabilities, Continued, Failed, Nothing, a_stop, breakpoint_list, Steps}
+use Rattle.machine_model.specs.Names.{exception_text, some_news, thread_changed}
 use Rattle.machine_model.specs.Due.{sent}
 use Rattle.machine_model.specs.Ids.{AreOfStop, Id, WasReadInStop, begins_stop, class, frame, ids_given, ids_read}
 use Rattle.machine_model.specs.ReferenceNumbers.{ends_stop}
@@ -109,6 +111,9 @@ module _ (stopped : Bool) (messages : List Message) where
   item_free _ = tt
 
   tell_free : (part : Part) → TellStands P part
+  tell_free (Part.Tells (some_news (thread_changed started thread))) = tt
+  tell_free (Part.Tells (a_stop stopping)) = tt
+  tell_free (Part.Looks (exception_text thread object)) = tt
   tell_free (Part.Notes (Throws thrown)) = every_one (OfThrown P) thrown_free thrown
   tell_free _ = tt
 
@@ -135,11 +140,23 @@ module _ (stopped : Bool) (messages : List Message) where
   }
 
   part_free : (R : Id → Type 0) (part : Part) → is_bare part ≡ true → PartStands R part → PartStands P part
+  part_free R (Part.Responds (Success Nothing)) bare h = tt
+  part_free R (Part.Responds (Success Capabilities)) bare h = tt
+  part_free R (Part.Responds (Success Continued)) bare h = tt
+  part_free R (Part.Responds (Success (a_written seen))) bare h = tt
+  part_free R (Part.Responds (Success (breakpoint_list rooted listed))) bare h = tt
   part_free R (Part.Responds (Success body)) bare h = cc
+  part_free R (Part.Responds (Failed failure)) bare h = tt
   part_free R (Part.Looks lookup) bare h = cc
   part_free R (Part.Sends (Writes write)) bare h = cc
+  part_free R (Part.Sends Suspend) bare h = tt
+  part_free R (Part.Sends (Resume suspension)) bare h = tt
+  part_free R (Part.Sends Dispose) bare h = tt
+  part_free R (Part.Sends Exit) bare h = tt
   part_free R (Part.Notes (Lines key path entries)) bare h = h
   part_free R (Part.Notes (Functions entries)) bare h = h
+  part_free R (Part.Notes (Steps None)) bare h = tt
+  part_free R (Part.Notes (Steps (Some step))) bare h = tt
   part_free R (Part.Notes (Classes classes)) bare h = every_one (OfClass P) (λ class. tt) classes
   part_free R _ bare h = tt
 

@@ -11,7 +11,7 @@ use Rattle.machine_model.specs.Runs.{Message}
 use Rattle.machine_model.specs.State.{Hand, Machine, State, is_attached, is_empty, left}
 use Rattle.machine_model.proofs.QuietLaws.{lacking_hand}
 use Rattle.machine_model.proofs.Testing.{same_replied}
-use Rattle.machine_model.proofs.Stepping.{IsAt, Moves, Skips, with_said}
+use Rattle.machine_model.proofs.Stepping.{IsAt, Moves, Skips, with_said, Loses}
 use Rattle.machine_model.proofs.Bools.{second_more}
 
 -- Lists of parts ------------------------------------------------------------------------------------------------------
@@ -92,7 +92,8 @@ lacks_there both state hand (Part.Awaits Handshake ∷ rest) are h lacks =
     never : (sent heard : Bool) → is_empty (with_wants hand.asked [] (asked_by (greeted_by sent heard))) ≡ false
         → both ≡ true
     never false heard lacks = cc
-    never _ _ lacks = cc
+    never true false lacks = cc
+    never true true lacks = cc
 lacks_there both state hand (Part.Awaits IdSizes ∷ rest) are h lacks = grind (arith, are, h)
 lacks_there both state hand _ are h lacks = cc
 
@@ -240,11 +241,7 @@ record Flags (m next : Machine) (said : Option Message) : Type 0 where
   heard : (m.state.greeting_heard || said_such is_greeted said) ≡ next.state.greeting_heard
 
 flags_on : (m next : Machine) (said : Option Message) → Moves m said next → Flags m next said
-flags_on m next said (Moves.answers {question} is waits reply stays) = record {
-  sent = grind arith;
-  heard = grind
-      arith;
-}
+flags_on m next said (Moves.loses late near Loses.by_end) = record { sent = grind arith; heard = grind arith }
 flags_on m next said _ = record { sent = grind arith; heard = grind arith }
 
 pub greeted_on : (messages : List Message) (m next : Machine) (said : Option Message) → IsGreeted messages m

@@ -77,6 +77,8 @@ was_lacked {messages} {want} l = one_of l.before l.after want
 -- each question that was sent
 all_harmless : (messages before after : List Message) (question : Question) → AreLacked messages
     → messages ≡ before ++ Message.sends (a_question question) ∷ after → is_harmless question ≡ true
+all_harmless messages [] after question AreLacked.none is = cc
+all_harmless messages (first ∷ before) after question AreLacked.none is = cc
 all_harmless messages before after question (AreLacked.aside {messages = earlier} message other h) is =
     by_place (last_or_not earlier message (Message.sends (a_question question)) before after is)
     (λ rest there. all_harmless earlier before rest question h there)
@@ -100,7 +102,6 @@ all_harmless messages before after question (AreLacked.asks {messages = earlier}
     by_place (inl (same, it)) behind =
         let one : question_of want ≡ question = cc in sym (ap is_harmless one) ∙ was_lacked lacked
     by_place (inr (rest, there)) behind = behind rest there
-all_harmless messages _ after question AreLacked.none is = cc
 
 pub harmless : (messages before after : List Message) (m : Machine) (command : TargetCommand) → Run messages m
     → messages ≡ before ++ Message.sends command ∷ after → is_harmless_command command ≡ true

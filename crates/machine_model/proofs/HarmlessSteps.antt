@@ -6,7 +6,7 @@ use Rattle.std.specs.Prelude.{map, option_and_then}
 use Rattle.class_tables.specs.Lookups.{found_in}
 use Rattle.machine_model.specs.Harmless.{is_harmless_effect, is_harmless_wish, is_there}
 use Rattle.machine_model.specs.Names.{Choice, Classes, Command, Decides, Effect, Failure, Item, Next, Note, Part, Set}
-use Rattle.machine_model.specs.Names.{StepIn, StepOut, Stepped, Steps, TargetCommand, TellsNews, ThreadId, a_raw}
+use Rattle.machine_model.specs.Names.{StepIn, StepOut, Stepped, Steps, TargetCommand, TellsNews, ThreadId, a_raw, Lines}
 use Rattle.machine_model.specs.Names.{a_request, an_effect}
 use Rattle.machine_model.specs.Requests.{Wishes, effect_due}
 use Rattle.machine_model.specs.Rows.{chosen, failure_of, news_of, noted, parts_by, parts_of, refused_with, row_of}
@@ -120,7 +120,8 @@ module _ (thread : ThreadId) (depth : Depth) where
 
   no_thrown : (caught uncaught : Bool) → has_wish (thrown caught uncaught) it ≡ false
   no_thrown true uncaught = refl
-  no_thrown _ _ = refl
+  no_thrown false true = refl
+  no_thrown false false = refl
 
   abbrev first : Wanted → List Wish
   first wanted = wishes.ThreadStart ∷ wishes.ThreadDeath ∷ map wishes.Watch (watched wanted)
@@ -188,6 +189,8 @@ said_on m next said there _ = refl
 noted_thread : (note : Note) (state : State) → has_thread state.wishes.wanted.step ≡ true
     → is_threaded (Part.Notes note) ≡ true → has_thread (noted note state).wishes.wanted.step ≡ true
 noted_thread (Steps step) state there is = is
+noted_thread (Lines None path entries) state there is = there
+noted_thread (Lines (Some key) path entries) state there is = there
 noted_thread (Classes classes) state there is =
     ap (λ (wanted : Wanted). has_thread wanted.step)
     (only_classes (found_in state.classes) classes state.wishes.wanted) ∙ there

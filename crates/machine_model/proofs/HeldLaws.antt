@@ -3,7 +3,7 @@ use Rattle.std.proofs.Common.{◌≡◌, ℕ, Bool, true, false, cond, not, List
 use Rattle.std.proofs.Common.{ap, subst, ◌∙◌, option_map, arith}
 use Rattle.std.specs.Prelude.{nat_lt, ◌-◌, ◌+◌}
 use Rattle.jdwp_events.specs.declared.kind.Policy.{Policy}
-use Rattle.jdwp_events.specs.declared.kind.Policy.TheVariants.{NoThread}
+use Rattle.jdwp_events.specs.declared.kind.Policy.TheVariants.{NoThread, EventThread, All}
 use Rattle.machine_model.specs.Composites.{composite_parts}
 use Rattle.machine_model.specs.Due.{after_deed, asked_hand, entry_by, sent, stopped_by}
 use Rattle.machine_model.specs.Knowing.{View, begins, dies, dying_by, held_in, held_with, has_last, may_send, owed_by}
@@ -13,7 +13,7 @@ use Rattle.machine_model.specs.Names.{Written, variable_write, Attached, Choice,
 use Rattle.machine_model.specs.Names.{Effect, EntryHeld, Finding, Fresh, Item, Leaves, Lookup, Part, Phase, Replied}
 use Rattle.machine_model.specs.Names.{Resume, Set, StopCause, Stopping, Suspend, TargetCommand, TellsNews, Want, a_stop}
 use Rattle.machine_model.specs.Names.{an_effect, by_client, of_composite, of_entry, of_stop, Halt, Stepped, ThreadId}
-use Rattle.machine_model.specs.Names.{Thrown, HaltCause, exception_text}
+use Rattle.machine_model.specs.Names.{Thrown, HaltCause, exception_text, Hit, a_question, by_step, by_exception, Gone}
 use Rattle.machine_model.specs.Plans.{Result}
 use Rattle.machine_model.specs.Replying.{given_up, hand_replied}
 use Rattle.machine_model.specs.Requests.{Wishes, effect_due, effect_of}
@@ -73,12 +73,20 @@ pub composite_owes : (stopped dead : Bool) (policy : Policy) (at below : ℕ)
     → owed_in stopped (composite_parts Attached dead policy at below)
     ≡ cond dead 0 (0 + suspensions_by policy)
 composite_owes stopped true NoThread at below = refl
-composite_owes stopped _ _ at below = refl
+composite_owes stopped true EventThread at below = refl
+composite_owes stopped true All at below = refl
+composite_owes stopped false NoThread at below = refl
+composite_owes stopped false EventThread at below = refl
+composite_owes stopped false All at below = refl
 
 pub composite_last : (dead : Bool) (policy : Policy) (at below : ℕ)
     → has_last (composite_parts Attached dead policy at below) ≡ dying_by policy dead
 composite_last true NoThread at below = refl
-composite_last _ _ at below = refl
+composite_last true EventThread at below = refl
+composite_last true All at below = refl
+composite_last false NoThread at below = refl
+composite_last false EventThread at below = refl
+composite_last false All at below = refl
 
 gone_owes : (stopped responds : Bool) (item : Item) → owed_in stopped (gone_parts responds item) ≡ 0
 gone_owes stopped responds item = grind arith
@@ -111,8 +119,12 @@ decided_owes state item attached = rw attached
 
     by_stop : (stopped configured entry starts : Bool) (thrown : List Thrown) (stop : Option Halt)
         → owed_in stopped (decided_by stopped (cond configured false (cond entry false starts)) thrown stop ++ []) ≡ 1
-    by_stop stopped _ _ _ thrown None = refl
-    by_stop stopped configured entry starts thrown (Some halt) = by_halt stopped halt.cause halt.thread
+    by_stop stopped true entry starts thrown None = refl
+    by_stop stopped false true starts thrown None = refl
+    by_stop stopped false false true thrown None = refl
+    by_stop stopped false false false thrown None = refl
+    by_stop true configured entry starts thrown (Some halt) = by_halt true halt.cause halt.thread
+    by_stop false configured entry starts thrown (Some halt) = by_halt false halt.cause halt.thread
 
 pub chosen_owes : {m : Machine} {hand : Hand} {choice : Choice} {rest : List Part} → IsHolding m
     → IsAt m hand (Part.Unfolds choice) rest
@@ -125,7 +137,9 @@ chosen_owes {m} {hand} {choice = Leaves exits} {rest} h at = by_phase m.state.ph
     by_phase : (phase : Phase) (exits : Bool)
         → owed_in m.state.stopped (leaves phase exits ++ rest) ≡ owed_in m.state.stopped rest
     by_phase Fresh exits = refl
-    by_phase _ _ = refl
+    by_phase Attached true = refl
+    by_phase Attached false = refl
+    by_phase Gone exits = refl
 chosen_owes {m} {hand} {choice = Written seen} {rest} h at = by_code (refused_with hand.effect)
   where
     by_code : (code : Option ℕ) → owed_in m.state.stopped (written_by seen code ++ rest) ≡ owed_in m.state.stopped rest
@@ -137,8 +151,10 @@ chosen_owes {m} {hand} {choice = Stepped} {rest} h at =
     by_rest : (rest : List Part) (stopped : Bool) (code : Option ℕ)
         → may_all m.state.phase stopped m.state.entry (Part.Unfolds Stepped ∷ rest) ≡ true
         → owed_in stopped (stepped_by code ++ rest) ≡ owed_in stopped rest
-    by_rest [] stopped _ is = refl
-    by_rest (part ∷ rest) _ code is = cc
+    by_rest [] stopped None is = refl
+    by_rest [] stopped (Some code) is = refl
+    by_rest (part ∷ rest) true code is = cc
+    by_rest (part ∷ rest) false code is = cc
 chosen_owes {m} {hand} {choice = Decides} {rest} h at = by_rest rest (is_attached m.state.phase) refl (may_front h at)
   where
     by_rest : (rest : List Part) (attached : Bool) → is_attached m.state.phase ≡ attached
@@ -146,7 +162,9 @@ chosen_owes {m} {hand} {choice = Decides} {rest} h at = by_rest rest (is_attache
         ≡ true
         → owed_in m.state.stopped (decided m.state hand.item ++ rest) ≡ owed_in m.state.stopped rest + 1
     by_rest [] true is may = decided_owes m.state hand.item is
-    by_rest _ _ is may = cc
+    by_rest [] false is may = cc
+    by_rest (part ∷ rest) true is may = cc
+    by_rest (part ∷ rest) false is may = cc
 
 pub skipped_owes : {m : Machine} {hand : Hand} {part : Part} (stopped : Bool) (rest : List Part) → Skips m hand part
     → owed_in stopped rest ≡ owed_in stopped (part ∷ rest)
@@ -161,12 +179,14 @@ skipped_last rest _ = refl
 pub replied_owes : (stopped : Bool) (command : TargetCommand) (replied : Replied) (hand : Option Hand)
     → owed_by stopped (option_map (hand_replied command replied) hand) ≡ owed_by stopped hand
 replied_owes stopped command replied None = refl
-replied_owes stopped _ replied _ = refl
+replied_owes stopped (a_question question) replied (Some hand) = refl
+replied_owes stopped (an_effect effect) replied (Some hand) = refl
 
 pub replied_last : (command : TargetCommand) (replied : Replied) (hand : Option Hand)
     → dies (option_map (hand_replied command replied) hand) ≡ dies hand
 replied_last command replied None = refl
-replied_last _ replied _ = refl
+replied_last (a_question question) replied (Some hand) = refl
+replied_last (an_effect effect) replied (Some hand) = refl
 
 pub asked_owes : (stopped : Bool) (want : Want) (hand : Option Hand)
     → owed_by stopped (option_map (asked_hand want) hand) ≡ owed_by stopped hand
@@ -284,9 +304,14 @@ stop_held {m} {stopping = stopping} {rest} h at =
     by_cause : (cause : StopCause) (stopped entry : Bool) (owed held : ℕ) → may_stop cause stopped rest ≡ true
         → held ≡ held_with stopped entry (cond (begins stopped cause) (owed + 1) owed)
         → (held_with true entry owed ≡ held) × (nat_lt 0 held ≡ true)
+    by_cause (Hit at) true entry owed held may is = by_hit true entry owed held is
+    by_cause (Hit at) false entry owed held may is = by_hit false entry owed held is
+    by_cause (by_exception text) true entry owed held may is = by_hit true entry owed held is
+    by_cause (by_exception text) false entry owed held may is = by_hit false entry owed held is
+    by_cause by_step true entry owed held may is = by_hit true entry owed held is
+    by_cause by_step false entry owed held may is = by_hit false entry owed held is
     by_cause by_client true entry owed held may is = (sym is, grind (arith, is))
     by_cause by_client false entry owed held may is = cc
-    by_cause _ stopped entry owed held may is = by_hit stopped entry owed held is
 
 -- the entry is held
 pub entry_held : {m : Machine} {hand : Hand} {rest : List Part} → IsHolding m → IsAt m hand (Part.Notes EntryHeld) rest

@@ -9,7 +9,7 @@ use Rattle.machine_model.specs.Knowing.{stopped_behind, stopped_told}
 use Rattle.machine_model.specs.Lookups.{finished}
 use Rattle.machine_model.specs.Names.{Writes, Written, variable_write, Choice, Command, Decides, Deed, Dispose}
 use Rattle.machine_model.specs.Names.{EntryHeld, Event, Exit, Finding, Fresh, Gone, Hit, Initialized, Item, Leaves}
-use Rattle.machine_model.specs.Names.{Lookup, Note, Outcome, Part, Phase, Replied, Resume, StopCause, Suspend}
+use Rattle.machine_model.specs.Names.{Lookup, Note, Outcome, Part, Phase, Replied, Resume, StopCause, Suspend, Attached}
 use Rattle.machine_model.specs.Names.{Suspension, TargetCommand, TellsNews, Terminated, ThreadId, Want, a_composite}
 use Rattle.machine_model.specs.Names.{a_question, a_raw, a_request, a_stop, an_effect, by_client, of_composite}
 use Rattle.machine_model.specs.Names.{of_entry, of_stop, some_news, target_end, Halt, Thrown, by_step, HaltCause}
@@ -173,9 +173,13 @@ decided_may phase state item =
     by_stop : (attached stopped entry configured starts : Bool) (thrown : List Thrown) (stop : Option Halt)
         → may_all phase stopped entry
         (cond attached (decided_by stopped (cond configured false (cond entry false starts)) thrown stop) [] ++ []) ≡ true
+    by_stop false stopped entry configured starts thrown stop = refl
+    by_stop true stopped entry true starts thrown None = refl
+    by_stop true stopped true false starts thrown None = refl
+    by_stop true stopped false false true thrown None = refl
+    by_stop true stopped false false false thrown None = refl
     by_stop true true entry configured starts thrown (Some halt) = by_halt true entry halt.cause halt.thread
     by_stop true false entry configured starts thrown (Some halt) = by_halt false entry halt.cause halt.thread
-    by_stop _ stopped _ _ _ thrown _ = refl
 
 chosen_may : (choice : Choice) (state : State) (hand : Hand) (rest : List Part)
     → may_all state.phase state.stopped state.entry (Part.Unfolds choice ∷ rest) ≡ true
@@ -188,7 +192,9 @@ chosen_may (Leaves exits) state hand rest is = by_phase state.phase exits ∙ is
     by_phase : (phase : Phase) (exits : Bool) → may_all state.phase state.stopped state.entry (leaves phase exits ++ rest)
         ≡ may_all state.phase state.stopped state.entry rest
     by_phase Fresh exits = refl
-    by_phase _ _ = refl
+    by_phase Attached true = refl
+    by_phase Attached false = refl
+    by_phase Gone exits = refl
 chosen_may Decides state hand [] is = decided_may state.phase state hand.item
 chosen_may Decides state hand (part ∷ rest) is = none (is_attached state.phase) is
   where
@@ -209,7 +215,9 @@ chosen_may Stepped state hand rest is = by_rest rest state.stopped (refused_with
         → may_all state.phase stopped state.entry (stepped_by code ++ rest) ≡ true
     by_rest [] true None is = refl
     by_rest [] true (Some code) is = refl
-    by_rest _ _ code is = cc
+    by_rest [] false code is = cc
+    by_rest (part ∷ rest) true code is = cc
+    by_rest (part ∷ rest) false code is = cc
 
 -- In runs -------------------------------------------------------------------------------------------------------------
 
@@ -255,7 +263,8 @@ note_may_all _ state rest is = is
 replied_may : (state : State) (command : TargetCommand) (replied : Replied) (hand : Option Hand)
     → hand_may state (option_map (hand_replied command replied) hand) ≡ hand_may state hand
 replied_may state command replied None = refl
-replied_may state _ replied _ = refl
+replied_may state (a_question question) replied (Some hand) = refl
+replied_may state (an_effect effect) replied (Some hand) = refl
 
 asked_may : (state : State) (want : Want) (hand : Option Hand)
     → hand_may state (option_map (asked_hand want) hand) ≡ hand_may state hand

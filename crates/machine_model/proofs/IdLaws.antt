@@ -40,7 +40,7 @@ use Rattle.machine_model.proofs.PlanIds.{OfThing, OfThrown}
 use Rattle.std.specs.Prelude.{zero, suc}
 use Rattle.machine_model.proofs.StandingReplies.{queued_near, sizes_is}
 use Rattle.machine_model.proofs.StandingWalk.{kept_on}
-use Rattle.machine_model.proofs.Stepping.{Moves, by_moves, with_said}
+use Rattle.machine_model.proofs.Stepping.{Moves, by_moves, with_said, Loses}
 use Rattle.machine_model.proofs.WishIds.{AreWished, MaySend, SetMay, find_some, nothing_wished, weak_wished, wished_may}
 use Rattle.machine_model.proofs.StandingMoves.{sized_by}
 use Rattle.machine_model.proofs.Bools.{always}
@@ -312,6 +312,9 @@ sends_may {P} {messages} {m} command null k move = by_move command (Some (Messag
           subst (λ command. MaySend P (is_some m.state.sizes) command) same
               (question_may P (is_some m.state.sizes) (question_of want) queue.0),
         )
+    by_move command said is (Moves.loses late near Loses.by_end) = cc
+    by_move command said is (Moves.loses late near (Loses.by_question held waits reply last)) = cc
+    by_move command said is (Moves.loses late near (Loses.by_effect held flying reply last)) = cc
     by_move command said is _ = cc
 
 -- one among these and one more is that one, or among these
@@ -319,6 +322,8 @@ pub last_or_not : {A : Type 0} (all : List A) (last one : A) (before after : Lis
     → all ++ last ∷ [] ≡ before ++ one ∷ after
     → ((all ≡ before) × (last ≡ one)) ⊎ ((rest : List A) × (all ≡ before ++ one ∷ rest))
 last_or_not [] last one [] after is = inl (refl, cc)
+last_or_not [] last one (first ∷ []) after is = cc
+last_or_not [] last one (first ∷ second ∷ before) after is = cc
 last_or_not {A} (first ∷ all) last one [] after is =
     let same : first ≡ one = cc in inr (all, ap (λ (m : A). m ∷ all) same)
 last_or_not {A} (first ∷ all) last one (other ∷ before) after is =
@@ -331,7 +336,6 @@ last_or_not {A} (first ∷ all) last one (other ∷ before) after is =
         ⊎ ((rest : List A) × (first ∷ all ≡ other ∷ (before ++ one ∷ rest)))
     behind same (inl (all_same, it)) = inl (cc, it)
     behind same (inr (rest, all_more)) = inr (rest, cc)
-last_or_not [] last one _ after is = cc
 
 -- what holds of each command as it is sent, by the messages before it
 pub record Sends (P : List Message → Id → Type 0) (Good : List Message → TargetCommand → Type 0)

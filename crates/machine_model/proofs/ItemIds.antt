@@ -148,7 +148,8 @@ in_front {P} {m} {hand} h at =
 replied_held : (P : Id → Type 0) (command : TargetCommand) (replied : Replied) (hand : Option Hand)
     → HandStands P hand → HandStands P (option_map (hand_replied command replied) hand)
 replied_held P command replied None h = tt
-replied_held P _ replied (Some hand) h = h
+replied_held P (a_question question) replied (Some hand) h = h
+replied_held P (an_effect effect) replied (Some hand) h = h
 
 asked_held : (P : Id → Type 0) (want : Want) (hand : Option Hand) → HandStands P hand
     → HandStands P (option_map (asked_hand want) hand)

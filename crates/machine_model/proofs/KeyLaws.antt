@@ -36,7 +36,9 @@ slots_at (tag ∷ sign ∷ n ∷ others) = record { slot = signed_at sign n; tag
 
 ranges : (start len : ℤ) → range_at (signed_key start ++ signed_key len) ≡ (start, len)
 ranges (pos m) (pos n) = refl
-ranges _ _ = refl
+ranges (pos m) (negsuc n) = refl
+ranges (negsuc m) (pos n) = refl
+ranges (negsuc m) (negsuc n) = refl
 
 one_slot : (tag : ℕ) (n : ℤ) (rest : List ℕ)
     → slots_at ((tag ∷ signed_key n) ++ rest) ≡ record { slot = n; tag = tag } ∷ slots_at rest

@@ -15,7 +15,7 @@ use Rattle.machine_model.specs.Names.{Answer, Attached, Command, Composite, Does
 use Rattle.machine_model.specs.Names.{Initialized, Item, NamedThread, Note, Nothing, Options, Outcome, Part, Phase}
 use Rattle.machine_model.specs.Names.{Question, Replied, Success, TargetCommand, Terminated, ThreadId, a_composite}
 use Rattle.machine_model.specs.Names.{a_question, a_raw, a_request, a_stop, an_answer, an_effect, an_event, some_news}
-use Rattle.machine_model.specs.Names.{target_end, thread_changed, thread_list}
+use Rattle.machine_model.specs.Names.{target_end, thread_changed, thread_list, entry_verified}
 use Rattle.machine_model.specs.Replying.{IsReply, ended_with, hand_replied, is_end, replied_to, sizes_in, unlisted_by}
 use Rattle.machine_model.specs.Replying.{knows_fact, learnt, still_unlisted, wire}
 use Rattle.machine_model.proofs.BindingFacts.{is_mapped}
@@ -158,6 +158,10 @@ not_gone gone other is = grind (arith, is)
 event_may : (m : Machine) (hand : Hand) (event : Event) (rest : List Part) → Passed free_once m → IsMarked m
     → IsHolding m → IsAt m hand (Part.Tells event) rest
     → may_tell (an_event (event_told event (after_event event m.state))) (view_of m) ≡ true
+event_may m hand (some_news (entry_verified entry)) rest f h w at =
+    not_gone (is_gone m.state.phase) _ (whole free_once f at)
+event_may m hand (some_news (thread_changed started thread)) rest f h w at =
+    not_gone (is_gone m.state.phase) _ (whole free_once f at)
 event_may m hand (a_stop stopping) rest f h w at =
     by_gone (is_gone m.state.phase) _ _ (whole free_once f at) (stop_held w at).1
   where
@@ -183,7 +187,6 @@ event_may m hand Terminated rest f h w at =
         → cond gone (not told) (cond (cond gone false dying) (not told) false) ≡ true
     by_gone true dying told is untold = untold
     by_gone false dying told is untold = rw is untold
-event_may m hand _ rest f h w at = not_gone (is_gone m.state.phase) _ (whole free_once f at)
 
 fresh_now : (phase : Phase) → is_fresh phase ≡ true → phase ≡ Fresh
 fresh_now phase is = grind (arith, is)
@@ -209,6 +212,12 @@ event_view_is m hand Initialized rest f h w at =
       composites = waiting_composites (is_gone phase) m.waiting;
       dying = cond (is_gone phase) false (dies m.hand);
     }) (fresh_now m.state.phase fresh)))
+event_view_is m hand (some_news (entry_verified entry)) rest f h w at =
+    held_as m (left (knowing m (after_event (some_news (entry_verified entry)) m.state)) hand rest)
+    (sym (held_front at)) (sym (dies_front at)) refl
+event_view_is m hand (some_news (thread_changed started thread)) rest f h w at =
+    held_as m (left (knowing m (after_event (some_news (thread_changed started thread)) m.state)) hand rest)
+    (sym (held_front at)) (sym (dies_front at)) refl
 event_view_is m hand (a_stop stopping) rest f h w at =
     held_as m (left (knowing m (after_event (a_stop stopping) m.state)) hand rest) (stop_held w at).0
     (sym (dies_front at)) refl
@@ -219,8 +228,6 @@ event_view_is m hand Terminated rest f h w at =
     tail : (gone others : Bool) → cond (cond gone true true) others false ≡ true → others ≡ true
     tail true others is = is
     tail false others is = is
-event_view_is m hand event rest f h w at =
-    held_as m (left (knowing m (after_event event m.state)) hand rest) (sym (held_front at)) (sym (dies_front at)) refl
 
 gone_is : (phase : Phase) → is_gone phase ≡ true → phase ≡ Gone
 gone_is phase is = grind (arith, is)
@@ -496,6 +503,7 @@ may_on m next said f h w (Moves.greets {guard = guard} free at is near) = rw (un
 may_on m next said f h w (Moves.asks {hand} free room is are) = rw (near_asks m hand free is).0 refl
 may_on m next said f h w (Moves.hears read is) = rw is refl
 may_on m next said f h w (Moves.greeted read is) = rw is refl
+may_on m next said f h w (Moves.loses late near Loses.by_end) = refl
 may_on m next said f h w _ = refl
 
 -- Numbers -------------------------------------------------------------------------------------------------------------
@@ -557,6 +565,7 @@ numbers_on numbers m next said (Moves.answers {question} {replied} is waits repl
     reply_numbers numbers (a_question question) replied m.state
 numbers_on numbers m next said (Moves.replies {effect} {replied} is flies reply stays) =
     reply_numbers numbers (an_effect effect) replied m.state
+numbers_on numbers m next said (Moves.loses late near Loses.by_end) = no_numbers numbers m.state.threads
 numbers_on numbers m next said _ = no_numbers numbers m.state.threads
 
 -- The law -------------------------------------------------------------------------------------------------------------

@@ -42,6 +42,8 @@ data IsAmong (all : List Message) (final : Message) (before : List Message) (mes
 is_among : (all : List Message) (final : Message) (before after : List Message) (message : Message)
     → all ++ final ∷ [] ≡ before ++ message ∷ after → IsAmong all final before message
 is_among [] final [] after message is = IsAmong.at_end refl (cc)
+is_among [] final (one ∷ []) after message is = cc
+is_among [] final (one ∷ other ∷ before) after message is = cc
 is_among (first ∷ all) final [] after message is = IsAmong.earlier all (ap (λ (m : Message). m ∷ all) (cc))
 is_among (first ∷ all) final (one ∷ before) after message is =
     onward (is_among all final before after message (cc))
@@ -54,7 +56,6 @@ is_among (first ∷ all) final (one ∷ before) after message is =
         IsAmong.at_end (ap (λ (m : Message). m ∷ all) same ∙ ap (λ (rest : List Message). one ∷ rest) are) one_is
     onward (IsAmong.earlier rest are) =
         IsAmong.earlier rest (ap (λ (m : Message). m ∷ all) same ∙ ap (λ (rest : List Message). one ∷ rest) are)
-is_among [] final _ after message is = cc
 
 -- behind these messages the machine came here, and this message was the next
 record IsNext (before : List Message) (message : Message) : Type 0 where
@@ -65,6 +66,8 @@ record IsNext (before : List Message) (message : Message) : Type 0 where
 
 next_of : {messages : List Message} {m : Machine} → Run messages m → (before after : List Message) (message : Message)
     → messages ≡ before ++ message ∷ after → IsNext before message
+next_of Run.starts [] after message is = cc
+next_of Run.starts (first ∷ before) after message is = cc
 next_of (Run.goes r still) before after message is = next_of r before after message is
 next_of (Run.moves {messages} {m} {next} {message = final} r allows) before after message is =
     by_place (is_among messages final before after message is) (λ rest are. next_of r before rest message are)
@@ -79,7 +82,6 @@ next_of (Run.moves {messages} {m} {next} {message = final} r allows) before afte
       moves = subst (λ (message : Message). Moves m (Some message) next) same (moved allows);
     }
     by_place (IsAmong.earlier rest are) others = others rest are
-next_of Run.starts _ after message is = cc
 
 -- The laws ------------------------------------------------------------------------------------------------------------
 

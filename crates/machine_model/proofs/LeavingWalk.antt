@@ -201,7 +201,9 @@ skipped_stands : (attached sent replied : Bool) {m : Machine} {hand : Hand} {par
     → stands attached sent replied (aim_of hand.item) rest hand.effect ≡ true
 skipped_stands attached sent replied {hand = hand} {part} rest (Skips.by_guard is) h =
     tail_stands attached sent replied (aim_of hand.item) part rest hand.effect refl refl h
-skipped_stands {hand = hand} {part} attached sent replied rest _ h =
+skipped_stands attached sent replied {hand = hand} {part} rest (Skips.by_wishes is) h =
+    tail_stands attached sent replied (aim_of hand.item) part rest hand.effect refl refl h
+skipped_stands attached sent replied {hand = hand} {part} rest (Skips.no_request is) h =
     tail_stands attached sent replied (aim_of hand.item) part rest hand.effect refl refl h
 
 -- an item is begun only where no target was left

@@ -863,8 +863,10 @@ module _ (P : Id → Type 0) (null : P (class 0)) (sight : Sight) (known : Known
   -- what is written stands where ids say that were read, and is null or no reference
   stored : (w : Writing) (store : Option Store) → OnSome (OfStore P) store → (declared : List ℕ)
       (value : Result Value Failure) → OfValueRead value → IsGood P (write_with w store declared value)
+  stored w None k declared (Ok value) h = tt
   stored w (Some store) k declared (Ok value) h = record { of_store = k; plain = h }
-  stored w _ k declared _ h = tt
+  stored w None k declared (Err failure) h = tt
+  stored w (Some store) k declared (Err failure) h = tt
 
   child_row_written : (w : Writing) (store_in : Place → Option Store)
       → ((place : Place) → OfPlace place → OnSome (OfStore P) (store_in place)) → (child : Option Child)

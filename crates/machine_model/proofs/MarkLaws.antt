@@ -174,7 +174,8 @@ same_reply command replied state = grind arith
 replied_marked : (phase : Phase) (terminated : Bool) (command : TargetCommand) (replied : Replied) (hand : Option Hand)
     → hand_marked phase terminated (option_map (hand_replied command replied) hand) ≡ hand_marked phase terminated hand
 replied_marked phase terminated command replied None = refl
-replied_marked phase terminated _ replied _ = refl
+replied_marked phase terminated (a_question question) replied (Some hand) = refl
+replied_marked phase terminated (an_effect effect) replied (Some hand) = refl
 
 told_marked : (event : Event) (state : State) (rest : List Part) → stand_once (Part.Tells event ∷ rest) ≡ true
     → marked state.phase state.terminated rest ≡ true

@@ -35,7 +35,7 @@ use Rattle.machine_model.specs.Telling.{numbered_by}
 use Rattle.machine_model.proofs.QuietLaws.{IsQuiet, near_flies, quiet_on}
 use Rattle.machine_model.proofs.RequestLaws.{IsDue, settling, was_due}
 use Rattle.machine_model.proofs.RequestSteps.{asked_left, flying_in, flying_of, learnt_wishes, parts_left, replied_left}
-use Rattle.machine_model.proofs.Stepping.{IsAt, Moves, Skips, by_moves, by_runs, moved}
+use Rattle.machine_model.proofs.Stepping.{IsAt, Moves, Skips, by_moves, by_runs, moved, Loses}
 use Rattle.machine_model.proofs.Tables.{decided_alike, starts_updates}
 use Rattle.wish_sets.proofs.OrderLaws.{sorted-fold}
 use Rattle.wish_sets.specs.Entries.{all_entries, is_verified, verified}
@@ -301,6 +301,7 @@ news_at : (m next : Machine) (said : Option Message) (told : Breakpoint) → IsT
 news_at m next said told h is (Moves.tells {event = some_news (entry_verified entry)} free at) =
     let front = at_front h at in
     record { entry = entry; is_told = cc; is_verified = front.0; is_new = front.1 }
+news_at m next said told h is (Moves.loses late near Loses.by_end) = cc
 news_at m next said told h is _ = cc
 
 pub tells_news : (messages : List Message) (m : Machine) (told : Breakpoint) → Run messages m

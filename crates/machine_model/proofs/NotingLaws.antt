@@ -273,12 +273,14 @@ still_on m next same near hands fits = record {
 replied_hand : (command : TargetCommand) (replied : Replied) (hand : Option Hand) (options : ClientOptions)
     → options_in (option_map (hand_replied command replied) hand) options ≡ options_in hand options
 replied_hand command replied None options = refl
-replied_hand _ replied _ options = refl
+replied_hand (a_question question) replied (Some hand) options = refl
+replied_hand (an_effect effect) replied (Some hand) options = refl
 
 replied_fits : (command : TargetCommand) (replied : Replied) (hand : Option Hand) → Fits hand
     → Fits (option_map (hand_replied command replied) hand)
 replied_fits command replied None h = tt
-replied_fits _ replied (Some hand) h = h
+replied_fits (a_question question) replied (Some hand) h = h
+replied_fits (an_effect effect) replied (Some hand) h = h
 
 replied_options : (command : TargetCommand) (replied : Replied) (state : State)
     → (replied_to command replied state).options ≡ state.options

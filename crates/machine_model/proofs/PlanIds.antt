@@ -205,6 +205,7 @@ pub beside_stands : {A B : Type 0} (P : Id → Type 0) (Good : A → Type 0) (Be
     → NeedStands P Good m → NeedStands P Best n → NeedStands P (λ two. Good two.0 × Best two.1) (beside m n)
 beside_stands P Good Best (has a) (has b) h k = (h, k)
 beside_stands P Good Best (has a) (lacks want others) h k = k
+beside_stands P Good Best (fails fault) (has b) h k = tt
 beside_stands P Good Best (lacks want others) (has b) h k = h
 beside_stands P Good Best (lacks want others) (lacks other more) h k =
     all_joined (IsWanted P true) (want ∷ others) (other ∷ more) h k

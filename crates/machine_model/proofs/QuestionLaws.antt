@@ -82,12 +82,13 @@ held_queue is = ap queue_in is
 
 replied_queue : (P : Want → Type 0) (command : TargetCommand) (replied : Replied) (held : Option Hand)
     → All P (queue_in held) → All P (queue_in (option_map (hand_replied command replied) held))
+replied_queue P command replied None h = h
 replied_queue P (a_question question) replied (Some hand) h = by_test (is_failed question replied hand.asked)
   where
     by_test : (failed : Bool) → All P (unless_failed failed hand.queue)
     by_test true = tt
     by_test false = h
-replied_queue P _ replied _ h = h
+replied_queue P (an_effect effect) replied (Some hand) h = h
 
 given_queue : (P : Want → Type 0) (held : Option Hand) → All P (queue_in (option_map given_up held))
 given_queue P None = tt

@@ -83,7 +83,8 @@ replied_flying effect replied (Some hand) = refl
 pub replied_left : (command : TargetCommand) (replied : Replied) (hand : Option Hand)
     → parts_left (option_map (hand_replied command replied) hand) ≡ parts_left hand
 replied_left command replied None = refl
-replied_left _ replied _ = refl
+replied_left (a_question question) replied (Some hand) = refl
+replied_left (an_effect effect) replied (Some hand) = refl
 
 -- What moves change of the event requests -----------------------------------------------------------------------------
 

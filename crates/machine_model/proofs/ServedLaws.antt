@@ -46,7 +46,8 @@ given_up_same (Some hand) = given_up_item (has_response hand.parts) hand.item
 pub replied_same : (command : TargetCommand) (replied : Replied) (hand : Option Hand)
     → unanswered_hand (option_map (hand_replied command replied) hand) ≡ unanswered_hand hand
 replied_same command replied None = refl
-replied_same _ replied _ = refl
+replied_same (a_question question) replied (Some hand) = refl
+replied_same (an_effect effect) replied (Some hand) = refl
 
 pub asked_same : (want : Want) (hand : Option Hand)
     → unanswered_hand (option_map (asked_hand want) hand) ≡ unanswered_hand hand

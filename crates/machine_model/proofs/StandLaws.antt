@@ -12,7 +12,7 @@ use Rattle.machine_model.specs.Due.{due}
 use Rattle.machine_model.specs.EventRequests.{AreStanding, Counted, IsNew, IsSentOnce, count, counted, installed_after}
 use Rattle.machine_model.specs.EventRequests.{is_request, refused_after, refused_by_effect, refused_since, set_answered}
 use Rattle.machine_model.specs.Names.{Act, Answer, Clear, Does, Effect, Part, Replied, Set, TargetCommand, an_answer}
-use Rattle.machine_model.specs.Names.{an_effect}
+use Rattle.machine_model.specs.Names.{an_effect, an_error}
 use Rattle.machine_model.specs.Replying.{IsReply}
 use Rattle.machine_model.specs.Requests.{Wishes, effect_due, request_in, set_to, wishes_after}
 use Rattle.machine_model.specs.Runs.{Allows, Message, Run, said}
@@ -118,12 +118,14 @@ pub refused_replied : (sizes : Option SizesRead) (w : Wishes) (parts : List Part
     (wish : Wish) → IsDue w parts (Some effect) → IsReply sizes (an_effect effect) replied
     → has_wish (wishes_after effect replied w).refused wish
     ≡ refused_by_effect wish effect replied (has_wish w.refused wish)
+refused_replied sizes w parts (Does deed) replied wish due reply = refl
 refused_replied sizes w parts (Set other) replied wish due (IsReply.with_answer {answer} used serves is good) =
     refused_answered w other wish answer (new_set_due w other (due refl).0) is.row
 refused_replied sizes w parts (Set other) replied wish due (IsReply.with_error some tolerated) =
     any-insert wish_cmp (is_wish wish) (alike wish) other w.refused
     ∙ or_cond (is_wish wish other) (has_wish w.refused wish)
-refused_replied sizes w parts _ _ wish due reply = refl
+refused_replied sizes w parts (Clear other request) (an_answer answer) wish due reply = refl
+refused_replied sizes w parts (Clear other request) (an_error code) wish due reply = refl
 
 and_cond : (a b : Bool) → (a && b) ≡ cond a b false
 and_cond true b = refl

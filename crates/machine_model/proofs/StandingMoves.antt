@@ -1,5 +1,5 @@
 -- What each move keeps of the ids that stand in the machine: the parts.
-use Rattle.jdwp_events.specs.declared.kind.Policy.TheVariants.{All as AllThreads, NoThread}
+use Rattle.jdwp_events.specs.declared.kind.Policy.TheVariants.{All as AllThreads, NoThread, EventThread}
 use Rattle.jdwp_events.specs.declared.kind.Policy.{Policy}
 use Rattle.std.proofs.Common.{◌≡◌, Bool, true, false, cond, List, [], ◌∷◌, ◌++◌, Option, Some, None, refl, sym, ap}
 use Rattle.std.proofs.Common.{subst, ◌∙◌, arith}
@@ -7,7 +7,7 @@ use Rattle.std.specs.List.{AllByRecursion as All}
 use Rattle.machine_model.specs.Names.{Deed, Writes, Written, variable_write, write_found, Attach, Attached, Choice}
 use Rattle.machine_model.specs.Names.{Classes, Command, ConfigurationDone, Continue, Decides, Disconnect, Effect, Event}
 use Rattle.machine_model.specs.Names.{Failed, Finding, Initialize, Initialized, Item, Leaves, Lines, Lookup, News, Note}
-use Rattle.machine_model.specs.Names.{Outcome, Part, Pause, Phase, Replied, Sent, SetBreakpoints, Success}
+use Rattle.machine_model.specs.Names.{Outcome, Part, Pause, Phase, Replied, Sent, SetBreakpoints, Success, Fresh, Gone}
 use Rattle.machine_model.specs.Names.{TargetCommand, TellsNews, Terminated, ThreadId, Want, a_composite, a_raw}
 use Rattle.machine_model.specs.Names.{a_request, all_threads, class_facts, classes_found, target_end, threads_found}
 use Rattle.machine_model.specs.Names.{Body, Scopes, StackTrace, Variables, container_children, frames_found, scope_list}
@@ -266,8 +266,9 @@ row_parts P (Continue arguments) state told told_things threw_them = by_thread (
 row_parts P (Pause arguments) state told told_things threw_them = by_stop state.stopped (thread_with state.threads arguments.thread_id)
   where
     by_stop : (stopped : Bool) (thread : Option ThreadId) → All (PartStands P) (pause_parts stopped thread)
+    by_stop stopped None = (tt, tt)
+    by_stop true (Some thread) = (tt, tt)
     by_stop false (Some thread) = (tt, (tt, (tt, (tt, (tt, tt)))))
-    by_stop _ _ = (tt, tt)
 row_parts P (StackTrace arguments) state told told_things threw_them = by_thread (thread_with state.threads arguments.thread_id)
     (told_thread P state.threads arguments.thread_id told)
   where
@@ -303,7 +304,8 @@ row_parts P (Evaluate arguments) state told told_things threw_them =
     by_frame : (read : Result Expr ℕ) (found : Result FrameThing RefFault) → OnFound (OfFrameThing P) found
         → All (PartStands P) (evaluate_by read found)
     by_frame (Ok expression) (Ok one) k = (k, tt)
-    by_frame _ _ k = (tt, tt)
+    by_frame (Err place) (Ok one) k = (tt, tt)
+    by_frame read (Err fault) k = (tt, tt)
 row_parts P (Disconnect arguments) state told told_things threw_them = (tt, (tt, (tt, tt)))
 row_parts P _ state told told_things threw_them = (tt, tt)
 
@@ -322,10 +324,14 @@ begun_parts P state (a_composite at composite) told told_things threw_them =
   where
     by_phase : (phase : Phase) (dies : Bool) (policy : Policy)
         → All (PartStands P) (composite_parts phase dies policy at state.next_entry)
+    by_phase Fresh dies policy = tt
+    by_phase Attached true NoThread = (tt, tt)
+    by_phase Attached true EventThread = (tt, tt)
+    by_phase Attached true AllThreads = (tt, tt)
     by_phase Attached false NoThread = (tt, (tt, (tt, tt)))
+    by_phase Attached false EventThread = (tt, tt)
     by_phase Attached false AllThreads = (tt, (tt, (tt, (tt, tt))))
-    by_phase Attached _ _ = (tt, tt)
-    by_phase _ dies policy = tt
+    by_phase Gone dies policy = tt
 begun_parts P state (a_raw at body) told told_things threw_them = tt
 
 pub chosen_order : (choice : Choice) (state : State) (hand : Hand) (sized attached : Bool) (rest : List Part)
@@ -370,9 +376,10 @@ chosen_parts P Decides state hand rest item h =
     by_stop : (attached stopped holds : Bool) (thrown : List Thrown) (stop : Option Halt) → OnSome (OfHalt P) stop
         → All (PartStands P) (cond attached (decided_by stopped holds thrown stop) [] ++ rest)
     by_stop false stopped holds thrown stop hit = h
+    by_stop true stopped true thrown None hit = (tt, h)
+    by_stop true stopped false thrown None hit = (tt, h)
     by_stop true stopped holds thrown (Some halt) hit =
         (tt, (tt, (tt, (told halt.cause halt.thread hit.1, by_surplus stopped))))
-    by_stop true stopped _ thrown None hit = (tt, h)
 chosen_parts P Stepped state hand rest item h = by_code (refused_with hand.effect)
   where
     by_code : (code : Option ℕ) → All (PartStands P) (stepped_by code ++ rest)

@@ -112,7 +112,8 @@ guard_all P Handshake state = by_tests state.greeting_sent state.greeting_heard
   where
     by_tests : (sent heard : Bool) → All (IsWanted P (is_some state.sizes)) (asked_by (greeted_by sent heard))
     by_tests false heard = tt
-    by_tests _ _ = tt
+    by_tests true false = tt
+    by_tests true true = tt
 
 lacked_all : {P : Id → Type 0} {state : State} {queue : List Want} (hand : Hand) (left : List Part)
     → P (class 0) → Near P state left queue hand.asked
@@ -419,8 +420,9 @@ sizes_long messages message = ap length (sizes_more messages (Some message)) ∙
 
 first_more : (all : List SizesRead) (sizes : Option SizesRead) → length all ≡ 0 → first_sizes
     (all ++ listed sizes) ≡ sizes
+first_more [] None none = refl
+first_more [] (Some sizes) none = refl
 first_more (one ∷ all) sizes none = absurd (omega arith)
-first_more [] _ none = refl
 
 empty_queue : (P : Id → Type 0) (queue : List Want) → All (IsWanted P false) queue → total by_want queue ≡ 0
     → queue ≡ []

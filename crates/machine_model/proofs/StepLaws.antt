@@ -11,7 +11,7 @@ use Rattle.machine_model.specs.Lookups.{finished}
 use Rattle.machine_model.specs.Names.{Written, Act, Attached, Choice, Classes, Command, Decides, Effect, Event, Finding}
 use Rattle.machine_model.specs.Names.{HaltCause, Initialized, Item, Leaves, Lookup, Note, Part, Replied, Stepped, Steps}
 use Rattle.machine_model.specs.Names.{TargetCommand, TellsNews, ThreadId, Want, a_question, a_raw, a_request, a_stop}
-use Rattle.machine_model.specs.Names.{an_effect, an_event}
+use Rattle.machine_model.specs.Names.{an_effect, an_event, Lines, entry_verified, some_news}
 use Rattle.machine_model.specs.Outcomes.{result_of}
 use Rattle.machine_model.specs.Plans.{Result}
 use Rattle.machine_model.specs.Replying.{given_up, hand_replied}
@@ -29,7 +29,7 @@ use Rattle.machine_model.proofs.BindingWatches.{or_false}
 use Rattle.machine_model.proofs.HoldingParts.{numbered_stop, same_stop}
 use Rattle.machine_model.proofs.RequestLaws.{settles, settling}
 use Rattle.machine_model.proofs.RequestSteps.{learnt_wishes, numbered_wishes}
-use Rattle.machine_model.proofs.Stepping.{IsAt, Moves, Skips, by_moves, moved}
+use Rattle.machine_model.proofs.Stepping.{IsAt, Moves, Skips, by_moves, moved, Loses}
 use Rattle.machine_model.proofs.SuspendLaws.{bound_at_stop}
 use Rattle.machine_model.proofs.Tables.{free as free_test, free_once, of_decided, told_alike}
 use Rattle.machine_model.proofs.Testing.{tested, whole}
@@ -150,6 +150,7 @@ tail_steps stopped steps part rest is = second_holds (may_part steps part rest) 
 
 -- what changes of the step in a state
 noted_steps : (note : Note) (state : State) → steps_in (noted note state) ≡ steps_noted note (steps_in state)
+noted_steps (Lines None path entries) state = refl
 noted_steps (Classes classes) state = ap (λ (wanted : Wanted). is_some wanted.step)
     (only_classes (found_in state.classes) classes state.wishes.wanted)
 noted_steps _ state = refl
@@ -177,7 +178,8 @@ steps_front {m} h at = subst (λ (parts : List Part). steps_well m.state.stopped
 same_hand : (stopped steps : Bool) (command : TargetCommand) (replied : Replied) (hand : Option Hand)
     → hand_steps stopped steps (option_map (hand_replied command replied) hand) ≡ hand_steps stopped steps hand
 same_hand stopped steps command replied None = refl
-same_hand stopped steps _ replied _ = refl
+same_hand stopped steps (a_question question) replied (Some hand) = refl
+same_hand stopped steps (an_effect effect) replied (Some hand) = refl
 
 asked_same : (stopped steps : Bool) (want : Want) (hand : Option Hand)
     → hand_steps stopped steps (option_map (asked_hand want) hand) ≡ hand_steps stopped steps hand
@@ -248,7 +250,8 @@ no_place thread depth (place ∷ those) = no_place thread depth those
 no_thrown : (thread : ThreadId) (depth : Depth) (caught uncaught : Bool)
     → has_wish (thrown caught uncaught) (wishes.Step thread depth) ≡ false
 no_thrown thread depth true uncaught = refl
-no_thrown thread depth _ _ = refl
+no_thrown thread depth false true = refl
+no_thrown thread depth false false = refl
 
 step_wished : (wanted : Wanted) (thread : ThreadId) (depth : Depth)
     → has_wish (wished wanted) (wishes.Step thread depth) ≡ has_wish (stepping wanted.step) (wishes.Step thread depth)
@@ -305,6 +308,7 @@ none_of (Some step) is = cc
 
 cleared_at : {messages : List Message} (m next : Machine) (said : Option Message) (stop : Stopped) → Run messages m
     → said ≡ Some (Message.tells (an_event (events.Stopped stop))) → Moves m said next → HasNoStep m.state.wishes
+cleared_at m next said stop r is (Moves.tells {event = some_news (entry_verified entry)} free at) = cc
 cleared_at m next said stop r is (Moves.tells {hand} {rest} {event = a_stop stopping} free at) =
     let near = first_fails (is_gone m.state.phase) _ (whole free_once (tested free_test r) at) in
     no_step m.state.wishes (λ thread depth. at_rest m.state.wishes (settling r near).tidy
@@ -314,6 +318,7 @@ cleared_at m next said stop r is (Moves.tells {hand} {rest} {event = a_stop stop
     none_steps : (steps others : Bool) → cond (not steps) others false ≡ true → steps ≡ false
     none_steps true others is = cc
     none_steps false others is = refl
+cleared_at m next said stop r is (Moves.loses late near Loses.by_end) = cc
 cleared_at m next said stop r is _ = cc
 
 pub clears_steps : (messages : List Message) (m : Machine) (stop : Stopped) → Run messages m

@@ -200,8 +200,9 @@ walks m = walks_in m m.hand refl
 walks_asked : (full : Bool) (m : Machine) (hand : Hand) (wants : List Want) → is_full false m ≡ full
     → load_of m ≡ queued → m.hand ≡ Some hand → hand.queue ≡ wants
     → Walked m (asked_first full m wants).act (asked_first full m wants).next
+walks_asked full m hand [] fill is held are = tt
+walks_asked true m hand (want ∷ wants) fill is held are = tt
 walks_asked false m hand (want ∷ wants) fill is held are = Moves.asks is fill held are
-walks_asked _ m hand _ fill is held are = tt
 
 walks_queued : (full : Bool) (m : Machine) (hand : Option Hand) → is_full false m ≡ full → load_of m ≡ queued
     → m.hand ≡ hand → Walked m (asked_next full m hand).act (asked_next full m hand).next

@@ -22,12 +22,11 @@ use Rattle.machine_model.proofs.HoldingParts.{numbered_stop, same_stop}
 use Rattle.machine_model.proofs.IdRows.{all_joined}
 use Rattle.machine_model.proofs.KeyLaws.{is_one}
 use Rattle.machine_model.proofs.Standing.{asked_in, queue_in}
-use Rattle.machine_model.proofs.Stepping.{IsAt, Moves}
+use Rattle.machine_model.proofs.Stepping.{IsAt, Moves, by_runs}
 use Rattle.machine_model.proofs.Tables.{decided_alike, told_alike}
 use Rattle.machine_model.proofs.Testing.{Passed, passed, same_noted, same_numbered, same_replied, tested}
 use Rattle.machine_model.proofs.StopParts.{IsCalm, IsCalmSent, are_bare, bare_ends, bare_parts, bare_test, ends_ahead}
 use Rattle.machine_model.proofs.StopParts.{ends_one, frames_ahead, lacked_calm, lacked_none, looks_frames, taken_calm}
-use Rattle.machine_model.proofs.NewsLaws.{quiet}
 use Rattle.machine_model.proofs.StepLaws.{noted_stop}
 use Rattle.machine_model.proofs.RequestSteps.{parts_left}
 
@@ -296,6 +295,12 @@ quiet_on messages m next said r q (Moves.replies {effect} {replied} {hand} is fl
     (same_stop (an_effect effect) replied m.state) (subst (λ (held : Option Hand). QuietHand m.state held) is q))
 quiet_on messages m next said r q (Moves.loses late near why) = given_on next.state m.hand refl
 quiet_on messages m next said r q _ = q
+
+quiet : {messages : List Message} {m : Machine} → Run messages m → IsQuiet m
+quiet r = by_runs {Holds = λ (messages : List Message) (m : Machine). IsQuiet m} (record {
+  starts = record { idle = λ ends. (refl, refl); calm = λ near running. record { looks = refl; wants = tt; sent = tt } };
+  moves = λ messages m next said before q moved after. quiet_on messages m next said before q moved;
+}) r
 
 -- What it says --------------------------------------------------------------------------------------------------------
 

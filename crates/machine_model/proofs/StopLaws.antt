@@ -20,7 +20,7 @@ use Rattle.machine_model.specs.Names.{HaltCause, Hit, Initialized, Item, Lookup,
 use Rattle.machine_model.specs.Names.{Resume, StopCause, Stopping, TargetCommand, TellsNews, Terminated, ThreadId}
 use Rattle.machine_model.specs.Names.{Thrown, Want, a_composite, a_question, a_request, a_stop, an_effect, an_event}
 use Rattle.machine_model.specs.Names.{by_client, by_exception, by_step, came_to, exception_text, has_stepped}
-use Rattle.machine_model.specs.Names.{of_composite, some_news, threw}
+use Rattle.machine_model.specs.Names.{of_composite, some_news, threw, entry_verified}
 use Rattle.machine_model.specs.Outcomes.{result_of}
 use Rattle.machine_model.specs.Plans.{Need, is_done}
 use Rattle.machine_model.specs.Replying.{given_up, hand_replied}
@@ -38,7 +38,7 @@ use Rattle.machine_model.specs.Telling.{after_event, reason_told}
 use Rattle.machine_model.proofs.HoldingParts.{holding, may_all, may_front, may_stop, only_resumes}
 use Rattle.machine_model.proofs.RequestSteps.{decides}
 use Rattle.machine_model.proofs.RestLaws.{is_free}
-use Rattle.machine_model.proofs.Stepping.{IsAt, Moves, by_runs, moved, with_said}
+use Rattle.machine_model.proofs.Stepping.{IsAt, Moves, by_runs, moved, with_said, Loses}
 use Rattle.machine_model.proofs.SuspendLaws.{bound_at_choice, bound_at_stop}
 use Rattle.machine_model.proofs.Tables.{free as free_test, free_once}
 use Rattle.machine_model.proofs.Testing.{tested, whole}
@@ -244,8 +244,9 @@ row_tells messages item (Pause arguments) state is =
   where
     by_stop : (stopped : Bool) (thread : Option ThreadId) → is_pause item ≡ true
         → All (PartTells messages item) (pause_parts stopped thread)
+    by_stop stopped None is = (tt, tt)
+    by_stop true (Some thread) is = (tt, tt)
     by_stop false (Some thread) is = (tt, (tt, (tt, (tt, (is, tt)))))
-    by_stop _ _ is = (tt, tt)
 row_tells messages item command state is =
     all_pass is_mute (mute_tells messages item) (row_of command state) (row_mute command state refl)
 
@@ -331,9 +332,10 @@ decided_tells {messages} {m} {hand} r is bound rest h =
         → OfSome (HasHalted m.state.wishes (events_in hand.item)) stop
         → All (PartTells messages hand.item) (cond attached (decided_by stopped holds thrown stop) [] ++ rest)
     by_stop false stopped holds thrown stop hit = h
+    by_stop true stopped true thrown None hit = (tt, h)
+    by_stop true stopped false thrown None hit = (tt, h)
     by_stop true stopped holds thrown (Some halt) hit =
         (tt, (tt, (tt, (told halt.cause halt.thread hit, by_surplus stopped))))
-    by_stop true stopped _ thrown None hit = (tt, h)
 
 chosen_tells : {messages : List Message} {m : Machine} {hand : Hand} → Run messages m → m.hand ≡ Some hand
     → (choice : Choice) (rest : List Part) → (decides (Part.Unfolds choice) ≡ true → IsBoundFirst m.state)
@@ -367,7 +369,8 @@ stops_front messages {m} {hand} h at =
 replied_tells : (messages : List Message) (command : TargetCommand) (replied : Replied) (hand : Option Hand)
     → HandTells messages hand → HandTells messages (option_map (hand_replied command replied) hand)
 replied_tells messages command replied None h = tt
-replied_tells messages _ replied (Some hand) h = h
+replied_tells messages (a_question question) replied (Some hand) h = h
+replied_tells messages (an_effect effect) replied (Some hand) h = h
 
 asked_tells : (messages : List Message) (want : Want) (hand : Option Hand) → HandTells messages hand
     → HandTells messages (option_map (asked_hand want) hand)
@@ -446,6 +449,7 @@ asked_stop messages m hand stop is reason stopped _ item pauses = cc
 
 stop_at : {messages : List Message} (m next : Machine) (said : Option Message) (stop : Stopped) → Run messages m
     → said ≡ Some (Message.tells (an_event (events.Stopped stop))) → Moves m said next → IsStop messages m stop
+stop_at m next said stop r is (Moves.tells {event = some_news (entry_verified entry)} free at) = cc
 stop_at {messages} m next said stop r is (Moves.tells {hand} {rest} {event = a_stop stopping} free at) =
     by_cause stopping.cause refl (stops_front messages (always_stopping r) at).0 (first_may (may_front (holding r) at))
   where
@@ -468,6 +472,7 @@ stop_at {messages} m next said stop r is (Moves.tells {hand} {rest} {event = a_s
         asked_stop messages m hand stop at.in_hand (reason_is ∙ ap (λ (cause : StopCause).
         reason_told cause (after_event (a_stop stopping) m.state)) same) may hand.item refl pauses
     by_cause _ same hit may = by_hit hit
+stop_at m next said stop r is (Moves.loses late near Loses.by_end) = cc
 stop_at m next said stop r is _ = cc
 
 -- A surplus -----------------------------------------------------------------------------------------------------------
@@ -503,6 +508,7 @@ surplus_at : {messages : List Message} (m next : Machine) (said : Option Message
     → m.state.stopped ≡ true → ¬ (stop.reason ≡ reasons.Pause)
     → said ≡ Some (Message.tells (an_event (events.Stopped stop))) → Moves m said next
     → (due false next).act ≡ Act.Sends (Does (Resume of_composite))
+surplus_at m next said stop r stopped hit is (Moves.tells {event = some_news (entry_verified entry)} free at) = cc
 surplus_at m next said stop r stopped hit is (Moves.tells {hand} {rest} {event = a_stop stopping} free at) =
     by_cause stopping.cause refl (first_may (may_front (holding r) at))
   where
@@ -534,10 +540,13 @@ surplus_at m next said stop r stopped hit is (Moves.tells {hand} {rest} {event =
     by_cause : (cause : StopCause) → stopping.cause ≡ cause → may_stop cause m.state.stopped rest ≡ true
         → (due false (left (knowing m (after_event (a_stop stopping) m.state)) hand rest)).act
         ≡ Act.Sends (Does (Resume of_composite))
+    by_cause (Hit place) same may = by_hit may
+    by_cause (by_exception text) same may = by_hit may
+    by_cause by_step same may = by_hit may
     by_cause by_client same may =
         absurd (hit (reason_is ∙ ap (λ (cause : StopCause). reason_told cause (after_event (a_stop stopping) m.state))
         same))
-    by_cause _ same may = by_hit may
+surplus_at m next said stop r stopped hit is (Moves.loses late near Loses.by_end) = cc
 surplus_at m next said stop r stopped hit is _ = cc
 
 pub undoes_surplus : (messages : List Message) (m : Machine) (stop : Stopped) → Run messages m

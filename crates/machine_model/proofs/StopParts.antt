@@ -77,8 +77,10 @@ tail_bare part rest is = by_tests (ends_one part) (ends_ahead rest) (is_bare par
     by_tests : (ends behind bare others : Bool) → cond (cond ends true behind) (cond bare others false) true ≡ true
         → cond behind others true ≡ true
     by_tests ends false bare others is = refl
-    by_tests _ true true others is = is
-    by_tests _ true false others is = cc
+    by_tests true true true others is = is
+    by_tests false true true others is = is
+    by_tests true true false others is = cc
+    by_tests false true false others is = cc
 
 begun_bare : (state : State) (item : Item) → bare_ends false (parts_of state item) ≡ true
 begun_bare state item = grind arith

@@ -7,7 +7,7 @@ use Rattle.machine_model.specs.Lookups.{finished}
 use Rattle.machine_model.specs.Names.{Written, variable_write, Act, Attached, Choice, Command, Configured, Decides}
 use Rattle.machine_model.specs.Names.{Deed, Does, EntryHeld, Event, Failure, Finding, Item, Leaves, Lookup, Note, Part}
 use Rattle.machine_model.specs.Names.{Phase, Resume, Stopping, Suspension, TellsNews, a_question, a_raw, a_request}
-use Rattle.machine_model.specs.Names.{a_stop, an_effect, of_composite, HaltCause, Stepped, ThreadId}
+use Rattle.machine_model.specs.Names.{a_stop, an_effect, of_composite, HaltCause, Stepped, ThreadId, of_entry, of_stop}
 use Rattle.machine_model.specs.Outcomes.{result_of}
 use Rattle.machine_model.specs.Plans.{Result}
 use Rattle.machine_model.specs.Rest.{IsAtRest}
@@ -23,7 +23,7 @@ use Rattle.machine_model.proofs.HeldLaws.{due_sends}
 use Rattle.machine_model.proofs.KnowingLaws.{is_known}
 use Rattle.machine_model.proofs.RequestLaws.{Settling, front_set, settles, settling}
 use Rattle.machine_model.proofs.SizeLaws.{replied_parts, asked_parts}
-use Rattle.machine_model.proofs.Stepping.{IsAt, Moves, by_runs, moved}
+use Rattle.machine_model.proofs.Stepping.{IsAt, Moves, by_runs, moved, Loses}
 use Rattle.machine_model.proofs.Tables.{free, free_once, of_decided, told_alike}
 use Rattle.machine_model.proofs.Testing.{IsTest, Passed, same_noted, same_numbered, same_replied, tested, whole}
 use Rattle.machine_model.specs.Stops.{decided, surplus, told_part}
@@ -294,7 +294,9 @@ resume_at m next said suspension s b t h is close (Moves.updates {effect = effec
         → may_send (an_effect (Does (Resume suspension))) (record (view_of m) { held = 0; stopped = false }) ≡ true
         → IsBoundFirst m.state
     no_resume of_composite may = cc
-    no_resume _ may = cc
+    no_resume of_entry may = cc
+    no_resume of_stop may = cc
+resume_at m next said suspension s b t h is close (Moves.loses late near Loses.by_end) = cc
 resume_at m next said suspension s b t h is close _ = cc
 
 near_sends : (m next : Machine) (said : Option Message) (suspension : Suspension)

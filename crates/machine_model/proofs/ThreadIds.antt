@@ -1,5 +1,5 @@
 -- The ids of threads that are told were read: those in composites that are in hand, and those in answers.
-use Rattle.std.proofs.Common.{◌≡◌, Bool, true, false, cond, List, [], ◌∷◌, ◌++◌, Option, Some, None, arith}
+use Rattle.std.proofs.Common.{◌≡◌, Bool, true, false, cond, List, [], ◌∷◌, ◌++◌, Option, Some, None, arith, refl}
 use Rattle.std.specs.Prelude.{map, ◌==◌}
 use Rattle.std.specs.List.{AllByRecursion as All}
 use Rattle.jdwp_events.specs.declared.event.Event.{Event as ATargetEvent}
@@ -117,8 +117,9 @@ row_tells P (Pause arguments) state told = by_stop state.stopped (thread_with st
   where
     by_stop : (stopped : Bool) (thread : Option ThreadId) → OnSome (OfThread P) thread
         → All (TellStands P) (pause_parts stopped thread)
+    by_stop stopped None k = (tt, tt)
+    by_stop true (Some thread) k = (tt, tt)
     by_stop false (Some thread) k = (tt, (tt, (tt, (tt, (k, tt)))))
-    by_stop _ _ k = (tt, tt)
 row_tells P command state told = all_pass is_mute (mute_tells P) (row_of command state) (row_mute command state refl)
 
 pub begun_tells : (P : Id → Type 0) (state : State) (item : Item) → All (OfThread P) state.threads
@@ -179,8 +180,9 @@ chosen_tells P Decides state hand rest item h =
     by_stop : (attached stopped holds : Bool) (thrown : List Thrown) → All (OfThrown P) thrown → (stop : Option Halt)
         → OnSome (OfHalt P) stop → All (TellStands P) (cond attached (decided_by stopped holds thrown stop) [] ++ rest)
     by_stop false stopped holds thrown k stop hit = h
+    by_stop true stopped true thrown k None hit = (tt, h)
+    by_stop true stopped false thrown k None hit = (tt, h)
     by_stop true stopped holds thrown k (Some halt) hit =
         (k, (tt, (tt, (told halt.cause halt.thread hit.0, by_surplus stopped))))
-    by_stop true stopped _ thrown k None hit = (tt, h)
 chosen_tells P choice state hand rest item h =
     all_passing is_mute (mute_tells P) (chosen choice state hand) rest (chosen_mute choice state hand refl) h

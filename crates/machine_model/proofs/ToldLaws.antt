@@ -15,7 +15,7 @@ use Rattle.machine_model.specs.Names.{Lookup, Nothing, Outcome, Part, Phase, Que
 use Rattle.machine_model.specs.Names.{TargetCommand, TellsNews, Terminated, Want, a_question, a_request, a_stop}
 use Rattle.machine_model.specs.Names.{an_answer, an_effect, breakpoint_list, class_facts, entry_verified, some_news}
 use Rattle.machine_model.specs.Names.{thread_changed, container_children, thread_frames, expression_value, no_value}
-use Rattle.machine_model.specs.Names.{by_exception, exception_text, Stepped}
+use Rattle.machine_model.specs.Names.{by_exception, exception_text, Stepped, threads_found}
 use Rattle.machine_model.specs.References.{has_room, things_of}
 use Rattle.stop_refs.specs.Numbers.{InHand}
 use Rattle.dap_messages.specs.Telling.{references_spent}
@@ -349,7 +349,8 @@ module _ (id : ℕ) where
   replied_asked : (command : TargetCommand) (replied : Replied) (hand : Option Hand)
       → asked_in (option_map (hand_replied command replied) hand) ≡ asked_in hand
   replied_asked command replied None = refl
-  replied_asked _ replied _ = refl
+  replied_asked (a_question question) replied (Some hand) = refl
+  replied_asked (an_effect effect) replied (Some hand) = refl
 
   want_asked : (want : Want) (hand : Option Hand) → asked_in (option_map (asked_hand want) hand) ≡ asked_in hand
   want_asked want None = refl
@@ -376,7 +377,8 @@ module _ (id : ℕ) where
       by_room : (room : Bool) (finding : Finding)
           → tells_it id asked (Part.Responds (cond room (Success (body_of finding)) (Failed references_spent))) ≡ false
       by_room false finding = refl
-      by_room _ _ = refl
+      by_room true (threads_found named) = refl
+      by_room _ finding = refl
 
   value_shown : (asked : Bool) (numbers : InHand) (result : Result Finding)
       → tells_it id asked (Part.Responds (value_outcome numbers result)) ≡ false

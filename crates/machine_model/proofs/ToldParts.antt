@@ -14,7 +14,7 @@ use Rattle.machine_model.specs.Names.{SetFunctionBreakpoints, Steps, StopsAt}
 use Rattle.machine_model.specs.Knowing.{is_fresh}
 use Rattle.machine_model.specs.Requests.{Wishes}
 use Rattle.machine_model.specs.Rows.{breakpoint_parts, end_parts, failure_of, noted, parts_by, parts_of, row_of}
-use Rattle.machine_model.specs.Rows.{wanting}
+use Rattle.machine_model.specs.Rows.{wanting, if_attached}
 use Rattle.machine_model.specs.State.{State}
 use Rattle.class_tables.specs.Lookups.{Lookups, found_in}
 use Rattle.class_tables.specs.Tables.{put}
@@ -119,8 +119,9 @@ module _ (id : ℕ) where
   pub none_noted : (asked : Bool) (phase : Phase) (next : ℕ) (parts : List Part) → has_lists parts ≡ false
       → AreNoted asked phase next parts
   none_noted asked phase next [] is = tt
+  none_noted asked phase next (Part.Notes (Lines key path entries) ∷ rest) is = cc
+  none_noted asked phase next (Part.Notes (Functions entries) ∷ rest) is = cc
   none_noted asked phase next (_ ∷ rest) is = is
-  none_noted asked phase next _ is = cc
 
   -- Of the breakpoint: where it is verified, the client was told, or what is left tells it; and what is left tells it
   -- behind all that may verify it.
@@ -267,6 +268,9 @@ module _ (id : ℕ) where
     where
       tells : (shown less : Bool) → shown ≡ true → (less || (shown || false)) ≡ true
       tells shown less is = grind (arith, is)
+
+  near_phase : (phase : Phase) → if_attached phase ≡ None → is_fresh phase ≡ false
+  near_phase phase is = grind (arith, is)
 
   row_noted : (failure : Option Failure) (command : Command) (state : State)
       → failure_of (wanting command) state ≡ failure

@@ -214,7 +214,8 @@ unsent m Handshake is = by_flags m.state.greeting_sent m.state.greeting_heard is
   where
     by_flags : (sent heard : Bool) → greeted_by sent heard ≡ greets_way → sent ≡ false
     by_flags false heard is = refl
-    by_flags true _ is = cc
+    by_flags true false is = cc
+    by_flags true true is = cc
 unsent m IdSizes is = by_sizes m.state.sizes is
   where
     by_sizes : (sizes : Option SizesRead) → sized_by sizes ≡ greets_way → m.state.greeting_sent ≡ false

@@ -25,7 +25,8 @@ due_set w wish is = by_change (next_change w) is
   where
     by_change : (change : Option WishChange) → option_map effect_of change ≡ Some (Set wish) → change ≡ Some (sets wish)
     by_change None is = cc
-    by_change _ is = cc
+    by_change (Some (clears one)) is = cc
+    by_change (Some (sets other)) is = cc
 
 pub due_clear : (w : Wishes) (wish : Wish) (request : ℕ) → effect_due w ≡ Some (Clear wish request)
     → next_change w ≡ Some (clears (record { wish = wish; request = request }))
