@@ -5,7 +5,7 @@ use Rattle.machine_model.specs.Asking.{is_new, was_asked}
 use Rattle.machine_model.specs.Due.{is_listed, with_want, with_wants}
 use Rattle.machine_model.specs.Facts.{fact_known}
 use Rattle.machine_model.specs.Keys.{same_question}
-use Rattle.machine_model.specs.Names.{Answer, Question, Replied, Sent, Want, an_answer, an_error}
+use Rattle.machine_model.specs.Names.{Answer, Question, Replied, Sent, Want}
 use Rattle.machine_model.specs.Plans.{Found, Need, Plan, Sight, after, asks_for, beside, fact_heard, fails, found_at}
 use Rattle.machine_model.specs.Plans.{found_from, gives, has, heard_of, lacking, lacks, may_hear, must_by, must_hear}
 use Rattle.machine_model.specs.Plans.{need, pairs, question_of, wants}
@@ -60,8 +60,7 @@ lacks_due : (sight : Sight) (want : Want) → all_due sight.asked (lacking (hear
 lacks_due sight (Want.Must question) = by_found (found_from 0 sight.asked question) refl
   where
     by_reply : (place : ℕ) (replied : Replied) → all_due sight.asked (lacking (must_by place replied)) ≡ true
-    by_reply place (an_answer answer) = refl
-    by_reply place (an_error code) = refl
+    by_reply place replied = grind arith
 
     by_found : (found : Option Found) → found_from 0 sight.asked question ≡ found
         → all_due sight.asked (lacking (must_hear question found)) ≡ true
@@ -146,8 +145,7 @@ apart_last asked (first ∷ queue) want h once new =
         → (rest ≡ true → others ≡ false → are_apart asked (queue ++ want ∷ []) ≡ true)
         → cond new_first (cond (is_listed (question_of first) (queue ++ want ∷ [])) false
         (are_apart asked (queue ++ want ∷ []))) false ≡ true
-    by_tests true false true false false h once listed rest = rw (listed refl refl, rest refl refl) refl
-    by_tests new_first listed rest same_one others h once apart more = cc
+    by_tests new_first listed rest same_one others h once fits differ = grind (arith, h, once, fits, differ)
 
 apart_one : (asked : List Sent) (queue : List Want) (want : Want) → are_apart asked queue ≡ true
     → is_due asked want ≡ true → are_apart asked (with_want asked queue want) ≡ true
@@ -226,8 +224,7 @@ apart_behind want asked (other ∷ queue) once h =
         → (rest ≡ true → others ≡ false → are_apart (asked ++ record { want = want; reply = None } ∷ []) queue ≡ true)
         → cond (is_new other (asked ++ record { want = want; reply = None } ∷ [])) (cond listed false
         (are_apart (asked ++ record { want = want; reply = None } ∷ []) queue)) false ≡ true
-    by_tests true false true false false was differs h once now rest = rw (now was differs, rest refl refl) refl
-    by_tests new listed rest same_one others was differs h once now more_rest = cc
+    by_tests new listed rest same_one others was differs h once now fits = grind (arith, was, differs, h, once, now, fits)
 
 pub apart_asked : (want : Want) (asked : List Sent) (queue : List Want) → are_apart asked (want ∷ queue) ≡ true
     → (is_new want asked ≡ true) × (are_apart (asked ++ record { want = want; reply = None } ∷ []) queue ≡ true)
@@ -274,5 +271,4 @@ apart_filled question replied asked (want ∷ queue) h =
         → (rest ≡ true → are_apart (filled question replied asked) queue ≡ true)
         → cond (is_new want (filled question replied asked)) (cond listed false
         (are_apart (filled question replied asked) queue)) false ≡ true
-    by_tests true false true was h now rest = rw (now was, rest refl) refl
-    by_tests new listed rest was h now more = cc
+    by_tests new listed rest was h now fits = grind (arith, was, h, now, fits)

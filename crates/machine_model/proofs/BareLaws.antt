@@ -60,8 +60,7 @@ among all (place ∷ those) sub = (
 )
   where
     last : (b : Bool) → (b || true) ≡ true
-    last true = refl
-    last false = refl
+    last b = grind arith
 
 abbrev AreWished : Wanted → List Place → Type 0
 AreWished wanted those = All (λ (place : Place). has_wish (wished wanted) (stop_of place) ≡ true) those

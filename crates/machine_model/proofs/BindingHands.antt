@@ -120,8 +120,7 @@ placed_chosen Decides state hand rest none is =
 placed_chosen Stepped state hand rest none is = by_code (refused_with hand.effect)
   where
     by_code : (code : Option ℕ) → is_placed (stepped_by code ++ rest) ≡ true
-    by_code None = rw none is
-    by_code (Some code) = rw none is
+    by_code code = grind arith
 placed_chosen _ state hand rest none is = grind (arith, is)
 
 pub placed_test : IsTest placed
@@ -181,8 +180,7 @@ none_awaits [] is = refl
 none_awaits (sent ∷ asked) is = grind (arith, is, none_awaits asked)
 
 pub none_queued : (wants : List Want) → is_empty wants ≡ true → queues_listing wants ≡ false
-none_queued [] is = refl
-none_queued (want ∷ wants) is = cc
+none_queued wants is = grind (arith, is)
 
 -- what was listed was asked for
 pub listed_asks : (asked : List Sent) → was_listed asked ≡ true → asks_listing asked ≡ true

@@ -169,8 +169,7 @@ pub needs_rest : (part : Part) (rest : List Part) → is_other part ≡ true →
 needs_rest part rest is other = grind (arith, is, other)
 
 pub none_ahead : (parts : List Part) → looks_ahead parts ≡ false → looks_first parts ≡ false
-none_ahead [] is = refl
-none_ahead (part ∷ parts) is = grind (arith, is)
+none_ahead parts is = grind (arith, is)
 
 pub note_had : (parts : List Part) (classes : List ClassId) → first_note parts ≡ Some classes → has_note parts ≡ true
 note_had parts classes is = grind (arith, is)
@@ -275,8 +274,7 @@ unlisted_waits state hand unlisted none =
     by_found : (found : Option Found) → found ≡ None
         → is_done (after (after (must_hear questions.AllClasses found) (λ heard. has []))
         (λ classes. has (classes_found classes))) ≡ false
-    by_found None is = refl
-    by_found (Some found) is = cc
+    by_found found is = grind (arith, is)
 
     none_found : (asked : List Sent) (place : ℕ) → was_listed asked ≡ false
         → found_from place asked questions.AllClasses ≡ None
@@ -350,9 +348,7 @@ lacked_safe state hand (Part.Awaits guard ∷ rest) none = guards guard
     guards Handshake = by_tests state.greeting_sent state.greeting_heard
       where
         by_tests : (sent heard : Bool) → All (λ want. is_safe want ≡ true) (asked_by (greeted_by sent heard))
-        by_tests false heard = tt
-        by_tests true false = tt
-        by_tests true true = tt
+        by_tests sent heard = grind arith
     guards IdSizes = by_sizes state.sizes
       where
         by_sizes : (sizes : Option SizesRead) → All (λ want. is_safe want ≡ true) (asked_by (sized_by sizes))
@@ -444,8 +440,7 @@ asks_on {state} {parts} {want} {wants} {asked} h = record {
     by_tests awaits lists queues is = grind (arith, is)
 
     in_front : (parts : List Part) → looks_first parts ≡ true → looks_ahead parts ≡ looks_first parts
-    in_front [] is = refl
-    in_front (part ∷ parts) is = grind (arith, is)
+    in_front parts is = grind (arith, is)
 
     by_ahead : (asks : Bool) → asks_listing asked ≡ asks → (lists : Bool) → is_listing (question_of want) ≡ lists
         → (asks || lists) ≡ true → looks_ahead parts ≡ looks_first parts

@@ -78,15 +78,13 @@ other_reply question replied state is = record {
 
 pub fewer_queued : (failed : Bool) (queue : List Want) → queues_listing (unless_failed failed queue) ≡ true
     → queues_listing queue ≡ true
-fewer_queued true queue is = cc
-fewer_queued false queue is = is
+fewer_queued failed queue is = grind (arith, is)
 
 pub either_more : (a b c d : Bool) → (a ≡ true → c ≡ true) → (b ≡ true → d ≡ true) → (a || b) ≡ true → (c || d) ≡ true
 either_more a b c d one other is = grind (arith, one, other, is)
 
 pub front_binds : (parts : List Part) → looks_first parts ≡ true → binds_ahead parts ≡ true
-front_binds [] is = cc
-front_binds (part ∷ parts) is = grind (arith, is)
+front_binds parts is = grind (arith, is)
 
 pub front_noted : (parts : List Part) (classes : List ClassId) → looks_first parts ≡ true
     → ¬ (first_note parts ≡ Some classes)
@@ -208,8 +206,7 @@ hit_needs stopped thrown halt rest is needs =
     none_behind rest is (ap not (sym (ahead stopped halt)) ∙ needs)
   where
     by_surplus : (stopped : Bool) → looks_ahead (surplus stopped ++ rest) ≡ looks_ahead rest
-    by_surplus false = refl
-    by_surplus true = refl
+    by_surplus stopped = grind arith
 
     ahead : (stopped : Bool) (halt : Halt)
         → looks_ahead (told_part halt.cause halt.thread ∷ surplus stopped ++ rest) ≡ looks_ahead rest

@@ -4,9 +4,9 @@ use Rattle.std.proofs.Common.{sym, ap, subst, ◌∙◌, option_map, arith, ℕ}
 use Rattle.machine_model.specs.Due.{Picked, after_deed, greets as greets_way, passed_by, pick, sized_by, way}
 use Rattle.machine_model.specs.Knowing.{is_fresh}
 use Rattle.machine_model.specs.Lookups.{finished}
-use Rattle.machine_model.specs.Names.{Choice, Command, Composite, Decides, Event, Failure, Fresh, Guard, Handshake}
-use Rattle.machine_model.specs.Names.{IdSizes, Initialized, Item, Note, Outcome, Part, Phase, Question, Replied}
-use Rattle.machine_model.specs.Names.{TellsNews, Terminated, a_composite, a_question, a_raw, a_request}
+use Rattle.machine_model.specs.Names.{Choice, Command, Composite, Decides, Event, Failure, Guard, Handshake, IdSizes}
+use Rattle.machine_model.specs.Names.{Initialized, Item, Note, Outcome, Part, Phase, Question, Replied, TellsNews}
+use Rattle.machine_model.specs.Names.{Terminated, a_composite, a_question, a_raw, a_request}
 use Rattle.machine_model.specs.Outcomes.{result_of}
 use Rattle.machine_model.specs.Replying.{IsReply, given_up, is_end, is_waiting, replied_machine, replied_to, shows_end}
 use Rattle.machine_model.specs.Rows.{chosen, failure_of, news_of, noted, parts_by, parts_of, row_of, wanting}
@@ -116,8 +116,7 @@ noted_flags note state = (grind arith, grind arith)
 
 skipped_same : {m : Machine} {hand : Hand} {part : Part} (rest : List Part) → Skips m hand part
     → has_attach rest ≡ has_attach (part ∷ rest)
-skipped_same rest (Skips.by_guard is) = refl
-skipped_same rest _ = refl
+skipped_same rest why = grind (arith, why)
 
 event_early : (m : Machine) (hand : Hand) (event : Event) (rest : List Part) → IsEarly m
     → IsAt m hand (Part.Tells event) rest
@@ -130,8 +129,7 @@ event_early m hand Initialized rest h at = record {
   where
     by_phase : (phase : Phase) → cond (is_fresh (attached_from phase)) (cond m.state.greeting_sent
         (has_attach rest) true) true ≡ true
-    by_phase Fresh = refl
-    by_phase _ = refl
+    by_phase phase = grind arith
 event_early m hand Terminated rest h at =
     record { attaches = refl; unsent = asked_now h at.in_hand; sized = refl }
 event_early m hand event rest h at =
@@ -153,16 +151,14 @@ greets_early m hand guard rest t h at is = record {
     first IdSizes is passes = by_sizes m.state.sizes is
       where
         by_sizes : (sizes : Option SizesRead) → sized_by sizes ≡ greets_way → has_attach rest ≡ true
-        by_sizes None is = cc
-        by_sizes (Some sizes) is = cc
+        by_sizes sizes is = grind (arith, is)
 
     there : has_attach (parts_left m.hand) ≡ true
     there = ap (λ (held : Option Hand). has_attach (parts_left held)) at.in_hand ∙ ap has_attach at.parts
         ∙ first guard is (whole greets_to_attach t at)
 
     by_fresh : (fresh : Bool) → cond fresh (has_attach (parts_left m.hand)) true ≡ true
-    by_fresh true = there
-    by_fresh false = refl
+    by_fresh fresh = grind arith
 
 -- a question is replied to: the handshake went out
 answers_early : (m : Machine) (hand : Hand) (question : Question) (replied : Replied) → IsEarly m → m.hand ≡ Some hand
@@ -378,8 +374,7 @@ not_fresh m picked at composite h none is item =
     never_both phase = grind arith
 
     some_or_none : (sizes : Option SizesRead) → is_some sizes ≡ not (is_none sizes)
-    some_or_none None = refl
-    some_or_none (Some sizes) = refl
+    some_or_none sizes = grind arith
 
     by_bools : (fresh gone sent has known none : Bool) → cond fresh gone false ≡ false → known ≡ not none
         → has ≡ true → cond fresh (cond sent false true) true ≡ true → cond sent true none ≡ true

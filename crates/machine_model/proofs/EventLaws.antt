@@ -79,8 +79,7 @@ tail_fits item part rest is = by_item (item_attaches item) is
   where
     by_item : (attaches : Bool) → cond attaches (attach_tail (part ∷ rest)) (not (has_attach (part ∷ rest))) ≡ true
         → cond attaches (attach_tail rest) (not (has_attach rest)) ≡ true
-    by_item true is = grind (arith, is)
-    by_item false is = grind (arith, is)
+    by_item attaches is = grind (arith, is)
 
 -- a look-up, or a choice, stands in no `attach`
 block_fits : (item : Item) (part : Part) (parts rest : List Part) → attach_tail (part ∷ rest) ≡ false
@@ -135,17 +134,14 @@ front_fits {hand = hand} h at = subst (λ (parts : List Part). fits hand.item pa
 
 replied_fits : (command : TargetCommand) (replied : Replied) (hand : Option Hand)
     → hand_fits (option_map (hand_replied command replied) hand) ≡ hand_fits hand
-replied_fits command replied None = refl
-replied_fits (a_question question) replied (Some hand) = refl
-replied_fits (an_effect effect) replied (Some hand) = refl
+replied_fits command replied hand = grind arith
 
 given_fits : (hand : Option Hand) → hand_fits (option_map given_up hand) ≡ true
 given_fits None = refl
 given_fits (Some hand) = gone_fits (has_response hand.parts) hand.item
 
 asked_fits : (want : Want) (hand : Option Hand) → hand_fits (option_map (asked_hand want) hand) ≡ hand_fits hand
-asked_fits want None = refl
-asked_fits want (Some hand) = refl
+asked_fits want hand = grind arith
 
 fits_on : (m next : Machine) (said : Option Message) → hand_fits m.hand ≡ true → Moves m said next
     → hand_fits next.hand ≡ true
@@ -206,9 +202,7 @@ becomes_owes parts at same = ap hand_owes at.in_hand ∙ ap owes_event at.parts 
 
 replied_owes : (command : TargetCommand) (replied : Replied) (hand : Option Hand)
     → hand_owes (option_map (hand_replied command replied) hand) ≡ hand_owes hand
-replied_owes command replied None = refl
-replied_owes (a_question question) replied (Some hand) = refl
-replied_owes (an_effect effect) replied (Some hand) = refl
+replied_owes command replied hand = grind arith
 
 -- an item that is begun owes no event
 begun_owes : (state : State) (item : Item) → owes_event (parts_of state item) ≡ false
@@ -239,9 +233,7 @@ answered_owes request outcome state item rest is none h = rw none (by_attach (is
       where
         by_outcome : (outcome : Outcome) (rest : List Part) → attach_tail (Part.Responds outcome ∷ rest) ≡ true
             → is_success (outcome_told outcome state) ≡ has_attach rest
-        by_outcome (Success body) (Part.Tells Initialized ∷ rest) is = refl
-        by_outcome (Failed failure) [] is = refl
-        by_outcome _ _ is = cc
+        by_outcome outcome rest is = grind (arith, is)
     by_attach false is = grind (arith, is)
 
 -- a part that isn't the response, and doesn't attach, changes nothing that is owed
@@ -272,8 +264,7 @@ not_end _ false owed is none = refl
 -- the request that is heard is the last without a response
 heard_left : {left now : List Request} {request : Request} → IsLeft left now (Some (Message.hears request))
     → now ≡ left ++ request ∷ []
-heard_left (IsLeft.hears request is) = is
-heard_left (IsLeft.aside message none_heard none_told is) = cc
+heard_left why = grind (arith, why)
 
 skipped_owes : {m : Machine} {hand : Hand} (part : Part) (rest : List Part) → Skips m hand part
     → hand_fits m.hand ≡ true
@@ -314,14 +305,10 @@ attached_last : (item : Item) (rest : List Part) → fits item (Part.Tells Initi
 attached_last item rest is = by_rest rest (item_attaches item) is
   where
     by_rest : (rest : List Part) (attaches : Bool) → cond attaches (is_empty rest) false ≡ true → rest ≡ []
-    by_rest [] attaches is = refl
-    by_rest (part ∷ rest) true is = cc
-    by_rest (part ∷ rest) false is = cc
+    by_rest rest attaches is = grind (arith, is)
 
 none_owed : (attaches responds has : Bool) → cond attaches false (not has) ≡ true → cond responds false has ≡ false
-none_owed false true has is = refl
-none_owed false false false is = refl
-none_owed _ _ _ is = cc
+none_owed attaches responds has is = grind (arith, is)
 
 -- what is news is told where no event is owed
 news_on : {messages : List Message} {requests : List Request} (state : State) (news : News)
@@ -393,8 +380,7 @@ tells_on messages m next said r h (Moves.asks {hand} {want} free room is are) l 
     more_told next _ refl refl refl h l (asked_owes want m.hand)
   where
     asked_owes : (want : Want) (held : Option Hand) → hand_owes held ≡ hand_owes (option_map (asked_hand want) held)
-    asked_owes want None = refl
-    asked_owes want (Some hand) = refl
+    asked_owes want held = grind arith
 tells_on messages m next said r h (Moves.hears {request} read is) l =
     same_told (sym (heard_left l)) refl (AreTold.hears request h.told)
 tells_on messages m next said r h (Moves.answers {question} {replied} is waits reply stays) l =
@@ -427,13 +413,11 @@ last_begun : (state : State) (item : Item) → (state.terminated || not (is_empt
 last_begun state target_end is = by_told state.terminated
   where
     by_told : (told : Bool) → (told || has_last (end_parts told)) ≡ true
-    by_told true = refl
-    by_told false = refl
+    by_told told = grind arith
 last_begun state (a_request request) is = by_told state.terminated is
   where
     by_told : (told : Bool) → (told || false) ≡ true → (told || has_last (parts_of state (a_request request))) ≡ true
-    by_told true is = refl
-    by_told false is = cc
+    by_told told is = grind (arith, is)
 last_begun state (a_composite at composite) is = grind (arith, is)
 last_begun state (a_raw at body) is = by_told state.terminated is
   where
@@ -441,8 +425,7 @@ last_begun state (a_raw at body) is = by_told state.terminated is
     by_told told is = is
 
 some_joined : (first rest : List Item) → is_empty (first ++ rest) ≡ cond (is_empty first) (is_empty rest) false
-some_joined [] rest = refl
-some_joined (item ∷ first) rest = refl
+some_joined first rest = grind arith
 
 -- that the target is gone was told, or will be, in a target that is gone or not
 abbrev will_tell : Bool → Bool → Bool → Bool → Bool
@@ -491,18 +474,14 @@ block_lasts {m} {rest = rest} parts at same h =
 
 skipped_lasts : {m : Machine} {hand : Hand} {part : Part} (rest : List Part) → Skips m hand part
     → has_last (part ∷ rest) ≡ has_last rest
-skipped_lasts rest (Skips.by_guard is) = refl
-skipped_lasts rest _ = refl
+skipped_lasts rest why = grind (arith, why)
 
 replied_lasts : (command : TargetCommand) (replied : Replied) (hand : Option Hand)
     → hand_lasts hand ≡ hand_lasts (option_map (hand_replied command replied) hand)
-replied_lasts command replied None = refl
-replied_lasts (a_question question) replied (Some hand) = refl
-replied_lasts (an_effect effect) replied (Some hand) = refl
+replied_lasts command replied hand = grind arith
 
 asked_lasts : (want : Want) (hand : Option Hand) → hand_lasts hand ≡ hand_lasts (option_map (asked_hand want) hand)
-asked_lasts want None = refl
-asked_lasts want (Some hand) = refl
+asked_lasts want hand = grind arith
 
 -- one item more waits
 one_waits : (m : Machine) (item : Item) → EndTold m
@@ -514,8 +493,7 @@ one_waits m item h = rw (flat_map-append end_in m.waiting (item ∷ []))
   where
     grows : (gone told lasts : Bool) (first rest : List Item) → will_tell gone told lasts (is_empty first) ≡ true
         → will_tell gone told lasts (is_empty (first ++ rest)) ≡ true
-    grows gone told lasts [] rest h = grind (arith, h)
-    grows gone told lasts (item ∷ first) rest h = h
+    grows gone told lasts first rest h = grind (arith, h)
 
 end_on : (m next : Machine) (said : Option Message) → EndTold m → Moves m said next → EndTold next
 end_on m next said h (Moves.begins picked free none is) =
@@ -528,9 +506,7 @@ end_on m next said h (Moves.begins picked free none is) =
         → ((told || not (is_empty first)) ≡ true → (told || has_last (parts_of m.state picked.item)) ≡ true)
         → will_tell gone told false (is_empty (first ++ rest)) ≡ true
         → will_tell gone told (has_last (parts_of m.state picked.item)) (is_empty rest) ≡ true
-    begun_end true false [] rest last h = grind (arith, h)
-    begun_end true false (item ∷ first) rest last h = rw (last refl) refl
-    begun_end _ _ first rest last h = refl
+    begun_end gone told first rest last h = grind (arith, last, h)
 end_on m next said h (Moves.drops {hand} free is none) =
     same_end m m.state false _ refl refl (ap hand_lasts is ∙ ap has_last none) refl h
 end_on m next said h (Moves.responds {rest = rest} {outcome = outcome} free at is) =

@@ -91,9 +91,7 @@ lacks_there both state hand (Part.Awaits Handshake ∷ rest) are h lacks =
   where
     never : (sent heard : Bool) → is_empty (with_wants hand.asked [] (asked_by (greeted_by sent heard))) ≡ false
         → both ≡ true
-    never false heard lacks = cc
-    never true false lacks = cc
-    never true true lacks = cc
+    never sent heard lacks = grind (arith, lacks)
 lacks_there both state hand (Part.Awaits IdSizes ∷ rest) are h lacks = grind (arith, are, h)
 lacks_there both state hand _ are h lacks = cc
 
@@ -119,8 +117,7 @@ lacking_both m hand h is lacks =
     weaker both attached behind queued is = grind (arith, is)
 
 passes_both : (sent heard : Bool) → greeted_by sent heard ≡ passes → cond sent heard false ≡ true
-passes_both true true is = refl
-passes_both _ _ is = cc
+passes_both sent heard is = grind (arith, is)
 
 skipped_behind : (m : Machine) (hand : Hand) (part : Part) (rest : List Part) → IsBehind m → IsAt m hand part rest
     → Skips m hand part → IsBehind (left m hand rest)
@@ -140,8 +137,7 @@ both_replied : (command : TargetCommand) (replied : Replied) (state : State)
 both_replied command replied state = grind arith
 
 unfailed : (failed : Bool) (queue : List Want) → is_empty queue ≡ true → is_empty (unless_failed failed queue) ≡ true
-unfailed true queue is = refl
-unfailed false queue is = is
+unfailed failed queue is = grind (arith, is)
 
 hand_replied_behind : (command : TargetCommand) (replied : Replied) (hand : Option Hand) → hand_behind hand ≡ true
     → hand_behind (option_map (hand_replied command replied) hand) ≡ true

@@ -1,6 +1,6 @@
 -- No step of null is set: what is wanted has none, since no part writes one down.
-use Rattle.std.proofs.Common.{◌≡◌, ◌==◌, ◌||◌, ℕ, zero, suc, Bool, true, false, cond, List, [], ◌∷◌, ◌++◌, Option, Some}
-use Rattle.std.proofs.Common.{None, refl, sym, ap, subst, ◌∙◌, arith}
+use Rattle.std.proofs.Common.{◌≡◌, ◌==◌, ◌||◌, ℕ, Bool, true, false, cond, List, [], ◌∷◌, ◌++◌, Option, Some, None}
+use Rattle.std.proofs.Common.{refl, sym, ap, subst, ◌∙◌, arith}
 use Rattle.std.specs.List.{AllByRecursion as All}
 use Rattle.std.specs.Prelude.{map, option_and_then}
 use Rattle.class_tables.specs.Lookups.{found_in}
@@ -58,8 +58,7 @@ step_threaded depth None = refl
 step_threaded depth (Some thread) = by_test (thread.0 == 0) refl
   where
     other_there : (id : ℕ) → (id == 0) ≡ false → is_there id ≡ true
-    other_there zero is = cc
-    other_there (suc id) is = refl
+    other_there id is = grind (arith, is)
 
     by_test : (none : Bool) → (thread.0 == 0) ≡ none
         → are_threaded (step_parts depth (cond none None (Some thread))) ≡ true
@@ -90,8 +89,7 @@ chosen_threaded Decides state hand rest is =
 chosen_threaded Stepped state hand rest is = by_code (refused_with hand.effect)
   where
     by_code : (code : Option ℕ) → are_threaded (stepped_by code ++ rest) ≡ true
-    by_code None = is
-    by_code (Some code) = is
+    by_code code = grind arith
 chosen_threaded _ state hand rest is = grind (arith, is)
 
 threaded_test : IsTest threaded
@@ -119,9 +117,7 @@ module _ (thread : ThreadId) (depth : Depth) where
   no_stop (place ∷ those) = no_stop those
 
   no_thrown : (caught uncaught : Bool) → has_wish (thrown caught uncaught) it ≡ false
-  no_thrown true uncaught = refl
-  no_thrown false true = refl
-  no_thrown false false = refl
+  no_thrown caught uncaught = grind arith
 
   abbrev first : Wanted → List Wish
   first wanted = wishes.ThreadStart ∷ wishes.ThreadDeath ∷ map wishes.Watch (watched wanted)
@@ -182,8 +178,7 @@ said_on m next said there (Moves.updates {effect = effect} free at is away) =
 said_on m next said there (Moves.loses late away why) = by_loss why
   where
     by_loss : {message : Message} {late : List TargetCommand} → Loses m message late → sends_well message ≡ true
-    by_loss Loses.by_end = refl
-    by_loss _ = refl
+    by_loss why = grind (arith, why)
 said_on m next said there _ = refl
 
 noted_thread : (note : Note) (state : State) → has_thread state.wishes.wanted.step ≡ true
@@ -200,8 +195,7 @@ front_threaded : (part : Part) (rest : List Part) → are_threaded (part ∷ res
 front_threaded part rest is = by_test (is_threaded part) is
   where
     by_test : (b : Bool) → cond b (are_threaded rest) false ≡ true → b ≡ true
-    by_test true is = refl
-    by_test false is = is
+    by_test b is = grind (arith, is)
 
 there_on : (m next : Machine) (said : Option Message) → has_thread m.state.wishes.wanted.step ≡ true
     → Passed threaded m → Moves m said next → has_thread next.state.wishes.wanted.step ≡ true

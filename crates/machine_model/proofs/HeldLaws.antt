@@ -3,17 +3,16 @@ use Rattle.std.proofs.Common.{◌≡◌, ℕ, Bool, true, false, cond, not, List
 use Rattle.std.proofs.Common.{ap, subst, ◌∙◌, option_map, arith}
 use Rattle.std.specs.Prelude.{nat_lt, ◌-◌, ◌+◌}
 use Rattle.jdwp_events.specs.declared.kind.Policy.{Policy}
-use Rattle.jdwp_events.specs.declared.kind.Policy.TheVariants.{NoThread, EventThread, All}
 use Rattle.machine_model.specs.Composites.{composite_parts}
 use Rattle.machine_model.specs.Due.{after_deed, asked_hand, entry_by, sent, stopped_by}
 use Rattle.machine_model.specs.Knowing.{View, begins, dies, dying_by, held_in, held_with, has_last, may_send, owed_by}
 use Rattle.machine_model.specs.Knowing.{owed_in, sent_view, stopped_behind, view_of}
 use Rattle.machine_model.specs.Lookups.{finished}
 use Rattle.machine_model.specs.Names.{Written, variable_write, Attached, Choice, Clear, Command, Decides, Deed, Does}
-use Rattle.machine_model.specs.Names.{Effect, EntryHeld, Finding, Fresh, Item, Leaves, Lookup, Part, Phase, Replied}
-use Rattle.machine_model.specs.Names.{Resume, Set, StopCause, Stopping, Suspend, TargetCommand, TellsNews, Want, a_stop}
+use Rattle.machine_model.specs.Names.{Effect, EntryHeld, Finding, Item, Leaves, Lookup, Part, Phase, Replied, Resume}
+use Rattle.machine_model.specs.Names.{Set, StopCause, Stopping, Suspend, TargetCommand, TellsNews, Want, a_stop}
 use Rattle.machine_model.specs.Names.{an_effect, by_client, of_composite, of_entry, of_stop, Halt, Stepped, ThreadId}
-use Rattle.machine_model.specs.Names.{Thrown, HaltCause, exception_text, Hit, a_question, by_step, by_exception, Gone}
+use Rattle.machine_model.specs.Names.{Thrown, HaltCause, exception_text, Hit, by_step, by_exception}
 use Rattle.machine_model.specs.Plans.{Result}
 use Rattle.machine_model.specs.Replying.{given_up, hand_replied}
 use Rattle.machine_model.specs.Requests.{Wishes, effect_due, effect_of}
@@ -65,28 +64,17 @@ pub row_last : (state : State) (command : Command) → has_last (request_parts c
 row_last state command = grind arith
 
 pub end_owes : (stopped told : Bool) → owed_in stopped (end_parts told) ≡ 0
-end_owes stopped true = refl
-end_owes stopped false = refl
+end_owes stopped told = grind arith
 
 -- an item that tells of the target's end holds nothing; else a composite holds what it suspended
 pub composite_owes : (stopped dead : Bool) (policy : Policy) (at below : ℕ)
     → owed_in stopped (composite_parts Attached dead policy at below)
     ≡ cond dead 0 (0 + suspensions_by policy)
-composite_owes stopped true NoThread at below = refl
-composite_owes stopped true EventThread at below = refl
-composite_owes stopped true All at below = refl
-composite_owes stopped false NoThread at below = refl
-composite_owes stopped false EventThread at below = refl
-composite_owes stopped false All at below = refl
+composite_owes stopped dead policy at below = grind arith
 
 pub composite_last : (dead : Bool) (policy : Policy) (at below : ℕ)
     → has_last (composite_parts Attached dead policy at below) ≡ dying_by policy dead
-composite_last true NoThread at below = refl
-composite_last true EventThread at below = refl
-composite_last true All at below = refl
-composite_last false NoThread at below = refl
-composite_last false EventThread at below = refl
-composite_last false All at below = refl
+composite_last dead policy at below = grind arith
 
 gone_owes : (stopped responds : Bool) (item : Item) → owed_in stopped (gone_parts responds item) ≡ 0
 gone_owes stopped responds item = grind arith
@@ -102,8 +90,7 @@ found_owes stopped (exception_text thread object) result state rest = by_stop st
   where
     by_stop : (stopped : Bool) → owed_in stopped (finished (exception_text thread object) result state ++ rest)
         ≡ owed_in stopped (Part.Looks (exception_text thread object) ∷ rest)
-    by_stop true = refl
-    by_stop false = refl
+    by_stop stopped = grind arith
 found_owes stopped _ result state rest = refl
 
 -- what is decided on a composite's suspension is one of three: a stop holds it, the entry does, or it is undone
@@ -136,25 +123,18 @@ chosen_owes {m} {hand} {choice = Leaves exits} {rest} h at = by_phase m.state.ph
   where
     by_phase : (phase : Phase) (exits : Bool)
         → owed_in m.state.stopped (leaves phase exits ++ rest) ≡ owed_in m.state.stopped rest
-    by_phase Fresh exits = refl
-    by_phase Attached true = refl
-    by_phase Attached false = refl
-    by_phase Gone exits = refl
+    by_phase phase exits = grind arith
 chosen_owes {m} {hand} {choice = Written seen} {rest} h at = by_code (refused_with hand.effect)
   where
     by_code : (code : Option ℕ) → owed_in m.state.stopped (written_by seen code ++ rest) ≡ owed_in m.state.stopped rest
-    by_code None = refl
-    by_code (Some code) = refl
+    by_code code = grind arith
 chosen_owes {m} {hand} {choice = Stepped} {rest} h at =
     by_rest rest m.state.stopped (refused_with hand.effect) (may_front h at)
   where
     by_rest : (rest : List Part) (stopped : Bool) (code : Option ℕ)
         → may_all m.state.phase stopped m.state.entry (Part.Unfolds Stepped ∷ rest) ≡ true
         → owed_in stopped (stepped_by code ++ rest) ≡ owed_in stopped rest
-    by_rest [] stopped None is = refl
-    by_rest [] stopped (Some code) is = refl
-    by_rest (part ∷ rest) true code is = cc
-    by_rest (part ∷ rest) false code is = cc
+    by_rest rest stopped code is = grind (arith, is)
 chosen_owes {m} {hand} {choice = Decides} {rest} h at = by_rest rest (is_attached m.state.phase) refl (may_front h at)
   where
     by_rest : (rest : List Part) (attached : Bool) → is_attached m.state.phase ≡ attached
@@ -168,34 +148,26 @@ chosen_owes {m} {hand} {choice = Decides} {rest} h at = by_rest rest (is_attache
 
 pub skipped_owes : {m : Machine} {hand : Hand} {part : Part} (stopped : Bool) (rest : List Part) → Skips m hand part
     → owed_in stopped rest ≡ owed_in stopped (part ∷ rest)
-skipped_owes stopped rest (Skips.by_guard is) = refl
-skipped_owes stopped rest _ = refl
+skipped_owes stopped rest why = grind (arith, why)
 
 pub skipped_last : {m : Machine} {hand : Hand} {part : Part} (rest : List Part) → Skips m hand part
     → has_last rest ≡ has_last (part ∷ rest)
-skipped_last rest (Skips.by_guard is) = refl
-skipped_last rest _ = refl
+skipped_last rest why = grind (arith, why)
 
 pub replied_owes : (stopped : Bool) (command : TargetCommand) (replied : Replied) (hand : Option Hand)
     → owed_by stopped (option_map (hand_replied command replied) hand) ≡ owed_by stopped hand
-replied_owes stopped command replied None = refl
-replied_owes stopped (a_question question) replied (Some hand) = refl
-replied_owes stopped (an_effect effect) replied (Some hand) = refl
+replied_owes stopped command replied hand = grind arith
 
 pub replied_last : (command : TargetCommand) (replied : Replied) (hand : Option Hand)
     → dies (option_map (hand_replied command replied) hand) ≡ dies hand
-replied_last command replied None = refl
-replied_last (a_question question) replied (Some hand) = refl
-replied_last (an_effect effect) replied (Some hand) = refl
+replied_last command replied hand = grind arith
 
 pub asked_owes : (stopped : Bool) (want : Want) (hand : Option Hand)
     → owed_by stopped (option_map (asked_hand want) hand) ≡ owed_by stopped hand
-asked_owes stopped want None = refl
-asked_owes stopped want (Some hand) = refl
+asked_owes stopped want hand = grind arith
 
 pub asked_last : (want : Want) (hand : Option Hand) → dies (option_map (asked_hand want) hand) ≡ dies hand
-asked_last want None = refl
-asked_last want (Some hand) = refl
+asked_last want hand = grind arith
 
 -- an effect of event requests undoes no suspension
 pub due_sends : (w : Wishes) (effect : Effect) (view : View) → effect_due w ≡ Some effect
@@ -281,8 +253,7 @@ deed_may m hand (Resume of_stop) rest h at = both m.state.stopped _ (first_may h
     (undoes_stop m.state.stopped m.state.entry (owed_in false rest) _ (first_may h at) (held_front at)).1
   where
     both : (stopped some : Bool) → stopped ≡ true → some ≡ true → cond stopped some false ≡ true
-    both true some is h = h
-    both false some is h = cc
+    both stopped some is h = grind (arith, is, h)
 deed_may m hand _ rest h at = refl
 
 -- Events and notes ----------------------------------------------------------------------------------------------------

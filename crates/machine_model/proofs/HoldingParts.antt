@@ -8,12 +8,12 @@ use Rattle.machine_model.specs.Due.{asked_hand, entry_by}
 use Rattle.machine_model.specs.Knowing.{stopped_behind, stopped_told}
 use Rattle.machine_model.specs.Lookups.{finished}
 use Rattle.machine_model.specs.Names.{Writes, Written, variable_write, Choice, Command, Decides, Deed, Dispose}
-use Rattle.machine_model.specs.Names.{EntryHeld, Event, Exit, Finding, Fresh, Gone, Hit, Initialized, Item, Leaves}
-use Rattle.machine_model.specs.Names.{Lookup, Note, Outcome, Part, Phase, Replied, Resume, StopCause, Suspend, Attached}
-use Rattle.machine_model.specs.Names.{Suspension, TargetCommand, TellsNews, Terminated, ThreadId, Want, a_composite}
-use Rattle.machine_model.specs.Names.{a_question, a_raw, a_request, a_stop, an_effect, by_client, of_composite}
-use Rattle.machine_model.specs.Names.{of_entry, of_stop, some_news, target_end, Halt, Thrown, by_step, HaltCause}
-use Rattle.machine_model.specs.Names.{Stepped, by_exception, exception_text}
+use Rattle.machine_model.specs.Names.{EntryHeld, Event, Exit, Finding, Gone, Hit, Initialized, Item, Leaves, Lookup}
+use Rattle.machine_model.specs.Names.{Note, Outcome, Part, Phase, Replied, Resume, StopCause, Suspend, Suspension}
+use Rattle.machine_model.specs.Names.{TargetCommand, TellsNews, Terminated, ThreadId, Want, a_composite, a_question}
+use Rattle.machine_model.specs.Names.{a_raw, a_request, a_stop, an_effect, by_client, of_composite, of_entry, of_stop}
+use Rattle.machine_model.specs.Names.{some_news, target_end, Halt, Thrown, by_step, HaltCause, Stepped, by_exception}
+use Rattle.machine_model.specs.Names.{exception_text}
 use Rattle.machine_model.specs.Outcomes.{result_of}
 use Rattle.machine_model.specs.Plans.{Result}
 use Rattle.machine_model.specs.Replying.{given_up, hand_replied, replied_to}
@@ -155,8 +155,7 @@ found_may phase stopped entry (exception_text thread object) result state rest =
   where
     by_stop : (stopped : Bool) → may_all phase stopped entry (finished (exception_text thread object) result state ++ rest)
         ≡ may_all phase stopped entry (Part.Looks (exception_text thread object) ∷ rest)
-    by_stop true = refl
-    by_stop false = refl
+    by_stop stopped = grind arith
 found_may phase stopped entry _ result state rest = refl
 
 -- What is decided fits: the entry is held once, and a stop is told by a hit.
@@ -191,33 +190,24 @@ chosen_may (Leaves exits) state hand rest is = by_phase state.phase exits ∙ is
   where
     by_phase : (phase : Phase) (exits : Bool) → may_all state.phase state.stopped state.entry (leaves phase exits ++ rest)
         ≡ may_all state.phase state.stopped state.entry rest
-    by_phase Fresh exits = refl
-    by_phase Attached true = refl
-    by_phase Attached false = refl
-    by_phase Gone exits = refl
+    by_phase phase exits = grind arith
 chosen_may Decides state hand [] is = decided_may state.phase state hand.item
 chosen_may Decides state hand (part ∷ rest) is = none (is_attached state.phase) is
   where
     none : (attached : Bool) → cond (cond attached false false) (may_all state.phase state.stopped state.entry
         (part ∷ rest)) false ≡ true
         → may_all state.phase state.stopped state.entry (decided state hand.item ++ part ∷ rest) ≡ true
-    none true is = cc
-    none false is = cc
+    none attached is = grind (arith, is)
 chosen_may (Written seen) state hand rest is = by_code (refused_with hand.effect)
   where
     by_code : (code : Option ℕ) → may_all state.phase state.stopped state.entry (written_by seen code ++ rest) ≡ true
-    by_code None = is
-    by_code (Some code) = is
+    by_code code = grind arith
 chosen_may Stepped state hand rest is = by_rest rest state.stopped (refused_with hand.effect) is
   where
     by_rest : (rest : List Part) (stopped : Bool) (code : Option ℕ)
         → may_all state.phase stopped state.entry (Part.Unfolds Stepped ∷ rest) ≡ true
         → may_all state.phase stopped state.entry (stepped_by code ++ rest) ≡ true
-    by_rest [] true None is = refl
-    by_rest [] true (Some code) is = refl
-    by_rest [] false code is = cc
-    by_rest (part ∷ rest) true code is = cc
-    by_rest (part ∷ rest) false code is = cc
+    by_rest rest stopped code is = grind (arith, is)
 
 -- In runs -------------------------------------------------------------------------------------------------------------
 
@@ -229,8 +219,7 @@ tail_may phase stopped entry part rest is = second_holds (may_part phase stopped
 skipped_may : {m : Machine} {hand : Hand} {part : Part} (rest : List Part) → Skips m hand part
     → may_all m.state.phase m.state.stopped m.state.entry (part ∷ rest) ≡ true
     → may_all m.state.phase m.state.stopped m.state.entry rest ≡ true
-skipped_may rest (Skips.by_guard is) h = h
-skipped_may rest _ h = h
+skipped_may rest why h = grind (arith, why, h)
 
 pub same_stop : (command : TargetCommand) (replied : Replied) (state : State)
     → (replied_to command replied state).stopped ≡ state.stopped
@@ -251,31 +240,25 @@ event_may_all : (event : Event) (state : State) (rest : List Part)
     ≡ true
     → may_all (after_event event state).phase (after_event event state).stopped (after_event event state).entry rest
     ≡ true
-event_may_all Initialized state rest is = is
-event_may_all _ state rest is = is
+event_may_all event state rest is = grind (arith, is)
 
 note_may_all : (note : Note) (state : State) (rest : List Part)
     → may_all state.phase state.stopped (entry_noted note state.entry) rest ≡ true
     → may_all (noted note state).phase (noted note state).stopped (noted note state).entry rest ≡ true
-note_may_all EntryHeld state rest is = is
-note_may_all _ state rest is = is
+note_may_all note state rest is = grind (arith, is)
 
 replied_may : (state : State) (command : TargetCommand) (replied : Replied) (hand : Option Hand)
     → hand_may state (option_map (hand_replied command replied) hand) ≡ hand_may state hand
-replied_may state command replied None = refl
-replied_may state (a_question question) replied (Some hand) = refl
-replied_may state (an_effect effect) replied (Some hand) = refl
+replied_may state command replied hand = grind arith
 
 asked_may : (state : State) (want : Want) (hand : Option Hand)
     → hand_may state (option_map (asked_hand want) hand) ≡ hand_may state hand
-asked_may state want None = refl
-asked_may state want (Some hand) = refl
+asked_may state want hand = grind arith
 
 -- of what is known only these are looked at
 same_may : (state now : State) (hand : Option Hand) → now.phase ≡ state.phase → now.stopped ≡ state.stopped
     → now.entry ≡ state.entry → hand_may now hand ≡ hand_may state hand
-same_may state now None phase stopped entry = refl
-same_may state now (Some hand) phase stopped entry = rw (phase, stopped, entry) refl
+same_may state now hand phase stopped entry = grind (arith, phase, stopped, entry)
 
 gone_may : (stopped entry responds : Bool) (item : Item) → may_all Gone stopped entry (gone_parts responds item) ≡ true
 gone_may stopped entry responds item = grind arith
@@ -353,8 +336,7 @@ lost_on m next said f h (Moves.tells {event = Initialized} free at) = by_phase m
   where
     by_phase : (phase : Phase) → nothing_held (is_gone phase) m.state.stopped m.state.entry ≡ true
         → nothing_held (is_gone (attached_from phase)) m.state.stopped m.state.entry ≡ true
-    by_phase Fresh h = h
-    by_phase _ h = h
+    by_phase phase h = grind (arith, h)
 lost_on m next said f h (Moves.tells {event = a_stop stopping} free at) =
     rw (first_fails (is_gone m.state.phase) _ (whole free_once f at)) refl
 lost_on m next said f h (Moves.tells {event = Terminated} free at) = refl

@@ -8,7 +8,6 @@ use Rattle.jdwp_commands.specs.Items as items
 use Rattle.jdwp_commands.specs.Items.{FitsItem, FitsListed, FitsSayings, Item, Listed, OfItem, OfListed, Saying, says}
 use Rattle.jdwp_commands.specs.Regions.{FitsBehind}
 use Rattle.jdwp_commands.specs.declared.answer.Answer.{Answer}
-use Rattle.jdwp_commands.specs.declared.answer.Answer.TheVariants as answers
 use Rattle.jdwp_commands.specs.declared.listed.Slot.{Slot}
 use Rattle.jdwp_values.specs.declared.id.FieldId.{FieldId}
 use Rattle.jdwp_events.specs.Composites.{FitsComposite}
@@ -166,8 +165,7 @@ composite_ids used composite h =
 pub same_ids : (limit : Limit) (thread : ℕ) (answer : Answer)
     → flat_map (ids_of_saying thread) (told_answer limit answer)
     ≡ flat_map (ids_of_saying thread) (told_answer Any answer)
-same_ids limit thread (answers.Frames found) = refl
-same_ids limit thread _ = refl
+same_ids limit thread answer = grind arith
 
 -- Ids and numbers alone -----------------------------------------------------------------------------------------------
 

@@ -45,8 +45,7 @@ way_due IdSizes state asked h = by_sizes state.sizes h
   where
     by_sizes : (sizes : Option SizesRead) → sizes_kept sizes asked ≡ true
         → all_due asked (asked_by (sized_by sizes)) ≡ true
-    by_sizes None h = grind (arith, h)
-    by_sizes (Some sizes) h = refl
+    by_sizes sizes h = grind (arith, h)
 
 pub lacked_due : (state : State) (hand : Hand) (parts : List Part) → sizes_kept state.sizes hand.asked ≡ true
     → all_due hand.asked (lacked_by state hand parts) ≡ true
@@ -130,13 +129,11 @@ sizes_answered state question replied asked reply last h = by_same (same_questio
 
 failed_apart : (asked : List Sent) (failed : Bool) (queue : List Want) → are_apart asked queue ≡ true
     → are_apart asked (unless_failed failed queue) ≡ true
-failed_apart asked true queue h = refl
-failed_apart asked false queue h = h
+failed_apart asked failed queue h = grind (arith, h)
 
 same_kept : (state later : State) (hand : Option Hand) → later.phase ≡ state.phase → later.sizes ≡ state.sizes
     → hand_kept state hand ≡ true → hand_kept later hand ≡ true
-same_kept state later None phase sizes h = refl
-same_kept state later (Some hand) phase sizes h = rw (phase, sizes) h
+same_kept state later hand phase sizes h = grind (arith, phase, sizes, h)
 
 event_kept : (event : Event) (state : State) (hand : Hand) → hand_kept state (Some hand) ≡ true
     → hand_kept (after_event event state) (Some hand) ≡ true
@@ -223,8 +220,7 @@ kept_on m next said h (Moves.replies {effect} {replied} {hand} is flying reply s
 kept_on m next said h (Moves.loses late near why) = given_kept m.hand
   where
     given_kept : (hand : Option Hand) → hand_kept (record m.state { phase = Gone }) (option_map given_up hand) ≡ true
-    given_kept None = refl
-    given_kept (Some hand) = refl
+    given_kept hand = grind arith
 kept_on m next said h _ = h
 
 pub always_kept : {messages : List Message} {m : Machine} → Run messages m → IsKept m

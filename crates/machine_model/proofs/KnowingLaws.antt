@@ -11,11 +11,11 @@ use Rattle.machine_model.specs.Knowing.{says_dead, sizes_said, thread_numbers, t
 use Rattle.machine_model.specs.Knowing.{waiting_composites, watch_set, with_facts}
 use Rattle.jdwp_commands.specs.Answers.{kind_of_answer}
 use Rattle.jdwp_commands.specs.Commands.{kind_of}
-use Rattle.machine_model.specs.Names.{Answer, Attached, Command, Composite, Does, Effect, EntryHeld, Event, Fresh, Gone}
-use Rattle.machine_model.specs.Names.{Initialized, Item, NamedThread, Note, Nothing, Options, Outcome, Part, Phase}
-use Rattle.machine_model.specs.Names.{Question, Replied, Success, TargetCommand, Terminated, ThreadId, a_composite}
-use Rattle.machine_model.specs.Names.{a_question, a_raw, a_request, a_stop, an_answer, an_effect, an_event, some_news}
-use Rattle.machine_model.specs.Names.{target_end, thread_changed, thread_list, entry_verified}
+use Rattle.machine_model.specs.Names.{Answer, Attached, Command, Composite, Effect, EntryHeld, Event, Fresh, Gone}
+use Rattle.machine_model.specs.Names.{Initialized, Item, NamedThread, Note, Options, Outcome, Part, Phase, Question}
+use Rattle.machine_model.specs.Names.{Replied, Success, TargetCommand, Terminated, ThreadId, a_composite, a_question}
+use Rattle.machine_model.specs.Names.{a_raw, a_request, a_stop, an_answer, an_effect, an_event, some_news, target_end}
+use Rattle.machine_model.specs.Names.{thread_changed, thread_list, entry_verified}
 use Rattle.machine_model.specs.Replying.{IsReply, ended_with, hand_replied, is_end, replied_to, sizes_in, unlisted_by}
 use Rattle.machine_model.specs.Replying.{knows_fact, learnt, still_unlisted, wire}
 use Rattle.machine_model.proofs.BindingFacts.{is_mapped}
@@ -64,8 +64,7 @@ use Rattle.machine_model.proofs.ThreadIds.{replied_threads}
 -- a reply shows the target's end so
 same_end : (command : TargetCommand) (replied : Replied)
     → cond (is_farewell command) false (says_dead replied) ≡ is_end command replied
-same_end (an_effect (Does deed)) replied = grind arith
-same_end _ replied = refl
+same_end command replied = grind arith
 
 -- the reply to IDSizes that is kept says sizes
 sizes_are : (sizes before : Option SizesRead) (replied : Replied) → IsReply sizes (a_question questions.IdSizes) replied
@@ -91,13 +90,10 @@ facts_are question heard known = by_question question
   where
     once : (knows said : Bool) → knows ≡ said → (fact : Fact)
         → cond knows known (with_fact fact known) ≡ with_facts (cond said [] (fact ∷ [])) known
-    once true false same fact = cc
-    once false true same fact = cc
-    once _ _ same fact = refl
+    once knows said same fact = grind (arith, same)
 
     either : (knows : Bool) → cond knows known known ≡ known
-    either true = refl
-    either false = refl
+    either knows = grind arith
 
     by_question : (question : Question)
         → learnt question heard known ≡ with_facts (newly_said question heard known) known
@@ -139,8 +135,7 @@ says_so (Some message) view = says message view
 response_view : (outcome : Outcome) (m : Machine)
     → record (view_of (record m { state = numbered_by outcome m.state })) { held = held_in m.state m.hand }
     ≡ record (view_of m) { bound = with_told m.state.bound (breakpoints_in (outcome_told outcome m.state)) }
-response_view (Success Nothing) m = refl
-response_view _ m = refl
+response_view outcome m = grind arith
 
 -- a note is made: what is held as the entry was held for the composite in hand
 note_view : (m next : Machine) (hand : Hand) (note : Note) (rest : List Part) → IsHolding m
@@ -167,8 +162,7 @@ event_may m hand (a_stop stopping) rest f h w at =
   where
     by_gone : (gone held other : Bool) → cond (cond gone false true) other false ≡ true → held ≡ true
         → cond gone false held ≡ true
-    by_gone true held other is some = cc
-    by_gone false held other is some = some
+    by_gone gone held other is some = grind (arith, is, some)
 event_may m hand Initialized rest f h w at =
     fresh_by (over_gone m.state.phase m.state.terminated) (is_fresh m.state.phase) _
     (marked_at m hand (Part.Tells Initialized) rest h at)
@@ -185,8 +179,7 @@ event_may m hand Terminated rest f h w at =
 
     by_gone : (gone dying told : Bool) → dying ≡ true → not told ≡ true
         → cond gone (not told) (cond (cond gone false dying) (not told) false) ≡ true
-    by_gone true dying told is untold = untold
-    by_gone false dying told is untold = rw is untold
+    by_gone gone dying told is untold = grind (arith, is, untold)
 
 fresh_now : (phase : Phase) → is_fresh phase ≡ true → phase ≡ Fresh
 fresh_now phase is = grind (arith, is)
@@ -226,8 +219,7 @@ event_view_is m hand Terminated rest f h w at =
     (free_owes false rest (tail (is_gone m.state.phase) (free_once true rest) (whole free_once f at)))
   where
     tail : (gone others : Bool) → cond (cond gone true true) others false ≡ true → others ≡ true
-    tail true others is = is
-    tail false others is = is
+    tail gone others is = grind (arith, is)
 
 gone_is : (phase : Phase) → is_gone phase ≡ true → phase ≡ Gone
 gone_is phase is = grind (arith, is)
@@ -308,8 +300,7 @@ begun_seen m item rest none late ends are = by_item item late ends are
         by_gone false = ap (λ (all : List Composite). record (view_of m) { composites = all }) (sym are)
 
     waits : (gone : Bool) → waiting_composites gone rest ≡ cond gone [] (flat_map composite_in rest)
-    waits true = refl
-    waits false = refl
+    waits gone = grind arith
 
     others : (parts : List Part) → owed_in m.state.stopped parts ≡ 0
         → cond (is_gone m.state.phase) false (has_last parts) ≡ false
@@ -332,8 +323,7 @@ begun_seen m item rest none late ends are = by_item item late ends are
         ∙ passed (flat_map composite_in rest) are
       where
         still : (gone dying : Bool) → dying ≡ false → cond gone false dying ≡ false
-        still true dying is = refl
-        still false dying is = is
+        still gone dying is = grind (arith, is)
 
     holds : (dead : Bool) (policy : Policy) (held owed : ℕ) → held ≡ held_with m.state.stopped m.state.entry 0
         → owed ≡ cond dead 0 (0 + suspensions_by policy)

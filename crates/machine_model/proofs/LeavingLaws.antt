@@ -108,9 +108,7 @@ record IsToLeave (item : Item) (exits : Bool) : Type 0 where
 
 same_end : (terminates exits responds ends leaves : Bool)
     → leaves_well (leaving terminates) exits responds ends leaves ≡ true → exits ≡ terminates
-same_end true false responds ends leaves h = cc
-same_end false true responds ends leaves h = cc
-same_end _ _ responds ends leaves h = refl
+same_end terminates exits responds ends leaves h = grind (arith, h)
 
 to_leave : (item : Item) (exits responds ends leaves : Bool)
     → leaves_well (aim_of item) exits responds ends leaves ≡ true → IsToLeave item exits
@@ -138,8 +136,7 @@ deed_is aim Dispose responds ends leaves is h = (false, refl, h)
 deed_is aim _ responds ends leaves is h = cc
 
 is_attached_now : (phase : Phase) → is_attached phase ≡ true → phase ≡ Attached
-is_attached_now Attached is = refl
-is_attached_now _ is = cc
+is_attached_now phase is = grind (arith, is)
 
 farewell_at : {messages : List Message} {m : Machine} {hand : Hand} {rest : List Part} (deed : Deed) → Run messages m
     → IsAt m hand (Part.Sends deed) rest → is_sends (Part.Sends deed) ≡ true

@@ -180,8 +180,7 @@ chosen_attached _ state hand = grind arith
 -- where it does, if the choice was to
 pub chosen_leaves : (choice : Choice) (state : State) (hand : Hand) → is_leave (Part.Unfolds choice) ≡ true
     → is_attached state.phase ≡ true → has_part is_leave (chosen choice state hand) ≡ true
-chosen_leaves (Leaves exits) state hand is near = grind (arith, is, near)
-chosen_leaves _ state hand is near = cc
+chosen_leaves choice state hand is near = grind (arith, is, near)
 
 -- what a look-up becomes leaves no target
 pub found_fits : (lookup : Lookup) (result : Result Finding) (state : State) (aim : Aim) (responds ends leaves : Bool)

@@ -60,14 +60,12 @@ stands_at attached sent replied {m} {hand} at h =
 -- what is asked for it, and what is replied, changes nothing
 asked_stands : (attached sent replied : Bool) (want : Want) (hand : Option Hand)
     → hand_stands attached sent replied (option_map (asked_hand want) hand) ≡ hand_stands attached sent replied hand
-asked_stands attached sent replied want None = refl
-asked_stands attached sent replied want (Some hand) = refl
+asked_stands attached sent replied want hand = grind arith
 
 answered_stands : (attached sent replied : Bool) (question : Question) (reply : Replied) (hand : Option Hand)
     → hand_stands attached sent replied (option_map (hand_replied (a_question question) reply) hand)
     ≡ hand_stands attached sent replied hand
-answered_stands attached sent replied question reply None = refl
-answered_stands attached sent replied question reply (Some hand) = refl
+answered_stands attached sent replied question reply hand = grind arith
 
 -- an item that is given up
 given_stands : (attached sent replied now : Bool) (hand : Option Hand)
@@ -260,8 +258,7 @@ same_sent attached sent replied now leaves aim parts effect is h =
 
 pub lost_apart : {m : Machine} {message : Message} {late : List TargetCommand} → Loses m message late
     → sends_farewell message ≡ false
-lost_apart Loses.by_end = refl
-lost_apart _ = refl
+lost_apart why = grind (arith, why)
 
 lost_on : (m : Machine) (message : Message) (sent replied : Bool) → sends_farewell message ≡ false
     → hand_stands (is_attached m.state.phase) sent replied m.hand ≡ true
@@ -382,8 +379,7 @@ sent_fresh messages m next said h (Moves.sends {hand} {rest} {deed} free at near
     at h))
   where
     test_of : (test : Bool) → cond test true false ≡ true → test ≡ true
-    test_of true is = refl
-    test_of false is = cc
+    test_of test is = grind (arith, is)
 sent_fresh messages m next said h (Moves.updates {effect = effect} free at due near) is =
     let no : cond false true false ≡ true = sym (ap (λ (test : Bool). cond test true false) (due_aside m.state.wishes
     effect due)) ∙ is in cc

@@ -3,9 +3,9 @@ use Rattle.std.proofs.Common.{◌≡◌, Bool, true, false, cond, not, ◌||◌,
 use Rattle.std.proofs.Common.{subst, ◌∙◌, option_map, arith}
 use Rattle.machine_model.specs.Knowing.{has_last, is_fresh, is_last}
 use Rattle.machine_model.specs.Lookups.{finished}
-use Rattle.machine_model.specs.Names.{Command, Event, Failure, Fresh, Gone, Initialized, Item, Note, Outcome, Part}
-use Rattle.machine_model.specs.Names.{Phase, Replied, TargetCommand, Terminated, a_composite, a_question, a_raw}
-use Rattle.machine_model.specs.Names.{a_request, an_effect, target_end}
+use Rattle.machine_model.specs.Names.{Command, Event, Failure, Gone, Initialized, Item, Note, Outcome, Part, Phase}
+use Rattle.machine_model.specs.Names.{Replied, TargetCommand, Terminated, a_composite, a_question, a_raw, a_request}
+use Rattle.machine_model.specs.Names.{an_effect, target_end}
 use Rattle.machine_model.specs.Outcomes.{result_of}
 use Rattle.machine_model.specs.Replying.{given_up, hand_replied, replied_to}
 use Rattle.machine_model.specs.Rows.{chosen, end_parts, failure_of, gone_parts, has_response, noted, parts_by, parts_of}
@@ -151,8 +151,7 @@ begun_marked state target_end over = rw over (by_told state.terminated)
   where
     by_told : (told : Bool) → cond (cond (has_attach (end_parts told)) (is_fresh state.phase) true)
         (cond (has_last (end_parts told)) (not told) true) false ≡ true
-    by_told true = refl
-    by_told false = refl
+    by_told told = grind arith
 begun_marked state (a_composite at composite) over =
     by_phase state.phase (has_death composite.events) composite.policy state.terminated over
   where
@@ -173,9 +172,7 @@ same_reply command replied state = grind arith
 
 replied_marked : (phase : Phase) (terminated : Bool) (command : TargetCommand) (replied : Replied) (hand : Option Hand)
     → hand_marked phase terminated (option_map (hand_replied command replied) hand) ≡ hand_marked phase terminated hand
-replied_marked phase terminated command replied None = refl
-replied_marked phase terminated (a_question question) replied (Some hand) = refl
-replied_marked phase terminated (an_effect effect) replied (Some hand) = refl
+replied_marked phase terminated command replied hand = grind arith
 
 told_marked : (event : Event) (state : State) (rest : List Part) → stand_once (Part.Tells event ∷ rest) ≡ true
     → marked state.phase state.terminated rest ≡ true
@@ -187,8 +184,7 @@ told_marked Initialized state rest is left =
   where
     still_over : (phase : Phase) → over_gone phase state.terminated ≡ true
         → over_gone (attached_from phase) state.terminated ≡ true
-    still_over Fresh is = is
-    still_over _ is = is
+    still_over phase is = grind (arith, is)
 told_marked Terminated state rest is left =
     marked_none (after_event Terminated state).phase true rest refl (not-true (has_mark rest) is)
 told_marked _ state rest is left = left

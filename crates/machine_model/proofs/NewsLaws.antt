@@ -19,10 +19,10 @@ use Rattle.machine_model.specs.Breakpoints.{has_id, is_news, with_id}
 use Rattle.machine_model.specs.Composites.{change_told, changes_in}
 use Rattle.machine_model.specs.Due.{due}
 use Rattle.machine_model.specs.Lookups.{finished}
-use Rattle.machine_model.specs.Names.{variable_write, Act, Attached, Choice, Command, Decides, Does, Effect, Failure}
-use Rattle.machine_model.specs.Names.{Finding, Initialized, Item, Lookup, News, Part, Phase, Question, Replied}
-use Rattle.machine_model.specs.Names.{TellsNews, Terminated, a_composite, a_question, a_raw, a_request, a_stop}
-use Rattle.machine_model.specs.Names.{an_effect, an_event, entry_verified, some_news, thread_changed, Stepped}
+use Rattle.machine_model.specs.Names.{Act, Attached, Choice, Command, Decides, Does, Effect, Failure, Finding}
+use Rattle.machine_model.specs.Names.{Initialized, Item, Lookup, News, Part, Phase, Question, Replied, TellsNews}
+use Rattle.machine_model.specs.Names.{Terminated, a_composite, a_question, a_raw, a_request, a_stop, an_effect}
+use Rattle.machine_model.specs.Names.{an_event, entry_verified, some_news, thread_changed, Stepped}
 use Rattle.machine_model.specs.Outcomes.{result_of}
 use Rattle.machine_model.specs.Plans.{Result}
 use Rattle.machine_model.specs.Replying.{given_up, told_by}
@@ -69,8 +69,7 @@ none_told ids w (_ ∷ rest) is = is
 -- while event requests are set, none is
 updates_none : (ids : List ℕ) (w : Wishes) (parts : List Part) → starts_updates parts ≡ true → AreNews ids w parts
     → has_told parts ≡ false
-updates_none ids w (Part.Updates ∷ rest) is h = h
-updates_none ids w _ is h = cc
+updates_none ids w parts is h = grind (arith, is, h)
 
 -- The tables ----------------------------------------------------------------------------------------------------------
 
@@ -85,8 +84,7 @@ begun_untold state _ = grind arith
 
 found_same : (lookup : Lookup) (result : Result Finding) (state : State) (rest : List Part)
     → has_told (finished lookup result state ++ rest) ≡ has_told rest
-found_same (variable_write thing name text) result state rest = grind arith
-found_same _ result state rest = refl
+found_same lookup result state rest = grind arith
 
 given_untold : (ids : List ℕ) (w : Wishes) (hand : Option Hand) → AreNews ids w (parts_left (option_map given_up hand))
 given_untold ids w None = tt
@@ -208,8 +206,7 @@ unfolded Stepped state hand rest none =
     (by_code (refused_with hand.effect) ∙ none)
   where
     by_code : (code : Option ℕ) → has_told (stepped_by code ++ rest) ≡ has_told rest
-    by_code None = refl
-    by_code (Some code) = refl
+    by_code code = grind arith
 unfolded choice state hand rest none =
     none_told state.bound state.wishes (chosen choice state hand ++ rest) (grind (arith, none))
 

@@ -272,9 +272,7 @@ still_on m next same near hands fits = record {
 
 replied_hand : (command : TargetCommand) (replied : Replied) (hand : Option Hand) (options : ClientOptions)
     → options_in (option_map (hand_replied command replied) hand) options ≡ options_in hand options
-replied_hand command replied None options = refl
-replied_hand (a_question question) replied (Some hand) options = refl
-replied_hand (an_effect effect) replied (Some hand) options = refl
+replied_hand command replied hand options = grind arith
 
 replied_fits : (command : TargetCommand) (replied : Replied) (hand : Option Hand) → Fits hand
     → Fits (option_map (hand_replied command replied) hand)
@@ -316,8 +314,7 @@ skipped_on m hand part rest last at (Skips.no_request {outcome} is) =
     behind rest none = rw (none_same rest m.state.options none) (both (has_response rest))
       where
         both : (has : Bool) → cond has m.state.options m.state.options ≡ m.state.options
-        both true = refl
-        both false = refl
+        both has = grind arith
 
     by_item : (item : Item) → FitsItem item (Part.Responds outcome ∷ rest) → request_in item ≡ []
         → cond (has_response rest) m.state.options (options_noted rest m.state.options) ≡ m.state.options
@@ -331,8 +328,7 @@ event_near Terminated state near = cc
 event_near _ state near = near
 
 event_options : (event : Event) (state : State) → (after_event event state).options ≡ state.options
-event_options Initialized state = refl
-event_options _ state = refl
+event_options event state = grind arith
 
 -- a note behind the response
 noted_same : (note : Note) (state : State) (rest : List Part) → stand_last (Part.Notes note ∷ rest) ≡ true
@@ -342,8 +338,7 @@ noted_same (Options options) state rest last = by_bool (has_response rest) last
   where
     by_bool : (has : Bool) → cond (not has) (stand_last rest) false ≡ true
         → cond has options (options_noted rest options) ≡ cond has state.options (options_noted rest options)
-    by_bool true is = cc
-    by_bool false is = refl
+    by_bool has is = grind (arith, is)
 noted_same _ state rest last = refl
 
 numbered_options : (outcome : Outcome) (state : State) → (numbered_by outcome state).options ≡ state.options
@@ -376,8 +371,7 @@ responded_on messages m hand rest request outcome single last at is n =
 
 asked_options_same : (want : Want) (hand : Option Hand) (options : ClientOptions)
     → options_in (option_map (asked_hand want) hand) options ≡ options_in hand options
-asked_options_same want None options = refl
-asked_options_same want (Some hand) options = refl
+asked_options_same want hand options = grind arith
 
 asked_fits : (want : Want) (hand : Option Hand) → Fits hand → Fits (option_map (asked_hand want) hand)
 asked_fits want None h = tt
@@ -435,8 +429,7 @@ on_move m next said last near other _ = still_on m next refl (λ near. near) (λ
 
 lost_other : {m : Machine} {message : Message} {late : List TargetCommand} → Loses m message late
     → is_other (Some message) ≡ true
-lost_other Loses.by_end = refl
-lost_other _ = refl
+lost_other why = grind (arith, why)
 
 noted_on : (messages : List Message) (m next : Machine) (said : Option Message) → Run messages m → Noted messages m
     → Moves m said next → Noted (with_said messages said) next

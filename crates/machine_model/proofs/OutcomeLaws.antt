@@ -294,8 +294,7 @@ becomes {messages} {m} {hand} {part} {rest} parts responds h at is brings leads 
 
 loss_aside : {m : Machine} {message : Message} {late : List TargetCommand} → Loses m message late
     → responds message ≡ false
-loss_aside Loses.by_end = refl
-loss_aside _ = refl
+loss_aside why = grind (arith, why)
 
 -- something comes, or is said, that changes neither the item in hand nor whether the target is gone
 same_all : (messages : List Message) (m next : Machine) (hand : Option Hand) (message : Message)
@@ -338,8 +337,7 @@ begun_order {messages} {m} picked request r none is item =
 
 -- what is learnt at its turn decides nothing of what an item does
 parts_taken : (state : State) (item : Item) → parts_of (taken item state) item ≡ parts_of state item
-parts_taken state (a_request request) = refl
-parts_taken state _ = refl
+parts_taken state item = grind arith
 
 begun_held : {messages : List Message} {m : Machine} (picked : Picked) → Run messages m → m.hand ≡ None
     → pick (is_gone m.state.phase) m.waiting ≡ Some picked → Run messages (begun m picked.item picked.rest)
@@ -439,8 +437,7 @@ not_yet true now stays near = sym (stays refl) ∙ near
 not_yet false now stays near = refl
 
 gone_responds : (responds : Bool) (item : Item) → has_response (gone_parts responds item) ≡ true → responds ≡ true
-gone_responds true item is = refl
-gone_responds false item is = grind (arith, is)
+gone_responds responds item is = grind (arith, is)
 
 given_held : (messages : List Message) (m next : Machine) (hand : Option Hand) (message : Message)
     → response_by message ≡ [] → is_gone m.state.phase ≡ false → is_gone next.state.phase ≡ true

@@ -75,8 +75,7 @@ pub near_flies : (m : Machine) (hand : Hand) (effect : Effect) → IsQuiet m →
 near_flies m hand effect h is flies = grind (arith, h, is, flies)
 
 either : (gone quiet : Bool) → quiet ≡ true → cond gone quiet true ≡ true
-either true quiet is = is
-either false quiet is = refl
+either gone quiet is = grind (arith, is)
 
 pub quiet_on : (m next : Machine) (said : Option Message) → IsQuiet m → Moves m said next → IsQuiet next
 quiet_on m next said h (Moves.begins picked free none is) = either (is_gone m.state.phase) true refl
@@ -99,8 +98,7 @@ quiet_on m next said h (Moves.replies {effect} {replied} {hand} is flies reply s
 quiet_on m next said h (Moves.loses late near why) = given_silent m.hand
   where
     given_silent : (hand : Option Hand) → hand_silent (option_map given_up hand) ≡ true
-    given_silent None = refl
-    given_silent (Some hand) = refl
+    given_silent hand = grind arith
 quiet_on m next said h _ = h
 
 -- While the target isn't gone, its end doesn't wait -------------------------------------------------------------------

@@ -10,8 +10,8 @@ use Rattle.machine_model.specs.Frames.{frame_by, frame_told}
 use Rattle.machine_model.specs.Knowing.{may_send, view_of}
 use Rattle.machine_model.specs.Names.{Clear, ClientOptions, Deed, Does, Effect, Event, Item, Note, Outcome, Part}
 use Rattle.machine_model.specs.Names.{Replied, Request, Resume, Set, ShownFrame, ShownVariable, Spot, Success}
-use Rattle.machine_model.specs.Names.{TargetCommand, Terminated, a_question, a_request, an_effect, an_event, frame_list}
-use Rattle.machine_model.specs.Names.{of_stop, scope_list, variable_list, a_value}
+use Rattle.machine_model.specs.Names.{TargetCommand, Terminated, a_question, an_effect, an_event, frame_list, of_stop}
+use Rattle.machine_model.specs.Names.{scope_list, variable_list, a_value}
 use Rattle.machine_model.specs.ReferenceNumbers.{AreNumbered, HaveReferences, ReferencesAre, ends_stop, frame_number}
 use Rattle.machine_model.specs.ReferenceNumbers.{not_zero, references_by, variable_number}
 use Rattle.machine_model.specs.References.{things_of, with_things}
@@ -158,8 +158,7 @@ frame_numbers options numbers (shown ∷ frames) =
     by_spot : (spot : Option Spot)
         → frame_number (frame_by (number_of (a_frame shown.frame) numbers) shown.name options spot)
         ≡ number_of (a_frame shown.frame) numbers
-    by_spot None = refl
-    by_spot (Some spot) = refl
+    by_spot spot = grind arith
 
 -- numbers are positive
 kept_number : (number : ℕ) (others : List ℕ) → 0 < number → filter not_zero (number ∷ others) ≡ number ∷ filter not_zero others
@@ -238,8 +237,7 @@ pub replied_numbers : (command : TargetCommand) (replied : Replied) (state : Sta
 replied_numbers command replied state = grind arith
 
 pub taken_numbers : (item : Item) (state : State) → (taken item state).numbers ≡ state.numbers
-taken_numbers (a_request request) state = refl
-taken_numbers _ state = refl
+taken_numbers item state = grind arith
 
 -- a message that tells things by numbers
 by_things : {messages : List Message} (things : List Thing) (numbers : InHand) (message : Message)

@@ -85,8 +85,7 @@ other_stays sizes w parts effect replied wish due reply asked other = (
     as_it_was : (effect : Effect) → is_set_of wish effect ≡ false
         → refused_by_effect wish effect replied (has_wish w.refused wish)
         ≡ has_wish w.refused wish
-    as_it_was (Set one) other = rw other refl
-    as_it_was _ other = refl
+    as_it_was effect other = grind (arith, other)
 
 -- what is replied to the Set of a wish is what stands of it
 set_answered : (w : Wishes) (wish : Wish) (answer : Answer) → IsNewSet w wish

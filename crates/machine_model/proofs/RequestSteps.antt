@@ -63,28 +63,22 @@ lands m hand free near is = ap flying_in is ∙ by_effect hand.effect (is_free m
     by_effect doing is = grind (arith, is)
 
 asked_flying : (want : Want) (hand : Option Hand) → flying_in (option_map (asked_hand want) hand) ≡ flying_in hand
-asked_flying want None = refl
-asked_flying want (Some hand) = refl
+asked_flying want hand = grind arith
 
 pub asked_left : (want : Want) (hand : Option Hand) → parts_left (option_map (asked_hand want) hand) ≡ parts_left hand
-asked_left want None = refl
-asked_left want (Some hand) = refl
+asked_left want hand = grind arith
 
 answered_flying : (question : Question) (replied : Replied) (hand : Option Hand)
     → flying_in (option_map (hand_replied (a_question question) replied) hand) ≡ flying_in hand
-answered_flying question replied None = refl
-answered_flying question replied (Some hand) = refl
+answered_flying question replied hand = grind arith
 
 replied_flying : (effect : Effect) (replied : Replied) (hand : Option Hand)
     → flying_in (option_map (hand_replied (an_effect effect) replied) hand) ≡ None
-replied_flying effect replied None = refl
-replied_flying effect replied (Some hand) = refl
+replied_flying effect replied hand = grind arith
 
 pub replied_left : (command : TargetCommand) (replied : Replied) (hand : Option Hand)
     → parts_left (option_map (hand_replied command replied) hand) ≡ parts_left hand
-replied_left command replied None = refl
-replied_left (a_question question) replied (Some hand) = refl
-replied_left (an_effect effect) replied (Some hand) = refl
+replied_left command replied hand = grind arith
 
 -- What moves change of the event requests -----------------------------------------------------------------------------
 

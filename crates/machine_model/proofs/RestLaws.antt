@@ -135,8 +135,7 @@ near_queue m is = by_gone (is_gone m.state.phase) is
   where
     by_gone : (gone : Bool) → cond gone clear (cond (can_read m) busy (hand_load m.state m.hand)) ≡ lacking_more
         → gone ≡ false
-    by_gone true is = cc
-    by_gone false is = refl
+    by_gone gone is = grind (arith, is)
 
 -- what is to be asked goes only while no effect is in flight, and the target isn't gone
 pub near_asks : (m : Machine) (hand : Hand) → load_of m ≡ queued → m.hand ≡ Some hand
@@ -159,8 +158,7 @@ moves_part : (m : Machine) (hand : Hand) (part : Part) (rest : List Part) (gone 
     → awaits_greeting m.state ≡ false → free_once gone (part ∷ rest) ≡ true
     → (gone ≡ false → is_empty (lacked_by m.state hand (part ∷ rest)) ≡ true)
     → lets gone (part_due m hand part rest).act ≡ true
-moves_part m hand part rest true is waited free none = grind (arith, is, waited, free)
-moves_part m hand part rest false is waited free none = grind (arith, is, waited, free, none)
+moves_part m hand part rest gone is waited free none = grind (arith, is, waited, free, none)
 
 pub record IsDone (m : Machine) : Type 0 where
   pub no_hand : m.hand ≡ None
@@ -175,8 +173,7 @@ rests_in m None is clear_now waited free stops = record {
 }
   where
     nothing : (picked : Option Picked) → lets (is_gone m.state.phase) (next_item m picked).act ≡ false → picked ≡ None
-    nothing None stops = refl
-    nothing (Some picked) stops = cc
+    nothing picked stops = grind (arith, stops)
 rests_in m (Some hand) is clear_now waited free stops = absurd (no_part hand.parts refl free stops)
   where
     none_lacked : (parts : List Part) → hand.parts ≡ parts → is_gone m.state.phase ≡ false
@@ -211,8 +208,7 @@ none_full m hand is lands silent none =
     rw (is, late, no_questions hand.asked silent) (grind (arith, lands))
 
 asks_some : (m : Machine) (queue : List Want) → (asked_first false m queue).act ≡ Act.Waits → is_empty queue ≡ true
-asks_some m [] is = refl
-asks_some m (want ∷ wants) is = cc
+asks_some m queue is = grind (arith, is)
 
 silent_load : (m : Machine) (hand : Hand) → m.hand ≡ Some hand → is_empty m.late ≡ true
     → hand_silent (Some hand) ≡ true

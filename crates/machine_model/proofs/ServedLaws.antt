@@ -45,14 +45,11 @@ given_up_same (Some hand) = given_up_item (has_response hand.parts) hand.item
 
 pub replied_same : (command : TargetCommand) (replied : Replied) (hand : Option Hand)
     → unanswered_hand (option_map (hand_replied command replied) hand) ≡ unanswered_hand hand
-replied_same command replied None = refl
-replied_same (a_question question) replied (Some hand) = refl
-replied_same (an_effect effect) replied (Some hand) = refl
+replied_same command replied hand = grind arith
 
 pub asked_same : (want : Want) (hand : Option Hand)
     → unanswered_hand (option_map (asked_hand want) hand) ≡ unanswered_hand hand
-asked_same want None = refl
-asked_same want (Some hand) = refl
+asked_same want hand = grind arith
 
 -- what is picked leaves what there is of the others, in order, where there is nothing of a raw composite
 picked_first : {A : Type 0} (f : Item → List A) (item : Item) (items : List Item) (picked : Picked) (raw : Bool)
@@ -78,8 +75,7 @@ picked_all f gone (item ∷ items) picked none is =
     (λ raw. none item (not_gone gone (is_raw item) raw)) (λ other are. picked_all f gone items other none are) is
   where
     not_gone : (gone raw : Bool) → cond gone false raw ≡ true → raw ≡ true
-    not_gone true raw is = cc
-    not_gone false raw is = is
+    not_gone gone raw is = grind (arith, is)
 
 raw_none : (item : Item) → is_raw item ≡ true → request_in item ≡ []
 raw_none item is = grind (arith, is)
@@ -134,8 +130,7 @@ silent_left (IsLeft.silent same) = same
 
 pub aside_left : {left now : List Request} (message : Message) → request_by message ≡ [] → response_by message ≡ []
     → IsLeft left now (Some message) → left ≡ now
-aside_left message none_heard none_told (IsLeft.aside _ no_request no_response same) = same
-aside_left message none_heard none_told _ = cc
+aside_left message none_heard none_told apart = grind (arith, none_heard, none_told, apart)
 
 -- the response is told: the request in hand was the first without one
 pub responded_left : {m : Machine} {hand : Hand} {rest : List Part} {request : Request} {outcome : Outcome}

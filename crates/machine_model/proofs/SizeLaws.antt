@@ -111,13 +111,10 @@ replied_sized m (a_question question) replied reply stays h = by_gone (is_gone m
 
 pub replied_parts : (command : TargetCommand) (replied : Replied) (hand : Option Hand)
     → parts_left (option_map (hand_replied command replied) hand) ≡ parts_left hand
-replied_parts command replied None = refl
-replied_parts (a_question question) replied (Some hand) = refl
-replied_parts (an_effect effect) replied (Some hand) = refl
+replied_parts command replied hand = grind arith
 
 pub asked_parts : (want : Want) (hand : Option Hand) → parts_left (option_map (asked_hand want) hand) ≡ parts_left hand
-asked_parts want None = refl
-asked_parts want (Some hand) = refl
+asked_parts want hand = grind arith
 
 -- what is left behind the part in front
 left_sized : (m : Machine) (hand : Hand) (part : Part) (rest : List Part) → IsSized m → IsAt m hand part rest

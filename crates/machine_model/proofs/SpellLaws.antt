@@ -154,8 +154,7 @@ spelled = record {
 -- a full window lets no question go, and is nothing to the rest
 due_first : (full : Bool) (m : Machine) (wants : List Want) (message : Message)
     → said (asked_first true m wants).act ≡ Some message → said (asked_first full m wants).act ≡ Some message
-due_first full m [] message is = cc
-due_first full m (want ∷ wants) message is = cc
+due_first full m wants message is = grind (arith, is)
 
 due_next : (full : Bool) (m : Machine) (hand : Option Hand) (message : Message)
     → said (asked_next true m hand).act ≡ Some message → said (asked_next full m hand).act ≡ Some message

@@ -111,8 +111,7 @@ refused_answered w other wish (answers.Set request) new is = by_test (is_wish wi
 refused_answered w other wish _ new is = cc
 
 or_cond : (a b : Bool) → (a || b) ≡ cond a true b
-or_cond true b = refl
-or_cond false b = refl
+or_cond a b = grind arith
 
 pub refused_replied : (sizes : Option SizesRead) (w : Wishes) (parts : List Part) (effect : Effect) (replied : Replied)
     (wish : Wish) → IsDue w parts (Some effect) → IsReply sizes (an_effect effect) replied
@@ -128,8 +127,7 @@ refused_replied sizes w parts (Clear other request) (an_answer answer) wish due 
 refused_replied sizes w parts (Clear other request) (an_error code) wish due reply = refl
 
 and_cond : (a b : Bool) → (a && b) ≡ cond a b false
-and_cond true b = refl
-and_cond false b = refl
+and_cond a b = grind arith
 
 abbrev pub refused_said : Wish → Option Message → Bool → Bool
 refused_said wish None was = was

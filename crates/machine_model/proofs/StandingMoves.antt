@@ -106,9 +106,7 @@ note_wished P _ state k facts h = h
 -- what needs the sizes has them
 pub sized_by : (sized attached : Bool) (part : Part) (rest : List Part) → in_order sized attached (part ∷ rest) ≡ true
     → awaits_sizes part ≡ false → needs_sizes part ≡ true → sized ≡ true
-sized_by true attached part rest h other needs = refl
-sized_by false true part rest h other needs = cc
-sized_by false false part rest h other needs = grind (arith, h, other, needs)
+sized_by sized attached part rest h other needs = grind (arith, h, other, needs)
 
 pub in_any_order : (sized attached : Bool) (parts : List Part) → sized ≡ true → in_order sized attached parts ≡ true
 in_any_order sized attached parts is = rw is refl
@@ -348,8 +346,7 @@ chosen_order Stepped state hand sized attached rest h =
 chosen_order (Written seen) state hand sized attached rest h = by_code (refused_with hand.effect)
   where
     by_code : (code : Option ℕ) → in_order sized attached (written_by seen code ++ rest) ≡ true
-    by_code None = h
-    by_code (Some code) = h
+    by_code code = grind arith
 chosen_order (Leaves exits) state hand sized attached rest h = grind (arith, h)
 
 pub chosen_parts : (P : Id → Type 0) (choice : Choice) (state : State) (hand : Hand) (rest : List Part)

@@ -144,8 +144,7 @@ known_once [] is = cc
 known_once (one ∷ later) is = omega arith
 
 none_known : (sizes : List SizesRead) → is_some (first_sizes sizes) ≡ false → length sizes ≡ 0
-none_known [] is = refl
-none_known (one ∷ later) is = cc
+none_known sizes is = grind (arith, is)
 
 new_few : {P : Id → Type 0} {messages : List Message} {state : State} (hand : Hand) {late : List TargetCommand}
     (sized : Bool) → P (class 0) → KeptHand P messages state (Some hand) late → is_gone state.phase ≡ false
@@ -194,8 +193,7 @@ asked_first P sized want w = record { reply = tt; first = by_sized sized w.first
   where
     by_sized : (sized : Bool) → is_sizes (question_of want) ≡ not sized
         → cond sized true (is_sizes (question_of want)) ≡ true
-    by_sized true is = refl
-    by_sized false is = is
+    by_sized sized is = grind (arith, is)
 
 asked_on : {P : Id → Type 0} {messages : List Message} {state : State} {left : List Part} {want : Want}
     {wants : List Want} {asked : List Sent} {late : List TargetCommand} → Kept P messages state left
@@ -384,8 +382,7 @@ told_learns : (question : Question) (replied : Replied) (state : State) → is_s
       classes = learnt question (answer_in replied) state.classes;
       unlisted = still_unlisted question state.unlisted;
     }
-told_learns questions.IdSizes replied state is = cc
-told_learns _ replied state is = refl
+told_learns question replied state is = grind (arith, is)
 
 -- before the sizes are known nothing else is waited for
 pub only_sizes : (P : Id → Type 0) (question : Question) (asked : List Sent) → All (IsAsked P false) asked
@@ -537,8 +534,7 @@ pending_few (Some hand) = grind (
 
 given_up_none : (hand : Option Hand) → total by_want (queue_in (option_map given_up hand))
     + total by_sent (asked_in (option_map given_up hand)) ≡ 0
-given_up_none None = refl
-given_up_none (Some hand) = refl
+given_up_none hand = grind arith
 
 -- what is left pending has the question of the sizes no more often than it was asked
 lost_few : {m : Machine} (message : Message) (late : List TargetCommand) → Loses m message late

@@ -9,7 +9,7 @@ use Rattle.machine_model.specs.Due.{asked_hand, due}
 use Rattle.machine_model.specs.Knowing.{lookup_stops, stopped_behind, stopped_told}
 use Rattle.machine_model.specs.Lookups.{finished}
 use Rattle.machine_model.specs.Names.{Written, Act, Attached, Choice, Classes, Command, Decides, Effect, Event, Finding}
-use Rattle.machine_model.specs.Names.{HaltCause, Initialized, Item, Leaves, Lookup, Note, Part, Replied, Stepped, Steps}
+use Rattle.machine_model.specs.Names.{HaltCause, Item, Leaves, Lookup, Note, Part, Replied, Stepped, Steps}
 use Rattle.machine_model.specs.Names.{TargetCommand, TellsNews, ThreadId, Want, a_question, a_raw, a_request, a_stop}
 use Rattle.machine_model.specs.Names.{an_effect, an_event, Lines, entry_verified, some_news}
 use Rattle.machine_model.specs.Outcomes.{result_of}
@@ -129,8 +129,7 @@ chosen_steps stopped steps Stepped state hand rest same is = by_rest rest (refus
   where
     by_rest : (rest : List Part) (code : Option ℕ) → steps_well stopped steps (Part.Unfolds Stepped ∷ rest) ≡ true
         → steps_well stopped steps (stepped_by code ++ rest) ≡ true
-    by_rest [] code is = grind arith
-    by_rest (part ∷ rest) code is = cc
+    by_rest rest code is = grind (arith, is)
 chosen_steps stopped steps Decides state hand [] same is =
     of_decided (λ (parts : List Part). steps_well stopped steps (parts ++ []) ≡ true) is is is
     (λ again thrown halt. by_halt again halt.cause halt.thread) state hand.item
@@ -165,8 +164,7 @@ replied_steps effect replied w = grind arith
 event_steps : (event : Event) (state : State) (rest : List Part) → steps_well (stopped_told event state.stopped)
     (steps_in state) rest ≡ true
     → steps_well (after_event event state).stopped (steps_in (after_event event state)) rest ≡ true
-event_steps Initialized state rest is = is
-event_steps _ state rest is = is
+event_steps event state rest is = grind (arith, is)
 
 -- In runs -------------------------------------------------------------------------------------------------------------
 
@@ -177,20 +175,16 @@ steps_front {m} h at = subst (λ (parts : List Part). steps_well m.state.stopped
 
 same_hand : (stopped steps : Bool) (command : TargetCommand) (replied : Replied) (hand : Option Hand)
     → hand_steps stopped steps (option_map (hand_replied command replied) hand) ≡ hand_steps stopped steps hand
-same_hand stopped steps command replied None = refl
-same_hand stopped steps (a_question question) replied (Some hand) = refl
-same_hand stopped steps (an_effect effect) replied (Some hand) = refl
+same_hand stopped steps command replied hand = grind arith
 
 asked_same : (stopped steps : Bool) (want : Want) (hand : Option Hand)
     → hand_steps stopped steps (option_map (asked_hand want) hand) ≡ hand_steps stopped steps hand
-asked_same stopped steps want None = refl
-asked_same stopped steps want (Some hand) = refl
+asked_same stopped steps want hand = grind arith
 
 skipped_steps : {m : Machine} {hand : Hand} {part : Part} (rest : List Part) → Skips m hand part
     → steps_well m.state.stopped (steps_in m.state) (part ∷ rest) ≡ true
     → steps_well m.state.stopped (steps_in m.state) rest ≡ true
-skipped_steps rest (Skips.by_guard is) h = h
-skipped_steps rest _ h = h
+skipped_steps rest why h = grind (arith, why, h)
 
 stepping_on : (m next : Machine) (said : Option Message) → IsStepping m → Moves m said next → IsStepping next
 stepping_on m next said h (Moves.begins picked free none is) =
@@ -249,9 +243,7 @@ no_place thread depth (place ∷ those) = no_place thread depth those
 
 no_thrown : (thread : ThreadId) (depth : Depth) (caught uncaught : Bool)
     → has_wish (thrown caught uncaught) (wishes.Step thread depth) ≡ false
-no_thrown thread depth true uncaught = refl
-no_thrown thread depth false true = refl
-no_thrown thread depth false false = refl
+no_thrown thread depth caught uncaught = grind arith
 
 step_wished : (wanted : Wanted) (thread : ThreadId) (depth : Depth)
     → has_wish (wished wanted) (wishes.Step thread depth) ≡ has_wish (stepping wanted.step) (wishes.Step thread depth)
@@ -301,8 +293,7 @@ no_step w are none = record {
 }
 
 none_of : (step : Option StepWish) → is_some step ≡ false → step ≡ None
-none_of None is = refl
-none_of (Some step) is = cc
+none_of step is = grind (arith, is)
 
 -- The laws ------------------------------------------------------------------------------------------------------------
 
@@ -316,8 +307,7 @@ cleared_at m next said stop r is (Moves.tells {hand} {rest} {event = a_stop stop
     (none_of m.state.wishes.wanted.step (none_steps (steps_in m.state) _ (steps_front (steps_kept r) at)))
   where
     none_steps : (steps others : Bool) → cond (not steps) others false ≡ true → steps ≡ false
-    none_steps true others is = cc
-    none_steps false others is = refl
+    none_steps steps others is = grind (arith, is)
 cleared_at m next said stop r is (Moves.loses late near Loses.by_end) = cc
 cleared_at m next said stop r is _ = cc
 
@@ -338,5 +328,4 @@ steps_at_rest messages m r rests attached =
     }
   where
     none_in : (stopped steps : Bool) → stopped ≡ true → ends_well stopped steps ≡ true → steps ≡ false
-    none_in true false is well = refl
-    none_in _ _ is well = cc
+    none_in stopped steps is well = grind (arith, is, well)

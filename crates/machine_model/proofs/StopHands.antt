@@ -5,9 +5,9 @@ use Rattle.std.proofs.Common.{ap, subst, ◌∙◌, arith, option_map, ℕ}
 use Rattle.std.specs.List.{AllByRecursion as All}
 use Rattle.machine_model.specs.Due.{asked_hand, behind_first, lacked_by, newly_lacked, stopped_by, with_wants}
 use Rattle.machine_model.specs.Lookups.{finished}
-use Rattle.machine_model.specs.Names.{variable_write, Choice, Decides, Deed, Event, Finding, Gone, Initialized, Item}
-use Rattle.machine_model.specs.Names.{Lookup, Part, Phase, Question, Replied, Resume, Sent, Suspend, TellsNews, Want}
-use Rattle.machine_model.specs.Names.{a_question, an_effect, of_stop, Stepped, some_news}
+use Rattle.machine_model.specs.Names.{Choice, Decides, Deed, Event, Finding, Initialized, Item, Lookup, Part, Phase}
+use Rattle.machine_model.specs.Names.{Question, Replied, Resume, Sent, Suspend, TellsNews, Want, a_question, an_effect}
+use Rattle.machine_model.specs.Names.{of_stop, Stepped, some_news}
 use Rattle.machine_model.specs.Outcomes.{result_of}
 use Rattle.machine_model.specs.Plans.{Result, asks_for, question_of}
 use Rattle.machine_model.specs.Replying.{filled, given_up, hand_replied, is_failed, is_waiting, unless_failed}
@@ -55,8 +55,7 @@ in_front {m} {hand} q at = subst (λ (parts : List Part). Quiet m.state parts ha
 
 -- none of both
 none_of : (first others : Bool) → cond first true others ≡ false → others ≡ false
-none_of true others is = cc
-none_of false others is = is
+none_of first others is = grind (arith, is)
 
 -- what is left of the parts, in a stop where one was, and not in one where none was
 behind : {state : State} {part : Part} {rest : List Part} {queue : List Want} {asked : List Sent} (next : State)
@@ -73,8 +72,7 @@ behind {part = part} {rest} next q back = record {
 }
   where
     more : (first others : Bool) → others ≡ true → cond first true others ≡ true
-    more true others is = refl
-    more false others is = is
+    more first others is = grind (arith, is)
 
 -- other parts stand in place of one
 instead : {state : State} {part : Part} {rest : List Part} {queue : List Want} {asked : List Sent} (parts : List Part)
@@ -111,19 +109,16 @@ chosen_looks Decides state hand rest is =
 chosen_looks Stepped state hand rest is = by_code (refused_with hand.effect)
   where
     by_code : (code : Option ℕ) → frames_ahead (stepped_by code ++ rest) ≡ false
-    by_code None = is
-    by_code (Some code) = is
+    by_code code = grind arith
 chosen_looks _ state hand rest is = grind (arith, is)
 
 found_ends : (lookup : Lookup) (result : Result Finding) (state : State) (rest : List Part)
     → ends_ahead (finished lookup result state ++ rest) ≡ ends_ahead rest
-found_ends (variable_write thing name text) result state rest = grind arith
-found_ends _ result state rest = refl
+found_ends lookup result state rest = grind arith
 
 found_looks : (lookup : Lookup) (result : Result Finding) (state : State) (rest : List Part)
     → frames_ahead (finished lookup result state ++ rest) ≡ frames_ahead rest
-found_looks (variable_write thing name text) result state rest = grind arith
-found_looks _ result state rest = refl
+found_looks lookup result state rest = grind arith
 
 was_running : (event : Event) (state : State) → is_gone (after_event event state).phase ≡ false
     → (after_event event state).stopped ≡ false → (is_gone state.phase ≡ false) × (state.stopped ≡ false)
@@ -131,8 +126,7 @@ was_running Initialized state near running = (by_phase state.phase near, running
   where
     by_phase : (phase : Phase) → is_gone (after_event Initialized (record state { phase = phase })).phase ≡ false
         → is_gone phase ≡ false
-    by_phase Gone near = cc
-    by_phase _ near = refl
+    by_phase phase near = grind (arith, near)
 was_running (some_news news) state near running = (near, running)
 was_running _ state near running = cc
 
@@ -179,8 +173,7 @@ unless_calm true queue h = tt
 unless_calm false queue h = h
 
 unless_none : (failed : Bool) (queue : List Want) → queue ≡ [] → unless_failed failed queue ≡ []
-unless_none true queue is = refl
-unless_none false queue is = is
+unless_none failed queue is = grind (arith, is)
 
 -- a question is replied to
 answered_on : {state : State} {parts : List Part} {queue : List Want} {asked : List Sent} (question : Question)
@@ -227,8 +220,7 @@ queued_on {state} hand q bare = record {
 }
   where
     all_bare : (ends bare : Bool) → ends ≡ true → cond ends bare true ≡ true → bare ≡ true
-    all_bare true bare ends is = is
-    all_bare false bare ends is = cc
+    all_bare ends bare ended is = grind (arith, ended, is)
 
 -- nothing is left of an item that is given up
 given_on : (state : State) (hand : Option Hand) → is_gone state.phase ≡ true → QuietHand state (option_map given_up hand)

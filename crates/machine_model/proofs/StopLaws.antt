@@ -1,6 +1,6 @@
 -- A stop is told of what halted a thread, or that the client asked for.
 use Rattle.std.proofs.Common.{◌≡◌, ℕ, Bool, true, false, cond, ◌||◌, List, [], ◌∷◌, ◌++◌, Option, Some, None, refl, sym}
-use Rattle.std.proofs.Common.{ap, subst, ◌∙◌, option_map, append_assoc, append-nil}
+use Rattle.std.proofs.Common.{ap, subst, ◌∙◌, option_map, append_assoc, append-nil, arith}
 use Rattle.std.specs.List.{AllByRecursion as All}
 use Rattle.std.specs.Option.{option_or}
 use Rattle.std.specs.Prelude.{find}
@@ -501,8 +501,7 @@ still_free m hand stopping deed rest free near is =
 
     by_parts : (gone read : Bool) (load : Load) → gone ≡ false → read ≡ false → load ≡ clear
         → cond gone clear (cond read busy load) ≡ clear
-    by_parts false false load near none is = is
-    by_parts _ _ load near none is = cc
+    by_parts gone read load near none is = grind (arith, near, none, is)
 
 surplus_at : {messages : List Message} (m next : Machine) (said : Option Message) (stop : Stopped) → Run messages m
     → m.state.stopped ≡ true → ¬ (stop.reason ≡ reasons.Pause)

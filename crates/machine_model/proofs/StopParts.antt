@@ -1,7 +1,7 @@
 -- Which parts an item has that ends the stop: such as ask nothing and show nothing by numbers. And the look-up of frames
 -- alone asks for them.
 use Rattle.std.proofs.Common.{◌≡◌, Bool, true, false, cond, not, ◌&&◌, ◌||◌, List, [], ◌∷◌, ◌++◌, refl, ◌∙◌, arith, ap}
-use Rattle.std.proofs.Common.{ℕ, Option, Some, None}
+use Rattle.std.proofs.Common.{ℕ, Option}
 use Rattle.std.specs.List.{AllByRecursion as All}
 use Rattle.class_tables.specs.Lookups.{found_in}
 use Rattle.jdwp_commands.specs.declared.question.Question.TheVariants as questions
@@ -76,11 +76,7 @@ tail_bare part rest is = by_tests (ends_one part) (ends_ahead rest) (is_bare par
   where
     by_tests : (ends behind bare others : Bool) → cond (cond ends true behind) (cond bare others false) true ≡ true
         → cond behind others true ≡ true
-    by_tests ends false bare others is = refl
-    by_tests true true true others is = is
-    by_tests false true true others is = is
-    by_tests true true false others is = cc
-    by_tests false true false others is = cc
+    by_tests ends behind bare others is = grind (arith, is)
 
 begun_bare : (state : State) (item : Item) → bare_ends false (parts_of state item) ≡ true
 begun_bare state item = grind arith
@@ -100,8 +96,7 @@ chosen_bare Decides state hand rest is = by_end (ends_ahead rest)
 chosen_bare Stepped state hand rest is = by_code (refused_with hand.effect)
   where
     by_code : (code : Option ℕ) → bare_ends false (stepped_by code ++ rest) ≡ true
-    by_code None = is
-    by_code (Some code) = grind (arith, is)
+    by_code code = grind arith
 chosen_bare _ state hand rest is = grind (arith, is)
 
 found_bare : (lookup : Lookup) (result : Result Finding) (state : State) (rest : List Part)
@@ -109,8 +104,7 @@ found_bare : (lookup : Lookup) (result : Result Finding) (state : State) (rest :
 found_bare lookup result state rest is = by_lookup lookup
   where
     no_end : (ends bare : Bool) → cond ends false true ≡ true → cond ends bare true ≡ true
-    no_end true bare is = cc
-    no_end false bare is = refl
+    no_end ends bare is = grind (arith, is)
 
     by_lookup : (lookup : Lookup) → bare_ends false (finished lookup result state ++ rest) ≡ true
     by_lookup (variable_write thing name text) = grind (arith, is)
@@ -134,8 +128,7 @@ bare_parts {m = m} {part = part} {rest} r at ends =
   where
     by_tests : (ends behind bare others : Bool) → ends ≡ true
         → cond (cond ends true behind) (cond bare others false) true ≡ true → others ≡ true
-    by_tests true behind true others ends is = is
-    by_tests _ behind _ others ends is = cc
+    by_tests ends behind bare others fits is = grind (arith, fits, is)
 
 -- Frames that are asked for -------------------------------------------------------------------------------------------
 
@@ -158,8 +151,7 @@ fact_calm : (want : Want) → wants_fact want ≡ true → IsCalm want
 fact_calm (Want.Fact question) is = by_question question is
   where
     by_question : (question : Question) → is_fact question ≡ true → asks_frames question ≡ false
-    by_question (questions.Frames thread start length) is = cc
-    by_question _ is = refl
+    by_question question is = grind (arith, is)
 fact_calm _ is = cc
 
 classes_calm : (unlisted : Bool) (wanted : Wanted) (state : State) (hand : Hand)
@@ -189,9 +181,7 @@ lacked_calm state hand parts none = by_apart (looks_apart parts) refl
     by_apart true is = cc
 
 pub lacked_none : (state : State) (hand : Hand) (parts : List Part) → are_bare parts ≡ true → lacked_by state hand parts ≡ []
-lacked_none state hand (Part.Looks lookup ∷ rest) bare = cc
-lacked_none state hand (Part.Awaits guard ∷ rest) bare = cc
-lacked_none state hand _ bare = refl
+lacked_none state hand parts bare = grind (arith, bare)
 
 pub taken_calm : (asked : List Sent) (queue wants : List Want) → All IsCalm queue → All IsCalm wants
     → All IsCalm (with_wants asked queue wants)

@@ -1,13 +1,13 @@
 -- What is done before a suspension is undone, and that at rest none is held.
-use Rattle.std.proofs.Common.{◌≡◌, Bool, true, false, cond, List, [], ◌∷◌, ◌++◌, Option, Some, None, refl, ap, subst}
-use Rattle.std.proofs.Common.{◌∙◌, arith, ℕ}
+use Rattle.std.proofs.Common.{◌≡◌, Bool, true, false, cond, List, [], ◌∷◌, ◌++◌, Option, Some, refl, ap, subst, ◌∙◌}
+use Rattle.std.proofs.Common.{arith, ℕ}
 use Rattle.machine_model.specs.Due.{due}
 use Rattle.machine_model.specs.Knowing.{held_in, held_with, lookup_stops, may_send, view_of}
 use Rattle.machine_model.specs.Lookups.{finished}
-use Rattle.machine_model.specs.Names.{Written, variable_write, Act, Attached, Choice, Command, Configured, Decides}
-use Rattle.machine_model.specs.Names.{Deed, Does, EntryHeld, Event, Failure, Finding, Item, Leaves, Lookup, Note, Part}
-use Rattle.machine_model.specs.Names.{Phase, Resume, Stopping, Suspension, TellsNews, a_question, a_raw, a_request}
-use Rattle.machine_model.specs.Names.{a_stop, an_effect, of_composite, HaltCause, Stepped, ThreadId, of_entry, of_stop}
+use Rattle.machine_model.specs.Names.{Written, Act, Attached, Choice, Command, Configured, Decides, Deed, Does}
+use Rattle.machine_model.specs.Names.{EntryHeld, Event, Failure, Finding, Item, Leaves, Lookup, Note, Part, Phase}
+use Rattle.machine_model.specs.Names.{Resume, Stopping, Suspension, TellsNews, a_question, a_raw, a_request, a_stop}
+use Rattle.machine_model.specs.Names.{an_effect, of_composite, HaltCause, Stepped, ThreadId, of_entry, of_stop}
 use Rattle.machine_model.specs.Outcomes.{result_of}
 use Rattle.machine_model.specs.Plans.{Result}
 use Rattle.machine_model.specs.Rest.{IsAtRest}
@@ -145,8 +145,7 @@ rest_resumed phase part rest is = grind (arith, is)
 
 found_same : (lookup : Lookup) (result : Result Finding) (state : State) (rest : List Part)
     → has_resume (finished lookup result state ++ rest) ≡ has_resume (Part.Looks lookup ∷ rest)
-found_same (variable_write thing name text) result state rest = grind arith
-found_same _ result state rest = refl
+found_same lookup result state rest = grind arith
 
 chosen_resumed : (choice : Choice) (state : State) (hand : Hand) (rest : List Part)
     → resumes_attached state.phase (Part.Unfolds choice ∷ rest) ≡ true
@@ -157,20 +156,17 @@ chosen_resumed Decides state hand rest is =
     there (is_gone state.phase) (is_attached state.phase) (has_resume (decided state hand.item ++ rest)) is
   where
     there : (gone attached has : Bool) → cond gone true attached ≡ true → cond gone true (cond has attached true) ≡ true
-    there false attached true is = is
-    there _ attached _ is = refl
+    there gone attached has is = grind (arith, is)
 chosen_resumed Stepped state hand rest is =
     attached_there (is_gone state.phase) (is_attached state.phase) (has_resume (stepped_by (refused_with hand.effect) ++ rest)) is
   where
     attached_there : (gone attached has : Bool) → cond gone true attached ≡ true
         → cond gone true (cond has attached true) ≡ true
-    attached_there false attached true is = is
-    attached_there _ attached _ is = refl
+    attached_there gone attached has is = grind (arith, is)
 chosen_resumed (Written seen) state hand rest is = by_code (refused_with hand.effect)
   where
     by_code : (code : Option ℕ) → resumes_attached state.phase (written_by seen code ++ rest) ≡ true
-    by_code None = is
-    by_code (Some code) = is
+    by_code code = grind arith
 chosen_resumed (Leaves exits) state hand rest is = grind (arith, is)
 
 event_resumed : (event : Event) (state : State) (rest : List Part) → resumes_attached state.phase rest ≡ true
@@ -302,10 +298,7 @@ resume_at m next said suspension s b t h is close _ = cc
 near_sends : (m next : Machine) (said : Option Message) (suspension : Suspension)
     → said ≡ Some (Message.sends (an_effect (Does (Resume suspension)))) → Moves m said next
     → is_gone m.state.phase ≡ false
-near_sends m next said suspension is (Moves.sends free at near) = near
-near_sends m next said suspension is (Moves.updates free at due near) = near
-near_sends m next said suspension is (Moves.loses late near why) = near
-near_sends m next said suspension is _ = cc
+near_sends m next said suspension is moved = grind (arith, is, moved)
 
 pub binds_first : (messages : List Message) (m : Machine) (suspension : Suspension) → Run messages m
     → (due false m).act ≡ Act.Sends (Does (Resume suspension)) → IsBoundFirst m.state

@@ -69,14 +69,11 @@ behind_event event state = grind arith
 
 replied_passed : (test : Bool → List Part → Bool) (gone : Bool) (command : TargetCommand) (replied : Replied)
     (hand : Option Hand) → passed test gone (option_map (hand_replied command replied) hand) ≡ passed test gone hand
-replied_passed test gone command replied None = refl
-replied_passed test gone (a_question question) replied (Some hand) = refl
-replied_passed test gone (an_effect effect) replied (Some hand) = refl
+replied_passed test gone command replied hand = grind arith
 
 asked_passed : (test : Bool → List Part → Bool) (gone : Bool) (want : Want) (hand : Option Hand)
     → passed test gone (option_map (asked_hand want) hand) ≡ passed test gone hand
-asked_passed test gone want None = refl
-asked_passed test gone want (Some hand) = refl
+asked_passed test gone want hand = grind arith
 
 given_up_hand : {test : Bool → List Part → Bool} → IsTest test → (hand : Option Hand)
     → passed test true (option_map given_up hand) ≡ true

@@ -12,10 +12,10 @@ use Rattle.machine_model.specs.Lookups.{written_parts}
 use Rattle.machine_model.specs.Names.{Seen, Written, variable_write, write_found, Attached, Choice, Clear, Decides}
 use Rattle.machine_model.specs.Names.{Effect, Failed, Finding, Fresh, Gone, Initialized, Item, Leaves, ListedBreakpoint}
 use Rattle.machine_model.specs.Names.{Lookup, Nothing, Outcome, Part, Phase, Question, Replied, Set, Success}
-use Rattle.machine_model.specs.Names.{TargetCommand, TellsNews, Terminated, Want, a_question, a_request, a_stop}
-use Rattle.machine_model.specs.Names.{an_answer, an_effect, breakpoint_list, class_facts, entry_verified, some_news}
+use Rattle.machine_model.specs.Names.{TargetCommand, TellsNews, Terminated, Want, a_question, a_stop, an_answer}
+use Rattle.machine_model.specs.Names.{an_effect, breakpoint_list, class_facts, entry_verified, some_news}
 use Rattle.machine_model.specs.Names.{thread_changed, container_children, thread_frames, expression_value, no_value}
-use Rattle.machine_model.specs.Names.{by_exception, exception_text, Stepped, threads_found}
+use Rattle.machine_model.specs.Names.{by_exception, exception_text, Stepped}
 use Rattle.machine_model.specs.References.{has_room, things_of}
 use Rattle.stop_refs.specs.Numbers.{InHand}
 use Rattle.dap_messages.specs.Telling.{references_spent}
@@ -348,17 +348,13 @@ module _ (id : ℕ) where
 
   replied_asked : (command : TargetCommand) (replied : Replied) (hand : Option Hand)
       → asked_in (option_map (hand_replied command replied) hand) ≡ asked_in hand
-  replied_asked command replied None = refl
-  replied_asked (a_question question) replied (Some hand) = refl
-  replied_asked (an_effect effect) replied (Some hand) = refl
+  replied_asked command replied hand = grind arith
 
   want_asked : (want : Want) (hand : Option Hand) → asked_in (option_map (asked_hand want) hand) ≡ asked_in hand
-  want_asked want None = refl
-  want_asked want (Some hand) = refl
+  want_asked want hand = grind arith
 
   not_asked : (item : Item) → request_in item ≡ [] → is_asked item ≡ false
-  not_asked (a_request request) is = cc
-  not_asked _ is = refl
+  not_asked item is = grind (arith, is)
 
   -- a response that goes to nobody
   untold : (asked : Bool) (outcome : Outcome) → asked ≡ false → tells_it id asked (Part.Responds outcome) ≡ false
@@ -376,9 +372,7 @@ module _ (id : ℕ) where
     where
       by_room : (room : Bool) (finding : Finding)
           → tells_it id asked (Part.Responds (cond room (Success (body_of finding)) (Failed references_spent))) ≡ false
-      by_room false finding = refl
-      by_room true (threads_found named) = refl
-      by_room _ finding = refl
+      by_room room finding = grind arith
 
   value_shown : (asked : Bool) (numbers : InHand) (result : Result Finding)
       → tells_it id asked (Part.Responds (value_outcome numbers result)) ≡ false

@@ -7,8 +7,8 @@ use Rattle.dap_messages.specs.declared.requests.SourceBreakpoint.{SourceBreakpoi
 use Rattle.jdwp_values.specs.declared.id.ClassId.{ClassId}
 use Rattle.dap_messages.specs.declared.requests.FunctionBreakpoint.{FunctionBreakpoint}
 use Rattle.machine_model.specs.Breakpoints.{entry_of, function_listed, functions_from, has_id, key_of, numbered_from}
-use Rattle.machine_model.specs.Names.{Attach, Classes, Command, Failure, Item, Lines, ListedBreakpoint, Note, Part}
-use Rattle.machine_model.specs.Names.{Phase, SetBreakpoints, Success, TellsNews, a_composite, a_raw, a_request}
+use Rattle.machine_model.specs.Names.{Classes, Command, Failure, Item, Lines, ListedBreakpoint, Note, Part, Phase}
+use Rattle.machine_model.specs.Names.{SetBreakpoints, Success, TellsNews, a_composite, a_raw, a_request}
 use Rattle.machine_model.specs.Names.{breakpoint_list, class_facts, entry_verified, some_news, target_end, Functions}
 use Rattle.machine_model.specs.Names.{SetFunctionBreakpoints, Steps, StopsAt}
 use Rattle.machine_model.specs.Knowing.{is_fresh}
@@ -180,8 +180,7 @@ module _ (id : ℕ) where
   row_covers : (failure : Option Failure) (command : Command) (state : State) → nat_lt id state.next_entry ≡ true
       → is_fresh state.phase ≡ false → failure_of (wanting command) state ≡ failure
       → covers true false (parts_by failure (row_of command state)) ≡ true
-  row_covers None (Attach arguments) state is near same = grind (arith, near, same)
-  row_covers failure command state is near same = grind (arith, is)
+  row_covers failure command state is near same = grind (arith, is, near, same)
 
   begun_covers : (state : State) (item : Item) → nat_lt id state.next_entry ≡ true → is_fresh state.phase ≡ false
       → covers (is_asked item) false (parts_of state item) ≡ true

@@ -126,8 +126,7 @@ waits_full id_pending m hand want wants is are waits =
     (subst (λ (held : Option Hand). (asked_next (is_full id_pending m) m held).act ≡ Act.Waits) is waits))
   where
     by_full : (full : Bool) → (asked_first full m (want ∷ wants)).act ≡ Act.Waits → full ≡ true
-    by_full true waits = refl
-    by_full false waits = cc
+    by_full full waits = grind (arith, waits)
 
 waits_asked : (id_pending : Bool) (m : Machine) (hand : Hand) → WaitsWith id_pending m hand → IsAsked id_pending m hand
 waits_asked id_pending m hand w =

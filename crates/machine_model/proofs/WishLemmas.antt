@@ -24,9 +24,7 @@ pub due_set : (w : Wishes) (wish : Wish) → effect_due w ≡ Some (Set wish) �
 due_set w wish is = by_change (next_change w) is
   where
     by_change : (change : Option WishChange) → option_map effect_of change ≡ Some (Set wish) → change ≡ Some (sets wish)
-    by_change None is = cc
-    by_change (Some (clears one)) is = cc
-    by_change (Some (sets other)) is = cc
+    by_change change is = grind (arith, is)
 
 pub due_clear : (w : Wishes) (wish : Wish) (request : ℕ) → effect_due w ≡ Some (Clear wish request)
     → next_change w ≡ Some (clears (record { wish = wish; request = request }))
@@ -187,5 +185,4 @@ pub none_due_change : (w : Wishes) → effect_due w ≡ None → next_change w �
 none_due_change w is = by_change (next_change w) is
   where
     by_change : (change : Option WishChange) → option_map effect_of change ≡ None → change ≡ None
-    by_change None is = refl
-    by_change (Some change) is = cc
+    by_change change is = grind (arith, is)
