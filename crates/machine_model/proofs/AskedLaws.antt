@@ -5,7 +5,7 @@ use Rattle.machine_model.specs.Asking.{is_new, was_asked}
 use Rattle.machine_model.specs.Due.{is_listed, with_want, with_wants}
 use Rattle.machine_model.specs.Facts.{fact_known}
 use Rattle.machine_model.specs.Keys.{same_question}
-use Rattle.machine_model.specs.Names.{Answer, Question, Replied, Sent, Want, an_answer, an_error}
+use Rattle.machine_model.specs.Names.{Answer, Question, Replied, Sent, Want}
 use Rattle.machine_model.specs.Plans.{Found, Need, Plan, Sight, after, asks_for, beside, fact_heard, fails, found_at}
 use Rattle.machine_model.specs.Plans.{found_from, gives, has, heard_of, lacking, lacks, may_hear, must_by, must_hear}
 use Rattle.machine_model.specs.Plans.{need, pairs, question_of, wants}
@@ -60,8 +60,7 @@ lacks_due : (sight : Sight) (want : Want) → all_due sight.asked (lacking (hear
 lacks_due sight (Want.Must question) = by_found (found_from 0 sight.asked question) refl
   where
     by_reply : (place : ℕ) (replied : Replied) → all_due sight.asked (lacking (must_by place replied)) ≡ true
-    by_reply place (an_answer answer) = refl
-    by_reply place (an_error code) = refl
+    by_reply place replied = grind arith
 
     by_found : (found : Option Found) → found_from 0 sight.asked question ≡ found
         → all_due sight.asked (lacking (must_hear question found)) ≡ true
@@ -82,8 +81,7 @@ lacks_due sight (Want.Fact question) =
         → all_due sight.asked (lacking (fact_heard question known found)) ≡ true
     by_known None None is = new_or (is_waiting question sight.asked) (not (was_asked question sight.asked))
         (unheard 0 sight.asked question is)
-    by_known None (Some found) is = refl
-    by_known (Some answer) found is = refl
+    by_known _ _ is = refl
 
 after_due : {A B : Type 0} (asked : List Sent) (n : Need A) (go : A → Need B) → all_due asked (lacking n) ≡ true
     → ((a : A) → all_due asked (lacking (go a)) ≡ true) → all_due asked (lacking (after n go)) ≡ true
@@ -93,15 +91,11 @@ after_due asked (lacks want others) go h rest = h
 
 beside_due : {A B : Type 0} (asked : List Sent) (n : Need A) (k : Need B) → all_due asked (lacking n) ≡ true
     → all_due asked (lacking k) ≡ true → all_due asked (lacking (beside n k)) ≡ true
-beside_due asked (has a) (has b) h k = refl
-beside_due asked (has a) (fails fault) h k = refl
 beside_due asked (has a) (lacks want others) h k = k
 beside_due asked (fails fault) (has b) h k = refl
-beside_due asked (fails fault) (fails other) h k = refl
-beside_due asked (fails fault) (lacks want others) h k = refl
 beside_due asked (lacks want others) (has b) h k = h
-beside_due asked (lacks want others) (fails fault) h k = refl
 beside_due asked (lacks want others) (lacks other more) h k = due_joined asked (want ∷ others) (other ∷ more) h k
+beside_due asked _ _ h k = refl
 
 -- what a plan lacks is due
 pub need_due : {A : Type 0} (sight : Sight) (plan : Plan A) → all_due sight.asked (lacking (need sight plan)) ≡ true
@@ -151,8 +145,7 @@ apart_last asked (first ∷ queue) want h once new =
         → (rest ≡ true → others ≡ false → are_apart asked (queue ++ want ∷ []) ≡ true)
         → cond new_first (cond (is_listed (question_of first) (queue ++ want ∷ [])) false
         (are_apart asked (queue ++ want ∷ []))) false ≡ true
-    by_tests true false true false false h once listed rest = rw (listed refl refl, rest refl refl) refl
-    by_tests new_first listed rest same_one others h once apart more = cc
+    by_tests new_first listed rest same_one others h once fits differ = grind (arith, h, once, fits, differ)
 
 apart_one : (asked : List Sent) (queue : List Want) (want : Want) → are_apart asked queue ≡ true
     → is_due asked want ≡ true → are_apart asked (with_want asked queue want) ≡ true
@@ -161,9 +154,8 @@ apart_one asked queue want h due = by_test (is_waiting (question_of want) asked)
   where
     by_test : (waits listed : Bool) → is_listed (question_of want) queue ≡ listed → (waits || is_new want asked) ≡ true
         → are_apart asked (cond (waits || listed) queue (queue ++ want ∷ [])) ≡ true
-    by_test true listed is due = h
-    by_test false true is due = h
     by_test false false is due = apart_last asked queue want h is due
+    by_test _ _ is due = h
 
 pub with_apart : (asked : List Sent) (queue more : List Want) → are_apart asked queue ≡ true → all_due asked more ≡ true
     → are_apart asked (with_wants asked queue more) ≡ true
@@ -232,8 +224,7 @@ apart_behind want asked (other ∷ queue) once h =
         → (rest ≡ true → others ≡ false → are_apart (asked ++ record { want = want; reply = None } ∷ []) queue ≡ true)
         → cond (is_new other (asked ++ record { want = want; reply = None } ∷ [])) (cond listed false
         (are_apart (asked ++ record { want = want; reply = None } ∷ []) queue)) false ≡ true
-    by_tests true false true false false was differs h once now rest = rw (now was differs, rest refl refl) refl
-    by_tests new listed rest same_one others was differs h once now more_rest = cc
+    by_tests new listed rest same_one others was differs h once now fits = grind (arith, was, differs, h, once, now, fits)
 
 pub apart_asked : (want : Want) (asked : List Sent) (queue : List Want) → are_apart asked (want ∷ queue) ≡ true
     → (is_new want asked ≡ true) × (are_apart (asked ++ record { want = want; reply = None } ∷ []) queue ≡ true)
@@ -280,5 +271,4 @@ apart_filled question replied asked (want ∷ queue) h =
         → (rest ≡ true → are_apart (filled question replied asked) queue ≡ true)
         → cond (is_new want (filled question replied asked)) (cond listed false
         (are_apart (filled question replied asked) queue)) false ≡ true
-    by_tests true false true was h now rest = rw (now was, rest refl) refl
-    by_tests new listed rest was h now more = cc
+    by_tests new listed rest was h now fits = grind (arith, was, h, now, fits)

@@ -1,7 +1,7 @@
 -- Locations of a breakpoint that are neither installed nor refused, and what each change of the event requests leaves
 -- of them.
-use Rattle.std.proofs.Common.{◌≡◌, ℕ, Bool, true, false, not, List, [], ◌∷◌, ◌++◌, Some, None, refl, ap}
-use Rattle.std.proofs.Common.{◌∙◌, sym, ◌||◌, ◌&&◌, ◌==◌, map, arith}
+use Rattle.std.proofs.Common.{◌≡◌, ℕ, Bool, true, false, not, List, [], ◌∷◌, ◌++◌, Some, None, refl, ap, ◌∙◌, sym, ◌||◌}
+use Rattle.std.proofs.Common.{◌&&◌, ◌==◌, map, arith}
 use Rattle.std.specs.List.{AllByRecursion as All, list_any}
 use Rattle.machine_model.specs.Names.{Clear, Set}
 use Rattle.machine_model.specs.Requests.{Wishes, effect_due}
@@ -17,8 +17,7 @@ use Rattle.wish_sets.specs.Order.{has_wish, is_wish, wish_cmp}
 use Rattle.wish_sets.specs.Places.{places}
 use Rattle.wish_sets.specs.Wanted.{Wanted}
 use Rattle.wish_sets.specs.Wished.{stepping, stops, thrown, watched, wished}
-use Rattle.wish_sets.specs.Wishes.{EventRequest, cleared, installed_as, is_installed, is_missing, refused_now}
-use Rattle.wish_sets.specs.Wishes.{rewished}
+use Rattle.wish_sets.specs.Wishes.{EventRequest, cleared, installed_as, is_installed, is_missing, refused_now, rewished}
 use Rattle.wish_sets.specs.declared.place.Place.{Place}
 use Rattle.wish_sets.specs.declared.wish.Wish.{Wish}
 use Rattle.wish_sets.specs.declared.wish.Wish.TheVariants as wishes
@@ -61,8 +60,7 @@ among all (place ∷ those) sub = (
 )
   where
     last : (b : Bool) → (b || true) ≡ true
-    last true = refl
-    last false = refl
+    last b = grind arith
 
 abbrev AreWished : Wanted → List Place → Type 0
 AreWished wanted those = All (λ (place : Place). has_wish (wished wanted) (stop_of place) ≡ true) those

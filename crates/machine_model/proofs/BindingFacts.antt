@@ -1,6 +1,6 @@
 -- A fact that is learnt is known, and a class that is made known is bound by what is known of it.
-use Rattle.std.proofs.Common.{◌≡◌, ℕ, Bool, true, false, cond, List, [], ◌∷◌, Option, Some, None, refl}
-use Rattle.std.proofs.Common.{sym, ap, ◌∙◌, option_map, arith, ◌||◌}
+use Rattle.std.proofs.Common.{◌≡◌, ℕ, Bool, true, false, cond, List, [], ◌∷◌, Option, Some, None, refl, sym, ap, ◌∙◌}
+use Rattle.std.proofs.Common.{option_map, arith, ◌||◌}
 use Rattle.std.specs.List.{AllByRecursion as All}
 use Rattle.class_tables.specs.Facts.{Known, MethodOf, same_class, same_method}
 use Rattle.class_tables.specs.Lookups.{Lookups, found_in}
@@ -37,8 +37,7 @@ module _ {K V : Type 0} (same : K → K → Bool) where
     where
       by_put : (is : Bool) → same key entry.0 ≡ is → under same key (put same key v entries) ≡ Some v
           → under same key (cond is ((entry.0, v) ∷ entries) (entry ∷ put same key v entries)) ≡ Some v
-      by_put true e rest = rw e refl
-      by_put false e rest = rw e rest
+      by_put is e rest = grind (arith, e, rest)
 
   -- and nothing else changes
   put_other : (k key : K) (v : V) (entries : List (K × V)) → same k key ≡ false
@@ -55,8 +54,7 @@ module _ {K V : Type 0} (same : K → K → Bool) where
       by_put false e rest = ap (cond (same k entry.0) (Some entry.1)) rest
 
 pub is_mapped : {A B : Type 0} (f : A → B) (found : Option A) → is_some (option_map f found) ≡ is_some found
-is_mapped f None = refl
-is_mapped f (Some a) = refl
+is_mapped f found = grind arith
 
 -- Facts that are learnt -----------------------------------------------------------------------------------------------
 
@@ -166,13 +164,11 @@ module _ (sight : Sight) (wanted : Wanted) (classes : List (ClassId × KnownClas
   later = record wanted { classes = classes; step = step; caught = caught; uncaught = uncaught }
 
   same_keyed : (key : Option Key) → is_keyed later key ≡ is_keyed wanted key
-  same_keyed None = refl
-  same_keyed (Some key) = refl
+  same_keyed key = grind arith
 
   same_bound : (asked keyed : Bool) (class : ClassId) (signature : List ℕ)
       → bound_plan asked keyed later class signature ≡ bound_plan asked keyed wanted class signature
-  same_bound false keyed class signature = refl
-  same_bound true keyed class signature = refl
+  same_bound asked keyed class signature = grind arith
 
   same_source : (class : ClassId) (signature : List ℕ)
       → need sight (source_plan later class signature) ≡ need sight (source_plan wanted class signature)

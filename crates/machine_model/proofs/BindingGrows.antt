@@ -13,8 +13,8 @@ use Rattle.machine_model.specs.Binding.{sight_alone}
 use Rattle.machine_model.specs.Classes.{class_plan, classes_in, known_plan}
 use Rattle.machine_model.specs.Facts.{fact_known}
 use Rattle.machine_model.specs.Names.{Answer, Question, Sent, Want}
-use Rattle.machine_model.specs.Plans.{Need, Plan, after, beside, each, fact_heard, fails, gives, has, heard_of, joined}
-use Rattle.machine_model.specs.Plans.{lacks, made_with, need, pairs, question_of, wants}
+use Rattle.machine_model.specs.Plans.{Need, Plan, after, beside, each, fact_heard, gives, has, heard_of, joined, fails}
+use Rattle.machine_model.specs.Plans.{made_with, need, pairs, question_of, wants, lacks}
 use Rattle.machine_model.specs.Replying.{knows_fact, learnt, with_heard}
 use Rattle.machine_model.specs.State.{is_some}
 use Rattle.machine_model.proofs.BindingFacts.{is_mapped}
@@ -130,20 +130,14 @@ StillHas {A} n m = (a : A) → n ≡ has a → m ≡ has a
 after_still : {A B : Type 0} (n m : Need A) (f g : A → Need B) → StillHas n m → ((a : A) → StillHas (f a) (g a))
     → StillHas (after n f) (after m g)
 after_still (has a) m f g h k b is = ap (λ m. after m g) (h a refl) ∙ k a b is
-after_still (fails fault) m f g h k b is = cc
-after_still (lacks want others) m f g h k b is = cc
+after_still _ m f g h k b is = cc
 
 beside_still : {A B : Type 0} (n m : Need A) (k l : Need B) → StillHas n m → StillHas k l
     → StillHas (beside n k) (beside m l)
 beside_still (has a) m (has b) l h i two is = ap (λ n. beside n l) (h a refl) ∙ ap (beside (has a)) (i b refl) ∙ is
-beside_still (has a) m (fails fault) l h i two is = cc
-beside_still (has a) m (lacks want others) l h i two is = cc
 beside_still (fails fault) m (has b) l h i two is = cc
-beside_still (fails fault) m (fails other) l h i two is = cc
-beside_still (fails fault) m (lacks want others) l h i two is = cc
 beside_still (lacks want others) m (has b) l h i two is = cc
-beside_still (lacks want others) m (fails fault) l h i two is = cc
-beside_still (lacks want others) m (lacks other more) l h i two is = cc
+beside_still _ m _ l h i two is = cc
 
 module _ (known now : Known) (grows : Grows known now) where
   fact_stays : (fact : Question) → is_fact fact ≡ true → (heard : Option Answer)
@@ -175,8 +169,6 @@ module _ (known now : Known) (grows : Grows known now) where
 
   heard_still : (want : Want) → wants_fact want ≡ true
       → StillHas (heard_of (sight_alone known) want) (heard_of (sight_alone now) want)
-  heard_still (Want.Must question) fact = cc
-  heard_still (Want.May question) fact = cc
   heard_still (Want.Fact question) fact = by_known (fact_known (found_in known) question) refl
     where
       by_known : (heard : Option (Option Answer)) → fact_known (found_in known) question ≡ heard
@@ -185,6 +177,7 @@ module _ (known now : Known) (grows : Grows known now) where
       by_known (Some heard) e a is =
           ap (λ (heard : Option (Option Answer)). fact_heard question heard None) (fact_stays question fact heard e)
           ∙ is
+  heard_still _ fact = cc
 
   need_still : {A : Type 0} (p : Plan A) → AllWants wants_fact p
       → StillHas (need (sight_alone known) p) (need (sight_alone now) p)

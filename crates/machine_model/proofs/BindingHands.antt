@@ -1,15 +1,14 @@
 -- What the item in hand may ask of classes, and where it is changed what is wished in them.
-use Rattle.std.proofs.Common.{◌≡◌, Bool, true, false, cond, not, ◌||◌, List, [], ◌∷◌, Option, Some, None, refl, sym}
-use Rattle.std.proofs.Common.{ap, ◌∙◌, arith, ◌++◌, ℕ}
+use Rattle.std.proofs.Common.{◌≡◌, Bool, true, false, cond, not, ◌||◌, List, [], ◌∷◌, Option, Some, None, refl, sym, ap}
+use Rattle.std.proofs.Common.{◌∙◌, arith, ◌++◌, ℕ}
 use Rattle.std.specs.List.{AllByRecursion as All}
 use Rattle.class_tables.specs.Facts.{Known}
 use Rattle.class_tables.specs.Lookups.{found_in}
 use Rattle.jdwp_values.specs.declared.id.ClassId.{ClassId}
 use Rattle.machine_model.specs.Facts.{fact_known}
-use Rattle.machine_model.specs.Names.{Written}
-use Rattle.machine_model.specs.Names.{Attached, Choice, Classes, Command, Decides, Failure, Fresh, Gone, Item, Leaves}
-use Rattle.machine_model.specs.Names.{Lines, News, Part, Phase, Question, Replied, Sent, TellsNews, Want, a_composite}
-use Rattle.machine_model.specs.Names.{a_raw, a_request, class_facts, target_end, Functions, Stepped, Steps, Throws}
+use Rattle.machine_model.specs.Names.{Attached, Choice, Classes, Command, Decides, Failure, Item, Lines, News, Part}
+use Rattle.machine_model.specs.Names.{Phase, Question, Replied, Sent, TellsNews, Want, a_raw, a_request, class_facts}
+use Rattle.machine_model.specs.Names.{Functions, Stepped, Steps, Throws}
 use Rattle.machine_model.specs.Plans.{asks_for, question_of}
 use Rattle.machine_model.specs.Replying.{filled, waits_for, is_waiting}
 use Rattle.machine_model.specs.Rows.{chosen, failure_of, news_of, parts_by, parts_of, refused_with, row_of, stepped_by}
@@ -21,6 +20,8 @@ use Rattle.machine_model.proofs.BindingPlans.{IsLearnt, is_fact, is_listing}
 use Rattle.machine_model.proofs.KeyLaws.{is_one}
 use Rattle.machine_model.proofs.Tables.{is_updates, of_decided, of_told, told_alike}
 use Rattle.machine_model.proofs.Testing.{IsTest}
+use Rattle.machine_model.proofs.Bools.{never, or_more}
+use Rattle.std.proofs.lemmas.Bool.{or_right}
 
 -- Parts ---------------------------------------------------------------------------------------------------------------
 
@@ -85,9 +86,8 @@ row_placed failure command state = grind arith
 
 placed_begun : (state : State) (item : Item) → is_placed (parts_of state item) ≡ true
 placed_begun state (a_request request) = row_placed (failure_of (wanting request.command) state) request.command state
-placed_begun state target_end = grind arith
-placed_begun state (a_composite at composite) = grind arith
 placed_begun state (a_raw at body) = refl
+placed_begun state _ = grind arith
 
 pub placed_rest : (choice : Choice) (rest : List Part) → is_placed (Part.Unfolds choice ∷ rest) ≡ true
     → is_placed rest ≡ true
@@ -108,11 +108,9 @@ placed_chosen (TellsNews below) state hand rest none is =
     by_news state.phase (news_of below state hand.item)
   where
     by_news : (phase : Phase) (news : List News) → is_placed (told_in phase news ++ rest) ≡ true
-    by_news Fresh news = is
-    by_news Gone news = is
-    by_news Attached [] = is
     by_news Attached (one ∷ news) =
         rw (told_alike has_note (λ news parts. refl) Attached news rest ∙ none) (by_news Attached news)
+    by_news _ _ = is
 placed_chosen Decides state hand rest none is =
     of_decided (λ (parts : List Part). is_placed (parts ++ rest) ≡ true) is (rw none is) (rw none is)
     (λ stopped thrown halt. let (no_note, are_placed) = placed_surplus stopped rest none is in
@@ -122,10 +120,8 @@ placed_chosen Decides state hand rest none is =
 placed_chosen Stepped state hand rest none is = by_code (refused_with hand.effect)
   where
     by_code : (code : Option ℕ) → is_placed (stepped_by code ++ rest) ≡ true
-    by_code None = rw none is
-    by_code (Some code) = rw none is
-placed_chosen (Written seen) state hand rest none is = grind (arith, is)
-placed_chosen (Leaves exits) state hand rest none is = grind (arith, is)
+    by_code code = grind arith
+placed_chosen _ state hand rest none is = grind (arith, is)
 
 pub placed_test : IsTest placed
 placed_test = record {
@@ -145,9 +141,8 @@ row_noted failure command state = grind arith
 -- no item begins with classes
 pub begun_noted : (state : State) (item : Item) → first_note (parts_of state item) ≡ None
 begun_noted state (a_request request) = row_noted (failure_of (wanting request.command) state) request.command state
-begun_noted state target_end = grind arith
-begun_noted state (a_composite at composite) = grind arith
 begun_noted state (a_raw at body) = refl
+begun_noted state _ = grind arith
 
 -- where nothing is looked up any more all watches have to be set by now
 pub needs_none : (parts : List Part) → is_placed parts ≡ true → looks_ahead parts ≡ false → needs_watches parts ≡ true
@@ -185,8 +180,7 @@ none_awaits [] is = refl
 none_awaits (sent ∷ asked) is = grind (arith, is, none_awaits asked)
 
 pub none_queued : (wants : List Want) → is_empty wants ≡ true → queues_listing wants ≡ false
-none_queued [] is = refl
-none_queued (want ∷ wants) is = cc
+none_queued wants is = grind (arith, is)
 
 -- what was listed was asked for
 pub listed_asks : (asked : List Sent) → was_listed asked ≡ true → asks_listing asked ≡ true
@@ -200,10 +194,6 @@ awaited_is [] question waits lists = cc
 awaited_is (sent ∷ asked) question waits lists =
     by_tests (is_none sent.reply) (asks_for sent question) refl waits (awaited_is asked question)
   where
-    or_right : (a b : Bool) → b ≡ true → (a || b) ≡ true
-    or_right true b is = refl
-    or_right false b is = is
-
     by_tests : (none asks : Bool) → asks_for sent question ≡ asks
         → (cond none asks false || is_waiting question asked) ≡ true
         → (is_waiting question asked ≡ true → is_listing question ≡ true → awaits_listing asked ≡ true)
@@ -229,13 +219,6 @@ module _ (question : Question) (replied : Replied) where
   awaits_filled [] is = is
   awaits_filled (sent ∷ asked) is = by_test (waits_for sent question) (awaits_filled asked) is
     where
-      either : (a b c : Bool) → (a || b) ≡ true → (b ≡ true → c ≡ true) → (a || c) ≡ true
-      either a b c is rest = grind (arith, is, rest)
-
-      or_right : (a b : Bool) → b ≡ true → (a || b) ≡ true
-      or_right true b is = refl
-      or_right false b is = is
-
       by_test : (is : Bool) → (awaits_listing (filled question replied asked) ≡ true → awaits_listing asked ≡ true)
           → awaits_listing (cond is (record sent { reply = Some replied } ∷ asked)
           (sent ∷ filled question replied asked)) ≡ true
@@ -243,7 +226,7 @@ module _ (question : Question) (replied : Replied) where
       by_test true again now =
           or_right (cond (is_none sent.reply) (is_listing (question_of sent.want)) false) _ now
       by_test false again now =
-          either (cond (is_none sent.reply) (is_listing (question_of sent.want)) false) _ _ now again
+          or_more (cond (is_none sent.reply) (is_listing (question_of sent.want)) false) _ _ now again
 
   pub listed_filled : (asked : List Sent) → is_listing question ≡ false
       → was_listed (filled question replied asked) ≡ was_listed asked
@@ -251,10 +234,6 @@ module _ (question : Question) (replied : Replied) where
   listed_filled (sent ∷ asked) other =
       by_tests (is_none sent.reply) (asks_for sent question) refl (listed_filled asked other)
     where
-      never : (b : Bool) → cond b false false ≡ false
-      never true = refl
-      never false = refl
-
       by_tests : (none asks : Bool) → asks_for sent question ≡ asks
           → was_listed (filled question replied asked) ≡ was_listed asked
           → was_listed (cond (cond none asks false) (record sent { reply = Some replied } ∷ asked)
@@ -286,5 +265,4 @@ module _ (question : Question) (replied : Replied) where
           → All (IsLearnt now) (cond (cond none asks false) (record sent { reply = Some replied } ∷ asked)
           (sent ∷ filled question replied asked))
       by_tests true true key again = (replied_now key, still_learnt known now grows asked h.1)
-      by_tests true false key again = (one_learnt known now grows sent h.0, again)
-      by_tests false asks key again = (one_learnt known now grows sent h.0, again)
+      by_tests _ _ key again = (one_learnt known now grows sent h.0, again)

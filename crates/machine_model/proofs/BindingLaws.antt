@@ -5,10 +5,8 @@ use Rattle.std.proofs.Common.{◌≡◌, true, false, List, [], ◌∷◌, ◌++
 use Rattle.std.proofs.Common.{option_map, Bool}
 use Rattle.machine_model.specs.Binding.{AreAllBound}
 use Rattle.machine_model.specs.Due.{after_deed, asked_hand, behind_first, clear, load_of}
-use Rattle.machine_model.specs.Names.{Attached, Fresh, Gone, Item, Part, Phase, Sent, Want, a_composite, a_question}
-use Rattle.machine_model.specs.Names.{a_raw, a_request, an_effect, target_end}
-use Rattle.machine_model.specs.Plans.{made_with, need, after}
-use Rattle.machine_model.specs.Plans.{each}
+use Rattle.machine_model.specs.Names.{Attached, Item, Part, Phase, Sent, Want, a_composite, a_question, an_effect}
+use Rattle.machine_model.specs.Plans.{made_with, need, after, each}
 use Rattle.machine_model.specs.Replying.{hand_replied, is_failed}
 use Rattle.machine_model.specs.Rest.{IsAtRest}
 use Rattle.machine_model.specs.Rows.{chosen, parts_of, taken}
@@ -17,19 +15,17 @@ use Rattle.machine_model.specs.State.{Hand, Machine, State, is_gone, fresh}
 use Rattle.machine_model.specs.Telling.{after_event, numbered_by}
 use Rattle.machine_model.proofs.BindingHands.{begun_noted, binds_ahead, placed, placed_rest, placed_test}
 use Rattle.machine_model.proofs.RequestLaws.{IsDue, Settling, settles, settling, was_due}
-use Rattle.machine_model.proofs.RequestSteps.{flying_in, flying_of, near_before, numbered_wishes}
-use Rattle.machine_model.proofs.RequestSteps.{parts_left}
+use Rattle.machine_model.proofs.RequestSteps.{flying_in, flying_of, near_before, numbered_wishes, parts_left}
+use Rattle.machine_model.proofs.RequestSteps.{told_wishes}
 use Rattle.machine_model.proofs.Standing.{asked_in, queue_in}
 use Rattle.machine_model.proofs.Stepping.{IsAt, Moves, Skips, by_runs}
 use Rattle.machine_model.proofs.Tables.{is_updates}
 use Rattle.machine_model.proofs.Testing.{Passed, whole, tested}
 use Rattle.machine_model.proofs.BindingWatches.{none_wished, due_set}
 use Rattle.machine_model.proofs.BindingParts.{AreLike, Binding, IsBinding, Same, are_same, as_before, asks_on}
-use Rattle.machine_model.proofs.BindingParts.{clear_now, event_same, event_wishes, goes_by, is_other, itself}
-use Rattle.machine_model.proofs.BindingParts.{leaves_watches, queues_on, still_binding, still_bound, told_same}
-use Rattle.machine_model.proofs.BindingReplies.{answers_on}
-use Rattle.machine_model.proofs.BindingReplies.{replies_on, chosen_like}
-use Rattle.machine_model.proofs.BindingReplies.{notes_on, finds_on}
+use Rattle.machine_model.proofs.BindingParts.{clear_now, event_same, goes_by, is_other, itself, leaves_watches}
+use Rattle.machine_model.proofs.BindingParts.{queues_on, still_binding, still_bound, told_same}
+use Rattle.machine_model.proofs.BindingReplies.{answers_on, replies_on, chosen_like, notes_on, finds_on}
 use Rattle.machine_model.specs.Composites.{composite_parts, has_death, learnt_in}
 
 -- Moves ---------------------------------------------------------------------------------------------------------------
@@ -55,13 +51,11 @@ passes_on {m} {hand} {part} {rest} next now free near p at same wishes other no_
 skips_on : {m : Machine} {hand : Hand} {part : Part} {rest : List Part} → load_of m ≡ clear
     → is_gone m.state.phase ≡ false → Passed placed m → Settling m → IsAt m hand part rest → Skips m hand part
     → IsBinding m → Binding m.state rest hand.queue hand.asked
-skips_on {m} {rest = rest} free near p s at (Skips.by_guard is) h =
-    passes_on m.state rest free near p at (itself m.state) refl refl refl (are_same rest) h
-skips_on {m} {rest = rest} free near p s at (Skips.no_request is) h =
-    passes_on m.state rest free near p at (itself m.state) refl refl refl (are_same rest) h
 skips_on {m} {hand} {rest = rest} free near p s at (Skips.by_wishes is) h =
     goes_by m.state Part.Updates rest rest (itself m.state) (clear_now m hand free near at.in_hand) refl
     (whole placed p at) (are_same rest) (λ needs w. due_set m.state.wishes s.tidy is) (in_front h at)
+skips_on {m} {rest = rest} free near p s at _ h =
+    passes_on m.state rest free near p at (itself m.state) refl refl refl (are_same rest) h
 
 none_left : {state : State} {queue : List Want} {asked : List Sent} → Binding state [] queue asked
     → Binding state [] [] []
@@ -89,7 +83,6 @@ begins_on {state} item h = record {
   where
     -- classes are learnt only where they are looked up then
     same_classes : (item : Item) → binds_ahead (parts_of state item) ≡ false → Same (taken item state) state
-    same_classes (a_request request) none = itself state
     same_classes (a_composite at composite) none =
         as_before (taken (a_composite at composite) state) state refl refl
         (by_phase state.phase (has_death composite.events) composite.policy refl refl none)
@@ -97,14 +90,12 @@ begins_on {state} item h = record {
         by_phase : (phase : Phase) (dies : Bool) (policy : Policy) → has_death composite.events ≡ dies
             → composite.policy ≡ policy → binds_ahead (composite_parts phase dies policy at state.next_entry) ≡ false
             → learnt_in phase composite state.classes ≡ state.classes
-        by_phase Fresh dies policy is under none = refl
         by_phase Attached true policy is under none = rw is refl
         by_phase Attached false NoThread is under none = cc
         by_phase Attached false EventThread is under none = rw (is, under) refl
         by_phase Attached false All is under none = cc
-        by_phase Gone dies policy is under none = refl
-    same_classes (a_raw at body) none = itself state
-    same_classes target_end none = itself state
+        by_phase _ dies policy is under none = refl
+    same_classes _ none = itself state
 
 put_back : {state : State} {held : Option Hand} {hand : Hand} (change : Hand → Hand) → held ≡ Some hand
     → BindingHand state (Some (change hand)) → BindingHand state (option_map change held)
@@ -127,7 +118,7 @@ binding_on m next said near p s h (Moves.finds {hand} {rest} {lookup} found free
 binding_on m next said near p s h (Moves.passes_over free at why) here = skips_on free near p s at why h
 binding_on m next said near p s h (Moves.tells {rest = rest} {event = event} free at) here =
     passes_on (after_event event m.state) rest free near p at (event_same event m.state)
-    (event_wishes event m.state) refl refl (are_same rest) h
+    (told_wishes event m.state) refl refl (are_same rest) h
 binding_on m next said near p s h (Moves.sends {rest = rest} {deed} free at is) here =
     passes_on (after_deed deed m.state) rest free near p at (as_before (after_deed deed m.state) m.state refl refl refl)
     refl refl refl (are_same rest) h
@@ -144,7 +135,6 @@ binding_on m next said near p s h (Moves.asks {hand} {want} {wants} free room is
     put_back (asked_hand want) is (subst (λ queue. Binding m.state hand.parts queue
     (hand.asked ++ record { want = want; reply = None } ∷ [])) (sym (ap behind_first are))
     (asks_on (subst (λ queue. Binding m.state hand.parts queue hand.asked) are (taken_out m h is))))
-binding_on m next said near p s h (Moves.hears read is) here = h
 binding_on m next said near p s h (Moves.greeted read is) here =
     still_binding next.state (as_before next.state m.state refl refl refl) (λ needs w. w) h
 binding_on m next said near p s h (Moves.answers {question} {replied} {hand} is waits reply last) here =
@@ -155,12 +145,8 @@ binding_on m next said near p s h (Moves.replies {effect} {replied} {hand} is fl
     (replies_on effect replied
     (subst (λ held. IsDue m.state.wishes (parts_left held) (Some effect)) is
     (was_due m effect s.awaited (ap flying_in is ∙ ap flying_of flying))) reply (taken_out m h is))
-binding_on m next said near p s h (Moves.late before after is reply) here = h
-binding_on m next said near p s h (Moves.ends gone) here = h
 binding_on m next said near p s h (Moves.loses late away why) here = cc
-binding_on m next said near p s h (Moves.comes read sized taken) here = h
-binding_on m next said near p s h (Moves.keeps is) here = h
-binding_on m next said near p s h (Moves.reads before after read is none taken) here = h
+binding_on m next said near p s h _ here = h
 
 -- The law -------------------------------------------------------------------------------------------------------------
 

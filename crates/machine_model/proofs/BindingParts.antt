@@ -8,40 +8,36 @@ use Rattle.jdwp_commands.specs.declared.question.Question.TheVariants as questio
 use Rattle.jdwp_values.specs.declared.id.ClassId.{ClassId}
 use Rattle.machine_model.specs.Binding.{AreAllBound, IsBound, sight_alone}
 use Rattle.machine_model.specs.Classes.{classes_plan, known_plan}
-use Rattle.machine_model.specs.Due.{lacked_by, newly_lacked, with_want, with_wants, is_listed}
-use Rattle.machine_model.specs.Due.{clear, load_of, asked_by, greeted_by, sized_by, way}
+use Rattle.machine_model.specs.Due.{lacked_by, newly_lacked, with_want, with_wants, is_listed, clear, load_of, asked_by}
+use Rattle.machine_model.specs.Due.{greeted_by, sized_by, way}
 use Rattle.machine_model.specs.Lookups.{classes_of, found_for, sight_of, threads_plan}
-use Rattle.machine_model.specs.Names.{Event, Finding}
-use Rattle.machine_model.specs.Names.{Outcome, Part, Replied, Sent}
-use Rattle.machine_model.specs.Names.{Want, all_threads}
-use Rattle.machine_model.specs.Names.{class_facts, classes_found, Guard, Handshake, IdSizes}
-use Rattle.machine_model.specs.Names.{container_children, exception_info, exception_text, expression_value, thread_frames}
+use Rattle.machine_model.specs.Names.{Event, Finding, Outcome, Part, Replied, Sent, Want, all_threads, class_facts}
+use Rattle.machine_model.specs.Names.{classes_found, Guard, Handshake, IdSizes, container_children, exception_info}
+use Rattle.machine_model.specs.Names.{exception_text, expression_value, thread_frames, variable_write}
 use Rattle.machine_model.specs.Exceptions.{exception_plan, text_plan}
 use Rattle.machine_model.specs.Harmless.{is_harmless}
 use Rattle.machine_model.specs.Expressions.{value_plan}
 use Rattle.machine_model.specs.Variables.{children_plan}
 use Rattle.machine_model.proofs.IdRows.{all_weak}
 use Rattle.machine_model.proofs.Frameless.{asks_frames}
-use Rattle.machine_model.proofs.SafePlans.{children_safe, exception_safe, frames_meek, is_meek, is_safe}
-use Rattle.machine_model.proofs.SafePlans.{threads_safe, thrown_safe, value_safe, write_safe}
-use Rattle.machine_model.specs.Names.{variable_write}
+use Rattle.machine_model.proofs.SafePlans.{children_safe, exception_safe, frames_meek, is_meek, is_safe, threads_safe}
+use Rattle.machine_model.proofs.SafePlans.{thrown_safe, value_safe, write_safe}
 use Rattle.machine_model.specs.Writing.{object_size, write_plan}
 use Rattle.machine_model.specs.Outcomes.{result_of}
-use Rattle.machine_model.specs.Plans.{Need, fails, has, lacks, made_with, need, question_of, after}
-use Rattle.machine_model.specs.Plans.{asking, asks_for, Found, found_at, found_from, is_done, must_hear}
+use Rattle.machine_model.specs.Plans.{Need, fails, has, lacks, made_with, need, question_of, after, asking, asks_for}
+use Rattle.machine_model.specs.Plans.{Found, found_at, found_from, is_done, must_hear}
 use Rattle.machine_model.specs.Replying.{is_waiting, learnt}
 use Rattle.machine_model.specs.Requests.{Wishes}
 use Rattle.machine_model.specs.State.{Hand, Machine, SizesRead, State, is_gone, is_some}
 use Rattle.machine_model.specs.Telling.{after_event, numbered_by}
 use Rattle.machine_model.proofs.BindingGrows.{Grows, found_still, grows_itself, still_learnt}
-use Rattle.machine_model.proofs.BindingHands.{asks_listing, awaits_listing}
-use Rattle.machine_model.proofs.BindingHands.{binds_ahead, first_note, has_note, is_placed}
-use Rattle.machine_model.proofs.BindingHands.{looks_ahead, looks_classes}
-use Rattle.machine_model.proofs.BindingHands.{looks_first, needs_watches, none_awaits, none_queued, notes_classes}
-use Rattle.machine_model.proofs.BindingHands.{notes_list, placed, queues_listing, was_listed}
+use Rattle.machine_model.proofs.BindingHands.{asks_listing, awaits_listing, binds_ahead, first_note, has_note}
+use Rattle.machine_model.proofs.BindingHands.{is_placed, looks_ahead, looks_classes, looks_first, needs_watches}
+use Rattle.machine_model.proofs.BindingHands.{none_awaits, none_queued, notes_classes, notes_list, placed}
+use Rattle.machine_model.proofs.BindingHands.{queues_listing, was_listed}
 use Rattle.machine_model.proofs.BindingFacts.{bound_alike, same_known}
-use Rattle.machine_model.proofs.BindingPlans.{IsLearnt, does_fail, known_wants, need_alone, need_holds}
-use Rattle.machine_model.proofs.BindingPlans.{is_listing, plan_lacks, wants_other}
+use Rattle.machine_model.proofs.BindingPlans.{IsLearnt, does_fail, known_wants, need_alone, need_holds, is_listing}
+use Rattle.machine_model.proofs.BindingPlans.{plan_lacks, wants_other}
 use Rattle.machine_model.specs.Frames.{frames_plan}
 use Rattle.machine_model.proofs.BindingSeen.{bound_still}
 use Rattle.machine_model.proofs.PlanIds.{need_made}
@@ -50,9 +46,10 @@ use Rattle.machine_model.proofs.RestLaws.{is_free}
 use Rattle.machine_model.proofs.Standing.{asked_in, queue_in}
 use Rattle.machine_model.proofs.Tables.{is_updates}
 use Rattle.machine_model.proofs.KeyLaws.{is_one}
-use Rattle.machine_model.proofs.BindingWatches.{WatchesSet}
-use Rattle.machine_model.proofs.BindingWatches.{or_false}
+use Rattle.machine_model.proofs.BindingWatches.{WatchesSet, or_false}
 use Rattle.wish_sets.specs.Wanted.{Wanted}
+use Rattle.machine_model.proofs.Bools.{and_first}
+use Rattle.std.proofs.lemmas.Bool.{not-true, or_left, or_right}
 
 -- The invariant -------------------------------------------------------------------------------------------------------
 
@@ -172,8 +169,7 @@ pub needs_rest : (part : Part) (rest : List Part) → is_other part ≡ true →
 needs_rest part rest is other = grind (arith, is, other)
 
 pub none_ahead : (parts : List Part) → looks_ahead parts ≡ false → looks_first parts ≡ false
-none_ahead [] is = refl
-none_ahead (part ∷ parts) is = grind (arith, is)
+none_ahead parts is = grind (arith, is)
 
 pub note_had : (parts : List Part) (classes : List ClassId) → first_note parts ≡ Some classes → has_note parts ≡ true
 note_had parts classes is = grind (arith, is)
@@ -229,9 +225,6 @@ told_same outcome state = as_before (numbered_by outcome state) state (grind ari
 pub event_same : (event : Event) (state : State) → Same (after_event event state) state
 event_same event state = as_before (after_event event state) state (grind arith) (grind arith) (grind arith)
 
-pub event_wishes : (event : Event) (state : State) → (after_event event state).wishes ≡ state.wishes
-event_wishes event state = grind arith
-
 pub itself : (state : State) → Same state state
 itself state = as_before state state refl refl refl
 
@@ -281,12 +274,7 @@ unlisted_waits state hand unlisted none =
     by_found : (found : Option Found) → found ≡ None
         → is_done (after (after (must_hear questions.AllClasses found) (λ heard. has []))
         (λ classes. has (classes_found classes))) ≡ false
-    by_found None is = refl
-    by_found (Some found) is = cc
-
-    or_right : (a b : Bool) → b ≡ true → (a || b) ≡ true
-    or_right true b is = refl
-    or_right false b is = is
+    by_found found is = grind (arith, is)
 
     none_found : (asked : List Sent) (place : ℕ) → was_listed asked ≡ false
         → found_from place asked questions.AllClasses ≡ None
@@ -321,11 +309,7 @@ queued_more asked queue (want ∷ wants) h none = queued_more asked (with_want a
     (by_test (is_waiting (question_of want) asked || is_listed (question_of want) queue))
   where
     last_one : (queue : List Want) → queues_listing queue ≡ false → queues_listing (queue ++ want ∷ []) ≡ false
-    last_one [] none = rw (not_true (is_listing (question_of want)) h.0) refl
-      where
-        not_true : (b : Bool) → not b ≡ true → b ≡ false
-        not_true true is = cc
-        not_true false is = refl
+    last_one [] none = rw (not-true (is_listing (question_of want)) h.0) refl
     last_one (first ∷ queue) none = grind (arith, none, last_one queue)
 
     by_test : (there : Bool) → queues_listing (cond there queue (queue ++ want ∷ [])) ≡ false
@@ -341,7 +325,6 @@ looks_apart parts = false
 -- only the look-up of classes asks for a list of them, and only that of frames for frames
 pub lacked_safe : (state : State) (hand : Hand) (parts : List Part) → looks_apart parts ≡ false
     → All (λ want. is_safe want ≡ true) (lacked_by state hand parts)
-lacked_safe state hand [] none = tt
 lacked_safe state hand (Part.Looks all_threads ∷ rest) none =
     plan_lacks is_safe (sight_of state hand) threads_plan threads_safe
 lacked_safe state hand (Part.Looks (thread_frames thread start levels) ∷ rest) none = cc
@@ -365,15 +348,13 @@ lacked_safe state hand (Part.Awaits guard ∷ rest) none = guards guard
     guards Handshake = by_tests state.greeting_sent state.greeting_heard
       where
         by_tests : (sent heard : Bool) → All (λ want. is_safe want ≡ true) (asked_by (greeted_by sent heard))
-        by_tests false heard = tt
-        by_tests true false = tt
-        by_tests true true = tt
+        by_tests sent heard = grind arith
     guards IdSizes = by_sizes state.sizes
       where
         by_sizes : (sizes : Option SizesRead) → All (λ want. is_safe want ≡ true) (asked_by (sized_by sizes))
         by_sizes None = (refl, tt)
         by_sizes (Some sizes) = tt
-lacked_safe state hand (_ ∷ rest) none = tt
+lacked_safe state hand _ none = tt
 
 pub lacked_meek : (state : State) (hand : Hand) (parts : List Part) → looks_first parts ≡ false
     → All (λ want. is_meek want ≡ true) (lacked_by state hand parts)
@@ -382,25 +363,17 @@ lacked_meek state hand (Part.Looks (thread_frames thread start levels) ∷ rest)
     (frames_meek state thread start levels)
 lacked_meek state hand parts none = by_first (looks_apart parts) refl
   where
-    first_of : (first second : Bool) → (first && second) ≡ true → first ≡ true
-    first_of true second is = refl
-    first_of false second is = cc
-
     by_first : (first : Bool) → looks_apart parts ≡ first → All (λ want. is_meek want ≡ true) (lacked_by state hand parts)
     by_first false apart = all_weak (λ want. is_safe want ≡ true) (λ want. is_meek want ≡ true)
-        (λ want. first_of (is_meek want) (not (asks_frames (question_of want)))) (lacked_by state hand parts)
+        (λ want. and_first (is_meek want) (not (asks_frames (question_of want)))) (lacked_by state hand parts)
         (lacked_safe state hand parts apart)
     by_first true is = cc
 
 lacked_other : (state : State) (hand : Hand) (parts : List Part) → looks_first parts ≡ false
     → All (λ want. wants_other want ≡ true) (lacked_by state hand parts)
 lacked_other state hand parts none = all_weak (λ want. is_meek want ≡ true) (λ want. wants_other want ≡ true)
-    (λ want. first_of (wants_other want) (is_harmless (question_of want))) (lacked_by state hand parts)
+    (λ want. and_first (wants_other want) (is_harmless (question_of want))) (lacked_by state hand parts)
     (lacked_meek state hand parts none)
-  where
-    first_of : (first second : Bool) → (first && second) ≡ true → first ≡ true
-    first_of true second is = refl
-    first_of false second is = cc
 
 pub queues_on : {state : State} (hand : Hand) → Binding state hand.parts hand.queue hand.asked
     → Binding state hand.parts (newly_lacked state hand) hand.asked
@@ -417,9 +390,6 @@ queues_on {state} hand h = record {
   where
     only_awaits : (awaits queues : Bool) → queues ≡ false → (awaits || queues) ≡ true → awaits ≡ true
     only_awaits awaits queues none is = grind (arith, none, is)
-
-    or_left : (a b : Bool) → a ≡ true → (a || b) ≡ true
-    or_left a b is = rw is refl
 
     by_first : (first : Bool) → looks_first hand.parts ≡ first
         → (awaits_listing hand.asked || queues_listing (with_wants hand.asked [] (lacked_by state hand hand.parts)))
@@ -470,16 +440,11 @@ asks_on {state} {parts} {want} {wants} {asked} h = record {
     by_tests awaits lists queues is = grind (arith, is)
 
     in_front : (parts : List Part) → looks_first parts ≡ true → looks_ahead parts ≡ looks_first parts
-    in_front [] is = refl
-    in_front (part ∷ parts) is = grind (arith, is)
+    in_front parts is = grind (arith, is)
 
     by_ahead : (asks : Bool) → asks_listing asked ≡ asks → (lists : Bool) → is_listing (question_of want) ≡ lists
         → (asks || lists) ≡ true → looks_ahead parts ≡ looks_first parts
     by_ahead true is lists told some = h.ahead is
     by_ahead false is true told some =
         in_front parts (h.waits (or_right (awaits_listing asked) _ (rw told refl)))
-      where
-        or_right : (a b : Bool) → b ≡ true → (a || b) ≡ true
-        or_right true b is = refl
-        or_right false b is = is
     by_ahead false is false told some = cc

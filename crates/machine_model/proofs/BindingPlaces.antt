@@ -1,6 +1,6 @@
 -- Where breakpoints stand in a class: the lines of methods that don't count give them no places.
-use Rattle.std.proofs.Common.{◌≡◌, Bool, true, false, List, [], ◌∷◌, Option, Some, None, refl, sym, ap, ◌∙◌}
-use Rattle.std.proofs.Common.{ℕ, cond, ◌||◌, ◌&&◌, ◌++◌}
+use Rattle.std.proofs.Common.{◌≡◌, Bool, true, false, List, [], ◌∷◌, Option, Some, None, refl, sym, ap, ◌∙◌, ℕ, cond}
+use Rattle.std.proofs.Common.{◌||◌, ◌&&◌, ◌++◌}
 use Rattle.std.specs.Option.{option_flatten}
 use Rattle.std.specs.Prelude.{bytes_eq, filter, filter_map, flat_map, map}
 use Rattle.std.specs.List.{AllByRecursion as All, cons_option, list_any}
@@ -28,6 +28,7 @@ use Rattle.wish_sets.specs.declared.entry.LineEntry.{LineEntry}
 use Rattle.wish_sets.specs.declared.facts.KnownClass.{KnownClass}
 use Rattle.wish_sets.specs.declared.facts.KnownMethod.{KnownMethod}
 use Rattle.wish_sets.specs.declared.place.Place.{Place}
+use Rattle.std.proofs.lemmas.Bool.{or_left, or_right}
 
 -- the lines of a method are known
 abbrev pub HasLines : Known → ClassId → Method → Type 0
@@ -44,13 +45,6 @@ as_found loaded source methods = record {
 }
 
 -- Lists ---------------------------------------------------------------------------------------------------------------
-
-or_left : (a b : Bool) → a ≡ true → (a || b) ≡ true
-or_left a b is = rw is refl
-
-or_right : (a b : Bool) → b ≡ true → (a || b) ≡ true
-or_right true b is = refl
-or_right false b is = is
 
 -- what holds of those that pass a test holds of each that passes
 all_passing : {A : Type 0} (Good : A → Type 0) (test : A → Bool) (list : List A) → All Good (filter test list)

@@ -1,6 +1,6 @@
 -- What the look-up of classes asks: facts of classes alone, which are heard alike from what is known and from replies.
-use Rattle.std.proofs.Common.{◌≡◌, ℕ, suc, Bool, true, false, cond, not, List, [], ◌∷◌, Option, Some, None}
-use Rattle.std.proofs.Common.{refl, sym, ap, ◌∙◌, ◌||◌}
+use Rattle.std.proofs.Common.{◌≡◌, ℕ, suc, Bool, true, false, cond, not, List, [], ◌∷◌, Option, Some, None, refl, sym}
+use Rattle.std.proofs.Common.{ap, ◌∙◌, ◌||◌}
 use Rattle.std.specs.List.{AllByRecursion as All}
 use Rattle.std.specs.Prelude.{filter}
 use Rattle.class_tables.specs.Facts.{Known}
@@ -149,22 +149,17 @@ heard_lacks test sight (Want.Fact question) is =
     by_known : (known : Option (Option Answer)) (found : Option Found)
         → All (λ want. test want ≡ true) (lacking (fact_heard question known found))
     by_known None None = (is, tt)
-    by_known None (Some found) = tt
-    by_known (Some heard) found = tt
+    by_known _ _ = tt
 
 beside_lacks : {A B : Type 0} (test : Want → Bool) (n : Need A) (k : Need B)
     → All (λ want. test want ≡ true) (lacking n) → All (λ want. test want ≡ true) (lacking k)
     → All (λ want. test want ≡ true) (lacking (beside n k))
-beside_lacks test (has a) (has b) h k = tt
-beside_lacks test (has a) (fails fault) h k = tt
 beside_lacks test (has a) (lacks want others) h k = k
 beside_lacks test (fails fault) (has b) h k = tt
-beside_lacks test (fails fault) (fails other) h k = tt
-beside_lacks test (fails fault) (lacks want others) h k = tt
 beside_lacks test (lacks want others) (has b) h k = h
-beside_lacks test (lacks want others) (fails fault) h k = tt
 beside_lacks test (lacks want others) (lacks other more) h k =
     all_joined (λ want. test want ≡ true) (want ∷ others) (other ∷ more) h k
+beside_lacks test _ _ h k = tt
 
 after_lacks : {A B : Type 0} (test : Want → Bool) (n : Need A) (f : A → Need B)
     → All (λ want. test want ≡ true) (lacking n) → ((a : A) → All (λ want. test want ≡ true) (lacking (f a)))
@@ -212,14 +207,13 @@ unknown_unheard known place (sent ∷ asked) question h fact none =
 -- a fact is heard alike with and without what was asked
 heard_alone : (known : Known) (asked : List Sent) (want : Want) → All (IsLearnt known) asked → wants_fact want ≡ true
     → heard_of (record { classes = found_in known; asked = asked }) want ≡ heard_of (sight_alone known) want
-heard_alone known asked (Want.Must question) h fact = cc
-heard_alone known asked (Want.May question) h fact = cc
 heard_alone known asked (Want.Fact question) h fact = by_known (fact_known (found_in known) question) refl
   where
     by_known : (fact_now : Option (Option Answer)) → fact_known (found_in known) question ≡ fact_now
         → fact_heard question fact_now (found_from 0 asked question) ≡ fact_heard question fact_now None
     by_known None is = ap (fact_heard question None) (unknown_unheard known 0 asked question h fact is)
     by_known (Some heard) is = refl
+heard_alone known asked _ h fact = cc
 
 pub need_alone : {A : Type 0} (known : Known) (asked : List Sent) (p : Plan A) → All (IsLearnt known) asked
     → AllWants wants_fact p
@@ -245,13 +239,12 @@ does_fail (lacks want others) = false
 
 heard_holds : (known : Known) (want : Want) → wants_fact want ≡ true
     → does_fail (heard_of (sight_alone known) want) ≡ false
-heard_holds known (Want.Must question) fact = cc
-heard_holds known (Want.May question) fact = cc
 heard_holds known (Want.Fact question) fact = by_known (fact_known (found_in known) question)
   where
     by_known : (fact_now : Option (Option Answer)) → does_fail (fact_heard question fact_now None) ≡ false
     by_known None = refl
     by_known (Some heard) = refl
+heard_holds known _ fact = cc
 
 after_holds : {A B : Type 0} (n : Need A) (f : A → Need B) → does_fail n ≡ false → ((a : A) → does_fail (f a) ≡ false)
     → does_fail (after n f) ≡ false
@@ -261,13 +254,10 @@ after_holds (lacks want others) f h k = refl
 
 beside_holds : {A B : Type 0} (n : Need A) (k : Need B) → does_fail n ≡ false → does_fail k ≡ false
     → does_fail (beside n k) ≡ false
-beside_holds (has a) (has b) h k = refl
 beside_holds (has a) (fails fault) h k = cc
-beside_holds (has a) (lacks want others) h k = refl
 beside_holds (fails fault) k h l = cc
-beside_holds (lacks want others) (has b) h k = refl
 beside_holds (lacks want others) (fails fault) h k = cc
-beside_holds (lacks want others) (lacks other more) h k = refl
+beside_holds _ _ h k = refl
 
 pub need_holds : {A : Type 0} (known : Known) (p : Plan A) → AllWants wants_fact p
     → does_fail (need (sight_alone known) p) ≡ false

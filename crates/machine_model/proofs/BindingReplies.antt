@@ -1,6 +1,6 @@
 -- What replies and notes keep of what binds breakpoints.
-use Rattle.std.proofs.Common.{◌≡◌, ℕ, Bool, true, false, not, ◌||◌, List, [], ◌∷◌, ◌++◌, Option, Some, None}
-use Rattle.std.proofs.Common.{refl, sym, ap, subst, ◌∙◌, arith, ◌⊎◌, inl, inr}
+use Rattle.std.proofs.Common.{◌≡◌, ℕ, Bool, true, false, not, ◌||◌, List, [], ◌∷◌, ◌++◌, Option, Some, None, refl, sym}
+use Rattle.std.proofs.Common.{ap, subst, ◌∙◌, arith, ◌⊎◌, inl, inr}
 use Rattle.std.specs.List.{AllByRecursion as All}
 use Rattle.class_tables.specs.Lookups.{found_in}
 use Rattle.jdwp_commands.specs.declared.question.Question.TheVariants as questions
@@ -8,49 +8,39 @@ use Rattle.jdwp_values.specs.declared.id.ClassId.{ClassId}
 use Rattle.machine_model.specs.Binding.{AreAllBound, sight_alone}
 use Rattle.machine_model.specs.Classes.{known_plan}
 use Rattle.machine_model.specs.Lookups.{classes_of, finished, found_for, written_parts}
-use Rattle.machine_model.specs.Names.{Finding, Outcome, Written, classes_found, exception_found, frames_found, no_value, text_found, threads_found, value_found, variable_write, variables_found, write_found}
-use Rattle.machine_model.specs.Names.{Choice, Classes, Clear, Configured, Decides, Does, Effect, EntryHeld, Finding}
-use Rattle.machine_model.specs.Names.{Leaves, Lines, Lookup, Note, Options, Part, Question, Replied, Roots, Sent, Set}
-use Rattle.machine_model.specs.Names.{TellsNews, Want, all_threads, an_effect, class_facts}
-use Rattle.machine_model.specs.Names.{container_children, exception_info, exception_text, expression_value, thread_frames, Attached, Fresh}
-use Rattle.machine_model.specs.Names.{Functions, Gone, Halt, Phase, Stepped, Steps, StopsAt, Throws, Thrown}
+use Rattle.machine_model.specs.Names.{Finding, Outcome, Written, variable_write, write_found, Choice, Classes, Decides}
+use Rattle.machine_model.specs.Names.{Effect, Leaves, Lines, Lookup, Note, Part, Question, Replied, Sent, Set}
+use Rattle.machine_model.specs.Names.{TellsNews, Want, an_effect, class_facts, Attached, Functions, Halt, Phase}
+use Rattle.machine_model.specs.Names.{Stepped, Steps, StopsAt, Thrown}
 use Rattle.machine_model.specs.Outcomes.{result_of}
-use Rattle.machine_model.specs.Plans.{Need, answer_in, need}
-use Rattle.machine_model.specs.Plans.{Result, gave, is_done, refused}
-use Rattle.machine_model.specs.Replying.{IsReply, done_by, filled, is_waiting}
-use Rattle.machine_model.specs.Replying.{told_by, unless_failed}
+use Rattle.machine_model.specs.Plans.{Need, answer_in, need, Result, gave, is_done}
+use Rattle.machine_model.specs.Replying.{IsReply, done_by, filled, is_waiting, told_by, unless_failed}
 use Rattle.machine_model.specs.Requests.{Wishes, wishes_after}
-use Rattle.machine_model.specs.Rows.{written_by}
-use Rattle.machine_model.specs.Rows.{chosen, leaves, news_of, noted, refused_with, stepped_by}
+use Rattle.machine_model.specs.Rows.{written_by, chosen, leaves, news_of, noted, refused_with, stepped_by}
 use Rattle.machine_model.specs.State.{Hand, State, is_some}
 use Rattle.machine_model.specs.Stops.{hit_parts, surplus, told_part}
 use Rattle.machine_model.proofs.BindingFacts.{all_bound, fact_learnt, only_classes, same_known}
 use Rattle.machine_model.proofs.BindingGrows.{Grows, grows_itself, learnt_grows, learnt_loaded}
 use Rattle.machine_model.proofs.BindingHands.{asks_listing, asks_filled, awaited_is, awaits_listing, awaits_filled}
-use Rattle.machine_model.proofs.BindingHands.{binds_ahead, first_note, has_note, is_placed}
-use Rattle.machine_model.proofs.BindingHands.{learnt_filled, listed_asks, listed_filled, looks_ahead}
-use Rattle.machine_model.proofs.BindingHands.{looks_first, needs_none, needs_watches, notes_list}
-use Rattle.machine_model.proofs.BindingHands.{queues_listing, was_listed}
+use Rattle.machine_model.proofs.BindingHands.{binds_ahead, first_note, has_note, is_placed, learnt_filled, listed_asks}
+use Rattle.machine_model.proofs.BindingHands.{listed_filled, looks_ahead, looks_first, needs_none, needs_watches}
+use Rattle.machine_model.proofs.BindingHands.{notes_list, queues_listing, was_listed}
 use Rattle.machine_model.proofs.BindingPlans.{IsLearnt, is_fact, is_listing}
 use Rattle.machine_model.proofs.RequestLaws.{IsDue}
-use Rattle.machine_model.proofs.RequestSteps.{is_deed}
+use Rattle.machine_model.proofs.RequestSteps.{is_deed, learnt_wishes}
 use Rattle.machine_model.proofs.Tables.{decided_alike, of_decided, of_told, starts_updates, told_alike}
 use Rattle.wish_sets.specs.Wanted.{Wanted, with_exceptions, with_known, with_step}
 use Rattle.wish_sets.specs.declared.wish.Wish.TheVariants as wishes
 use Rattle.machine_model.specs.Facts.{fact_known}
-use Rattle.machine_model.proofs.BindingWatches.{WatchesSet, due_unset, replied_set, known_set}
-use Rattle.machine_model.proofs.BindingWatches.{classes_alike, watch_alike}
+use Rattle.machine_model.proofs.BindingWatches.{WatchesSet, due_unset, replied_set, known_set, classes_alike}
+use Rattle.machine_model.proofs.BindingWatches.{watch_alike}
 use Rattle.machine_model.proofs.BindingParts.{IsComplete, Binding, Same, as_before, still_bound, still_complete}
-use Rattle.machine_model.proofs.BindingParts.{still_binding, IsClear, quiet}
-use Rattle.machine_model.proofs.BindingParts.{none_ahead, note_had, placed_note}
-use Rattle.machine_model.proofs.BindingParts.{AreLike, are_same, goes_by, wanted_same}
-use Rattle.machine_model.proofs.BindingParts.{itself, found_complete, unlisted_waits}
+use Rattle.machine_model.proofs.BindingParts.{still_binding, IsClear, quiet, none_ahead, note_had, placed_note, AreLike}
+use Rattle.machine_model.proofs.BindingParts.{are_same, goes_by, wanted_same, itself, found_complete, unlisted_waits}
+use Rattle.std.proofs.lemmas.Bool.{not-true, or_left}
+use Rattle.machine_model.proofs.ReplyLaws.{wanted_replied}
 
 -- Replies -------------------------------------------------------------------------------------------------------------
-
-pub told_wishes : (question : Question) (replied : Replied) (state : State)
-    → (told_by question replied state).wishes ≡ state.wishes
-told_wishes question replied state = grind arith
 
 told_grows : (question : Question) (replied : Replied) (state : State)
     → Grows state.classes (told_by question replied state).classes
@@ -81,25 +71,20 @@ pub other_reply : (question : Question) (replied : Replied) (state : State) → 
 other_reply question replied state is = record {
   unlisted = told_unlisted question replied state is;
   wanted = wanted_same (told_by question replied state) state
-      (ap (λ (w : Wishes). w.wanted) (told_wishes question replied state));
+      (ap (λ (w : Wishes). w.wanted) (learnt_wishes question replied state));
   loaded = told_loaded question replied state is;
   grows = told_grows question replied state;
 }
 
 pub fewer_queued : (failed : Bool) (queue : List Want) → queues_listing (unless_failed failed queue) ≡ true
     → queues_listing queue ≡ true
-fewer_queued true queue is = cc
-fewer_queued false queue is = is
+fewer_queued failed queue is = grind (arith, is)
 
 pub either_more : (a b c d : Bool) → (a ≡ true → c ≡ true) → (b ≡ true → d ≡ true) → (a || b) ≡ true → (c || d) ≡ true
 either_more a b c d one other is = grind (arith, one, other, is)
 
-pub or_left : (a b : Bool) → a ≡ true → (a || b) ≡ true
-or_left a b is = rw is refl
-
 pub front_binds : (parts : List Part) → looks_first parts ≡ true → binds_ahead parts ≡ true
-front_binds [] is = cc
-front_binds (part ∷ parts) is = grind (arith, is)
+front_binds parts is = grind (arith, is)
 
 pub front_noted : (parts : List Part) (classes : List ClassId) → looks_first parts ≡ true
     → ¬ (first_note parts ≡ Some classes)
@@ -110,7 +95,7 @@ pub answers_on : {state : State} {parts : List Part} {queue : List Want} {asked 
     (replied : Replied) (failed : Bool) → is_waiting question asked ≡ true → Binding state parts queue asked
     → Binding (told_by question replied state) parts (unless_failed failed queue) (filled question replied asked)
 answers_on {state} {parts} {queue} {asked} question replied failed waits h = record {
-  watches = λ needs. subst (λ (w : Wishes). WatchesSet w) (sym (told_wishes question replied state)) (h.watches needs);
+  watches = λ needs. subst (λ (w : Wishes). WatchesSet w) (sym (learnt_wishes question replied state)) (h.watches needs);
   learnt = learnt_filled question replied state.classes (told_by question replied state).classes asked
       (told_grows question replied state) (told_learnt question replied state) h.learnt;
   waits = λ is. h.waits (either_more _ _ (awaits_listing asked) (queues_listing queue)
@@ -148,13 +133,8 @@ answers_on {state} {parts} {queue} {asked} question replied failed waits h = rec
 pub unlisted_case : (effect : Effect) (replied : Replied) (state : State)
     → ((done_by effect replied state).unlisted ≡ state.unlisted)
     ⊎ ((path : List ℕ) × (effect ≡ Set (wishes.Watch path)))
-unlisted_case (Does deed) replied state = inl refl
-unlisted_case (Clear wish request) replied state = inl refl
 unlisted_case (Set (wishes.Watch path)) replied state = inr (path, refl)
-unlisted_case (Set wish) replied state = inl refl
-
-pub effect_wanted : (effect : Effect) (replied : Replied) (w : Wishes) → (wishes_after effect replied w).wanted ≡ w.wanted
-effect_wanted effect replied w = grind arith
+unlisted_case _ replied state = inl refl
 
 pub ahead_binds : (parts : List Part) → looks_ahead parts ≡ true → binds_ahead parts ≡ true
 ahead_binds [] is = cc
@@ -176,7 +156,7 @@ pub replies_on : {state : State} {parts : List Part} {queue : List Want} {asked 
 replies_on {state} {parts} {queue} {asked} effect replied due reply h = by_case (unlisted_case effect replied state)
   where
     sets : WatchesSet state.wishes → WatchesSet (wishes_after effect replied state.wishes)
-    sets = replied_set state.sizes state.wishes parts effect replied due reply (effect_wanted effect replied state.wishes)
+    sets = replied_set state.sizes state.wishes parts effect replied due reply (wanted_replied effect replied state.wishes)
 
     needs_none : (path : List ℕ) → effect ≡ Set (wishes.Watch path) → (needs : Bool) → needs_watches parts ≡ needs
         → needs ≡ false
@@ -188,7 +168,7 @@ replies_on {state} {parts} {queue} {asked} effect replied due reply h = by_case 
         ⊎ ((path : List ℕ) × (effect ≡ Set (wishes.Watch path)))
         → Binding (done_by effect replied state) parts queue asked
     by_case (inl same) = still_binding (done_by effect replied state)
-        (as_before (done_by effect replied state) state same (effect_wanted effect replied state.wishes) refl)
+        (as_before (done_by effect replied state) state same (wanted_replied effect replied state.wishes) refl)
         (λ needs w. sets w) h
     by_case (inr (path, is)) =
         let starts = (due (ap is_deed is)).1 in
@@ -217,11 +197,7 @@ replies_on {state} {parts} {queue} {asked} effect replied due reply h = by_case 
 -- Parts that become others --------------------------------------------------------------------------------------------
 
 none_behind : (rest : List Part) → is_placed rest ≡ true → not (looks_ahead rest) ≡ true → needs_watches rest ≡ true
-none_behind rest is none = needs_none rest is (by_test (looks_ahead rest) none)
-  where
-    by_test : (b : Bool) → not b ≡ true → b ≡ false
-    by_test true is = cc
-    by_test false is = refl
+none_behind rest is none = needs_none rest is (not-true (looks_ahead rest) none)
 
 -- the parts of a hit need the watches to be set only where nothing is looked up behind them
 hit_needs : (stopped : Bool) (thrown : List Thrown) (halt : Halt) (rest : List Part) → is_placed rest ≡ true
@@ -230,8 +206,7 @@ hit_needs stopped thrown halt rest is needs =
     none_behind rest is (ap not (sym (ahead stopped halt)) ∙ needs)
   where
     by_surplus : (stopped : Bool) → looks_ahead (surplus stopped ++ rest) ≡ looks_ahead rest
-    by_surplus false = refl
-    by_surplus true = refl
+    by_surplus stopped = grind arith
 
     ahead : (stopped : Bool) (halt : Halt)
         → looks_ahead (told_part halt.cause halt.thread ∷ surplus stopped ++ rest) ≡ looks_ahead rest
@@ -271,9 +246,8 @@ chosen_like (Written seen) state hand rest is = by_code (refused_with hand.effec
 chosen_like (Leaves exits) state hand rest is = by_phase state.phase
   where
     by_phase : (phase : Phase) → AreLike (leaves phase exits ++ rest) rest
-    by_phase Fresh = are_same rest
     by_phase Attached = record { ahead = refl; needs = λ needs. needs; notes = refl; binds = refl }
-    by_phase Gone = are_same rest
+    by_phase _ = are_same rest
 
 -- behind a note of a list stands what binds it
 pub list_behind : (part : Part) (rest : List Part) → notes_list part ≡ true → is_placed (part ∷ rest) ≡ true
@@ -332,26 +306,6 @@ classes_on {state} classes rest c is h = record {
 pub notes_on : {state : State} {queue : List Want} {asked : List Sent} (note : Note) (rest : List Part)
     → IsClear queue asked → is_placed (Part.Notes note ∷ rest) ≡ true
     → Binding state (Part.Notes note ∷ rest) queue asked → Binding (noted note state) rest queue asked
-notes_on {state} (Options options) rest c is h =
-    goes_by (noted (Options options) state) (Part.Notes (Options options)) rest rest
-    (as_before (noted (Options options) state) state refl refl refl) c refl is (are_same rest)
-    (λ needs w. w needs) h
-notes_on {state} (Roots roots) rest c is h =
-    goes_by (noted (Roots roots) state) (Part.Notes (Roots roots)) rest rest
-    (as_before (noted (Roots roots) state) state refl refl refl) c refl is (are_same rest)
-    (λ needs w. w needs) h
-notes_on {state} EntryHeld rest c is h =
-    goes_by (noted EntryHeld state) (Part.Notes EntryHeld) rest rest
-    (as_before (noted EntryHeld state) state refl refl refl) c refl is (are_same rest)
-    (λ needs w. w needs) h
-notes_on {state} Configured rest c is h =
-    goes_by (noted Configured state) (Part.Notes Configured) rest rest
-    (as_before (noted Configured state) state refl refl refl) c refl is (are_same rest)
-    (λ needs w. w needs) h
-notes_on {state} (Throws thrown) rest c is h =
-    goes_by (noted (Throws thrown) state) (Part.Notes (Throws thrown)) rest rest
-    (as_before (noted (Throws thrown) state) state refl refl refl) c refl is (are_same rest)
-    (λ needs w. w needs) h
 notes_on {state} (StopsAt caught uncaught) rest c is h =
     goes_by (noted (StopsAt caught uncaught) state) (Part.Notes (StopsAt caught uncaught)) rest rest
     (record { unlisted = refl; wanted = refl; loaded = refl; grows = grows_itself state.classes }) c refl is
@@ -369,6 +323,9 @@ notes_on {state} (Lines key path entries) rest c is h =
 notes_on {state} (Functions entries) rest c is h =
     lists_on (noted (Functions entries) state) (Part.Notes (Functions entries)) rest refl refl refl c is refl refl h
 notes_on (Classes classes) rest c is h = classes_on classes rest c is h
+notes_on {state} note rest c is h =
+    goes_by (noted note state) (Part.Notes note) rest rest (as_before (noted note state) state refl refl refl) c refl is
+    (are_same rest) (λ needs w. w needs) h
 
 -- a look-up that is done
 pub finds_on : {state : State} (hand : Hand) (lookup : Lookup) (found : Need Finding) (rest : List Part)
@@ -376,21 +333,6 @@ pub finds_on : {state : State} (hand : Hand) (lookup : Lookup) (found : Need Fin
     → found_for lookup state hand ≡ found → is_done found ≡ true
     → Binding state (Part.Looks lookup ∷ rest) hand.queue hand.asked
     → Binding state (finished lookup (result_of found) state ++ rest) hand.queue hand.asked
-finds_on {state} hand all_threads found rest c is needs done h =
-    goes_by state (Part.Looks all_threads) rest (finished all_threads (result_of found) state ++ rest) (itself state) c
-    refl is (record { ahead = refl; needs = λ so. so; notes = refl; binds = refl }) (λ so w. w so) h
-finds_on {state} hand (thread_frames thread start levels) found rest c is needs done h =
-    goes_by state (Part.Looks (thread_frames thread start levels)) rest
-    (finished (thread_frames thread start levels) (result_of found) state ++ rest) (itself state) c
-    refl is (record { ahead = refl; needs = λ so. so; notes = refl; binds = refl }) (λ so w. w so) h
-finds_on {state} hand (container_children thing filter start count) found rest c is needs done h =
-    goes_by state (Part.Looks (container_children thing filter start count)) rest
-    (finished (container_children thing filter start count) (result_of found) state ++ rest) (itself state) c
-    refl is (record { ahead = refl; needs = λ so. so; notes = refl; binds = refl }) (λ so w. w so) h
-finds_on {state} hand (expression_value frame expression) found rest c is needs done h =
-    goes_by state (Part.Looks (expression_value frame expression)) rest
-    (finished (expression_value frame expression) (result_of found) state ++ rest) (itself state) c
-    refl is (record { ahead = refl; needs = λ so. so; notes = refl; binds = refl }) (λ so w. w so) h
 finds_on {state} hand (variable_write thing name text) found rest c is needs done h = by_result (result_of found)
   where
     goes : (parts : List Part) → AreLike (parts ++ rest) rest → Binding state (parts ++ rest) hand.queue hand.asked
@@ -401,25 +343,9 @@ finds_on {state} hand (variable_write thing name text) found rest c is needs don
     same outcome = record { ahead = refl; needs = λ so. so; notes = refl; binds = refl }
 
     by_result : (result : Result Finding) → Binding state (written_parts result ++ rest) hand.queue hand.asked
-    by_result (refused code) = goes (written_parts (refused code)) (same _)
     by_result (gave (write_found write seen)) = goes (written_parts (gave (write_found write seen)))
         (record { ahead = refl; needs = λ so. so; notes = refl; binds = refl })
-    by_result (gave (no_value failure)) = goes (written_parts (gave (no_value failure))) (same _)
-    by_result (gave (threads_found named)) = goes (written_parts (gave (threads_found named))) (same _)
-    by_result (gave (classes_found classes)) = goes (written_parts (gave (classes_found classes))) (same _)
-    by_result (gave (frames_found total frames)) = goes (written_parts (gave (frames_found total frames))) (same _)
-    by_result (gave (variables_found shown)) = goes (written_parts (gave (variables_found shown))) (same _)
-    by_result (gave (value_found seen)) = goes (written_parts (gave (value_found seen))) (same _)
-    by_result (gave (text_found text)) = goes (written_parts (gave (text_found text))) (same _)
-    by_result (gave (exception_found id mode)) = goes (written_parts (gave (exception_found id mode))) (same _)
-finds_on {state} hand (exception_text thread object) found rest c is needs done h =
-    goes_by state (Part.Looks (exception_text thread object)) rest
-    (finished (exception_text thread object) (result_of found) state ++ rest) (itself state) c
-    refl is (record { ahead = refl; needs = λ so. so; notes = refl; binds = refl }) (λ so w. w so) h
-finds_on {state} hand (exception_info thrown) found rest c is needs done h =
-    goes_by state (Part.Looks (exception_info thrown)) rest
-    (finished (exception_info thrown) (result_of found) state ++ rest) (itself state) c
-    refl is (record { ahead = refl; needs = λ so. so; notes = refl; binds = refl }) (λ so w. w so) h
+    by_result result = goes (written_parts result) (same _)
 finds_on {state} hand class_facts found rest c is needs done h = record {
   watches = λ so. h.watches refl;
   learnt = h.learnt;
@@ -439,3 +365,6 @@ finds_on {state} hand class_facts found rest c is needs done h = record {
         absurd (let no : false ≡ true = sym (unlisted_waits state hand unlisted (h.listed unlisted))
         ∙ ap is_done needs ∙ done in cc)
     complete false listed = found_complete state hand found listed h.learnt needs done
+finds_on {state} hand lookup found rest c is needs done h =
+    goes_by state (Part.Looks lookup) rest (finished lookup (result_of found) state ++ rest) (itself state) c refl is
+    (record { ahead = refl; needs = λ so. so; notes = refl; binds = refl }) (λ so w. w so) h

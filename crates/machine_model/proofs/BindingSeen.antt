@@ -18,16 +18,15 @@ use Rattle.machine_model.specs.Classes.{bound_plan, class_plan, counts, is_keyed
 use Rattle.machine_model.specs.Classes.{methods_plan, package_plan, prepared_plan, source_plan, watched_plan}
 use Rattle.machine_model.specs.Facts.{fact_known, methods_in, source_in}
 use Rattle.machine_model.specs.Names.{Answer, Question, Want}
-use Rattle.machine_model.specs.Plans.{Need, Plan, after, asking, beside, chained, each, fact_heard, fails, has}
-use Rattle.machine_model.specs.Plans.{joined, lacks, made_with, need}
+use Rattle.machine_model.specs.Plans.{Need, Plan, after, asking, beside, chained, each, fact_heard, fails, has, joined}
+use Rattle.machine_model.specs.Plans.{lacks, made_with, need}
 use Rattle.machine_model.specs.State.{is_some}
 use Rattle.machine_model.proofs.BindingFacts.{is_mapped}
 use Rattle.machine_model.proofs.BindingGrows.{Grows}
 use Rattle.machine_model.proofs.BindingPlaces.{HasLines, as_found, same_places}
 use Rattle.machine_model.proofs.IdRows.{all_joined}
 use Rattle.machine_model.proofs.PlanIds.{need_chained, need_made}
-use Rattle.wish_sets.specs.Places.{key_by}
-use Rattle.wish_sets.specs.Places.{places_in}
+use Rattle.wish_sets.specs.Places.{key_by, places_in}
 use Rattle.wish_sets.specs.Wanted.{Wanted, class_found, facts_found, method_found, methods_found}
 use Rattle.wish_sets.specs.Wished.{is_named, is_watched}
 use Rattle.wish_sets.specs.declared.facts.KnownClass.{KnownClass}
@@ -54,28 +53,21 @@ Has Good (lacks want others) = Unit {0}
 after_has : {A B : Type 0} (Good : A → Type 0) (Best : B → Type 0) (n : Need A) (f : A → Need B) → Has Good n
     → ((a : A) → Good a → Has Best (f a)) → Has Best (after n f)
 after_has Good Best (has a) f h k = k a h
-after_has Good Best (fails fault) f h k = tt
-after_has Good Best (lacks want others) f h k = tt
+after_has Good Best _ f h k = tt
 
 beside_has : {A B : Type 0} (Good : A → Type 0) (Best : B → Type 0) (n : Need A) (k : Need B) → Has Good n → Has Best k
     → Has (λ (two : A × B). Good two.0 × Best two.1) (beside n k)
 beside_has Good Best (has a) (has b) h i = (h, i)
-beside_has Good Best (has a) (fails fault) h i = tt
-beside_has Good Best (has a) (lacks want others) h i = tt
 beside_has Good Best (fails fault) (has b) h i = tt
-beside_has Good Best (fails fault) (fails other) h i = tt
-beside_has Good Best (fails fault) (lacks want others) h i = tt
 beside_has Good Best (lacks want others) (has b) h i = tt
-beside_has Good Best (lacks want others) (fails fault) h i = tt
-beside_has Good Best (lacks want others) (lacks other more) h i = tt
+beside_has Good Best _ _ h i = tt
 
 abbrev Any : {A : Type 0} → A → Type 0
 Any a = Unit {0}
 
 and_any : {A : Type 0} (Good : A → Type 0) (n : Need A) → Has Good n → Has (λ (a : A). Unit {0} × Good a) n
 and_any Good (has a) h = (tt, h)
-and_any Good (fails fault) h = tt
-and_any Good (lacks want others) h = tt
+and_any Good _ h = tt
 
 module _ (known : Known) where
   abbrev Row : {A : Type 0} → (A → Type 0) → Plan A → Type 0

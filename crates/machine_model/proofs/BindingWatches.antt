@@ -1,14 +1,12 @@
 -- Each watch that is wished is installed or was refused: how that stays so.
-use Rattle.std.proofs.Common.{◌≡◌, ℕ, Bool, true, false, ◌||◌, List, [], ◌∷◌, ◌++◌, Option, Some, None}
-use Rattle.std.proofs.Common.{refl, sym, ap, ◌∙◌}
+use Rattle.std.proofs.Common.{◌≡◌, ℕ, Bool, true, false, ◌||◌, List, [], ◌∷◌, ◌++◌, Option, Some, None, refl, sym, ap}
+use Rattle.std.proofs.Common.{◌∙◌}
 use Rattle.std.specs.Prelude.{map}
 use Rattle.class_tables.specs.Facts.{Known}
 use Rattle.class_tables.specs.Lookups.{found_in}
 use Rattle.jdwp_values.specs.declared.id.ClassId.{ClassId}
 use Rattle.machine_model.specs.EventRequests.{is_set_of}
-use Rattle.machine_model.specs.Names.{Effect}
-use Rattle.machine_model.specs.Names.{Part, Replied, Set}
-use Rattle.machine_model.specs.Names.{an_effect}
+use Rattle.machine_model.specs.Names.{Effect, Part, Replied, Set, an_effect}
 use Rattle.machine_model.specs.Replying.{IsReply}
 use Rattle.machine_model.specs.Requests.{Wishes, effect_due, wishes_after}
 use Rattle.machine_model.specs.State.{SizesRead}

@@ -26,8 +26,8 @@ use Rattle.jdwp_values.specs.declared.tag.TypeTag.TheVariants as tags
 use Rattle.machine_model.specs.Breakpoints.{key_of}
 use Rattle.machine_model.specs.Due.{due, load_of, newly_lacked, wanted}
 use Rattle.machine_model.specs.Names.{Act, Answer, Clear, Composite, Does, OneThread, Question, Request, Resume, Set}
-use Rattle.machine_model.specs.Names.{SetBreakpoints, a_composite, a_question, an_answer, an_effect, an_error}
-use Rattle.machine_model.specs.Names.{an_event, of_composite}
+use Rattle.machine_model.specs.Names.{SetBreakpoints, a_composite, a_question, an_answer, an_effect, an_error, an_event}
+use Rattle.machine_model.specs.Names.{of_composite}
 use Rattle.machine_model.specs.Plans.{chained, each, made_with, need}
 use Rattle.machine_model.specs.Replying.{answered}
 use Rattle.machine_model.specs.Runs.{Message, heard, with_item}

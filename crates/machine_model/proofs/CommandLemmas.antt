@@ -1,7 +1,6 @@
 -- Two wishes have two commands (JDWP, EventRequest command set, Set).
-use Rattle.std.proofs.Common.{◌≡◌, ℕ, Bool, true, false, List, [], ◌∷◌, ◌++◌, length, take, refl, sym, ap, ◌∙◌, arith}
+use Rattle.std.proofs.Common.{◌≡◌, ℕ, Bool, List, [], ◌∷◌, ◌++◌, length, take, refl, sym, ap, ◌∙◌, arith, length-append}
 use Rattle.std.specs.Prelude.{ℤ, pos, negsuc, ◌==◌, ◌-◌, if◌then◌else◌, codes}
-use Rattle.std.proofs.Common.{length-append}
 use Rattle.std.proofs.Math.Seq.{take-append_seam}
 use Rattle.jdwp_commands.specs.declared.effect.Effect.{Effect as WireEffect}
 use Rattle.jdwp_commands.specs.declared.effect.Effect.TheVariants as effects
@@ -54,23 +53,18 @@ path_back (byte ∷ bytes) =
     ends path = rw (length-append path (codes ".*")) (omega arith)
 
 flag_back : (flag : Bool) → (bit flag == 1) ≡ flag
-flag_back true = refl
-flag_back false = refl
+flag_back flag = grind arith
 
 depth_back : (depth : Depth) → depth_in (pos (number_of_depth depth)) ≡ depth
-depth_back Into = refl
-depth_back Over = refl
-depth_back Out = refl
+depth_back depth = grind arith
 
 wish_back : (wish : Wish) → wish_of (set_of wish) ≡ wish
-wish_back wishes.ThreadStart = refl
-wish_back wishes.ThreadDeath = refl
 wish_back (wishes.Watch path) = ap wishes.Watch (path_back path)
-wish_back (wishes.Stop at) = refl
 wish_back (wishes.Thrown caught uncaught) =
     ap (λ (flag : Bool). wishes.Thrown flag (bit uncaught == 1)) (flag_back caught)
     ∙ ap (wishes.Thrown caught) (flag_back uncaught)
 wish_back (wishes.Step thread depth) = ap (wishes.Step thread) (depth_back depth)
+wish_back _ = refl
 
 -- the command of a wish is its own
 pub one_command : (a b : Wish) → set_of a ≡ set_of b → a ≡ b

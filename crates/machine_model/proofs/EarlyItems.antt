@@ -4,35 +4,30 @@ use Rattle.std.proofs.Common.{sym, ap, subst, ◌∙◌, option_map, arith, ℕ}
 use Rattle.machine_model.specs.Due.{Picked, after_deed, greets as greets_way, passed_by, pick, sized_by, way}
 use Rattle.machine_model.specs.Knowing.{is_fresh}
 use Rattle.machine_model.specs.Lookups.{finished}
-use Rattle.machine_model.specs.Names.{Written}
-use Rattle.machine_model.specs.Names.{Attached, Choice, Command, Composite, Decides, Event, Failure, Fresh, Gone}
-use Rattle.machine_model.specs.Names.{Guard, Handshake, IdSizes, Initialized, Item, Leaves, Note, Outcome, Part, Phase}
-use Rattle.machine_model.specs.Names.{Question, Replied, TellsNews, Terminated, a_composite, a_question, a_raw}
-use Rattle.machine_model.specs.Names.{a_request, a_stop, some_news, target_end}
+use Rattle.machine_model.specs.Names.{Choice, Command, Composite, Decides, Event, Failure, Guard, Handshake, IdSizes}
+use Rattle.machine_model.specs.Names.{Initialized, Item, Note, Outcome, Part, Phase, Question, Replied, TellsNews}
+use Rattle.machine_model.specs.Names.{Terminated, a_composite, a_question, a_raw, a_request}
 use Rattle.machine_model.specs.Outcomes.{result_of}
-use Rattle.machine_model.specs.Replying.{IsReply, given_up, is_end, is_waiting, replied_machine}
-use Rattle.machine_model.specs.Replying.{replied_to, shows_end}
+use Rattle.machine_model.specs.Replying.{IsReply, given_up, is_end, is_waiting, replied_machine, replied_to, shows_end}
 use Rattle.machine_model.specs.Rows.{chosen, failure_of, news_of, noted, parts_by, parts_of, row_of, wanting}
 use Rattle.machine_model.specs.Runs.{Message, Run}
 use Rattle.machine_model.specs.State.{Hand, Machine, SizesRead, State, has_raw, has_waiting, is_gone, is_none, is_raw}
 use Rattle.machine_model.specs.State.{is_some, knowing, left}
 use Rattle.machine_model.specs.Telling.{after_event, attached_from, numbered_by}
-use Rattle.machine_model.proofs.HandshakeLaws.{IsBehind, both_queued}
+use Rattle.machine_model.proofs.HandshakeLaws.{IsBehind, both_queued, is_handshake}
 use Rattle.machine_model.proofs.ItemLaws.{has_composite, has_more, has_rest, is_composite}
 use Rattle.machine_model.proofs.PendingLaws.{all_open}
 use Rattle.machine_model.proofs.QuietLaws.{attached_gone, waits_some}
-use Rattle.machine_model.proofs.SizeLaws.{near_end, parts_in, question_sizes}
+use Rattle.machine_model.proofs.SizeLaws.{question_sizes}
 use Rattle.machine_model.proofs.Standing.{asked_in}
 use Rattle.machine_model.proofs.Stepping.{IsAt, Moves, Skips, by_runs}
 use Rattle.machine_model.proofs.Tables.{chosen_is, decided_alike, finished_is, has_attach, plain_attach, told_alike}
 use Rattle.machine_model.proofs.Testing.{IsTest, Passed, same_noted, same_numbered, same_replied, tested, whole}
-use Rattle.machine_model.specs.Names.{Stepped}
+use Rattle.machine_model.proofs.Bools.{first_holds, other_fails}
+use Rattle.std.proofs.lemmas.Bool.{or_right}
+use Rattle.machine_model.proofs.RequestSteps.{parts_left}
 
 -- The test ------------------------------------------------------------------------------------------------------------
-
-abbrev is_handshake : Part → Bool
-is_handshake (Part.Awaits Handshake) = true
-is_handshake _ = false
 
 -- what waits for the handshake attaches the session behind it
 abbrev pub greets_first : List Part → Bool
@@ -48,9 +43,8 @@ row_greets failure command state = grind arith
 
 begun_greets : (state : State) (item : Item) → greets_first (parts_of state item) ≡ true
 begun_greets state (a_request request) = row_greets (failure_of (wanting request.command) state) request.command state
-begun_greets state target_end = grind arith
-begun_greets state (a_composite at composite) = grind arith
 begun_greets state (a_raw at body) = refl
+begun_greets state _ = grind arith
 
 rest_greets : (part : Part) (rest : List Part) → greets_first (part ∷ rest) ≡ true → greets_first rest ≡ true
 rest_greets part rest is = grind (arith, is)
@@ -62,9 +56,7 @@ chosen_greets (TellsNews below) state hand rest is =
 chosen_greets Decides state hand rest is =
     decided_alike greets_first (λ thrown parts. refl) (λ stopping parts. refl) (λ thread object parts. refl)
     (λ parts. refl) (λ parts. refl) state hand.item rest ∙ is
-chosen_greets Stepped state hand rest is = grind (arith, is)
-chosen_greets (Written seen) state hand rest is = grind (arith, is)
-chosen_greets (Leaves exits) state hand rest is = grind (arith, is)
+chosen_greets _ state hand rest is = grind (arith, is)
 
 greets_test : IsTest greets_to_attach
 greets_test = record {
@@ -82,7 +74,7 @@ greets_test = record {
 -- Before the session is attached, and once the handshake went out, what attaches it is in hand; before the handshake
 -- went out nothing is asked, and no sizes are known; and where a composite waits they are.
 pub record IsEarly (m : Machine) : Type 0 where
-  pub attaches : cond (is_fresh m.state.phase) (cond m.state.greeting_sent (has_attach (parts_in m.hand)) true) true
+  pub attaches : cond (is_fresh m.state.phase) (cond m.state.greeting_sent (has_attach (parts_left m.hand)) true) true
       ≡ true
   pub unsent : cond m.state.greeting_sent true (cond (has_waiting (asked_in m.hand)) false (is_none m.state.sizes))
       ≡ true
@@ -94,7 +86,7 @@ front : {m : Machine} {hand : Hand} {part : Part} {rest : List Part} → IsEarly
 front {m} h at = subst (λ (parts : List Part). cond (is_fresh m.state.phase) (cond m.state.greeting_sent
     (has_attach parts) true) true ≡ true) at.parts
     (subst (λ (held : Option Hand). cond (is_fresh m.state.phase) (cond m.state.greeting_sent
-    (has_attach (parts_in held)) true) true ≡ true) at.in_hand h.attaches)
+    (has_attach (parts_left held)) true) true ≡ true) at.in_hand h.attaches)
 
 asked_now : {m : Machine} {hand : Hand} → IsEarly m → m.hand ≡ Some hand
     → cond m.state.greeting_sent true (cond (has_waiting hand.asked) false (is_none m.state.sizes)) ≡ true
@@ -124,9 +116,7 @@ noted_flags note state = (grind arith, grind arith)
 
 skipped_same : {m : Machine} {hand : Hand} {part : Part} (rest : List Part) → Skips m hand part
     → has_attach rest ≡ has_attach (part ∷ rest)
-skipped_same rest (Skips.by_guard is) = refl
-skipped_same rest (Skips.by_wishes is) = refl
-skipped_same rest (Skips.no_request is) = refl
+skipped_same rest why = grind (arith, why)
 
 event_early : (m : Machine) (hand : Hand) (event : Event) (rest : List Part) → IsEarly m
     → IsAt m hand (Part.Tells event) rest
@@ -139,17 +129,11 @@ event_early m hand Initialized rest h at = record {
   where
     by_phase : (phase : Phase) → cond (is_fresh (attached_from phase)) (cond m.state.greeting_sent
         (has_attach rest) true) true ≡ true
-    by_phase Fresh = refl
-    by_phase Attached = refl
-    by_phase Gone = refl
-event_early m hand (some_news news) rest h at =
-    parts_early m hand (Part.Tells (some_news news)) rest rest (after_event (some_news news) m.state) h at
-    refl refl refl refl refl
-event_early m hand (a_stop stopping) rest h at =
-    parts_early m hand (Part.Tells (a_stop stopping)) rest rest (after_event (a_stop stopping) m.state) h at
-    refl refl refl refl refl
+    by_phase phase = grind arith
 event_early m hand Terminated rest h at =
     record { attaches = refl; unsent = asked_now h at.in_hand; sized = refl }
+event_early m hand event rest h at =
+    parts_early m hand (Part.Tells event) rest rest (after_event event m.state) h at refl refl refl refl refl
 
 -- the handshake goes out
 greets_early : (m : Machine) (hand : Hand) (guard : Guard) (rest : List Part) → Passed greets_to_attach m → IsEarly m
@@ -167,16 +151,14 @@ greets_early m hand guard rest t h at is = record {
     first IdSizes is passes = by_sizes m.state.sizes is
       where
         by_sizes : (sizes : Option SizesRead) → sized_by sizes ≡ greets_way → has_attach rest ≡ true
-        by_sizes None is = cc
-        by_sizes (Some sizes) is = cc
+        by_sizes sizes is = grind (arith, is)
 
-    there : has_attach (parts_in m.hand) ≡ true
-    there = ap (λ (held : Option Hand). has_attach (parts_in held)) at.in_hand ∙ ap has_attach at.parts
+    there : has_attach (parts_left m.hand) ≡ true
+    there = ap (λ (held : Option Hand). has_attach (parts_left held)) at.in_hand ∙ ap has_attach at.parts
         ∙ first guard is (whole greets_to_attach t at)
 
-    by_fresh : (fresh : Bool) → cond fresh (has_attach (parts_in m.hand)) true ≡ true
-    by_fresh true = there
-    by_fresh false = refl
+    by_fresh : (fresh : Bool) → cond fresh (has_attach (parts_left m.hand)) true ≡ true
+    by_fresh fresh = grind arith
 
 -- a question is replied to: the handshake went out
 answers_early : (m : Machine) (hand : Hand) (question : Question) (replied : Replied) → IsEarly m → m.hand ≡ Some hand
@@ -185,7 +167,7 @@ answers_early : (m : Machine) (hand : Hand) (question : Question) (replied : Rep
     → IsEarly (replied_machine m (a_question question) replied)
 answers_early m hand question replied h is waits reply stays = record {
   attaches = rw (same_replied (a_question question) replied m.state, sent_same question replied m.state, is) (ap (λ (held : Option Hand).
-      cond (is_fresh m.state.phase) (cond m.state.greeting_sent (has_attach (parts_in held)) true) true) (sym is)
+      cond (is_fresh m.state.phase) (cond m.state.greeting_sent (has_attach (parts_left held)) true) true) (sym is)
       ∙ h.attaches);
   unsent = rw (sent_same question replied m.state ∙ sent) refl;
   sized = by_gone (is_gone m.state.phase) refl;
@@ -211,7 +193,7 @@ answers_early m hand question replied h is waits reply stays = record {
         (by_bools (has_composite m.waiting) (is_some m.state.sizes) _ (sized_near (is_gone m.state.phase) (has_composite m.waiting)
         (is_some m.state.sizes) near h.sized)
         (question_sizes m.state question replied reply
-        (near_end (is_gone m.state.phase) (is_end (a_question question) replied) near stays)))
+        (other_fails (is_gone m.state.phase) (is_end (a_question question) replied) near stays)))
       where
         sized_near : (gone has known : Bool) → gone ≡ false → cond gone true (cond has known true) ≡ true
             → cond has known true ≡ true
@@ -226,7 +208,7 @@ pub early_on : (m next : Machine) (said : Option Message) → Passed greets_to_a
 early_on m next said t b h (Moves.begins picked free none is) = record {
   attaches = by_bools (is_fresh m.state.phase) m.state.greeting_sent (has_attach (parts_of m.state picked.item))
       (ap (λ (held : Option Hand). cond (is_fresh m.state.phase) (cond m.state.greeting_sent
-      (has_attach (parts_in held)) true) true) (sym none) ∙ h.attaches);
+      (has_attach (parts_left held)) true) true) (sym none) ∙ h.attaches);
   unsent = ap (λ (held : Option Hand). cond m.state.greeting_sent true (cond (has_waiting (asked_in held)) false
       (is_none m.state.sizes))) (sym none) ∙ h.unsent;
   sized = fewer (is_gone m.state.phase) (has_composite m.waiting) (has_composite picked.rest) (is_some m.state.sizes)
@@ -243,7 +225,7 @@ early_on m next said t b h (Moves.begins picked free none is) = record {
 early_on m next said t b h (Moves.drops {hand} free is none) = record {
   attaches = ap (λ (parts : List Part). cond (is_fresh m.state.phase) (cond m.state.greeting_sent
       (has_attach parts) true) true) (sym none) ∙ ap (λ (held : Option Hand). cond (is_fresh m.state.phase)
-      (cond m.state.greeting_sent (has_attach (parts_in held)) true) true) (sym is) ∙ h.attaches;
+      (cond m.state.greeting_sent (has_attach (parts_left held)) true) true) (sym is) ∙ h.attaches;
   unsent = by_bools m.state.greeting_sent (has_waiting (asked_in m.hand)) (is_none m.state.sizes) h.unsent;
   sized = h.sized;
 }
@@ -278,36 +260,29 @@ early_on m next said t b h (Moves.unfolds {hand} {choice} {rest} free at) =
     (plain_attach (chosen choice m.state hand) rest (chosen_is choice m.state hand).plain)
 early_on m next said t b h (Moves.queues {hand} free is) = record {
   attaches = ap (λ (held : Option Hand). cond (is_fresh m.state.phase) (cond m.state.greeting_sent
-      (has_attach (parts_in held)) true) true) (sym is) ∙ h.attaches;
+      (has_attach (parts_left held)) true) true) (sym is) ∙ h.attaches;
   unsent = asked_now h is;
   sized = h.sized;
 }
 early_on m next said t b h (Moves.asks {hand} {want} {wants} free room is are) = record {
   attaches = rw is (ap (λ (held : Option Hand). cond (is_fresh m.state.phase) (cond m.state.greeting_sent
-      (has_attach (parts_in held)) true) true) (sym is) ∙ h.attaches);
-  unsent = rw (first_of m.state.greeting_sent m.state.greeting_heard (both_queued m hand want wants b is are)) refl;
+      (has_attach (parts_left held)) true) true) (sym is) ∙ h.attaches);
+  unsent = rw (first_holds m.state.greeting_sent m.state.greeting_heard (both_queued m hand want wants b is are)) refl;
   sized = h.sized;
 }
-  where
-    first_of : (sent heard : Bool) → cond sent heard false ≡ true → sent ≡ true
-    first_of sent heard is = grind (arith, is)
 early_on m next said t b h (Moves.hears {request} read is) = record {
   attaches = h.attaches;
   unsent = h.unsent;
   sized = rw (has_more m.waiting (a_request request) refl) h.sized;
 }
-early_on m next said t b h (Moves.greeted read is) =
-    record { attaches = h.attaches; unsent = h.unsent; sized = h.sized }
 early_on m next said t b h (Moves.answers {question} {replied} {hand} is waits reply stays) =
     answers_early m hand question replied h is waits reply stays
 early_on m next said t b h (Moves.replies {effect} {replied} {hand} is flies reply stays) = record {
   attaches = rw is (ap (λ (held : Option Hand). cond (is_fresh m.state.phase) (cond m.state.greeting_sent
-      (has_attach (parts_in held)) true) true) (sym is) ∙ h.attaches);
+      (has_attach (parts_left held)) true) true) (sym is) ∙ h.attaches);
   unsent = rw is (asked_now h is);
   sized = h.sized;
 }
-early_on m next said t b h (Moves.late before after is reply) =
-    record { attaches = h.attaches; unsent = h.unsent; sized = h.sized }
 early_on m next said t b h (Moves.ends gone) = h
 early_on m next said t b h (Moves.loses late near why) = record {
   attaches = refl;
@@ -349,6 +324,7 @@ early_on m next said t b h (Moves.reads {at} {body} {composite} before after rea
     by_bools : (gone known raw has : Bool) → cond gone false (cond known raw false) ≡ true
         → cond gone true (cond has known true) ≡ true
     by_bools gone known raw has read = grind (arith, read)
+early_on m next said t b h _ = record { attaches = h.attaches; unsent = h.unsent; sized = h.sized }
 
 pub always_early : {messages : List Message} {m : Machine} → Run messages m → IsEarly m
 always_early r = by_runs {Holds = λ (messages : List Message) (m : Machine). IsEarly m} (record {
@@ -366,10 +342,6 @@ picked_waits gone (first ∷ items) picked at composite is item =
     by_raw (cond gone false (is_raw first)) (pick gone items)
     (λ other are same. picked_waits gone items other at composite are same) is
   where
-    or_right : (a b : Bool) → b ≡ true → (a || b) ≡ true
-    or_right true b is = refl
-    or_right false b is = is
-
     by_raw : (skips : Bool) (found : Option Picked)
         → ((other : Picked) → found ≡ Some other → other.item ≡ a_composite at composite
         → has_composite items ≡ true)
@@ -394,7 +366,7 @@ not_fresh m picked at composite h none is item =
     (is_some m.state.sizes) (is_none m.state.sizes) (never_both m.state.phase) (some_or_none m.state.sizes)
     (picked_waits (is_gone m.state.phase) m.waiting picked at composite is item)
     (ap (λ (held : Option Hand). cond (is_fresh m.state.phase) (cond m.state.greeting_sent
-    (has_attach (parts_in held)) true) true) (sym none) ∙ h.attaches)
+    (has_attach (parts_left held)) true) true) (sym none) ∙ h.attaches)
     (ap (λ (held : Option Hand). cond m.state.greeting_sent true (cond (has_waiting (asked_in held)) false
     (is_none m.state.sizes))) (sym none) ∙ h.unsent) h.sized
   where
@@ -402,8 +374,7 @@ not_fresh m picked at composite h none is item =
     never_both phase = grind arith
 
     some_or_none : (sizes : Option SizesRead) → is_some sizes ≡ not (is_none sizes)
-    some_or_none None = refl
-    some_or_none (Some sizes) = refl
+    some_or_none sizes = grind arith
 
     by_bools : (fresh gone sent has known none : Bool) → cond fresh gone false ≡ false → known ≡ not none
         → has ≡ true → cond fresh (cond sent false true) true ≡ true → cond sent true none ≡ true

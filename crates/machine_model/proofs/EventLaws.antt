@@ -6,10 +6,10 @@ use Rattle.std.proofs.lemmas.List.Concat.{flat_map-append}
 use Rattle.machine_model.specs.Due.{asked_hand}
 use Rattle.machine_model.specs.Events.{AreTold, EventsAre, ends_target, is_attach, is_clients, is_success}
 use Rattle.machine_model.specs.Lookups.{finished, lookup_responds}
-use Rattle.machine_model.specs.Names.{Command, Event, Failed, Failure, Initialized, Item, News, Note, Outcome, Part}
-use Rattle.machine_model.specs.Names.{Replied, Request, Success, TargetCommand, Terminated, Want, a_composite}
-use Rattle.machine_model.specs.Names.{a_question, a_raw, a_request, a_stop, an_effect, an_event, entry_verified}
-use Rattle.machine_model.specs.Names.{some_news, target_end, thread_changed}
+use Rattle.machine_model.specs.Names.{Command, Event, Failed, Failure, Initialized, Item, News, Outcome, Part, Replied}
+use Rattle.machine_model.specs.Names.{Request, Success, TargetCommand, Terminated, Want, a_composite, a_question, a_raw}
+use Rattle.machine_model.specs.Names.{a_request, a_stop, an_effect, an_event, entry_verified, some_news, target_end}
+use Rattle.machine_model.specs.Names.{thread_changed}
 use Rattle.machine_model.specs.Outcomes.{result_of}
 use Rattle.machine_model.specs.Replying.{given_up, hand_replied, is_end, replied_to}
 use Rattle.machine_model.specs.Rest.{request_by, request_in, response_by, without_response}
@@ -27,6 +27,8 @@ use Rattle.machine_model.proofs.Tables.{has_joined, none_attaches, once, plain_a
 use Rattle.machine_model.proofs.Testing.{passed, same_noted, same_numbered, same_replied, tested, whole}
 use Rattle.machine_model.specs.Breakpoints.{verified_told}
 use Rattle.machine_model.specs.Knowing.{has_last}
+use Rattle.machine_model.proofs.Bools.{never}
+use Rattle.machine_model.proofs.MarkLaws.{same_reply, same_told as numbered_end, same_note}
 
 -- What is left of an item: an `attach` tells `initialized` behind its success, and no other item does -----------------
 
@@ -66,9 +68,8 @@ row_fits failure command state = grind arith
 
 begun_fits : (state : State) (item : Item) → fits item (parts_of state item) ≡ true
 begun_fits state (a_request request) = row_fits (failure_of (wanting request.command) state) request.command state
-begun_fits state target_end = grind arith
-begun_fits state (a_composite at composite) = grind arith
 begun_fits state (a_raw at body) = refl
+begun_fits state _ = grind arith
 
 gone_fits : (responds : Bool) (item : Item) → fits item (gone_parts responds item) ≡ true
 gone_fits responds item = grind arith
@@ -78,8 +79,7 @@ tail_fits item part rest is = by_item (item_attaches item) is
   where
     by_item : (attaches : Bool) → cond attaches (attach_tail (part ∷ rest)) (not (has_attach (part ∷ rest))) ≡ true
         → cond attaches (attach_tail rest) (not (has_attach rest)) ≡ true
-    by_item true is = grind (arith, is)
-    by_item false is = grind (arith, is)
+    by_item attaches is = grind (arith, is)
 
 -- a look-up, or a choice, stands in no `attach`
 block_fits : (item : Item) (part : Part) (parts rest : List Part) → attach_tail (part ∷ rest) ≡ false
@@ -134,17 +134,14 @@ front_fits {hand = hand} h at = subst (λ (parts : List Part). fits hand.item pa
 
 replied_fits : (command : TargetCommand) (replied : Replied) (hand : Option Hand)
     → hand_fits (option_map (hand_replied command replied) hand) ≡ hand_fits hand
-replied_fits command replied None = refl
-replied_fits (a_question question) replied (Some hand) = refl
-replied_fits (an_effect effect) replied (Some hand) = refl
+replied_fits command replied hand = grind arith
 
 given_fits : (hand : Option Hand) → hand_fits (option_map given_up hand) ≡ true
 given_fits None = refl
 given_fits (Some hand) = gone_fits (has_response hand.parts) hand.item
 
 asked_fits : (want : Want) (hand : Option Hand) → hand_fits (option_map (asked_hand want) hand) ≡ hand_fits hand
-asked_fits want None = refl
-asked_fits want (Some hand) = refl
+asked_fits want hand = grind arith
 
 fits_on : (m next : Machine) (said : Option Message) → hand_fits m.hand ≡ true → Moves m said next
     → hand_fits next.hand ≡ true
@@ -163,7 +160,6 @@ fits_on m next said h (Moves.tells {hand} {rest} {event} free at) =
 fits_on m next said h (Moves.sends {hand} {rest} {deed} free at near) =
     tail_fits hand.item (Part.Sends deed) rest (front_fits h at)
 fits_on m next said h (Moves.updates {hand} free at is near) = front_fits h at
-fits_on m next said h (Moves.greets free at is near) = h
 fits_on m next said h (Moves.notes {hand} {note} {rest} free at) =
     tail_fits hand.item (Part.Notes note) rest (front_fits h at)
 fits_on m next said h (Moves.unfolds {hand} {choice} {rest} free at) =
@@ -171,18 +167,12 @@ fits_on m next said h (Moves.unfolds {hand} {choice} {rest} free at) =
     (plain_attach (chosen choice m.state hand) rest (chosen_is choice m.state hand).plain) (front_fits h at)
 fits_on m next said h (Moves.queues free is) = fits_of h is
 fits_on m next said h (Moves.asks {want = want} free room is are) = asked_fits want m.hand ∙ h
-fits_on m next said h (Moves.hears read is) = h
-fits_on m next said h (Moves.greeted read is) = h
 fits_on m next said h (Moves.answers {question} {replied} is waits reply stays) =
     replied_fits (a_question question) replied m.hand ∙ h
 fits_on m next said h (Moves.replies {effect} {replied} is flying reply stays) =
     replied_fits (an_effect effect) replied m.hand ∙ h
-fits_on m next said h (Moves.late before after is reply) = h
-fits_on m next said h (Moves.ends gone) = h
 fits_on m next said h (Moves.loses late near why) = given_fits m.hand
-fits_on m next said h (Moves.comes read sized taken) = h
-fits_on m next said h (Moves.keeps is) = h
-fits_on m next said h (Moves.reads before after read is none taken) = h
+fits_on m next said h _ = h
 
 -- What is told --------------------------------------------------------------------------------------------------------
 
@@ -212,17 +202,14 @@ becomes_owes parts at same = ap hand_owes at.in_hand ∙ ap owes_event at.parts 
 
 replied_owes : (command : TargetCommand) (replied : Replied) (hand : Option Hand)
     → hand_owes (option_map (hand_replied command replied) hand) ≡ hand_owes hand
-replied_owes command replied None = refl
-replied_owes (a_question question) replied (Some hand) = refl
-replied_owes (an_effect effect) replied (Some hand) = refl
+replied_owes command replied hand = grind arith
 
 -- an item that is begun owes no event
 begun_owes : (state : State) (item : Item) → owes_event (parts_of state item) ≡ false
 begun_owes state (a_request request) =
     rw (row_is (failure_of (wanting request.command) state) request.command state).responds refl
-begun_owes state target_end = grind arith
-begun_owes state (a_composite at composite) = grind arith
 begun_owes state (a_raw at body) = refl
+begun_owes state _ = grind arith
 
 given_owes : (hand : Option Hand) → hand_owes (option_map given_up hand) ≡ false
 given_owes None = refl
@@ -246,21 +233,7 @@ answered_owes request outcome state item rest is none h = rw none (by_attach (is
       where
         by_outcome : (outcome : Outcome) (rest : List Part) → attach_tail (Part.Responds outcome ∷ rest) ≡ true
             → is_success (outcome_told outcome state) ≡ has_attach rest
-        by_outcome (Success body) (Part.Tells Initialized ∷ rest) is = refl
-        by_outcome (Success body) [] is = cc
-        by_outcome (Success body) (Part.Tells (some_news news) ∷ rest) is = cc
-        by_outcome (Success body) (Part.Tells (a_stop stopping) ∷ rest) is = cc
-        by_outcome (Success body) (Part.Tells Terminated ∷ rest) is = cc
-        by_outcome (Success body) (Part.Responds outcome ∷ rest) is = cc
-        by_outcome (Success body) (Part.Sends deed ∷ rest) is = cc
-        by_outcome (Success body) (Part.Looks lookup ∷ rest) is = cc
-        by_outcome (Success body) (Part.Awaits guard ∷ rest) is = cc
-        by_outcome (Success body) (Part.Updates ∷ rest) is = cc
-        by_outcome (Success body) (Part.Notes note ∷ rest) is = cc
-        by_outcome (Success body) (Part.Unfolds choice ∷ rest) is = cc
-        by_outcome (Success body) (Part.Ends finish ∷ rest) is = cc
-        by_outcome (Failed failure) [] is = refl
-        by_outcome (Failed failure) (part ∷ rest) is = cc
+        by_outcome outcome rest is = grind (arith, is)
     by_attach false is = grind (arith, is)
 
 -- a part that isn't the response, and doesn't attach, changes nothing that is owed
@@ -285,27 +258,24 @@ loss_ends (Loses.by_effect in_hand flying reply is) = (refl, is)
 not_end : (gone last owed : Bool) → cond gone false last ≡ false → (gone ≡ true → owed ≡ false)
     → cond last false owed ≡ owed
 not_end true true owed is none = sym (none refl)
-not_end true false owed is none = refl
 not_end false true owed is none = cc
-not_end false false owed is none = refl
+not_end _ false owed is none = refl
 
 -- the request that is heard is the last without a response
 heard_left : {left now : List Request} {request : Request} → IsLeft left now (Some (Message.hears request))
     → now ≡ left ++ request ∷ []
-heard_left (IsLeft.hears request is) = is
-heard_left (IsLeft.aside message none_heard none_told is) = cc
+heard_left why = grind (arith, why)
 
 skipped_owes : {m : Machine} {hand : Hand} (part : Part) (rest : List Part) → Skips m hand part
     → hand_fits m.hand ≡ true
     → IsAt m hand part rest → owes_event (part ∷ rest) ≡ owes_event rest
-skipped_owes part rest (Skips.by_guard is) h at = refl
-skipped_owes part rest (Skips.by_wishes is) h at = refl
 skipped_owes {hand = hand} part rest (Skips.no_request is) h at =
     by_item hand.item is (front_fits h at)
   where
     by_item : (item : Item) → request_in item ≡ [] → fits item (part ∷ rest) ≡ true
         → owes_event (part ∷ rest) ≡ owes_event rest
     by_item item is f = grind (arith, is, f)
+skipped_owes part rest _ h at = refl
 
 -- in a target that is gone no event is owed
 none_gone : {messages : List Message} {m : Machine} → Run messages m → is_gone m.state.phase ≡ true
@@ -315,10 +285,7 @@ none_gone {m = m} r gone = by_hand m.hand (subst (λ (gone : Bool). passed free_
   where
     by_hand : (hand : Option Hand) → passed free_once true hand ≡ true → hand_owes hand ≡ false
     by_hand None h = refl
-    by_hand (Some hand) h = rw (none_attaches hand.parts h) (none_owed (has_response hand.parts))
-      where
-        none_owed : (responds : Bool) → cond responds false false ≡ false
-        none_owed responds = grind arith
+    by_hand (Some hand) h = rw (none_attaches hand.parts h) (never (has_response hand.parts))
 
 now_told : {messages : List Message} {m : Machine} (next : Machine) → Tells messages m
     → IsLeft (without_response m) (without_response next) None → hand_owes m.hand ≡ hand_owes next.hand
@@ -338,15 +305,10 @@ attached_last : (item : Item) (rest : List Part) → fits item (Part.Tells Initi
 attached_last item rest is = by_rest rest (item_attaches item) is
   where
     by_rest : (rest : List Part) (attaches : Bool) → cond attaches (is_empty rest) false ≡ true → rest ≡ []
-    by_rest [] attaches is = refl
-    by_rest (part ∷ rest) true is = cc
-    by_rest (part ∷ rest) false is = cc
+    by_rest rest attaches is = grind (arith, is)
 
 none_owed : (attaches responds has : Bool) → cond attaches false (not has) ≡ true → cond responds false has ≡ false
-none_owed true responds has is = cc
-none_owed false true has is = refl
-none_owed false false true is = cc
-none_owed false false false is = refl
+none_owed attaches responds has is = grind (arith, is)
 
 -- what is news is told where no event is owed
 news_on : {messages : List Message} {requests : List Request} (state : State) (news : News)
@@ -406,7 +368,6 @@ tells_on messages m next said r h (Moves.sends {rest = rest} {deed} free at near
     more_told next _ refl refl refl h l (passed_owes at (plain_owes (Part.Sends deed) rest refl refl))
 tells_on messages m next said r h (Moves.updates {rest = rest} free at is near) l =
     more_told next _ refl refl refl h l (ap hand_owes at.in_hand ∙ ap owes_event at.parts)
-tells_on messages m next said r h (Moves.greets free at is near) l = more_told next _ refl refl refl h l refl
 tells_on messages m next said r h (Moves.notes {note = note} {rest} free at) l =
     now_told next h l (passed_owes at (plain_owes (Part.Notes note) rest refl refl))
 tells_on messages m next said r h (Moves.unfolds {hand} {choice} {rest} free at) l =
@@ -419,11 +380,9 @@ tells_on messages m next said r h (Moves.asks {hand} {want} free room is are) l 
     more_told next _ refl refl refl h l (asked_owes want m.hand)
   where
     asked_owes : (want : Want) (held : Option Hand) → hand_owes held ≡ hand_owes (option_map (asked_hand want) held)
-    asked_owes want None = refl
-    asked_owes want (Some hand) = refl
+    asked_owes want held = grind arith
 tells_on messages m next said r h (Moves.hears {request} read is) l =
     same_told (sym (heard_left l)) refl (AreTold.hears request h.told)
-tells_on messages m next said r h (Moves.greeted read is) l = more_told next _ refl refl refl h l refl
 tells_on messages m next said r h (Moves.answers {question} {replied} is waits reply stays) l =
     more_told next _ refl refl refl h l (not_end (is_gone m.state.phase) (is_end (a_question question) replied)
     (hand_owes m.hand) stays (none_gone r) ∙ sym (replied_owes (a_question question) replied m.hand))
@@ -442,10 +401,7 @@ tells_on messages m next said r h (Moves.loses {message} late near why) l =
     let (aside, ends) = loss_ends why in
     more_told next message aside (loss_silent why).0 (loss_silent why).1 h l
     (ap (λ (b : Bool). cond b false (hand_owes m.hand)) ends ∙ sym (given_owes m.hand))
-tells_on messages m next said r h (Moves.comes read sized taken) l = more_told next _ refl refl refl h l refl
-tells_on messages m next said r h (Moves.keeps is) l = more_told next _ refl refl refl h l refl
-tells_on messages m next said r h
-    (Moves.reads before after read is none taken) l = more_told next _ refl refl refl h l refl
+tells_on messages m next said r h _ l = more_told next _ refl refl refl h l refl
 
 -- That the target is gone is told -------------------------------------------------------------------------------------
 
@@ -457,13 +413,11 @@ last_begun : (state : State) (item : Item) → (state.terminated || not (is_empt
 last_begun state target_end is = by_told state.terminated
   where
     by_told : (told : Bool) → (told || has_last (end_parts told)) ≡ true
-    by_told true = refl
-    by_told false = refl
+    by_told told = grind arith
 last_begun state (a_request request) is = by_told state.terminated is
   where
     by_told : (told : Bool) → (told || false) ≡ true → (told || has_last (parts_of state (a_request request))) ≡ true
-    by_told true is = refl
-    by_told false is = cc
+    by_told told is = grind (arith, is)
 last_begun state (a_composite at composite) is = grind (arith, is)
 last_begun state (a_raw at body) is = by_told state.terminated is
   where
@@ -471,8 +425,7 @@ last_begun state (a_raw at body) is = by_told state.terminated is
     by_told told is = is
 
 some_joined : (first rest : List Item) → is_empty (first ++ rest) ≡ cond (is_empty first) (is_empty rest) false
-some_joined [] rest = refl
-some_joined (item ∷ first) rest = refl
+some_joined first rest = grind arith
 
 -- that the target is gone was told, or will be, in a target that is gone or not
 abbrev will_tell : Bool → Bool → Bool → Bool → Bool
@@ -521,29 +474,14 @@ block_lasts {m} {rest = rest} parts at same h =
 
 skipped_lasts : {m : Machine} {hand : Hand} {part : Part} (rest : List Part) → Skips m hand part
     → has_last (part ∷ rest) ≡ has_last rest
-skipped_lasts rest (Skips.by_guard is) = refl
-skipped_lasts rest (Skips.by_wishes is) = refl
-skipped_lasts rest (Skips.no_request is) = refl
-
-numbered_end : (outcome : Outcome) (state : State) → (numbered_by outcome state).terminated ≡ state.terminated
-numbered_end outcome state = grind arith
-
-noted_end : (note : Note) (state : State) → (noted note state).terminated ≡ state.terminated
-noted_end note state = grind arith
-
-replied_end : (command : TargetCommand) (replied : Replied) (state : State)
-    → (replied_to command replied state).terminated ≡ state.terminated
-replied_end command replied state = grind arith
+skipped_lasts rest why = grind (arith, why)
 
 replied_lasts : (command : TargetCommand) (replied : Replied) (hand : Option Hand)
     → hand_lasts hand ≡ hand_lasts (option_map (hand_replied command replied) hand)
-replied_lasts command replied None = refl
-replied_lasts (a_question question) replied (Some hand) = refl
-replied_lasts (an_effect effect) replied (Some hand) = refl
+replied_lasts command replied hand = grind arith
 
 asked_lasts : (want : Want) (hand : Option Hand) → hand_lasts hand ≡ hand_lasts (option_map (asked_hand want) hand)
-asked_lasts want None = refl
-asked_lasts want (Some hand) = refl
+asked_lasts want hand = grind arith
 
 -- one item more waits
 one_waits : (m : Machine) (item : Item) → EndTold m
@@ -555,8 +493,7 @@ one_waits m item h = rw (flat_map-append end_in m.waiting (item ∷ []))
   where
     grows : (gone told lasts : Bool) (first rest : List Item) → will_tell gone told lasts (is_empty first) ≡ true
         → will_tell gone told lasts (is_empty (first ++ rest)) ≡ true
-    grows gone told lasts [] rest h = grind (arith, h)
-    grows gone told lasts (item ∷ first) rest h = h
+    grows gone told lasts first rest h = grind (arith, h)
 
 end_on : (m next : Machine) (said : Option Message) → EndTold m → Moves m said next → EndTold next
 end_on m next said h (Moves.begins picked free none is) =
@@ -569,10 +506,7 @@ end_on m next said h (Moves.begins picked free none is) =
         → ((told || not (is_empty first)) ≡ true → (told || has_last (parts_of m.state picked.item)) ≡ true)
         → will_tell gone told false (is_empty (first ++ rest)) ≡ true
         → will_tell gone told (has_last (parts_of m.state picked.item)) (is_empty rest) ≡ true
-    begun_end false told first rest last h = refl
-    begun_end true true first rest last h = refl
-    begun_end true false [] rest last h = grind (arith, h)
-    begun_end true false (item ∷ first) rest last h = rw (last refl) refl
+    begun_end gone told first rest last h = grind (arith, last, h)
 end_on m next said h (Moves.drops {hand} free is none) =
     same_end m m.state false _ refl refl (ap hand_lasts is ∙ ap has_last none) refl h
 end_on m next said h (Moves.responds {rest = rest} {outcome = outcome} free at is) =
@@ -591,9 +525,8 @@ end_on m next said h (Moves.sends {rest = rest} free at near) =
 end_on m next said h (Moves.updates {rest = rest} free at is near) =
     same_end m m.state (has_last (Part.Updates ∷ rest)) _ refl refl
     (ap hand_lasts at.in_hand ∙ ap has_last at.parts) refl h
-end_on m next said h (Moves.greets free at is near) = h
 end_on m next said h (Moves.notes {note = note} {rest} free at) =
-    same_end m (noted note m.state) (has_last rest) _ (same_noted note m.state) (noted_end note m.state)
+    same_end m (noted note m.state) (has_last rest) _ (same_noted note m.state) (same_note note m.state)
     (front_lasts at refl) refl h
 end_on m next said h (Moves.unfolds {hand} {choice} free at) = block_lasts (chosen choice m.state hand) at refl h
 end_on m next said h (Moves.queues {hand} free is) =
@@ -601,16 +534,13 @@ end_on m next said h (Moves.queues {hand} free is) =
 end_on m next said h (Moves.asks {want = want} free room is are) =
     same_end m m.state _ _ refl refl (asked_lasts want m.hand) refl h
 end_on m next said h (Moves.hears {request} read is) = one_waits m (a_request request) h
-end_on m next said h (Moves.greeted read is) = h
 end_on m next said h (Moves.answers {question} {replied} is waits reply stays) =
     same_end m (replied_to (a_question question) replied m.state) _ _ (same_replied
     (a_question question) replied m.state)
-    (replied_end (a_question question) replied m.state) (replied_lasts (a_question question) replied m.hand) refl h
+    (same_reply (a_question question) replied m.state) (replied_lasts (a_question question) replied m.hand) refl h
 end_on m next said h (Moves.replies {effect} {replied} is flying reply stays) =
     same_end m (replied_to (an_effect effect) replied m.state) _ _ (same_replied (an_effect effect) replied m.state)
-    (replied_end (an_effect effect) replied m.state) (replied_lasts (an_effect effect) replied m.hand) refl h
-end_on m next said h (Moves.late before after is reply) = h
-end_on m next said h (Moves.ends gone) = h
+    (same_reply (an_effect effect) replied m.state) (replied_lasts (an_effect effect) replied m.hand) refl h
 end_on m next said h (Moves.loses late near why) = rw (flat_map-append end_in m.waiting (target_end ∷ []))
     (some_end m.state.terminated (hand_lasts (option_map given_up m.hand)) (flat_map end_in m.waiting))
   where
@@ -625,6 +555,7 @@ end_on m next said h (Moves.reads {at} {body} {composite} before after read is n
     (ap (λ (items : List Item). is_empty (flat_map end_in items)) is
     ∙ ap is_empty (flat_map-append end_in before (a_raw at body ∷ after)
     ∙ sym (flat_map-append end_in before (a_composite at composite ∷ after)))) h
+end_on m next said h _ = h
 
 -- The law -------------------------------------------------------------------------------------------------------------
 

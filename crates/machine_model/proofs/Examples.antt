@@ -12,8 +12,8 @@ use Rattle.jdwp_commands.specs.declared.question.Question.TheVariants as questio
 use Rattle.jdwp_values.specs.Lossy.{lossy}
 use Rattle.machine_model.specs.Due.{due, load_of, newly_lacked, wanted}
 use Rattle.machine_model.specs.Names.{Act, Answer, Attach, Attached, Command, Disconnect, Dispose, Does, Done, Effect}
-use Rattle.machine_model.specs.Names.{Exit, Gone, Question, Request, Set, TargetCommand, ThreadId, Threads}
-use Rattle.machine_model.specs.Names.{Want, a_question, an_answer, an_effect, an_error, an_event}
+use Rattle.machine_model.specs.Names.{Exit, Gone, Question, Request, Set, TargetCommand, ThreadId, Threads, Want}
+use Rattle.machine_model.specs.Names.{a_question, an_answer, an_effect, an_error, an_event}
 use Rattle.machine_model.specs.Plans.{chained, each, made_with, need}
 use Rattle.machine_model.specs.Replying.{IsReply, answered, ended, learnt, pending_of}
 use Rattle.machine_model.specs.Runs.{Allows, Message, greeting_heard, heard, said}

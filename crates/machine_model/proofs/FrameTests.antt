@@ -1,6 +1,6 @@
 -- A test of ids by the stop in hand: a frame was read in it. What passes as the stop goes on, and where no frame is left.
-use Rattle.std.proofs.Common.{◌≡◌, Bool, true, false, cond, List, [], ◌∷◌, ◌++◌, Option, Some, None, refl, sym, ap}
-use Rattle.std.proofs.Common.{subst, ◌∙◌, append-nil, append_assoc, ℕ, zero, suc}
+use Rattle.std.proofs.Common.{◌≡◌, Bool, true, false, List, [], ◌∷◌, ◌++◌, Option, Some, None, refl, sym, ap, subst}
+use Rattle.std.proofs.Common.{◌∙◌, append-nil, append_assoc, ℕ, zero, suc}
 use Rattle.std.specs.List.{AllByRecursion as All, Contains}
 use Rattle.std.proofs.lemmas.List.Concat.{flat_map-append}
 use Rattle.std.proofs.lemmas.List.Elements.{Contains-append_left, Contains-append_right}
@@ -9,12 +9,12 @@ use Rattle.class_tables.specs.declared.loaded.Loaded.{Loaded}
 use Rattle.jdwp_values.specs.declared.class.Field.{Field}
 use Rattle.jdwp_values.specs.declared.class.Method.{Method}
 use Rattle.jdwp_values.specs.declared.id.ClassId.{ClassId}
-use Rattle.machine_model.specs.Names.{Dispose, Exit, Resume, Suspend, Writes, a_written}
+use Rattle.machine_model.specs.Names.{Writes, Classes, Item, Lines, Part, Sent, Success, ThreadId, Want, a_composite}
+use Rattle.machine_model.specs.Names.{of_stop, Functions, Thrown, Throws, Dispose, Exit, Resume, Suspend, a_written}
+use Rattle.machine_model.specs.Names.{Capabilities, Continued, Failed, Nothing, a_stop, breakpoint_list, Steps}
+use Rattle.machine_model.specs.Names.{exception_text, some_news, thread_changed}
 use Rattle.machine_model.specs.Due.{sent}
 use Rattle.machine_model.specs.Ids.{AreOfStop, Id, WasReadInStop, begins_stop, class, frame, ids_given, ids_read}
-use Rattle.machine_model.specs.Names.{Capabilities, Classes, Continued, Failed, Item, Lines, Nothing, Part, Sent}
-use Rattle.machine_model.specs.Names.{Success, ThreadId, Want, a_composite, a_stop, breakpoint_list, of_stop}
-use Rattle.machine_model.specs.Names.{Functions, Steps, Thrown, Throws, exception_text, some_news, thread_changed}
 use Rattle.machine_model.specs.ReferenceNumbers.{ends_stop}
 use Rattle.machine_model.specs.Runs.{Message}
 use Rattle.machine_model.specs.State.{Hand, Machine, State, is_some}
@@ -30,6 +30,7 @@ use Rattle.machine_model.proofs.ThingIds.{AreThings}
 use Rattle.machine_model.proofs.HitIds.{ItemStands}
 use Rattle.machine_model.proofs.ThreadIds.{TellStands}
 use Rattle.machine_model.proofs.WishIds.{weak_wished}
+use Rattle.machine_model.proofs.Bools.{both_hold}
 
 -- The test ------------------------------------------------------------------------------------------------------------
 
@@ -162,12 +163,8 @@ module _ (stopped : Bool) (messages : List Message) where
   parts_free : (R : Id → Type 0) (parts : List Part) → are_bare parts ≡ true → All (PartStands R) parts
       → All (PartStands P) parts
   parts_free R [] bare h = tt
-  parts_free R (part ∷ parts) bare h = let two = both (is_bare part) (are_bare parts) bare in
+  parts_free R (part ∷ parts) bare h = let two = both_hold (is_bare part) (are_bare parts) bare in
       (part_free R part two.0 h.0, parts_free R parts two.1 h.1)
-    where
-      both : (first others : Bool) → cond first others false ≡ true → (first ≡ true) × (others ≡ true)
-      both true others is = (refl, is)
-      both false others is = cc
 
   -- and nor has what is left of an item that ends the stop
   pub near_free : (R : Id → Type 0) (state : State) (left : List Part) (queue : List Want) (asked : List Sent)

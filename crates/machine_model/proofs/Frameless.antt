@@ -26,12 +26,10 @@ use Rattle.jdwp_values.specs.declared.limit.Limit.{Limit}
 use Rattle.jdwp_values.specs.declared.limit.Limit.TheVariants.{Any}
 use Rattle.jdwp_values.specs.declared.value.Value.{Value}
 use Rattle.jdwp_values.specs.declared.value.Value.TheVariants as values
-use Rattle.machine_model.specs.Ids.{id_of_object}
-use Rattle.machine_model.specs.Ids.{Id, class, frame, ids_answered, ids_of, ids_of_composite, ids_of_event}
-use Rattle.machine_model.specs.Ids.{ids_of_item, ids_of_listed, ids_of_part, ids_of_row, ids_of_said, ids_of_saying}
-use Rattle.machine_model.specs.Ids.{ids_of_simple, ids_of_value, ids_replied, method, no_thread}
-use Rattle.machine_model.specs.Names.{Answer, Composite, Effect, Question, Replied, a_question, an_answer, an_effect}
-use Rattle.machine_model.specs.Names.{an_error}
+use Rattle.machine_model.specs.Ids.{id_of_object, Id, class, frame, ids_answered, ids_of, ids_of_composite}
+use Rattle.machine_model.specs.Ids.{ids_of_event, ids_of_item, ids_of_listed, ids_of_part, ids_of_row, ids_of_said}
+use Rattle.machine_model.specs.Ids.{ids_of_saying, ids_of_simple, ids_of_value, ids_replied, method, no_thread}
+use Rattle.machine_model.specs.Names.{Answer, Composite, Effect, Question, Replied, a_question, an_effect}
 use Rattle.machine_model.specs.Replying.{IsReply, wire}
 use Rattle.machine_model.specs.State.{SizesRead}
 use Rattle.machine_model.proofs.IdRows.{all_flat, all_joined}
@@ -193,11 +191,9 @@ module _ (P : Id → Type 0) (free : (id : Id) → is_frame id ≡ false → P i
       ),
     ),
   )
-  event_free (events.ThreadStart request thread) = (free _ refl, tt)
-  event_free (events.ThreadDeath request thread) = (free _ refl, tt)
   event_free (events.ClassPrepare request thread tag c signature status) = (free _ refl, (free _ refl, tt))
-  event_free (events.VMStart request thread) = (free _ refl, tt)
   event_free (events.VMDeath request) = tt
+  event_free _ = (free _ refl, tt)
 
   pub composite_free : (composite : Composite) → All P (ids_of_composite composite)
   composite_free composite = all_flat (λ (event : Event). Unit {0}) P ids_of_event (λ event any. event_free event)

@@ -3,16 +3,16 @@ use Rattle.std.proofs.Common.{◌≡◌, Bool, true, false, cond, ◌||◌, List
 use Rattle.std.proofs.Common.{ap, ◌∙◌, option_map, arith}
 use Rattle.machine_model.specs.Due.{asked_by, greeted_by, lacked_by, newly_lacked, passes, with_wants}
 use Rattle.machine_model.specs.Names.{Choice, Handshake, IdSizes, Initialized, Item, Part, Replied, TargetCommand, Want}
-use Rattle.machine_model.specs.Names.{a_question, an_effect}
+use Rattle.machine_model.specs.Names.{a_question, an_effect, Stepped}
 use Rattle.machine_model.specs.Pending.{has_such, have_handshake, is_greeted, is_greets}
 use Rattle.machine_model.specs.Replying.{given_up, hand_replied, is_failed, replied_machine, replied_to, unless_failed}
 use Rattle.machine_model.specs.Rows.{chosen, gone_parts, has_response, parts_of}
-use Rattle.machine_model.specs.Names.{Stepped}
 use Rattle.machine_model.specs.Runs.{Message}
 use Rattle.machine_model.specs.State.{Hand, Machine, State, is_attached, is_empty, left}
 use Rattle.machine_model.proofs.QuietLaws.{lacking_hand}
 use Rattle.machine_model.proofs.Testing.{same_replied}
-use Rattle.machine_model.proofs.Stepping.{IsAt, Loses, Moves, Skips, with_said}
+use Rattle.machine_model.proofs.Stepping.{IsAt, Moves, Skips, with_said, Loses}
+use Rattle.machine_model.proofs.Bools.{second_more}
 
 -- Lists of parts ------------------------------------------------------------------------------------------------------
 
@@ -26,7 +26,7 @@ needs (Part.Tells Initialized) = true
 needs (Part.Unfolds Stepped) = true
 needs _ = false
 
-abbrev is_handshake : Part → Bool
+abbrev pub is_handshake : Part → Bool
 is_handshake (Part.Awaits Handshake) = true
 is_handshake _ = false
 
@@ -85,24 +85,15 @@ lacks_there : (both : Bool) (state : State) (hand : Hand) (parts : List Part) �
     → behind_both both false (behind_handshake hand.parts) ≡ true
     → is_empty (with_wants hand.asked [] (lacked_by state hand parts)) ≡ false
     → both ≡ true
-lacks_there both state hand [] are h lacks = cc
-lacks_there both state hand (Part.Responds outcome ∷ rest) are h lacks = cc
-lacks_there both state hand (Part.Tells event ∷ rest) are h lacks = cc
-lacks_there both state hand (Part.Sends deed ∷ rest) are h lacks = cc
 lacks_there both state hand (Part.Looks lookup ∷ rest) are h lacks = grind (arith, are, h)
 lacks_there both state hand (Part.Awaits Handshake ∷ rest) are h lacks =
     never state.greeting_sent state.greeting_heard lacks
   where
     never : (sent heard : Bool) → is_empty (with_wants hand.asked [] (asked_by (greeted_by sent heard))) ≡ false
         → both ≡ true
-    never false heard lacks = cc
-    never true false lacks = cc
-    never true true lacks = cc
+    never sent heard lacks = grind (arith, lacks)
 lacks_there both state hand (Part.Awaits IdSizes ∷ rest) are h lacks = grind (arith, are, h)
-lacks_there both state hand (Part.Updates ∷ rest) are h lacks = cc
-lacks_there both state hand (Part.Notes note ∷ rest) are h lacks = cc
-lacks_there both state hand (Part.Unfolds choice ∷ rest) are h lacks = cc
-lacks_there both state hand (Part.Ends finish ∷ rest) are h lacks = cc
+lacks_there both state hand _ are h lacks = cc
 
 -- once both sides are there, all is well
 pub behind_true : (both attached behind : Bool) → both ≡ true → behind_both both attached behind ≡ true
@@ -126,9 +117,7 @@ lacking_both m hand h is lacks =
     weaker both attached behind queued is = grind (arith, is)
 
 passes_both : (sent heard : Bool) → greeted_by sent heard ≡ passes → cond sent heard false ≡ true
-passes_both false heard is = cc
-passes_both true false is = cc
-passes_both true true is = refl
+passes_both sent heard is = grind (arith, is)
 
 skipped_behind : (m : Machine) (hand : Hand) (part : Part) (rest : List Part) → IsBehind m → IsAt m hand part rest
     → Skips m hand part → IsBehind (left m hand rest)
@@ -148,19 +137,14 @@ both_replied : (command : TargetCommand) (replied : Replied) (state : State)
 both_replied command replied state = grind arith
 
 unfailed : (failed : Bool) (queue : List Want) → is_empty queue ≡ true → is_empty (unless_failed failed queue) ≡ true
-unfailed true queue is = refl
-unfailed false queue is = is
+unfailed failed queue is = grind (arith, is)
 
 hand_replied_behind : (command : TargetCommand) (replied : Replied) (hand : Option Hand) → hand_behind hand ≡ true
     → hand_behind (option_map (hand_replied command replied) hand) ≡ true
 hand_replied_behind command replied None is = refl
 hand_replied_behind (a_question question) replied (Some hand) is =
-    two (behind_handshake hand.parts) (is_empty hand.queue) _ is (unfailed
+    second_more (behind_handshake hand.parts) (is_empty hand.queue) _ is (unfailed
     (is_failed question replied hand.asked) hand.queue)
-  where
-    two : (behind queued now : Bool) → cond behind queued false ≡ true → (queued ≡ true → now ≡ true)
-        → cond behind now false ≡ true
-    two behind queued now is rest = grind (arith, is, rest)
 hand_replied_behind (an_effect effect) replied (Some hand) is = is
 
 behind_weak : (both attached was now : Bool) → (was ≡ true → now ≡ true) → behind_both both attached was ≡ true
@@ -176,9 +160,8 @@ replied_behind m command replied h =
 
 given_behind : (both : Bool) (hand : Option Hand) → behind_both both false (hand_behind (option_map given_up hand))
     ≡ true
-given_behind true hand = refl
-given_behind false None = refl
 given_behind false (Some hand) = rw (gone_behind (has_response hand.parts) hand.item) refl
+given_behind _ _ = refl
 
 pub behind_on : (m next : Machine) (said : Option Message) → IsBehind m → Moves m said next → IsBehind next
 behind_on m next said h (Moves.begins picked free none is) =
@@ -218,19 +201,14 @@ behind_on m next said h (Moves.queues {hand} free is) =
     now_behind next (lacking_both m hand h is (lacking_hand m hand free is))
 behind_on m next said h (Moves.asks {hand} {want} {wants} free room is are) =
     now_behind next (both_queued m hand want wants h is are)
-behind_on m next said h (Moves.hears read is) = h
 behind_on m next said h (Moves.greeted read is) = grind (arith, h)
 behind_on m next said h (Moves.answers {question} {replied} is waits reply stays) =
     replied_behind m (a_question question) replied h
 behind_on m next said h (Moves.replies {effect} {replied} is flies reply stays) =
     replied_behind m (an_effect effect) replied h
-behind_on m next said h (Moves.late before after is reply) = h
-behind_on m next said h (Moves.ends gone) = h
 behind_on m next said h (Moves.loses late near why) =
     given_behind (has_handshake m.state) m.hand
-behind_on m next said h (Moves.comes read sized taken) = h
-behind_on m next said h (Moves.keeps is) = h
-behind_on m next said h (Moves.reads before after read is none taken) = h
+behind_on m next said h _ = h
 
 -- What the messages say of it -----------------------------------------------------------------------------------------
 
@@ -259,21 +237,7 @@ record Flags (m next : Machine) (said : Option Message) : Type 0 where
   heard : (m.state.greeting_heard || said_such is_greeted said) ≡ next.state.greeting_heard
 
 flags_on : (m next : Machine) (said : Option Message) → Moves m said next → Flags m next said
-flags_on m next said (Moves.responds {outcome} free at is) = record { sent = grind arith; heard = grind arith }
-flags_on m next said (Moves.tells {event} free at) = record { sent = grind arith; heard = grind arith }
-flags_on m next said (Moves.greets free at is near) = record { sent = grind arith; heard = grind arith }
-flags_on m next said (Moves.notes {note} free at) = record { sent = grind arith; heard = grind arith }
-flags_on m next said (Moves.greeted read is) = record { sent = grind arith; heard = grind arith }
-flags_on m next said (Moves.answers {question} is waits reply stays) = record {
-  sent = grind arith;
-  heard = grind
-      arith;
-}
 flags_on m next said (Moves.loses late near Loses.by_end) = record { sent = grind arith; heard = grind arith }
-flags_on m next said (Moves.loses late near (Loses.by_question is waits reply last)) =
-    record { sent = grind arith; heard = grind arith }
-flags_on m next said (Moves.loses late near (Loses.by_effect is flies reply last)) =
-    record { sent = grind arith; heard = grind arith }
 flags_on m next said _ = record { sent = grind arith; heard = grind arith }
 
 pub greeted_on : (messages : List Message) (m next : Machine) (said : Option Message) → IsGreeted messages m

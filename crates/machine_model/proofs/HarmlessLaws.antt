@@ -1,5 +1,6 @@
 -- Nothing is asked of null: each question was lacking, and nothing that a part lacks asks so; and no step of null is set.
-use Rattle.std.proofs.Common.{◌≡◌, ◌&&◌, ◌⊎◌, Bool, true, false, List, [], ◌∷◌, ◌++◌, refl, sym, ap, subst, ◌∙◌, inl, inr}
+use Rattle.std.proofs.Common.{◌≡◌, ◌&&◌, ◌⊎◌, Bool, true, false, List, [], ◌∷◌, ◌++◌, refl, sym, ap, subst, ◌∙◌, inl}
+use Rattle.std.proofs.Common.{inr}
 use Rattle.std.specs.List.{AllByRecursion as All}
 use Rattle.class_tables.specs.Lookups.{found_in}
 use Rattle.jdwp_commands.specs.declared.question.Question.TheVariants as questions
@@ -15,22 +16,20 @@ use Rattle.machine_model.specs.Runs.{Message, Run}
 use Rattle.machine_model.specs.State.{Hand, Machine, State}
 use Rattle.machine_model.proofs.BindingHands.{looks_first}
 use Rattle.machine_model.proofs.BindingParts.{lacked_meek}
-use Rattle.machine_model.proofs.BindingPlans.{asks, is_fact, known_wants, makes, plan_lacks, wants_fact}
-use Rattle.machine_model.proofs.BindingPlans.{wants_other}
+use Rattle.machine_model.proofs.BindingPlans.{asks, is_fact, known_wants, makes, plan_lacks, wants_fact, wants_other}
 use Rattle.machine_model.proofs.HarmlessSteps.{effects_harmless}
 use Rattle.machine_model.proofs.IdLaws.{last_or_not}
 use Rattle.machine_model.proofs.IdRows.{all_weak}
 use Rattle.machine_model.proofs.QuestionLaws.{are_lacked}
 use Rattle.machine_model.proofs.SafePlans.{is_meek}
 use Rattle.wish_sets.specs.Wanted.{Wanted}
+use Rattle.machine_model.proofs.Bools.{and_second}
 
 abbrev Harms : Want → Type 0
 Harms want = is_harmless (question_of want) ≡ true
 
 -- facts that breakpoints are bound by
 fact_harms : (want : Want) → wants_fact want ≡ true → Harms want
-fact_harms (Want.Must question) is = cc
-fact_harms (Want.May question) is = cc
 fact_harms (Want.Fact question) is = by_question question is
   where
     by_question : (question : Question) → is_fact question ≡ true → is_harmless question ≡ true
@@ -38,10 +37,7 @@ fact_harms (Want.Fact question) is = by_question question is
     by_question (questions.Methods class) is = refl
     by_question (questions.LineTable class method) is = refl
     by_question _ is = cc
-
-second_of : (first second : Bool) → (first && second) ≡ true → second ≡ true
-second_of true second is = is
-second_of false second is = cc
+fact_harms _ is = cc
 
 -- what the look-up of classes lacks
 abbrev classes_shown : Bool → Wanted → State → Plan Finding
@@ -66,7 +62,7 @@ lacked_harm state hand parts = by_first (looks_first parts) refl
   where
     by_first : (first : Bool) → looks_first parts ≡ first → All Harms (lacked_by state hand parts)
     by_first false none = all_weak (λ want. is_meek want ≡ true) Harms
-        (λ want. second_of (wants_other want) (is_harmless (question_of want))) (lacked_by state hand parts)
+        (λ want. and_second (wants_other want) (is_harmless (question_of want))) (lacked_by state hand parts)
         (lacked_meek state hand parts none)
     by_first true is = cc
 

@@ -1,26 +1,22 @@
 -- No step of null is set: what is wanted has none, since no part writes one down.
-use Rattle.std.proofs.Common.{◌≡◌, ◌==◌, ◌||◌, ℕ, zero, suc, Bool, true, false, cond, List, [], ◌∷◌, ◌++◌, Option, Some}
-use Rattle.std.proofs.Common.{None, refl, sym, ap, subst, ◌∙◌, arith}
+use Rattle.std.proofs.Common.{◌≡◌, ◌==◌, ◌||◌, ℕ, Bool, true, false, cond, List, [], ◌∷◌, ◌++◌, Option, Some, None}
+use Rattle.std.proofs.Common.{refl, sym, ap, subst, ◌∙◌, arith}
 use Rattle.std.specs.List.{AllByRecursion as All}
 use Rattle.std.specs.Prelude.{map, option_and_then}
 use Rattle.class_tables.specs.Lookups.{found_in}
 use Rattle.machine_model.specs.Harmless.{is_harmless_effect, is_harmless_wish, is_there}
-use Rattle.machine_model.specs.Names.{Written}
-use Rattle.machine_model.specs.Names.{Choice, Classes, Clear, Command, Decides, Does, Effect, Failure}
-use Rattle.machine_model.specs.Names.{Item, Leaves, Lines, Next, Note, Part}
-use Rattle.machine_model.specs.Names.{Set, StepIn, StepOut, Stepped, Steps, TargetCommand, TellsNews, ThreadId}
-use Rattle.machine_model.specs.Names.{a_composite, a_raw, a_request, an_effect, target_end}
+use Rattle.machine_model.specs.Names.{Choice, Classes, Command, Decides, Effect, Failure, Item, Next, Note, Part, Set}
+use Rattle.machine_model.specs.Names.{StepIn, StepOut, Stepped, Steps, TargetCommand, TellsNews, ThreadId, a_raw, Lines}
+use Rattle.machine_model.specs.Names.{a_request, an_effect}
 use Rattle.machine_model.specs.Requests.{Wishes, effect_due}
 use Rattle.machine_model.specs.Rows.{chosen, failure_of, news_of, noted, parts_by, parts_of, refused_with, row_of}
 use Rattle.machine_model.specs.Rows.{step_parts, stepped_by, thread_there, thread_with, wanting}
 use Rattle.machine_model.specs.Runs.{Message, Run}
 use Rattle.machine_model.specs.State.{Hand, Machine, State}
 use Rattle.machine_model.proofs.BindingFacts.{only_classes}
-use Rattle.machine_model.proofs.BindingParts.{event_wishes}
-use Rattle.machine_model.proofs.BindingReplies.{effect_wanted}
 use Rattle.machine_model.proofs.BindingWatches.{or_false, without_mid}
 use Rattle.machine_model.proofs.IdRows.{all_joined}
-use Rattle.machine_model.proofs.RequestSteps.{learnt_wishes, numbered_wishes}
+use Rattle.machine_model.proofs.RequestSteps.{learnt_wishes, numbered_wishes, told_wishes}
 use Rattle.machine_model.proofs.Stepping.{Loses, Moves, by_moves, with_said}
 use Rattle.machine_model.proofs.Tables.{decided_alike, told_alike}
 use Rattle.machine_model.proofs.Testing.{IsTest, Passed, passed_on, whole}
@@ -36,6 +32,7 @@ use Rattle.wish_sets.specs.declared.wish.Depth.TheVariants.{Into, Out, Over}
 use Rattle.wish_sets.specs.declared.wish.StepWish.{StepWish}
 use Rattle.wish_sets.specs.declared.wish.Wish.{Wish}
 use Rattle.wish_sets.specs.declared.wish.Wish.TheVariants as wishes
+use Rattle.machine_model.proofs.ReplyLaws.{wanted_replied}
 
 -- Parts ---------------------------------------------------------------------------------------------------------------
 
@@ -61,8 +58,7 @@ step_threaded depth None = refl
 step_threaded depth (Some thread) = by_test (thread.0 == 0) refl
   where
     other_there : (id : ℕ) → (id == 0) ≡ false → is_there id ≡ true
-    other_there zero is = cc
-    other_there (suc id) is = refl
+    other_there id is = grind (arith, is)
 
     by_test : (none : Bool) → (thread.0 == 0) ≡ none
         → are_threaded (step_parts depth (cond none None (Some thread))) ≡ true
@@ -80,9 +76,8 @@ row_threaded None _ state = grind arith
 begun_threaded : (state : State) (item : Item) → are_threaded (parts_of state item) ≡ true
 begun_threaded state (a_request request) =
     row_threaded (failure_of (wanting request.command) state) request.command state
-begun_threaded state target_end = grind arith
-begun_threaded state (a_composite at composite) = grind arith
 begun_threaded state (a_raw at body) = refl
+begun_threaded state _ = grind arith
 
 chosen_threaded : (choice : Choice) (state : State) (hand : Hand) (rest : List Part) → are_threaded rest ≡ true
     → are_threaded (chosen choice state hand ++ rest) ≡ true
@@ -94,10 +89,8 @@ chosen_threaded Decides state hand rest is =
 chosen_threaded Stepped state hand rest is = by_code (refused_with hand.effect)
   where
     by_code : (code : Option ℕ) → are_threaded (stepped_by code ++ rest) ≡ true
-    by_code None = is
-    by_code (Some code) = is
-chosen_threaded (Written seen) state hand rest is = grind (arith, is)
-chosen_threaded (Leaves exits) state hand rest is = grind (arith, is)
+    by_code code = grind arith
+chosen_threaded _ state hand rest is = grind (arith, is)
 
 threaded_test : IsTest threaded
 threaded_test = record {
@@ -124,9 +117,7 @@ module _ (thread : ThreadId) (depth : Depth) where
   no_stop (place ∷ those) = no_stop those
 
   no_thrown : (caught uncaught : Bool) → has_wish (thrown caught uncaught) it ≡ false
-  no_thrown true uncaught = refl
-  no_thrown false true = refl
-  no_thrown false false = refl
+  no_thrown caught uncaught = grind arith
 
   abbrev first : Wanted → List Wish
   first wanted = wishes.ThreadStart ∷ wishes.ThreadDeath ∷ map wishes.Watch (watched wanted)
@@ -149,14 +140,13 @@ module _ (thread : ThreadId) (depth : Depth) where
 
 due_harmless : (w : Wishes) (effect : Effect) → has_thread w.wanted.step ≡ true → effect_due w ≡ Some effect
     → is_harmless_effect effect ≡ true
-due_harmless w (Does deed) there due = refl
-due_harmless w (Clear wish request) there due = refl
 due_harmless w (Set wish) there due = by_wish wish (new_set_due w wish due).is_wished
   where
     by_wish : (wish : Wish) → has_wish (wished w.wanted) wish ≡ true → is_harmless_wish wish ≡ true
     by_wish (wishes.Step thread depth) has =
         step_there thread depth w.wanted.step there (sym (only_step thread depth w.wanted) ∙ has)
     by_wish _ has = refl
+due_harmless w _ there due = refl
 
 -- Moves ---------------------------------------------------------------------------------------------------------------
 
@@ -188,9 +178,7 @@ said_on m next said there (Moves.updates {effect = effect} free at is away) =
 said_on m next said there (Moves.loses late away why) = by_loss why
   where
     by_loss : {message : Message} {late : List TargetCommand} → Loses m message late → sends_well message ≡ true
-    by_loss Loses.by_end = refl
-    by_loss (Loses.by_question is waits reply last) = refl
-    by_loss (Loses.by_effect is flying reply last) = refl
+    by_loss why = grind (arith, why)
 said_on m next said there _ = refl
 
 noted_thread : (note : Note) (state : State) → has_thread state.wishes.wanted.step ≡ true
@@ -207,21 +195,20 @@ front_threaded : (part : Part) (rest : List Part) → are_threaded (part ∷ res
 front_threaded part rest is = by_test (is_threaded part) is
   where
     by_test : (b : Bool) → cond b (are_threaded rest) false ≡ true → b ≡ true
-    by_test true is = refl
-    by_test false is = is
+    by_test b is = grind (arith, is)
 
 there_on : (m next : Machine) (said : Option Message) → has_thread m.state.wishes.wanted.step ≡ true
     → Passed threaded m → Moves m said next → has_thread next.state.wishes.wanted.step ≡ true
 there_on m next said there p (Moves.responds {outcome = outcome} free at is) =
     ap (λ (w : Wishes). has_thread w.wanted.step) (numbered_wishes outcome m.state) ∙ there
 there_on m next said there p (Moves.tells {event = event} free at) =
-    ap (λ (w : Wishes). has_thread w.wanted.step) (event_wishes event m.state) ∙ there
+    ap (λ (w : Wishes). has_thread w.wanted.step) (told_wishes event m.state) ∙ there
 there_on m next said there p (Moves.notes {note = note} {rest = rest} free at) =
     noted_thread note m.state there (front_threaded (Part.Notes note) rest (whole threaded p at))
 there_on m next said there p (Moves.answers {question} {replied} is waits reply stays) =
     ap (λ (w : Wishes). has_thread w.wanted.step) (learnt_wishes question replied m.state) ∙ there
 there_on m next said there p (Moves.replies {effect} {replied} is flying reply stays) =
-    ap (λ (wanted : Wanted). has_thread wanted.step) (effect_wanted effect replied m.state.wishes) ∙ there
+    ap (λ (wanted : Wanted). has_thread wanted.step) (wanted_replied effect replied m.state.wishes) ∙ there
 there_on m next said there p _ = there
 
 are_threaded_all : {messages : List Message} {m : Machine} → Run messages m → AreThreaded messages m

@@ -3,38 +3,31 @@ use Rattle.std.proofs.Common.{◌≡◌, ℕ, Bool, true, false, cond, not, List
 use Rattle.std.proofs.Common.{ap, subst, ◌∙◌, option_map, arith}
 use Rattle.std.specs.Prelude.{nat_lt, ◌-◌, ◌+◌}
 use Rattle.jdwp_events.specs.declared.kind.Policy.{Policy}
-use Rattle.jdwp_events.specs.declared.kind.Policy.TheVariants.{NoThread, EventThread, All}
 use Rattle.machine_model.specs.Composites.{composite_parts}
 use Rattle.machine_model.specs.Due.{after_deed, asked_hand, entry_by, sent, stopped_by}
-use Rattle.machine_model.specs.Knowing.{View, begins, dies, dying_by, held_in, held_with, has_last, may_send}
-use Rattle.machine_model.specs.Knowing.{owed_by, owed_in, sent_view, stopped_behind, view_of}
+use Rattle.machine_model.specs.Knowing.{View, begins, dies, dying_by, held_in, held_with, has_last, may_send, owed_by}
+use Rattle.machine_model.specs.Knowing.{owed_in, sent_view, stopped_behind, view_of}
 use Rattle.machine_model.specs.Lookups.{finished}
-use Rattle.machine_model.specs.Names.{Writes, Written, variable_write}
-use Rattle.machine_model.specs.Names.{Attached, Choice, Clear, Command, Decides, Deed, Dispose, Does, Effect, EntryHeld}
-use Rattle.machine_model.specs.Names.{Exit, Finding, Fresh, Gone, Hit, Item, Leaves, Lookup, Part, Phase, Replied}
-use Rattle.machine_model.specs.Names.{Resume, Set, StopCause, Stopping, Suspend, TargetCommand, TellsNews}
-use Rattle.machine_model.specs.Names.{Want, a_question, a_stop, all_threads, an_effect}
-use Rattle.machine_model.specs.Names.{by_client, class_facts, of_composite, of_entry, of_stop}
-use Rattle.machine_model.specs.Names.{thread_frames}
-use Rattle.machine_model.specs.Names.{container_children, expression_value}
+use Rattle.machine_model.specs.Names.{Written, variable_write, Attached, Choice, Clear, Command, Decides, Deed, Does}
+use Rattle.machine_model.specs.Names.{Effect, EntryHeld, Finding, Item, Leaves, Lookup, Part, Phase, Replied, Resume}
+use Rattle.machine_model.specs.Names.{Set, StopCause, Stopping, Suspend, TargetCommand, TellsNews, Want, a_stop}
+use Rattle.machine_model.specs.Names.{an_effect, by_client, of_composite, of_entry, of_stop, Halt, Stepped, ThreadId}
+use Rattle.machine_model.specs.Names.{Thrown, HaltCause, exception_text, Hit, by_step, by_exception}
 use Rattle.machine_model.specs.Plans.{Result}
 use Rattle.machine_model.specs.Replying.{given_up, hand_replied}
 use Rattle.machine_model.specs.Requests.{Wishes, effect_due, effect_of}
-use Rattle.machine_model.specs.Rows.{written_by}
-use Rattle.machine_model.specs.Rows.{chosen, end_parts, gone_parts, has_response, leaves, news_of, request_parts}
+use Rattle.machine_model.specs.Rows.{written_by, chosen, end_parts, gone_parts, has_response, leaves, news_of}
+use Rattle.machine_model.specs.Rows.{request_parts, refused_with, stepped_by}
 use Rattle.machine_model.specs.State.{Hand, Machine, State, is_attached, is_empty, is_gone, knowing}
-use Rattle.machine_model.specs.Stops.{decided, decided_by, events_in, has_start, hits_in, stop_among, surplus, thrown_in}
-use Rattle.machine_model.specs.Stops.{told_part}
-use Rattle.machine_model.specs.Names.{Halt, Stepped, ThreadId, Thrown, by_step, exception_info}
-use Rattle.machine_model.specs.Rows.{refused_with}
+use Rattle.machine_model.specs.Stops.{decided, decided_by, events_in, has_start, hits_in, stop_among, surplus}
+use Rattle.machine_model.specs.Stops.{thrown_in, told_part}
 use Rattle.suspend_ledger.specs.Suspensions.{suspensions_by}
 use Rattle.wish_sets.specs.Wishes.{WishChange, clears, next_change, sets}
 use Rattle.machine_model.proofs.HoldingParts.{IsHolding, may_all, may_do_so, may_front, may_stop}
 use Rattle.machine_model.proofs.Stepping.{IsAt, Skips}
 use Rattle.machine_model.proofs.Tables.{free_once, told_alike}
 use Rattle.machine_model.proofs.Testing.{passed}
-use Rattle.machine_model.specs.Names.{HaltCause, by_exception, exception_text}
-use Rattle.machine_model.specs.Rows.{stepped_by}
+use Rattle.machine_model.proofs.Bools.{first_holds}
 
 pub held_front : {m : Machine} {hand : Hand} {part : Part} {rest : List Part} → IsAt m hand part rest
     → held_in m.state m.hand ≡ held_with m.state.stopped m.state.entry (owed_in m.state.stopped (part ∷ rest))
@@ -71,28 +64,17 @@ pub row_last : (state : State) (command : Command) → has_last (request_parts c
 row_last state command = grind arith
 
 pub end_owes : (stopped told : Bool) → owed_in stopped (end_parts told) ≡ 0
-end_owes stopped true = refl
-end_owes stopped false = refl
+end_owes stopped told = grind arith
 
 -- an item that tells of the target's end holds nothing; else a composite holds what it suspended
 pub composite_owes : (stopped dead : Bool) (policy : Policy) (at below : ℕ)
     → owed_in stopped (composite_parts Attached dead policy at below)
     ≡ cond dead 0 (0 + suspensions_by policy)
-composite_owes stopped true NoThread at below = refl
-composite_owes stopped true EventThread at below = refl
-composite_owes stopped true All at below = refl
-composite_owes stopped false NoThread at below = refl
-composite_owes stopped false EventThread at below = refl
-composite_owes stopped false All at below = refl
+composite_owes stopped dead policy at below = grind arith
 
 pub composite_last : (dead : Bool) (policy : Policy) (at below : ℕ)
     → has_last (composite_parts Attached dead policy at below) ≡ dying_by policy dead
-composite_last true NoThread at below = refl
-composite_last true EventThread at below = refl
-composite_last true All at below = refl
-composite_last false NoThread at below = refl
-composite_last false EventThread at below = refl
-composite_last false All at below = refl
+composite_last dead policy at below = grind arith
 
 gone_owes : (stopped responds : Bool) (item : Item) → owed_in stopped (gone_parts responds item) ≡ 0
 gone_owes stopped responds item = grind arith
@@ -103,19 +85,13 @@ given_owes (Some hand) = gone_owes false (has_response hand.parts) hand.item
 
 pub found_owes : (stopped : Bool) (lookup : Lookup) (result : Result Finding) (state : State) (rest : List Part)
     → owed_in stopped (finished lookup result state ++ rest) ≡ owed_in stopped (Part.Looks lookup ∷ rest)
-found_owes stopped all_threads result state rest = refl
-found_owes stopped (thread_frames thread start levels) result state rest = refl
-found_owes stopped (container_children thing filter start count) result state rest = refl
-found_owes stopped (expression_value frame expression) result state rest = refl
 found_owes stopped (variable_write thing name text) result state rest = grind arith
 found_owes stopped (exception_text thread object) result state rest = by_stop stopped
   where
     by_stop : (stopped : Bool) → owed_in stopped (finished (exception_text thread object) result state ++ rest)
         ≡ owed_in stopped (Part.Looks (exception_text thread object) ∷ rest)
-    by_stop true = refl
-    by_stop false = refl
-found_owes stopped (exception_info thrown) result state rest = refl
-found_owes stopped class_facts result state rest = refl
+    by_stop stopped = grind arith
+found_owes stopped _ result state rest = refl
 
 -- what is decided on a composite's suspension is one of three: a stop holds it, the entry does, or it is undone
 decided_owes : (state : State) (item : Item) → is_attached state.phase ≡ true
@@ -147,25 +123,18 @@ chosen_owes {m} {hand} {choice = Leaves exits} {rest} h at = by_phase m.state.ph
   where
     by_phase : (phase : Phase) (exits : Bool)
         → owed_in m.state.stopped (leaves phase exits ++ rest) ≡ owed_in m.state.stopped rest
-    by_phase Fresh exits = refl
-    by_phase Attached true = refl
-    by_phase Attached false = refl
-    by_phase Gone exits = refl
+    by_phase phase exits = grind arith
 chosen_owes {m} {hand} {choice = Written seen} {rest} h at = by_code (refused_with hand.effect)
   where
     by_code : (code : Option ℕ) → owed_in m.state.stopped (written_by seen code ++ rest) ≡ owed_in m.state.stopped rest
-    by_code None = refl
-    by_code (Some code) = refl
+    by_code code = grind arith
 chosen_owes {m} {hand} {choice = Stepped} {rest} h at =
     by_rest rest m.state.stopped (refused_with hand.effect) (may_front h at)
   where
     by_rest : (rest : List Part) (stopped : Bool) (code : Option ℕ)
         → may_all m.state.phase stopped m.state.entry (Part.Unfolds Stepped ∷ rest) ≡ true
         → owed_in stopped (stepped_by code ++ rest) ≡ owed_in stopped rest
-    by_rest [] stopped None is = refl
-    by_rest [] stopped (Some code) is = refl
-    by_rest (part ∷ rest) true code is = cc
-    by_rest (part ∷ rest) false code is = cc
+    by_rest rest stopped code is = grind (arith, is)
 chosen_owes {m} {hand} {choice = Decides} {rest} h at = by_rest rest (is_attached m.state.phase) refl (may_front h at)
   where
     by_rest : (rest : List Part) (attached : Bool) → is_attached m.state.phase ≡ attached
@@ -179,36 +148,26 @@ chosen_owes {m} {hand} {choice = Decides} {rest} h at = by_rest rest (is_attache
 
 pub skipped_owes : {m : Machine} {hand : Hand} {part : Part} (stopped : Bool) (rest : List Part) → Skips m hand part
     → owed_in stopped rest ≡ owed_in stopped (part ∷ rest)
-skipped_owes stopped rest (Skips.by_guard is) = refl
-skipped_owes stopped rest (Skips.by_wishes is) = refl
-skipped_owes stopped rest (Skips.no_request is) = refl
+skipped_owes stopped rest why = grind (arith, why)
 
 pub skipped_last : {m : Machine} {hand : Hand} {part : Part} (rest : List Part) → Skips m hand part
     → has_last rest ≡ has_last (part ∷ rest)
-skipped_last rest (Skips.by_guard is) = refl
-skipped_last rest (Skips.by_wishes is) = refl
-skipped_last rest (Skips.no_request is) = refl
+skipped_last rest why = grind (arith, why)
 
 pub replied_owes : (stopped : Bool) (command : TargetCommand) (replied : Replied) (hand : Option Hand)
     → owed_by stopped (option_map (hand_replied command replied) hand) ≡ owed_by stopped hand
-replied_owes stopped command replied None = refl
-replied_owes stopped (a_question question) replied (Some hand) = refl
-replied_owes stopped (an_effect effect) replied (Some hand) = refl
+replied_owes stopped command replied hand = grind arith
 
 pub replied_last : (command : TargetCommand) (replied : Replied) (hand : Option Hand)
     → dies (option_map (hand_replied command replied) hand) ≡ dies hand
-replied_last command replied None = refl
-replied_last (a_question question) replied (Some hand) = refl
-replied_last (an_effect effect) replied (Some hand) = refl
+replied_last command replied hand = grind arith
 
 pub asked_owes : (stopped : Bool) (want : Want) (hand : Option Hand)
     → owed_by stopped (option_map (asked_hand want) hand) ≡ owed_by stopped hand
-asked_owes stopped want None = refl
-asked_owes stopped want (Some hand) = refl
+asked_owes stopped want hand = grind arith
 
 pub asked_last : (want : Want) (hand : Option Hand) → dies (option_map (asked_hand want) hand) ≡ dies hand
-asked_last want None = refl
-asked_last want (Some hand) = refl
+asked_last want hand = grind arith
 
 -- an effect of event requests undoes no suspension
 pub due_sends : (w : Wishes) (effect : Effect) (view : View) → effect_due w ≡ Some effect
@@ -229,11 +188,7 @@ due_sends w effect view due = by_change (next_change w) due
 
 first_may : {m : Machine} {hand : Hand} {deed : Deed} {rest : List Part} → IsHolding m
     → IsAt m hand (Part.Sends deed) rest → may_do_so deed m.state.stopped m.state.entry ≡ true
-first_may {m} {deed = deed} h at = first (may_do_so deed m.state.stopped m.state.entry) _ (may_front h at)
-  where
-    first : (one others : Bool) → cond one others false ≡ true → one ≡ true
-    first true others is = refl
-    first false others is = cc
+first_may {m} {deed = deed} h at = first_holds (may_do_so deed m.state.stopped m.state.entry) _ (may_front h at)
 
 suspends : (stopped entry : Bool) (owed held : ℕ) → not stopped ≡ true → held ≡ held_with stopped entry owed
     → held_with true entry owed ≡ held + 1
@@ -285,9 +240,7 @@ deed_view_is m hand (Resume of_entry) rest h at = now_held m hand (Resume of_ent
     (undoes_entry m.state.stopped m.state.entry (owed_in m.state.stopped rest) _ (first_may h at) (held_front at)).0
 deed_view_is m hand (Resume of_stop) rest h at = now_held m hand (Resume of_stop) rest _ at
     (undoes_stop m.state.stopped m.state.entry (owed_in false rest) _ (first_may h at) (held_front at)).0
-deed_view_is m hand Dispose rest h at = now_held m hand Dispose rest _ at (sym (held_front at))
-deed_view_is m hand (Writes write) rest h at = now_held m hand (Writes write) rest _ at (sym (held_front at))
-deed_view_is m hand Exit rest h at = now_held m hand Exit rest _ at (sym (held_front at))
+deed_view_is m hand deed rest h at = now_held m hand deed rest _ at (sym (held_front at))
 
 pub deed_may : (m : Machine) (hand : Hand) (deed : Deed) (rest : List Part) → IsHolding m
     → IsAt m hand (Part.Sends deed) rest → may_send (an_effect (Does deed)) (view_of m) ≡ true
@@ -300,11 +253,8 @@ deed_may m hand (Resume of_stop) rest h at = both m.state.stopped _ (first_may h
     (undoes_stop m.state.stopped m.state.entry (owed_in false rest) _ (first_may h at) (held_front at)).1
   where
     both : (stopped some : Bool) → stopped ≡ true → some ≡ true → cond stopped some false ≡ true
-    both true some is h = h
-    both false some is h = cc
-deed_may m hand Dispose rest h at = refl
-deed_may m hand Exit rest h at = refl
-deed_may m hand (Writes write) rest h at = refl
+    both stopped some is h = grind (arith, is, h)
+deed_may m hand _ rest h at = refl
 
 -- Events and notes ----------------------------------------------------------------------------------------------------
 
@@ -315,12 +265,8 @@ pub stop_held : {m : Machine} {hand : Hand} {stopping : Stopping} {rest : List P
     × (nat_lt 0 (held_in m.state m.hand) ≡ true)
 stop_held {m} {stopping = stopping} {rest} h at =
     by_cause stopping.cause m.state.stopped m.state.entry (owed_in true rest) (held_in m.state m.hand)
-    (first (may_stop stopping.cause m.state.stopped rest) _ (may_front h at)) (held_front at)
+    (first_holds (may_stop stopping.cause m.state.stopped rest) _ (may_front h at)) (held_front at)
   where
-    first : (one others : Bool) → cond one others false ≡ true → one ≡ true
-    first true others is = refl
-    first false others is = cc
-
     by_hit : (stopped entry : Bool) (owed held : ℕ) → held ≡ held_with stopped entry (cond (not stopped) (owed + 1) owed)
         → (held_with true entry owed ≡ held) × (nat_lt 0 held ≡ true)
     by_hit true entry owed held is = (sym is, grind (arith, is))
@@ -343,12 +289,8 @@ pub entry_held : {m : Machine} {hand : Hand} {rest : List Part} → IsHolding m 
     → held_with m.state.stopped true (owed_in m.state.stopped rest) ≡ held_in m.state m.hand
 entry_held {m} {rest = rest} h at =
     by_entry m.state.entry (owed_in m.state.stopped rest) (held_in m.state m.hand)
-    (first (not m.state.entry) _ (may_front h at)) (held_front at)
+    (first_holds (not m.state.entry) _ (may_front h at)) (held_front at)
   where
-    first : (one others : Bool) → cond one others false ≡ true → one ≡ true
-    first true others is = refl
-    first false others is = cc
-
     by_entry : (entry : Bool) (owed held : ℕ) → not entry ≡ true
         → held ≡ held_with m.state.stopped entry (owed + 1) → held_with m.state.stopped true owed ≡ held
     by_entry true owed held may is = cc

@@ -9,13 +9,11 @@ use Rattle.jdwp_events.specs.declared.kind.EventKind.TheVariants as kinds
 use Rattle.jdwp_values.specs.declared.location.Location.{Location}
 use Rattle.jdwp_values.specs.declared.value.Value.{Value}
 use Rattle.jdwp_values.specs.declared.value.Value.TheVariants as values
-use Rattle.machine_model.specs.Ids.{id_of_object}
+use Rattle.machine_model.specs.Ids.{id_of_object, Id, ids_of_composite, ids_of_event, ids_of_value, object}
 use Rattle.machine_model.specs.Children.{object_named}
-use Rattle.machine_model.specs.Ids.{Id, ids_of_composite, ids_of_event, ids_of_value, object}
-use Rattle.machine_model.specs.Names.{Halt, HaltCause, Item, ThreadId, Thrown, a_composite, a_raw, a_request, came_to}
-use Rattle.machine_model.specs.Names.{has_stepped, target_end, threw}
-use Rattle.machine_model.specs.Stops.{events_in, first_of, first_with, hit_by, hits_in, is_at_line, is_breakpoint, is_live}
-use Rattle.machine_model.specs.Stops.{is_thrown, stop_among, thrown_by, thrown_in}
+use Rattle.machine_model.specs.Names.{Halt, HaltCause, Item, ThreadId, a_composite, came_to, has_stepped, threw}
+use Rattle.machine_model.specs.Stops.{events_in, first_of, first_with, hit_by, hits_in, is_at_line, is_breakpoint}
+use Rattle.machine_model.specs.Stops.{is_live, is_thrown, stop_among, thrown_by, thrown_in}
 use Rattle.machine_model.proofs.IdRows.{all_back, all_front, all_joined}
 use Rattle.machine_model.proofs.PlanIds.{OfObject, OfThread, OfThrown, OnSome}
 use Rattle.wish_sets.specs.Wishes.{Wishes}
@@ -27,10 +25,8 @@ ItemStands P (a_composite at composite) = All P (ids_of_composite composite)
 ItemStands P _ = Unit {0}
 
 pub events_stand : (P : Id → Type 0) (item : Item) → ItemStands P item → All P (flat_map ids_of_event (events_in item))
-events_stand P (a_request request) h = tt
 events_stand P (a_composite at composite) h = h
-events_stand P (a_raw at body) h = tt
-events_stand P target_end h = tt
+events_stand P _ h = tt
 
 -- of each event what is told passes
 pub each_event : {A : Type 0} (P : Id → Type 0) (Good : A → Type 0) (f : ATargetEvent → List A)

@@ -1,45 +1,33 @@
 -- What an item in hand does with suspensions of the target: it undoes only what is held, it begins a stop only where none
 -- is in hand, and it decides on a composite's suspension once, at its end.
-use Rattle.std.proofs.Common.{◌≡◌, Bool, true, false, cond, not, List, [], ◌∷◌, ◌++◌, Option, Some, None, refl}
-use Rattle.std.proofs.Common.{subst, ◌∙◌, option_map, arith}
-use Rattle.std.specs.Option.{option_or}
-use Rattle.std.specs.Prelude.{find}
-use Rattle.jdwp_events.specs.declared.event.Event.{Event as ATargetEvent}
-use Rattle.jdwp_events.specs.declared.event.Event.TheVariants as happened
+use Rattle.std.proofs.Common.{◌≡◌, Bool, true, false, cond, not, List, [], ◌∷◌, ◌++◌, Option, Some, None, refl, subst}
+use Rattle.std.proofs.Common.{◌∙◌, option_map, arith, ℕ}
 use Rattle.jdwp_events.specs.declared.kind.Policy.{Policy}
 use Rattle.machine_model.specs.Composites.{composite_parts, has_death}
 use Rattle.machine_model.specs.Due.{asked_hand, entry_by}
 use Rattle.machine_model.specs.Knowing.{stopped_behind, stopped_told}
 use Rattle.machine_model.specs.Lookups.{finished}
-use Rattle.machine_model.specs.Names.{Writes, Written, variable_write}
-use Rattle.machine_model.specs.Names.{Attached, Choice, Classes, Command, Configured, Decides, Deed, Dispose, EntryHeld}
-use Rattle.machine_model.specs.Names.{Event, Exit, Finding, Fresh, Gone, Hit, Initialized, Item, Leaves, Lines, Location}
-use Rattle.machine_model.specs.Names.{Lookup, Note, Options, Outcome, Part, Phase, Replied, Resume, Roots, StopCause}
-use Rattle.machine_model.specs.Names.{Stopping, Suspend, Suspension, TargetCommand, TellsNews, Terminated, ThreadId}
-use Rattle.machine_model.specs.Names.{Want}
-use Rattle.machine_model.specs.Names.{a_composite, a_question, a_raw, a_request, a_stop, all_threads, an_effect, by_client}
-use Rattle.machine_model.specs.Names.{class_facts, of_composite, of_entry, of_stop, some_news, target_end}
-use Rattle.machine_model.specs.Names.{thread_frames}
-use Rattle.machine_model.specs.Names.{container_children, expression_value}
+use Rattle.machine_model.specs.Names.{Writes, Written, variable_write, Choice, Command, Decides, Deed, Dispose}
+use Rattle.machine_model.specs.Names.{EntryHeld, Event, Exit, Finding, Gone, Hit, Initialized, Item, Leaves, Lookup}
+use Rattle.machine_model.specs.Names.{Note, Outcome, Part, Phase, Replied, Resume, StopCause, Suspend, Suspension}
+use Rattle.machine_model.specs.Names.{TargetCommand, TellsNews, Terminated, ThreadId, Want, a_composite, a_question}
+use Rattle.machine_model.specs.Names.{a_raw, a_request, a_stop, an_effect, by_client, of_composite, of_entry, of_stop}
+use Rattle.machine_model.specs.Names.{some_news, target_end, Halt, Thrown, by_step, HaltCause, Stepped, by_exception}
+use Rattle.machine_model.specs.Names.{exception_text}
 use Rattle.machine_model.specs.Outcomes.{result_of}
 use Rattle.machine_model.specs.Plans.{Result}
 use Rattle.machine_model.specs.Replying.{given_up, hand_replied, replied_to}
-use Rattle.machine_model.specs.Rows.{written_by}
-use Rattle.machine_model.specs.Rows.{chosen, gone_parts, has_response, leaves, news_of, noted, parts_of}
-use Rattle.machine_model.specs.Rows.{request_parts}
+use Rattle.machine_model.specs.Rows.{written_by, chosen, gone_parts, has_response, leaves, news_of, noted, parts_of}
+use Rattle.machine_model.specs.Rows.{request_parts, refused_with, stepped_by}
 use Rattle.machine_model.specs.Runs.{Message, Run}
 use Rattle.machine_model.specs.State.{Hand, Machine, State, is_attached, is_empty, is_gone}
-use Rattle.machine_model.specs.Stops.{decided, decided_by, events_in, first_of, has_start, hit_by, hits_in, is_at_line}
-use Rattle.machine_model.specs.Stops.{stop_among, surplus, thrown_in, told_part}
-use Rattle.machine_model.specs.Names.{Halt, StopsAt, Steps, Throws, Thrown, by_step, exception_info}
-use Rattle.machine_model.specs.Rows.{refused_with, stepped_by}
+use Rattle.machine_model.specs.Stops.{decided, decided_by, events_in, has_start, hits_in, stop_among, surplus}
+use Rattle.machine_model.specs.Stops.{thrown_in, told_part}
 use Rattle.machine_model.specs.Telling.{after_event, attached_from, numbered_by}
-use Rattle.wish_sets.specs.Wishes.{Wishes}
 use Rattle.machine_model.proofs.Stepping.{IsAt, Moves, Skips, by_moves, by_runs}
 use Rattle.machine_model.proofs.Tables.{free, free_once, told_alike}
 use Rattle.machine_model.proofs.Testing.{Passed, same_numbered, same_replied, tested, whole}
-use Rattle.machine_model.specs.Names.{Functions, HaltCause, Stepped, by_exception, exception_text}
-use Rattle.std.proofs.Common.{ℕ}
+use Rattle.machine_model.proofs.Bools.{first_fails, second_holds}
 
 -- What a part needs, and what it leaves -------------------------------------------------------------------------------
 
@@ -162,19 +150,13 @@ found_may : (phase : Phase) (stopped entry : Bool) (lookup : Lookup) (result : R
     (rest : List Part)
     → may_all phase stopped entry (finished lookup result state ++ rest)
     ≡ may_all phase stopped entry (Part.Looks lookup ∷ rest)
-found_may phase stopped entry all_threads result state rest = refl
-found_may phase stopped entry (thread_frames thread start levels) result state rest = refl
-found_may phase stopped entry (container_children thing filter start count) result state rest = refl
-found_may phase stopped entry (expression_value frame expression) result state rest = refl
 found_may phase stopped entry (variable_write thing name text) result state rest = grind arith
 found_may phase stopped entry (exception_text thread object) result state rest = by_stop stopped
   where
     by_stop : (stopped : Bool) → may_all phase stopped entry (finished (exception_text thread object) result state ++ rest)
         ≡ may_all phase stopped entry (Part.Looks (exception_text thread object) ∷ rest)
-    by_stop true = refl
-    by_stop false = refl
-found_may phase stopped entry (exception_info thrown) result state rest = refl
-found_may phase stopped entry class_facts result state rest = refl
+    by_stop stopped = grind arith
+found_may phase stopped entry _ result state rest = refl
 
 -- What is decided fits: the entry is held once, and a stop is told by a hit.
 decided_may : (phase : Phase) (state : State) (item : Item)
@@ -208,51 +190,36 @@ chosen_may (Leaves exits) state hand rest is = by_phase state.phase exits ∙ is
   where
     by_phase : (phase : Phase) (exits : Bool) → may_all state.phase state.stopped state.entry (leaves phase exits ++ rest)
         ≡ may_all state.phase state.stopped state.entry rest
-    by_phase Fresh exits = refl
-    by_phase Attached true = refl
-    by_phase Attached false = refl
-    by_phase Gone exits = refl
+    by_phase phase exits = grind arith
 chosen_may Decides state hand [] is = decided_may state.phase state hand.item
 chosen_may Decides state hand (part ∷ rest) is = none (is_attached state.phase) is
   where
     none : (attached : Bool) → cond (cond attached false false) (may_all state.phase state.stopped state.entry
         (part ∷ rest)) false ≡ true
         → may_all state.phase state.stopped state.entry (decided state hand.item ++ part ∷ rest) ≡ true
-    none true is = cc
-    none false is = cc
+    none attached is = grind (arith, is)
 chosen_may (Written seen) state hand rest is = by_code (refused_with hand.effect)
   where
     by_code : (code : Option ℕ) → may_all state.phase state.stopped state.entry (written_by seen code ++ rest) ≡ true
-    by_code None = is
-    by_code (Some code) = is
+    by_code code = grind arith
 chosen_may Stepped state hand rest is = by_rest rest state.stopped (refused_with hand.effect) is
   where
     by_rest : (rest : List Part) (stopped : Bool) (code : Option ℕ)
         → may_all state.phase stopped state.entry (Part.Unfolds Stepped ∷ rest) ≡ true
         → may_all state.phase stopped state.entry (stepped_by code ++ rest) ≡ true
-    by_rest [] true None is = refl
-    by_rest [] true (Some code) is = refl
-    by_rest [] false code is = cc
-    by_rest (part ∷ rest) true code is = cc
-    by_rest (part ∷ rest) false code is = cc
+    by_rest rest stopped code is = grind (arith, is)
 
 -- In runs -------------------------------------------------------------------------------------------------------------
 
 tail_may : (phase : Phase) (stopped entry : Bool) (part : Part) (rest : List Part)
     → may_all phase stopped entry (part ∷ rest) ≡ true
     → may_all (phase_behind part phase) (stopped_behind part stopped) (entry_behind part entry) rest ≡ true
-tail_may phase stopped entry part rest is = second (may_part phase stopped entry part rest) _ is
-  where
-    second : (first others : Bool) → cond first others false ≡ true → others ≡ true
-    second true others is = is
-    second false others is = cc
+tail_may phase stopped entry part rest is = second_holds (may_part phase stopped entry part rest) _ is
 
 skipped_may : {m : Machine} {hand : Hand} {part : Part} (rest : List Part) → Skips m hand part
     → may_all m.state.phase m.state.stopped m.state.entry (part ∷ rest) ≡ true
     → may_all m.state.phase m.state.stopped m.state.entry rest ≡ true
-skipped_may rest (Skips.by_guard is) h = h
-skipped_may rest (Skips.by_wishes is) h = h
-skipped_may rest (Skips.no_request is) h = h
+skipped_may rest why h = grind (arith, why, h)
 
 pub same_stop : (command : TargetCommand) (replied : Replied) (state : State)
     → (replied_to command replied state).stopped ≡ state.stopped
@@ -273,41 +240,25 @@ event_may_all : (event : Event) (state : State) (rest : List Part)
     ≡ true
     → may_all (after_event event state).phase (after_event event state).stopped (after_event event state).entry rest
     ≡ true
-event_may_all Initialized state rest is = is
-event_may_all (some_news news) state rest is = is
-event_may_all (a_stop stopping) state rest is = is
-event_may_all Terminated state rest is = is
+event_may_all event state rest is = grind (arith, is)
 
 note_may_all : (note : Note) (state : State) (rest : List Part)
     → may_all state.phase state.stopped (entry_noted note state.entry) rest ≡ true
     → may_all (noted note state).phase (noted note state).stopped (noted note state).entry rest ≡ true
-note_may_all EntryHeld state rest is = is
-note_may_all Configured state rest is = is
-note_may_all (Options options) state rest is = is
-note_may_all (Roots roots) state rest is = is
-note_may_all (Lines key path entries) state rest is = is
-note_may_all (Functions entries) state rest is = is
-note_may_all (StopsAt caught uncaught) state rest is = is
-note_may_all (Steps step) state rest is = is
-note_may_all (Throws thrown) state rest is = is
-note_may_all (Classes classes) state rest is = is
+note_may_all note state rest is = grind (arith, is)
 
 replied_may : (state : State) (command : TargetCommand) (replied : Replied) (hand : Option Hand)
     → hand_may state (option_map (hand_replied command replied) hand) ≡ hand_may state hand
-replied_may state command replied None = refl
-replied_may state (a_question question) replied (Some hand) = refl
-replied_may state (an_effect effect) replied (Some hand) = refl
+replied_may state command replied hand = grind arith
 
 asked_may : (state : State) (want : Want) (hand : Option Hand)
     → hand_may state (option_map (asked_hand want) hand) ≡ hand_may state hand
-asked_may state want None = refl
-asked_may state want (Some hand) = refl
+asked_may state want hand = grind arith
 
 -- of what is known only these are looked at
 same_may : (state now : State) (hand : Option Hand) → now.phase ≡ state.phase → now.stopped ≡ state.stopped
     → now.entry ≡ state.entry → hand_may now hand ≡ hand_may state hand
-same_may state now None phase stopped entry = refl
-same_may state now (Some hand) phase stopped entry = rw (phase, stopped, entry) refl
+same_may state now hand phase stopped entry = grind (arith, phase, stopped, entry)
 
 gone_may : (stopped entry responds : Bool) (item : Item) → may_all Gone stopped entry (gone_parts responds item) ≡ true
 gone_may stopped entry responds item = grind arith
@@ -337,7 +288,6 @@ holding_on m next said h (Moves.unfolds {hand} {choice} {rest} free at) =
 holding_on m next said h (Moves.queues free is) =
     subst (λ (hand : Option Hand). hand_may m.state hand ≡ true) is h
 holding_on m next said h (Moves.asks {want = want} free room is are) = asked_may m.state want m.hand ∙ h
-holding_on m next said h (Moves.hears read is) = h
 holding_on m next said h (Moves.greeted read is) =
     same_may m.state (record m.state { greeting_heard = true }) m.hand refl refl refl ∙ h
 holding_on m next said h (Moves.answers {question} {replied} is waits reply stays) =
@@ -350,16 +300,12 @@ holding_on m next said h (Moves.replies {effect} {replied} is flies reply stays)
     (same_replied (an_effect effect) replied m.state) (same_stop (an_effect effect) replied m.state)
     (same_entry (an_effect effect) replied m.state)
     ∙ replied_may m.state (an_effect effect) replied m.hand ∙ h
-holding_on m next said h (Moves.late before after is reply) = h
-holding_on m next said h (Moves.ends gone) = h
 holding_on m next said h (Moves.loses late near why) = given_may m.hand
   where
     given_may : (hand : Option Hand) → hand_may next.state (option_map given_up hand) ≡ true
     given_may None = refl
     given_may (Some hand) = gone_may false false (has_response hand.parts) hand.item
-holding_on m next said h (Moves.comes read sized taken) = h
-holding_on m next said h (Moves.keeps is) = h
-holding_on m next said h (Moves.reads before after read is none taken) = h
+holding_on m next said h _ = h
 
 pub holding : {messages : List Message} {m : Machine} → Run messages m → IsHolding m
 holding r = by_moves {Holds = λ (messages : List Message) (m : Machine). IsHolding m}
@@ -380,15 +326,8 @@ lost_flags m h gone = by_flags (is_gone m.state.phase) m.state.stopped m.state.e
   where
     by_flags : (gone stopped entry : Bool) → nothing_held gone stopped entry ≡ true → gone ≡ true
         → (stopped ≡ false) × (entry ≡ false)
-    by_flags true true entry h is = cc
-    by_flags true false true h is = cc
     by_flags true false false h is = (refl, refl)
-    by_flags false stopped entry h is = cc
-
--- a part that isn't free is done while there is a target
-near_now : (gone others : Bool) → cond (cond gone false true) others false ≡ true → gone ≡ false
-near_now true others is = cc
-near_now false others is = refl
+    by_flags _ _ _ h is = cc
 
 lost_on : (m next : Machine) (said : Option Message) → Passed free_once m → IsLost m → Moves m said next → IsLost next
 lost_on m next said f h (Moves.responds {outcome = outcome} free at is) =
@@ -397,25 +336,13 @@ lost_on m next said f h (Moves.tells {event = Initialized} free at) = by_phase m
   where
     by_phase : (phase : Phase) → nothing_held (is_gone phase) m.state.stopped m.state.entry ≡ true
         → nothing_held (is_gone (attached_from phase)) m.state.stopped m.state.entry ≡ true
-    by_phase Fresh h = h
-    by_phase Attached h = h
-    by_phase Gone h = h
-lost_on m next said f h (Moves.tells {event = some_news news} free at) = h
+    by_phase phase h = grind (arith, h)
 lost_on m next said f h (Moves.tells {event = a_stop stopping} free at) =
-    rw (near_now (is_gone m.state.phase) _ (whole free_once f at)) refl
+    rw (first_fails (is_gone m.state.phase) _ (whole free_once f at)) refl
 lost_on m next said f h (Moves.tells {event = Terminated} free at) = refl
 lost_on m next said f h (Moves.sends free at near) = rw near refl
 lost_on m next said f h (Moves.notes {note = EntryHeld} free at) =
-    rw (near_now (is_gone m.state.phase) _ (whole free_once f at)) refl
-lost_on m next said f h (Moves.notes {note = Configured} free at) = h
-lost_on m next said f h (Moves.notes {note = Options options} free at) = h
-lost_on m next said f h (Moves.notes {note = Roots roots} free at) = h
-lost_on m next said f h (Moves.notes {note = Lines key path entries} free at) = h
-lost_on m next said f h (Moves.notes {note = Functions entries} free at) = h
-lost_on m next said f h (Moves.notes {note = StopsAt caught uncaught} free at) = h
-lost_on m next said f h (Moves.notes {note = Steps step} free at) = h
-lost_on m next said f h (Moves.notes {note = Throws thrown} free at) = h
-lost_on m next said f h (Moves.notes {note = Classes classes} free at) = h
+    rw (first_fails (is_gone m.state.phase) _ (whole free_once f at)) refl
 lost_on m next said f h (Moves.answers {question} {replied} is waits reply stays) =
     rw (
       same_replied (a_question question) replied m.state,
@@ -429,22 +356,7 @@ lost_on m next said f h (Moves.replies {effect} {replied} is flies reply stays) 
       same_entry (an_effect effect) replied m.state,
     ) h
 lost_on m next said f h (Moves.loses late near why) = refl
-lost_on m next said f h (Moves.begins picked free none is) = h
-lost_on m next said f h (Moves.drops free is none) = h
-lost_on m next said f h (Moves.finds found free at needs done) = h
-lost_on m next said f h (Moves.passes_over free at why) = h
-lost_on m next said f h (Moves.updates free at is near) = h
-lost_on m next said f h (Moves.greets free at is near) = h
-lost_on m next said f h (Moves.unfolds free at) = h
-lost_on m next said f h (Moves.queues free is) = h
-lost_on m next said f h (Moves.asks free room is are) = h
-lost_on m next said f h (Moves.hears read is) = h
-lost_on m next said f h (Moves.greeted read is) = h
-lost_on m next said f h (Moves.late before after is reply) = h
-lost_on m next said f h (Moves.ends gone) = h
-lost_on m next said f h (Moves.comes read sized taken) = h
-lost_on m next said f h (Moves.keeps is) = h
-lost_on m next said f h (Moves.reads before after read is none taken) = h
+lost_on m next said f h _ = h
 
 pub lost_held : {messages : List Message} {m : Machine} → Run messages m → IsLost m
 lost_held r = by_runs {Holds = λ (messages : List Message) (m : Machine). IsLost m} (record {

@@ -8,17 +8,17 @@ use Rattle.std.proofs.lemmas.List.Elements.{Contains-append_left, Contains-appen
 use Rattle.std.proofs.lemmas.List.Elements.{recursion_from_All}
 use Rattle.jdwp_commands.specs.Commands.{told_question}
 use Rattle.jdwp_commands.specs.declared.asked.Asked.TheVariants as commands
-use Rattle.machine_model.specs.Names.{a_written}
-use Rattle.machine_model.proofs.Standing.{needs_sizes}
+use Rattle.machine_model.specs.Names.{Store, Write, Writes, to_element, to_field, to_slot, variable_write, Classes}
+use Rattle.machine_model.specs.Names.{Clear, Deed, Does, Effect, Exit, Item, Lines, Part, Question, Sent, Set, Success}
+use Rattle.machine_model.specs.Names.{TargetCommand, Want, a_composite, a_question, an_effect, thread_list, a_stop}
+use Rattle.machine_model.specs.Names.{some_news, thread_changed, thread_frames, Functions, Steps, Throws, Thrown, Seen}
+use Rattle.machine_model.specs.Names.{exception_info, exception_text, Body, ShownVariable, a_value, container_children}
+use Rattle.machine_model.specs.Names.{expression_value, frame_list, scope_list, variable_list}
+use Rattle.machine_model.proofs.Standing.{needs_sizes, IsKept, Near, OfBody, PartStands, asked_in, at_front, ids_said}
+use Rattle.machine_model.proofs.Standing.{queue_in}
 use Rattle.machine_model.proofs.WriteIds.{IsWrite, OfDeed, OfStore, written_fits, written_ids, written_sized}
-use Rattle.machine_model.specs.Names.{Store, Write, Writes, to_element, to_field, to_slot, variable_write}
-use Rattle.machine_model.specs.Ids.{Id, IsNull, class, ids_asked, ids_given, ids_of_composite}
-use Rattle.machine_model.specs.Ids.{ids_read, thread_in}
+use Rattle.machine_model.specs.Ids.{Id, IsNull, class, ids_asked, ids_given, ids_of_composite, ids_read, thread_in}
 use Rattle.machine_model.specs.Ids.{frame, object}
-use Rattle.machine_model.specs.Names.{Classes, Clear, Deed, Dispose, Does, Effect, Exit, Item, Lines, Part, Question}
-use Rattle.machine_model.specs.Names.{Resume, Sent, Set, Success, Suspend, TargetCommand, Want, a_composite}
-use Rattle.machine_model.specs.Names.{a_question, a_raw, a_request, an_effect, target_end, thread_list}
-use Rattle.machine_model.specs.Names.{Initialized, Terminated, a_stop, all_threads, class_facts, entry_verified, some_news, thread_changed, thread_frames}
 use Rattle.machine_model.specs.Plans.{question_of}
 use Rattle.machine_model.specs.Replying.{wire}
 use Rattle.machine_model.specs.Requests.{Wishes, effect_due, effect_of}
@@ -31,23 +31,20 @@ use Rattle.machine_model.proofs.IdRows.{all_weak, plain_fits}
 use Rattle.machine_model.proofs.ItemIds.{HandStands, Waits, waiting_on}
 use Rattle.machine_model.proofs.HitIds.{ItemStands}
 use Rattle.machine_model.proofs.ThreadIds.{TellStands}
-use Rattle.machine_model.specs.Names.{Configured, EntryHeld, Functions, Options, Roots, Steps, StopsAt, Throws, Thrown}
-use Rattle.machine_model.specs.Names.{Seen, an_exception, exception_info, exception_text}
-use Rattle.machine_model.specs.Names.{Body, Capabilities, Continued, Failed, Nothing, ShownVariable, breakpoint_list}
-use Rattle.machine_model.specs.Names.{a_value, container_children, expression_value, frame_list, scope_list, variable_list}
 use Rattle.stop_refs.specs.declared.thing.FrameThing.{FrameThing}
 use Rattle.stop_refs.specs.declared.thing.Thing.{Thing}
 use Rattle.stop_refs.specs.declared.thing.Thing.TheVariants as things
 use Rattle.machine_model.proofs.PlanIds.{IsAskable, IsAsked, IsReplied, IsWanted, OfNamed, OfThread, OnSome, is_sizes}
-use Rattle.machine_model.proofs.PlanIds.{OfClass, OfFrameThing, OfObject, OfShownFrame, OfSeen, OfShownVariable, OfThing, OfThrown}
+use Rattle.machine_model.proofs.PlanIds.{OfClass, OfFrameThing, OfObject, OfShownFrame, OfSeen, OfShownVariable}
+use Rattle.machine_model.proofs.PlanIds.{OfThing, OfThrown}
 use Rattle.std.specs.Prelude.{zero, suc}
-use Rattle.machine_model.proofs.Standing.{IsKept, Near, OfBody, PartStands, asked_in, at_front, ids_said, left_in, queue_in}
 use Rattle.machine_model.proofs.StandingReplies.{queued_near, sizes_is}
 use Rattle.machine_model.proofs.StandingWalk.{kept_on}
-use Rattle.machine_model.proofs.Stepping.{Loses, Moves, by_moves, with_said}
-use Rattle.machine_model.proofs.WishIds.{AreWished, MaySend, SetMay, find_some, nothing_wished, weak_wished}
-use Rattle.machine_model.proofs.WishIds.{wished_may}
+use Rattle.machine_model.proofs.Stepping.{Moves, by_moves, with_said, Loses}
+use Rattle.machine_model.proofs.WishIds.{AreWished, MaySend, SetMay, find_some, nothing_wished, weak_wished, wished_may}
 use Rattle.machine_model.proofs.StandingMoves.{sized_by}
+use Rattle.machine_model.proofs.Bools.{always}
+use Rattle.machine_model.proofs.RequestSteps.{parts_left}
 
 -- A weaker test -------------------------------------------------------------------------------------------------------
 
@@ -88,12 +85,7 @@ module _ (P Q : Id → Type 0) (k : (id : Id) → P id → Q id) where
   weak_body (scope_list one) h = weak_frame one h
   weak_body (variable_list shown) h = all_weak (OfShownVariable P) (OfShownVariable Q) weak_variable shown h
   weak_body (a_value seen) h = weak_seen seen h
-  weak_body (a_written seen) h = tt
-  weak_body Nothing h = tt
-  weak_body Capabilities h = tt
-  weak_body (breakpoint_list rooted listed) h = tt
-  weak_body Continued h = tt
-  weak_body (an_exception id mode) h = tt
+  weak_body _ h = tt
 
   weak_store : (store : Store) → OfStore P store → OfStore Q store
   weak_store (to_slot thread one slot) h = (k (object thread.0) h.0, k (frame thread.0 one.0) h.1)
@@ -105,24 +97,16 @@ module _ (P Q : Id → Type 0) (k : (id : Id) → P id → Q id) where
 
   weak_part : (part : Part) → PartStands P part → PartStands Q part
   weak_part (Part.Responds (Success body)) h = weak_body body h
-  weak_part (Part.Responds (Failed failure)) h = tt
   weak_part (Part.Notes (Lines key path entries)) h = h
   weak_part (Part.Notes (Functions entries)) h = h
-  weak_part (Part.Notes (Steps None)) h = tt
   weak_part (Part.Notes (Steps (Some step))) h = k (object step.thread.0) h
-  weak_part (Part.Looks all_threads) h = tt
   weak_part (Part.Looks (thread_frames thread start levels)) h = k (object thread.0) h
   weak_part (Part.Looks (container_children thing filter start count)) h = weak_thing thing h
   weak_part (Part.Looks (expression_value one expression)) h = weak_frame one h
   weak_part (Part.Looks (variable_write thing name text)) h = weak_thing thing h
   weak_part (Part.Looks (exception_text thread one)) h = weak_object one.0 h
   weak_part (Part.Sends (Writes write)) h = weak_write write h
-  weak_part (Part.Sends Suspend) h = tt
-  weak_part (Part.Sends (Resume suspension)) h = tt
-  weak_part (Part.Sends Dispose) h = tt
-  weak_part (Part.Sends Exit) h = tt
   weak_part (Part.Looks (exception_info thrown)) h = weak_object thrown.object.0 h
-  weak_part (Part.Looks class_facts) h = tt
   weak_part (Part.Notes (Classes classes)) h = all_weak (OfClass P) (OfClass Q) (λ one. k _) classes h
   weak_part _ h = tt
 
@@ -157,7 +141,7 @@ module _ (P Q : Id → Type 0) (k : (id : Id) → P id → Q id) where
     once = h.once;
     sizes = h.sizes;
     none_late = h.none_late;
-    near = λ near. weak_near m.state (left_in m.hand) (queue_in m.hand) (asked_in m.hand) (h.near near);
+    near = λ near. weak_near m.state (parts_left m.hand) (queue_in m.hand) (asked_in m.hand) (h.near near);
   }
 
 -- Runs ----------------------------------------------------------------------------------------------------------------
@@ -185,41 +169,15 @@ weak_waits P Q k m w near = record {
 }
   where
     each : (item : Item) → ItemStands P item → ItemStands Q item
-    each (a_request request) h = tt
     each (a_composite at composite) h = weak_ids P Q k (ids_of_composite composite) h
-    each (a_raw at body) h = tt
-    each target_end h = tt
+    each _ h = tt
 
     tells : (part : Part) → TellStands P part → TellStands Q part
     tells (Part.Tells (some_news (thread_changed started thread))) h = k (object thread.0) h
     tells (Part.Tells (a_stop stopping)) h = k (object stopping.thread.0) h
-    tells (Part.Tells (some_news (entry_verified entry))) h = tt
-    tells (Part.Tells Initialized) h = tt
-    tells (Part.Tells Terminated) h = tt
-    tells (Part.Responds outcome) h = tt
-    tells (Part.Sends deed) h = tt
     tells (Part.Looks (exception_text thread one)) h = k (object thread.0) h
-    tells (Part.Looks all_threads) h = tt
-    tells (Part.Looks (thread_frames thread start levels)) h = tt
-    tells (Part.Looks (container_children thing filter start count)) h = tt
-    tells (Part.Looks (expression_value one expression)) h = tt
-    tells (Part.Looks (variable_write thing name text)) h = tt
-    tells (Part.Looks (exception_info thrown)) h = tt
-    tells (Part.Looks class_facts) h = tt
-    tells (Part.Awaits guard) h = tt
-    tells Part.Updates h = tt
     tells (Part.Notes (Throws thrown)) h = all_weak (OfThrown P) (OfThrown Q) (weak_thrown P Q k) thrown h
-    tells (Part.Notes (Options options)) h = tt
-    tells (Part.Notes (Roots roots)) h = tt
-    tells (Part.Notes (Lines key path entries)) h = tt
-    tells (Part.Notes (Functions entries)) h = tt
-    tells (Part.Notes (StopsAt caught uncaught)) h = tt
-    tells (Part.Notes (Steps step)) h = tt
-    tells (Part.Notes (Classes classes)) h = tt
-    tells (Part.Notes EntryHeld) h = tt
-    tells (Part.Notes Configured) h = tt
-    tells (Part.Unfolds choice) h = tt
-    tells (Part.Ends finish) h = tt
+    tells _ h = tt
 
     by_hand : (hand : Option Hand) → HandStands P hand → HandStands Q hand
     by_hand None h = tt
@@ -272,9 +230,6 @@ always_kept {P} t r =
 
 deed_may : (P : Id → Type 0) (sized : Bool) (deed : Deed) → OfDeed P deed
     → (needs_sizes (Part.Sends deed) ≡ true → sized ≡ true) → MaySend P sized (an_effect (Does deed))
-deed_may P sized Suspend k needs = record { ids = tt; sized_first = refl; fits = λ used h. tt }
-deed_may P sized (Resume suspension) k needs = record { ids = tt; sized_first = refl; fits = λ used h. tt }
-deed_may P sized Dispose k needs = record { ids = tt; sized_first = refl; fits = λ used h. tt }
 deed_may P sized Exit k needs = record { ids = tt; sized_first = refl; fits = λ used h. (tt, tt) }
 deed_may P sized (Writes write) k needs = subst (λ (sized : Bool). MaySend P sized (an_effect (Does (Writes write))))
     (sym (needs refl)) (record {
@@ -282,6 +237,7 @@ deed_may P sized (Writes write) k needs = subst (λ (sized : Bool). MaySend P si
       sized_first = written_sized write;
       fits = λ used h. written_fits used write k.plain h;
     })
+deed_may P sized _ k needs = record { ids = tt; sized_first = refl; fits = λ used h. tt }
 
 -- a command that clears has no id of the target's objects
 clear_may : (P : Id → Type 0) (sized : Bool) (wish : Wish) (request : ℕ) → MaySend P sized (an_effect
@@ -316,11 +272,7 @@ question_may P sized question q = record {
   where
     by_sized : (sized : Bool) → is_sizes question ≡ not sized
         → cond (is_empty (ids_asked (commands.Question question))) true sized ≡ true
-    by_sized true first = by_empty (is_empty (ids_asked (commands.Question question)))
-      where
-        by_empty : (empty : Bool) → cond empty true true ≡ true
-        by_empty true = refl
-        by_empty false = refl
+    by_sized true first = always (is_empty (ids_asked (commands.Question question)))
     by_sized false first = subst (λ (q : Question). cond (is_empty (ids_asked (commands.Question q))) true false ≡ true)
         (sym (sizes_is question first)) refl
 

@@ -1,13 +1,13 @@
 -- Ids in rows: those of what has a spelling fit the sizes, and what has ids and numbers alone has a spelling by its
 -- ids.
-use Rattle.std.proofs.Common.{◌≡◌, ◌<◌, ◌^◌, ◌&&◌, ℕ, zero, suc, Bool, true, false, List, [], ◌∷◌, ◌++◌, refl, length, nat_lt, arith}
+use Rattle.std.proofs.Common.{◌≡◌, ◌<◌, ◌^◌, ◌&&◌, ℕ, zero, suc, Bool, true, false, List, [], ◌∷◌, ◌++◌, refl, length}
+use Rattle.std.proofs.Common.{nat_lt, arith}
 use Rattle.std.specs.List.{AllByRecursion as All, flat_map}
 use Rattle.jdwp_commands.specs.Answers.{told_answer}
 use Rattle.jdwp_commands.specs.Items as items
 use Rattle.jdwp_commands.specs.Items.{FitsItem, FitsListed, FitsSayings, Item, Listed, OfItem, OfListed, Saying, says}
 use Rattle.jdwp_commands.specs.Regions.{FitsBehind}
 use Rattle.jdwp_commands.specs.declared.answer.Answer.{Answer}
-use Rattle.jdwp_commands.specs.declared.answer.Answer.TheVariants as answers
 use Rattle.jdwp_commands.specs.declared.listed.Slot.{Slot}
 use Rattle.jdwp_values.specs.declared.id.FieldId.{FieldId}
 use Rattle.jdwp_events.specs.Composites.{FitsComposite}
@@ -27,8 +27,8 @@ use Rattle.jdwp_values.specs.declared.value.Value.{Value}
 use Rattle.jdwp_values.specs.declared.value.Value.TheVariants as values
 use Rattle.jdwp_commands.specs.Listed.{class_status_row, frame_row, loaded_class_row}
 use Rattle.machine_model.specs.Ids.{Id, class, field, frame, id_of_object, ids_of_composite, ids_of_event, ids_of_item}
-use Rattle.machine_model.specs.Ids.{ids_of_listed, ids_of_part, ids_of_row}
-use Rattle.machine_model.specs.Ids.{ids_of_said, ids_of_saying, ids_of_simple, ids_of_value, method, no_thread, object}
+use Rattle.machine_model.specs.Ids.{ids_of_listed, ids_of_part, ids_of_row, ids_of_said, ids_of_saying, ids_of_simple}
+use Rattle.machine_model.specs.Ids.{ids_of_value, method, no_thread, object}
 use Rattle.machine_model.specs.Names.{Composite}
 
 -- Lists ---------------------------------------------------------------------------------------------------------------
@@ -165,8 +165,7 @@ composite_ids used composite h =
 pub same_ids : (limit : Limit) (thread : ℕ) (answer : Answer)
     → flat_map (ids_of_saying thread) (told_answer limit answer)
     ≡ flat_map (ids_of_saying thread) (told_answer Any answer)
-same_ids limit thread (answers.Frames found) = refl
-same_ids limit thread _ = refl
+same_ids limit thread answer = grind arith
 
 -- Ids and numbers alone -----------------------------------------------------------------------------------------------
 
@@ -232,5 +231,4 @@ plain_fits used thread (says i x ∷ sayings) is h = by_tests (plain_item i x) (
       one refl (all_front (FitsId used) (ids_of_item thread i x) (flat_map (ids_of_saying thread) sayings) h),
       rest refl (all_back (FitsId used) (ids_of_item thread i x) (flat_map (ids_of_saying thread) sayings) h),
     )
-    by_tests true false is one rest = cc
-    by_tests false others is one rest = cc
+    by_tests _ _ is one rest = cc

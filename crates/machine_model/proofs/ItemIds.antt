@@ -7,16 +7,13 @@ use Rattle.jdwp_commands.specs.declared.listed.LoadedClass.{LoadedClass}
 use Rattle.jdwp_events.specs.declared.event.Event.{Event as ATargetEvent}
 use Rattle.jdwp_events.specs.declared.event.Event.TheVariants as happened
 use Rattle.jdwp_events.specs.declared.kind.Policy.{Policy}
-use Rattle.jdwp_events.specs.declared.kind.Policy.TheVariants.{NoThread, EventThread, All as AllThreads}
+use Rattle.jdwp_events.specs.declared.kind.Policy.TheVariants.{EventThread}
 use Rattle.machine_model.specs.Composites.{has_death, learnt_by, learnt_in, prepared_by, prepared_in, prepared_under}
 use Rattle.machine_model.specs.Due.{Picked, after_deed, asked_hand, passed_by, pick}
 use Rattle.machine_model.specs.Ids.{Id, class, ids_of_event}
-use Rattle.machine_model.specs.Names.{Writes}
-use Rattle.machine_model.specs.Names.{Attached, Fresh, Gone, Item, Phase, a_composite, a_raw, a_request}
-use Rattle.machine_model.specs.Names.{Part, Replied, TargetCommand, ThreadId, Want, a_question, an_effect, target_end}
-use Rattle.machine_model.specs.Names.{Classes, Configured, Deed, Dispose, EntryHeld, Event, Exit, Functions, Initialized}
-use Rattle.machine_model.specs.Names.{Lines, Note, Options, Outcome, Resume, Roots, Steps, StopsAt, Suspend, Terminated}
-use Rattle.machine_model.specs.Names.{Throws, a_stop, of_composite, of_entry, of_stop, some_news}
+use Rattle.machine_model.specs.Names.{Attached, Item, Phase, a_composite, a_raw, a_request, Part, Replied}
+use Rattle.machine_model.specs.Names.{TargetCommand, ThreadId, Want, a_question, an_effect, Deed, Event, Note, Outcome}
+use Rattle.machine_model.specs.Names.{Resume, Terminated, Throws, of_stop}
 use Rattle.machine_model.specs.Runs.{Message}
 use Rattle.machine_model.specs.Outcomes.{result_of}
 use Rattle.machine_model.specs.Replying.{hand_replied, replied_to}
@@ -68,14 +65,12 @@ prepared_stand P (event ∷ events) h = all_joined (λ (c : LoadedClass). P (cla
 under_stand : (P : Id → Type 0) (policy : Policy) (classes : List LoadedClass)
     → All (λ (c : LoadedClass). P (class c.class.0)) classes
     → All (λ (c : LoadedClass). P (class c.class.0)) (prepared_under policy classes)
-under_stand P NoThread classes h = h
 under_stand P EventThread classes h = tt
-under_stand P AllThreads classes h = h
+under_stand P _ classes h = h
 
 -- the facts of classes, once an item is taken
 pub taken_stand : (P : Id → Type 0) (phase : Phase) (item : Item) (known : Known) → ItemStands P item
     → AreKnown P known → AreKnown P (learnt_by phase item known)
-taken_stand P phase (a_request request) known h k = k
 taken_stand P phase (a_composite at composite) known h k = by_phase phase
   where
     by_death : (prepared : List LoadedClass) (dies : Bool)
@@ -85,22 +80,18 @@ taken_stand P phase (a_composite at composite) known h k = by_phase phase
     by_death prepared false some = some
 
     by_phase : (phase : Phase) → AreKnown P (learnt_in phase composite known)
-    by_phase Fresh = k
     by_phase Attached = loaded_known P (prepared_in composite) known
         (by_death _ (has_death composite.events)
         (under_stand P composite.policy (flat_map prepared_by composite.events)
         (prepared_stand P composite.events h))) k
-    by_phase Gone = k
-taken_stand P phase (a_raw at body) known h k = k
-taken_stand P phase target_end known h k = k
+    by_phase _ = k
+taken_stand P phase _ known h k = k
 
 -- What waits ----------------------------------------------------------------------------------------------------------
 
 raw_stands : (P : Id → Type 0) (item : Item) → is_raw item ≡ true → ItemStands P item
-raw_stands P (a_request request) is = tt
 raw_stands P (a_composite at composite) is = cc
-raw_stands P (a_raw at body) is = tt
-raw_stands P target_end is = tt
+raw_stands P _ is = tt
 
 -- what is picked stood among what waited
 pub picked_stand : (P : Id → Type 0) (gone : Bool) (items : List Item) (picked : Picked)
@@ -191,7 +182,6 @@ held_on P messages m next said h k here (Moves.sends free at is) =
     let f = in_front h at in ((f.0, f.2), h.threads)
 held_on P messages m next said h k here (Moves.updates free at is near) =
     let f = in_front h at in ((f.0, (tt, f.2)), h.threads)
-held_on P messages m next said h k here (Moves.greets free at is near) = (h.held, h.threads)
 held_on P messages m next said h k here (Moves.notes {note = note} free at) =
     let f = in_front h at in
     ((f.0, f.2), subst (λ (threads : List ThreadId). All (OfThread P) threads) (sym (noted_threads note m.state)) h.threads)
@@ -216,33 +206,18 @@ held_on P messages m next said h k here _ = (h.held, h.threads)
 
 event_thrown : (P : Id → Type 0) (event : Event) (state : State) → All (OfThrown P) state.thrown
     → All (OfThrown P) (after_event event state).thrown
-event_thrown P Initialized state h = h
-event_thrown P (some_news news) state h = h
-event_thrown P (a_stop stopping) state h = h
 event_thrown P Terminated state h = tt
+event_thrown P _ state h = h
 
 deed_thrown : (P : Id → Type 0) (deed : Deed) (state : State) → All (OfThrown P) state.thrown
     → All (OfThrown P) (after_deed deed state).thrown
-deed_thrown P Suspend state h = h
-deed_thrown P (Resume of_composite) state h = h
-deed_thrown P (Resume of_entry) state h = h
 deed_thrown P (Resume of_stop) state h = tt
-deed_thrown P Dispose state h = h
-deed_thrown P Exit state h = h
-deed_thrown P (Writes write) state h = h
+deed_thrown P _ state h = h
 
 note_thrown : (P : Id → Type 0) (note : Note) (state : State) → NoteTells P note → All (OfThrown P) state.thrown
     → All (OfThrown P) (noted note state).thrown
 note_thrown P (Throws thrown) state k h = all_joined (OfThrown P) state.thrown thrown h k
-note_thrown P (Options options) state k h = h
-note_thrown P (Roots roots) state k h = h
-note_thrown P (Lines key path entries) state k h = h
-note_thrown P (Functions entries) state k h = h
-note_thrown P (StopsAt caught uncaught) state k h = h
-note_thrown P (Steps step) state k h = h
-note_thrown P (Classes classes) state k h = h
-note_thrown P EntryHeld state k h = h
-note_thrown P Configured state k h = h
+note_thrown P _ state k h = h
 
 responded_thrown : (outcome : Outcome) (state : State) → (numbered_by outcome state).thrown ≡ state.thrown
 responded_thrown outcome state = grind arith

@@ -18,10 +18,11 @@ use Rattle.machine_model.specs.Telling.{after_event, numbered_by}
 use Rattle.machine_model.proofs.AskedLaws.{all_due, apart_asked, apart_filled, are_apart, need_due, was_filled}
 use Rattle.machine_model.proofs.AskedLaws.{was_more, waits_more, with_apart}
 use Rattle.machine_model.proofs.KeyLaws.{is_one}
-use Rattle.machine_model.proofs.SizeLaws.{near_end, question_sizes, sizes_replied}
+use Rattle.machine_model.proofs.SizeLaws.{question_sizes, sizes_replied}
 use Rattle.machine_model.proofs.RestLaws.{near_queue}
 use Rattle.machine_model.proofs.Stepping.{Moves, by_moves}
 use Rattle.machine_model.proofs.Testing.{same_noted, same_numbered, same_replied}
+use Rattle.machine_model.proofs.Bools.{both_hold, other_fails}
 
 -- the sizes of ids are known once they were asked and answered
 abbrev sizes_kept : Option SizesRead → List Sent → Bool
@@ -36,10 +37,6 @@ hand_kept state (Some hand) =
 abbrev IsKept : Machine → Type 0
 IsKept m = hand_kept m.state m.hand ≡ true
 
-both : (one other : Bool) → cond one other false ≡ true → (one ≡ true) × (other ≡ true)
-both true other is = (refl, is)
-both false other is = cc
-
 -- what is lacking is due
 way_due : (guard : Guard) (state : State) (asked : List Sent) → sizes_kept state.sizes asked ≡ true
     → all_due asked (asked_by (way guard state)) ≡ true
@@ -48,15 +45,13 @@ way_due IdSizes state asked h = by_sizes state.sizes h
   where
     by_sizes : (sizes : Option SizesRead) → sizes_kept sizes asked ≡ true
         → all_due asked (asked_by (sized_by sizes)) ≡ true
-    by_sizes None h = grind (arith, h)
-    by_sizes (Some sizes) h = refl
+    by_sizes sizes h = grind (arith, h)
 
 pub lacked_due : (state : State) (hand : Hand) (parts : List Part) → sizes_kept state.sizes hand.asked ≡ true
     → all_due hand.asked (lacked_by state hand parts) ≡ true
-lacked_due state hand [] h = refl
 lacked_due state hand (Part.Looks lookup ∷ rest) h = need_due (sight_of state hand) (plan lookup state)
 lacked_due state hand (Part.Awaits guard ∷ rest) h = way_due guard state hand.asked h
-lacked_due state hand (_ ∷ rest) h = refl
+lacked_due state hand _ h = refl
 
 pub new_apart : (state : State) (hand : Hand) → sizes_kept state.sizes hand.asked ≡ true
     → are_apart hand.asked (newly_lacked state hand) ≡ true
@@ -134,13 +129,11 @@ sizes_answered state question replied asked reply last h = by_same (same_questio
 
 failed_apart : (asked : List Sent) (failed : Bool) (queue : List Want) → are_apart asked queue ≡ true
     → are_apart asked (unless_failed failed queue) ≡ true
-failed_apart asked true queue h = refl
-failed_apart asked false queue h = h
+failed_apart asked failed queue h = grind (arith, h)
 
 same_kept : (state later : State) (hand : Option Hand) → later.phase ≡ state.phase → later.sizes ≡ state.sizes
     → hand_kept state hand ≡ true → hand_kept later hand ≡ true
-same_kept state later None phase sizes h = refl
-same_kept state later (Some hand) phase sizes h = rw (phase, sizes) h
+same_kept state later hand phase sizes h = grind (arith, phase, sizes, h)
 
 event_kept : (event : Event) (state : State) (hand : Hand) → hand_kept state (Some hand) ≡ true
     → hand_kept (after_event event state) (Some hand) ≡ true
@@ -153,7 +146,7 @@ answered_kept : (m : Machine) (hand : Hand) (question : Question) (replied : Rep
     → hand_kept (replied_to (a_question question) replied m.state) (Some (hand_replied
     (a_question question) replied hand)) ≡ true
 answered_kept m hand question replied reply stays h =
-    let (apart, kept) = both (are_apart hand.asked hand.queue) _ h in
+    let (apart, kept) = both_hold (are_apart hand.asked hand.queue) _ h in
     rw (
       failed_apart (filled question replied hand.asked) (is_failed question replied hand.asked) hand.queue
           (apart_filled question replied hand.asked hand.queue apart),
@@ -167,7 +160,7 @@ answered_kept m hand question replied reply stays h =
         (filled question replied hand.asked)) ≡ true
     by_gone true is k = refl
     by_gone false is k = sizes_answered m.state question replied hand.asked reply
-        (near_end (is_gone m.state.phase) (is_end (a_question question) replied) is stays) k
+        (other_fails (is_gone m.state.phase) (is_end (a_question question) replied) is stays) k
 
 kept_of : (m : Machine) (hand : Hand) → m.hand ≡ Some hand → IsKept m → hand_kept m.state (Some hand) ≡ true
 kept_of m hand is h = subst (λ (hand : Option Hand). hand_kept m.state hand ≡ true) is h
@@ -181,14 +174,14 @@ noted_sizes note state = grind arith
 queued_kept : (m : Machine) (hand : Hand) → is_gone m.state.phase ≡ false → hand_kept m.state (Some hand) ≡ true
     → hand_kept m.state (Some (record hand { queue = newly_lacked m.state hand })) ≡ true
 queued_kept m hand near h =
-    let (apart, kept) = both (are_apart hand.asked hand.queue) _ h in
+    let (apart, kept) = both_hold (are_apart hand.asked hand.queue) _ h in
     let sized : sizes_kept m.state.sizes hand.asked ≡ true = grind (arith, kept, near) in
     rw (new_apart m.state hand sized, near) sized
 
 asked_hand_kept : (m : Machine) (hand : Hand) (want : Want) (others : List Want) → hand.queue ≡ want ∷ others
     → hand_kept m.state (Some hand) ≡ true → hand_kept m.state (Some (asked_hand want hand)) ≡ true
 asked_hand_kept m hand want others are h =
-    let (apart, kept) = both (are_apart hand.asked hand.queue) _ h in
+    let (apart, kept) = both_hold (are_apart hand.asked hand.queue) _ h in
     let behind = (apart_asked want hand.asked others
     (subst (λ (queue : List Want). are_apart hand.asked queue ≡ true) are apart)).1 in
     rw (are, behind) (by_gone (is_gone m.state.phase) kept)
@@ -218,23 +211,17 @@ kept_on m next said h (Moves.unfolds {hand} free at) = kept_of m hand at.in_hand
 kept_on m next said h (Moves.queues {hand} free is) = queued_kept m hand (near_queue m free) (kept_of m hand is h)
 kept_on m next said h (Moves.asks {hand} {want} {wants = others} free room is are) =
     rw is (asked_hand_kept m hand want others are (kept_of m hand is h))
-kept_on m next said h (Moves.hears read is) = h
 kept_on m next said h (Moves.greeted read is) = same_kept m.state next.state m.hand refl refl h
 kept_on m next said h (Moves.answers {question} {replied} {hand} is waits reply stays) =
     rw is (answered_kept m hand question replied reply stays (kept_of m hand is h))
 kept_on m next said h (Moves.replies {effect} {replied} {hand} is flying reply stays) =
     rw is (same_kept m.state (replied_to (an_effect effect) replied m.state) (Some hand) refl refl
     (kept_of m hand is h))
-kept_on m next said h (Moves.late before after is reply) = h
-kept_on m next said h (Moves.ends gone) = h
 kept_on m next said h (Moves.loses late near why) = given_kept m.hand
   where
     given_kept : (hand : Option Hand) → hand_kept (record m.state { phase = Gone }) (option_map given_up hand) ≡ true
-    given_kept None = refl
-    given_kept (Some hand) = refl
-kept_on m next said h (Moves.comes read sized taken) = h
-kept_on m next said h (Moves.keeps is) = h
-kept_on m next said h (Moves.reads before after read is none taken) = h
+    given_kept hand = grind arith
+kept_on m next said h _ = h
 
 pub always_kept : {messages : List Message} {m : Machine} → Run messages m → IsKept m
 always_kept r = by_moves {Holds = λ (messages : List Message) (m : Machine). IsKept m}
@@ -244,6 +231,6 @@ always_kept r = by_moves {Holds = λ (messages : List Message) (m : Machine). Is
 pub next_new : (m : Machine) (hand : Hand) (want : Want) (others : List Want) → IsKept m → m.hand ≡ Some hand
     → hand.queue ≡ want ∷ others → is_new want hand.asked ≡ true
 next_new m hand want others h is are =
-    let (apart, kept) = both (are_apart hand.asked hand.queue) _ (kept_of m hand is h) in
+    let (apart, kept) = both_hold (are_apart hand.asked hand.queue) _ (kept_of m hand is h) in
     (apart_asked want hand.asked others
     (subst (λ (queue : List Want). are_apart hand.asked queue ≡ true) are apart)).0

@@ -114,11 +114,10 @@ pub same_back : (a b : Question) → same_question a b ≡ same_question b a
 same_back a b = by_both (same_question a b) (same_question b a) refl refl
   where
     by_both : (here there : Bool) → same_question a b ≡ here → same_question b a ≡ there → here ≡ there
-    by_both true true h k = refl
-    by_both false false h k = refl
     by_both true false h k =
         let no : true ≡ false = sym (is_same b) ∙ ap (λ (q : Question). same_question b q) (sym (is_one a b h)) ∙ k in
         absurd (false≢true (sym no))
     by_both false true h k =
         let no : true ≡ false = sym (is_same a) ∙ ap (λ (q : Question). same_question a q) (sym (is_one b a k)) ∙ h in
         absurd (false≢true (sym no))
+    by_both _ _ h k = refl

@@ -11,16 +11,11 @@ use Rattle.machine_model.specs.Knowing.{says_dead, sizes_said, thread_numbers, t
 use Rattle.machine_model.specs.Knowing.{waiting_composites, watch_set, with_facts}
 use Rattle.jdwp_commands.specs.Answers.{kind_of_answer}
 use Rattle.jdwp_commands.specs.Commands.{kind_of}
-use Rattle.machine_model.specs.Names.{a_written}
-use Rattle.machine_model.specs.Names.{Answer, Attached, Capabilities, Classes, Clear, Command, Composite, Configured}
-use Rattle.machine_model.specs.Names.{Continued, Does, Effect, EntryHeld, Event, Failed, Fresh, Gone, Initialized}
-use Rattle.machine_model.specs.Names.{Item, Lines, NamedThread, Note, Nothing, Options, Outcome, Part, Phase}
-use Rattle.machine_model.specs.Names.{Question, Replied, Roots, Set, Success, TargetCommand, Terminated, ThreadId}
-use Rattle.machine_model.specs.Names.{a_composite, a_question, a_raw, a_request, a_stop, an_answer, an_effect}
-use Rattle.machine_model.specs.Names.{an_event, breakpoint_list, entry_verified, some_news, target_end, thread_changed}
-use Rattle.machine_model.specs.Names.{thread_list}
-use Rattle.machine_model.specs.Names.{frame_list}
-use Rattle.machine_model.specs.Names.{a_value, scope_list, variable_list, Steps, StopsAt, Throws}
+use Rattle.machine_model.specs.Names.{Answer, Attached, Command, Composite, Effect, EntryHeld, Event, Fresh, Gone}
+use Rattle.machine_model.specs.Names.{Initialized, Item, NamedThread, Note, Options, Outcome, Part, Phase, Question}
+use Rattle.machine_model.specs.Names.{Replied, Success, TargetCommand, Terminated, ThreadId, a_composite, a_question}
+use Rattle.machine_model.specs.Names.{a_raw, a_request, a_stop, an_answer, an_effect, an_event, some_news, target_end}
+use Rattle.machine_model.specs.Names.{thread_changed, thread_list, entry_verified}
 use Rattle.machine_model.specs.Replying.{IsReply, ended_with, hand_replied, is_end, replied_to, sizes_in, unlisted_by}
 use Rattle.machine_model.specs.Replying.{knows_fact, learnt, still_unlisted, wire}
 use Rattle.machine_model.proofs.BindingFacts.{is_mapped}
@@ -43,11 +38,10 @@ use Rattle.class_tables.specs.Tables.{under}
 use Rattle.jdwp_commands.specs.declared.listed.LoadedClass.{LoadedClass}
 use Rattle.jdwp_events.specs.declared.kind.Policy.{Policy}
 use Rattle.machine_model.proofs.EarlyItems.{IsEarly, always_early, not_fresh}
-use Rattle.machine_model.proofs.HeldLaws.{asked_last, asked_owes, chosen_owes, composite_last, composite_owes}
-use Rattle.machine_model.proofs.HeldLaws.{deed_may, deed_view_is, dies_front, due_sends, end_owes, entry_held}
-use Rattle.machine_model.proofs.HeldLaws.{found_owes, free_owes, given_owes, gone_owed, held_as, held_front}
-use Rattle.machine_model.proofs.HeldLaws.{replied_last, replied_owes, row_last, row_owes, skipped_last, skipped_owes}
-use Rattle.machine_model.proofs.HeldLaws.{stop_held}
+use Rattle.machine_model.proofs.HeldLaws.{asked_last, asked_owes, chosen_owes, composite_last, composite_owes, deed_may}
+use Rattle.machine_model.proofs.HeldLaws.{deed_view_is, dies_front, due_sends, end_owes, entry_held, found_owes}
+use Rattle.machine_model.proofs.HeldLaws.{free_owes, given_owes, gone_owed, held_as, held_front, replied_last}
+use Rattle.machine_model.proofs.HeldLaws.{replied_owes, row_last, row_owes, skipped_last, skipped_owes, stop_held}
 use Rattle.machine_model.proofs.ItemLaws.{IsInOrder, in_order, ordered_on, picked_composites, read_composites}
 use Rattle.machine_model.proofs.ItemLaws.{waits_in_order}
 use Rattle.machine_model.proofs.ServedLaws.{one_more}
@@ -62,17 +56,15 @@ use Rattle.suspend_ledger.specs.Suspensions.{suspensions_by}
 use Rattle.machine_model.proofs.HoldingParts.{IsHolding, IsLost, holding, lost_flags, lost_held, numbered_entry}
 use Rattle.machine_model.proofs.HoldingParts.{numbered_stop, same_entry, same_stop}
 use Rattle.machine_model.specs.Lookups.{finished}
-use Rattle.machine_model.specs.Names.{Functions, an_exception}
+use Rattle.machine_model.proofs.Bools.{never, other_fails}
+use Rattle.machine_model.proofs.ThreadIds.{replied_threads}
 
 -- Replies -------------------------------------------------------------------------------------------------------------
 
 -- a reply shows the target's end so
 same_end : (command : TargetCommand) (replied : Replied)
     → cond (is_farewell command) false (says_dead replied) ≡ is_end command replied
-same_end (a_question question) replied = refl
-same_end (an_effect (Does deed)) replied = grind arith
-same_end (an_effect (Set wish)) replied = refl
-same_end (an_effect (Clear wish request)) replied = refl
+same_end command replied = grind arith
 
 -- the reply to IDSizes that is kept says sizes
 sizes_are : (sizes before : Option SizesRead) (replied : Replied) → IsReply sizes (a_question questions.IdSizes) replied
@@ -98,14 +90,10 @@ facts_are question heard known = by_question question
   where
     once : (knows said : Bool) → knows ≡ said → (fact : Fact)
         → cond knows known (with_fact fact known) ≡ with_facts (cond said [] (fact ∷ [])) known
-    once true true same fact = refl
-    once true false same fact = cc
-    once false true same fact = cc
-    once false false same fact = refl
+    once knows said same fact = grind (arith, same)
 
     either : (knows : Bool) → cond knows known known ≡ known
-    either true = refl
-    either false = refl
+    either knows = grind arith
 
     by_question : (question : Question)
         → learnt question heard known ≡ with_facts (newly_said question heard known) known
@@ -147,18 +135,7 @@ says_so (Some message) view = says message view
 response_view : (outcome : Outcome) (m : Machine)
     → record (view_of (record m { state = numbered_by outcome m.state })) { held = held_in m.state m.hand }
     ≡ record (view_of m) { bound = with_told m.state.bound (breakpoints_in (outcome_told outcome m.state)) }
-response_view (Success Nothing) m = refl
-response_view (Success Capabilities) m = refl
-response_view (Success (breakpoint_list rooted listed)) m = refl
-response_view (Success Continued) m = refl
-response_view (Success (frame_list total frames)) m = refl
-response_view (Success (scope_list frame)) m = refl
-response_view (Success (variable_list shown)) m = refl
-response_view (Success (a_value seen)) m = refl
-response_view (Success (a_written seen)) m = refl
-response_view (Success (an_exception id mode)) m = refl
-response_view (Success (thread_list named)) m = refl
-response_view (Failed failure) m = refl
+response_view outcome m = grind arith
 
 -- a note is made: what is held as the entry was held for the composite in hand
 note_view : (m next : Machine) (hand : Hand) (note : Note) (rest : List Part) → IsHolding m
@@ -166,32 +143,8 @@ note_view : (m next : Machine) (hand : Hand) (note : Note) (rest : List Part) �
     → view_of (left (knowing m (noted note m.state)) hand rest) ≡ view_of m
 note_view m next hand EntryHeld rest h at = held_as m (left (knowing m (noted EntryHeld m.state)) hand rest)
     (entry_held h at) (sym (dies_front at)) refl
-note_view m next hand Configured rest h at = held_as m (left (knowing m (noted Configured m.state)) hand rest)
-    (sym (held_front at)) (sym (dies_front at)) refl
-note_view m next hand (Options options) rest h at =
-    held_as m (left (knowing m (noted (Options options) m.state)) hand rest)
-    (sym (held_front at)) (sym (dies_front at)) refl
-note_view m next hand (Roots roots) rest h at =
-    held_as m (left (knowing m (noted (Roots roots) m.state)) hand rest)
-    (sym (held_front at)) (sym (dies_front at)) refl
-note_view m next hand (Lines key path entries) rest h at =
-    held_as m (left (knowing m (noted (Lines key path entries) m.state)) hand rest)
-    (sym (held_front at)) (sym (dies_front at)) refl
-note_view m next hand (Functions entries) rest h at =
-    held_as m (left (knowing m (noted (Functions entries) m.state)) hand rest)
-    (sym (held_front at)) (sym (dies_front at)) refl
-note_view m next hand (StopsAt caught uncaught) rest h at =
-    held_as m (left (knowing m (noted (StopsAt caught uncaught) m.state)) hand rest)
-    (sym (held_front at)) (sym (dies_front at)) refl
-note_view m next hand (Steps step) rest h at =
-    held_as m (left (knowing m (noted (Steps step) m.state)) hand rest)
-    (sym (held_front at)) (sym (dies_front at)) refl
-note_view m next hand (Throws thrown) rest h at =
-    held_as m (left (knowing m (noted (Throws thrown) m.state)) hand rest)
-    (sym (held_front at)) (sym (dies_front at)) refl
-note_view m next hand (Classes classes) rest h at =
-    held_as m (left (knowing m (noted (Classes classes) m.state)) hand rest)
-    (sym (held_front at)) (sym (dies_front at)) refl
+note_view m next hand note rest h at =
+    held_as m (left (knowing m (noted note m.state)) hand rest) (sym (held_front at)) (sym (dies_front at)) refl
 
 not_gone : (gone other : Bool) → cond (cond gone false true) other false ≡ true → not gone ≡ true
 not_gone gone other is = grind (arith, is)
@@ -209,8 +162,7 @@ event_may m hand (a_stop stopping) rest f h w at =
   where
     by_gone : (gone held other : Bool) → cond (cond gone false true) other false ≡ true → held ≡ true
         → cond gone false held ≡ true
-    by_gone true held other is some = cc
-    by_gone false held other is some = some
+    by_gone gone held other is some = grind (arith, is, some)
 event_may m hand Initialized rest f h w at =
     fresh_by (over_gone m.state.phase m.state.terminated) (is_fresh m.state.phase) _
     (marked_at m hand (Part.Tells Initialized) rest h at)
@@ -227,8 +179,7 @@ event_may m hand Terminated rest f h w at =
 
     by_gone : (gone dying told : Bool) → dying ≡ true → not told ≡ true
         → cond gone (not told) (cond (cond gone false dying) (not told) false) ≡ true
-    by_gone true dying told is untold = untold
-    by_gone false dying told is untold = rw is untold
+    by_gone gone dying told is untold = grind (arith, is, untold)
 
 fresh_now : (phase : Phase) → is_fresh phase ≡ true → phase ≡ Fresh
 fresh_now phase is = grind (arith, is)
@@ -268,8 +219,7 @@ event_view_is m hand Terminated rest f h w at =
     (free_owes false rest (tail (is_gone m.state.phase) (free_once true rest) (whole free_once f at)))
   where
     tail : (gone others : Bool) → cond (cond gone true true) others false ≡ true → others ≡ true
-    tail true others is = is
-    tail false others is = is
+    tail gone others is = grind (arith, is)
 
 gone_is : (phase : Phase) → is_gone phase ≡ true → phase ≡ Gone
 gone_is phase is = grind (arith, is)
@@ -294,9 +244,6 @@ ended_is m command replied near last =
 
 same_closes : (command : Command) → is_disconnect command ≡ closes command
 same_closes command = grind arith
-
-stays_here : (gone last : Bool) → gone ≡ false → cond gone false last ≡ false → last ≡ false
-stays_here gone last near is = grind (arith, near, is)
 
 -- the target's end: nothing is held any more
 lost_seen : (m : Machine) (late : List TargetCommand) → view_of (ended_with late m) ≡ gone_view (view_of m)
@@ -353,8 +300,7 @@ begun_seen m item rest none late ends are = by_item item late ends are
         by_gone false = ap (λ (all : List Composite). record (view_of m) { composites = all }) (sym are)
 
     waits : (gone : Bool) → waiting_composites gone rest ≡ cond gone [] (flat_map composite_in rest)
-    waits true = refl
-    waits false = refl
+    waits gone = grind arith
 
     others : (parts : List Part) → owed_in m.state.stopped parts ≡ 0
         → cond (is_gone m.state.phase) false (has_last parts) ≡ false
@@ -377,8 +323,7 @@ begun_seen m item rest none late ends are = by_item item late ends are
         ∙ passed (flat_map composite_in rest) are
       where
         still : (gone dying : Bool) → dying ≡ false → cond gone false dying ≡ false
-        still true dying is = refl
-        still false dying is = is
+        still gone dying is = grind (arith, is)
 
     holds : (dead : Bool) (policy : Policy) (held owed : ℕ) → held ≡ held_with m.state.stopped m.state.entry 0
         → owed ≡ cond dead 0 (0 + suspensions_by policy)
@@ -409,17 +354,9 @@ begun_seen m item rest none late ends are = by_item item late ends are
     by_item (a_request request) late ends are = Sees.as_said
         (others (request_parts request.command m.state) (row_owes m.state request.command)
         (rw (row_last m.state request.command) (never (is_gone m.state.phase))) are)
-      where
-        never : (gone : Bool) → cond gone false false ≡ false
-        never true = refl
-        never false = refl
     by_item (a_composite at composite) late ends are =
         by_phase at composite m.state.phase refl (late at composite refl) are
     by_item (a_raw at body) late ends are = Sees.as_said (others [] refl (never (is_gone m.state.phase)) are)
-      where
-        never : (gone : Bool) → cond gone false false ≡ false
-        never true = refl
-        never false = refl
     by_item target_end late ends are = Sees.as_said
         (others (end_parts m.state.terminated) (end_owes m.state.stopped m.state.terminated) (rw (ends refl) refl) are)
 
@@ -502,13 +439,13 @@ view_on m next said q n k f o e h w l (Moves.asks {want = want} free room is are
     (asked_last want m.hand) refl)
 view_on m next said q n k f o e h w l (Moves.answers {question} {replied} {hand} is waits reply stays) =
     let near = near_waits m hand question q is waits in
-    let here = stays_here (is_gone m.state.phase) (is_end (a_question question) replied) near stays in
+    let here = other_fails (is_gone m.state.phase) (is_end (a_question question) replied) near stays in
     Sees.as_said (held_as m next (replied_held m (a_question question) replied)
     (replied_last (a_question question) replied m.hand)
     (replied_is m (a_question question) replied _ near here (learnt_is m question replied reply here)))
 view_on m next said q n k f o e h w l (Moves.replies {effect} {replied} {hand} is flies reply stays) =
     let near = near_flies m hand effect q is flies in
-    let here = stays_here (is_gone m.state.phase) (is_end (an_effect effect) replied) near stays in
+    let here = other_fails (is_gone m.state.phase) (is_end (an_effect effect) replied) near stays in
     Sees.as_said (held_as m next (replied_held m (an_effect effect) replied)
     (replied_last (an_effect effect) replied m.hand)
     (replied_is m (an_effect effect) replied _ near here
@@ -557,8 +494,6 @@ may_on m next said f h w (Moves.asks {hand} free room is are) = rw (near_asks m 
 may_on m next said f h w (Moves.hears read is) = rw is refl
 may_on m next said f h w (Moves.greeted read is) = rw is refl
 may_on m next said f h w (Moves.loses late near Loses.by_end) = refl
-may_on m next said f h w (Moves.loses late near (Loses.by_question is waits reply last)) = refl
-may_on m next said f h w (Moves.loses late near (Loses.by_effect is flies reply last)) = refl
 may_on m next said f h w _ = refl
 
 -- Numbers -------------------------------------------------------------------------------------------------------------
@@ -578,27 +513,15 @@ no_numbers numbers threads = record { distinct = λ is. is; in_order = λ h. rw 
 outcome_numbers : (numbers : List ℕ) (outcome : Outcome) (state : State)
     → Numbers numbers state.threads (numbered_by outcome state).threads (numbers_in_outcome
     (outcome_told outcome state))
-outcome_numbers numbers (Failed failure) state = no_numbers numbers state.threads
-outcome_numbers numbers (Success Nothing) state = no_numbers numbers state.threads
-outcome_numbers numbers (Success Capabilities) state = no_numbers numbers state.threads
-outcome_numbers numbers (Success Continued) state = no_numbers numbers state.threads
-outcome_numbers numbers (Success (an_exception id mode)) state = no_numbers numbers state.threads
-outcome_numbers numbers (Success (frame_list total frames)) state = no_numbers numbers state.threads
-outcome_numbers numbers (Success (scope_list frame)) state = no_numbers numbers state.threads
-outcome_numbers numbers (Success (variable_list shown)) state = no_numbers numbers state.threads
-outcome_numbers numbers (Success (a_value seen)) state = no_numbers numbers state.threads
-outcome_numbers numbers (Success (a_written seen)) state = no_numbers numbers state.threads
-outcome_numbers numbers (Success (breakpoint_list rooted listed)) state = no_numbers numbers state.threads
 outcome_numbers numbers (Success (thread_list named)) state = record {
   distinct = distinct_with state.threads named;
   in_order = in_order_with numbers state.threads named;
 }
+outcome_numbers numbers _ state = no_numbers numbers state.threads
 
 event_numbers : (numbers : List ℕ) (event : Event) (state : State)
     → Numbers numbers state.threads (after_event event state).threads
     (numbers_in_event (event_told event (after_event event state)))
-event_numbers numbers Initialized state = no_numbers numbers state.threads
-event_numbers numbers (some_news (entry_verified entry)) state = no_numbers numbers state.threads
 event_numbers numbers (some_news (thread_changed started thread)) state =
     let named : List NamedThread = record { thread = thread; name = [] } ∷ [] in record {
       distinct = distinct_with state.threads named;
@@ -609,30 +532,18 @@ event_numbers numbers (a_stop stopping) state =
       distinct = distinct_with state.threads named;
       in_order = in_order_with numbers state.threads named;
     }
-event_numbers numbers Terminated state = no_numbers numbers state.threads
+event_numbers numbers _ state = no_numbers numbers state.threads
 
 note_numbers : (numbers : List ℕ) (note : Note) (state : State)
     → Numbers numbers state.threads (noted note state).threads []
 note_numbers numbers (Options options) state = no_numbers numbers state.threads
-note_numbers numbers EntryHeld state = no_numbers numbers state.threads
-note_numbers numbers Configured state = no_numbers numbers state.threads
-note_numbers numbers (Roots roots) state = no_numbers numbers state.threads
-note_numbers numbers (Lines key path entries) state = no_numbers numbers state.threads
-note_numbers numbers (Functions entries) state = no_numbers numbers state.threads
-note_numbers numbers (StopsAt caught uncaught) state = no_numbers numbers state.threads
-note_numbers numbers (Steps step) state = no_numbers numbers state.threads
-note_numbers numbers (Throws thrown) state = no_numbers numbers state.threads
-note_numbers numbers (Classes classes) state = no_numbers numbers state.threads
-
-same_threads : (command : TargetCommand) (replied : Replied) (state : State)
-    → (replied_to command replied state).threads ≡ state.threads
-same_threads command replied state = grind arith
+note_numbers numbers _ state = no_numbers numbers state.threads
 
 reply_numbers : (numbers : List ℕ) (command : TargetCommand) (replied : Replied) (state : State)
     → Numbers numbers state.threads (replied_to command replied state).threads []
 reply_numbers numbers command replied state =
     subst (λ (threads : List ThreadId). Numbers numbers state.threads threads []) (sym
-    (same_threads command replied state))
+    (replied_threads command replied state))
     (no_numbers numbers state.threads)
 
 numbers_on : (numbers : List ℕ) (m next : Machine) (said : Option Message) → Moves m said next
@@ -645,10 +556,6 @@ numbers_on numbers m next said (Moves.answers {question} {replied} is waits repl
 numbers_on numbers m next said (Moves.replies {effect} {replied} is flies reply stays) =
     reply_numbers numbers (an_effect effect) replied m.state
 numbers_on numbers m next said (Moves.loses late near Loses.by_end) = no_numbers numbers m.state.threads
-numbers_on numbers m next said (Moves.loses late near (Loses.by_question is waits reply last)) =
-    no_numbers numbers m.state.threads
-numbers_on numbers m next said (Moves.loses late near (Loses.by_effect is flies reply last)) =
-    no_numbers numbers m.state.threads
 numbers_on numbers m next said _ = no_numbers numbers m.state.threads
 
 -- The law -------------------------------------------------------------------------------------------------------------

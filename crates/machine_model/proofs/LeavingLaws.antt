@@ -10,11 +10,9 @@ use Rattle.machine_model.specs.Due.Way.{greets as greets_way}
 use Rattle.machine_model.specs.Knowing.{is_farewell, is_fresh, view_of}
 use Rattle.machine_model.specs.Leaving.{IsFarewell, IsFirst, IsGreeting, IsInTurn, answers_farewell, deed_for}
 use Rattle.machine_model.specs.Leaving.{sends_farewell}
-use Rattle.machine_model.specs.Names.{Writes}
 use Rattle.machine_model.specs.Names.{Attach, Attached, Command, Deed, Disconnect, Dispose, Does, Doing, Exit, Fresh}
-use Rattle.machine_model.specs.Names.{Gone, Guard, Handshake, IdSizes, Item, Outcome, Part, Phase, Request, Resume}
-use Rattle.machine_model.specs.Names.{Suspend, TargetCommand, a_composite, a_question, a_raw, a_request, a_response}
-use Rattle.machine_model.specs.Names.{an_effect, target_end}
+use Rattle.machine_model.specs.Names.{Guard, Handshake, IdSizes, Item, Outcome, Part, Phase, Request, TargetCommand}
+use Rattle.machine_model.specs.Names.{a_question, a_request, a_response, an_effect}
 use Rattle.machine_model.specs.Pending.{has_such}
 use Rattle.machine_model.specs.Plans.{question_of}
 use Rattle.machine_model.specs.Rest.{request_in}
@@ -32,6 +30,7 @@ use Rattle.machine_model.proofs.ServedLaws.{owing}
 use Rattle.machine_model.proofs.Stepping.{IsAt, Loses, Moves, moved}
 use Rattle.machine_model.proofs.Tables.{once, responds_once}
 use Rattle.machine_model.proofs.Testing.{tested, whole}
+use Rattle.machine_model.proofs.Bools.{both_hold}
 
 -- Where a message stands ----------------------------------------------------------------------------------------------
 
@@ -109,10 +108,7 @@ record IsToLeave (item : Item) (exits : Bool) : Type 0 where
 
 same_end : (terminates exits responds ends leaves : Bool)
     → leaves_well (leaving terminates) exits responds ends leaves ≡ true → exits ≡ terminates
-same_end true true responds ends leaves h = refl
-same_end true false responds ends leaves h = cc
-same_end false true responds ends leaves h = cc
-same_end false false responds ends leaves h = refl
+same_end terminates exits responds ends leaves h = grind (arith, h)
 
 to_leave : (item : Item) (exits responds ends leaves : Bool)
     → leaves_well (aim_of item) exits responds ends leaves ≡ true → IsToLeave item exits
@@ -129,24 +125,18 @@ to_leave (a_request request) exits responds ends leaves h = by_command request.c
       as_asked = same_end arguments.terminate_debuggee exits responds ends leaves h;
     }
     by_command _ is h = cc
-to_leave (a_composite at composite) exits responds ends leaves h = cc
-to_leave (a_raw at body) exits responds ends leaves h = cc
-to_leave target_end exits responds ends leaves h = cc
+to_leave _ exits responds ends leaves h = cc
 
 -- the deed says whether the target is to end
 deed_is : (aim : Aim) (deed : Deed) (responds ends leaves : Bool) → is_sends (Part.Sends deed) ≡ true
     → may_stand aim (Part.Sends deed) responds ends leaves ≡ true
     → (exits : Bool) × (deed ≡ deed_for exits) × (leaves_well aim exits responds ends leaves ≡ true)
-deed_is aim Suspend responds ends leaves is h = cc
-deed_is aim (Resume suspension) responds ends leaves is h = cc
-deed_is aim (Writes write) responds ends leaves is h = cc
 deed_is aim Exit responds ends leaves is h = (true, refl, h)
 deed_is aim Dispose responds ends leaves is h = (false, refl, h)
+deed_is aim _ responds ends leaves is h = cc
 
 is_attached_now : (phase : Phase) → is_attached phase ≡ true → phase ≡ Attached
-is_attached_now Fresh is = cc
-is_attached_now Attached is = refl
-is_attached_now Gone is = cc
+is_attached_now phase is = grind (arith, is)
 
 farewell_at : {messages : List Message} {m : Machine} {hand : Hand} {rest : List Part} (deed : Deed) → Run messages m
     → IsAt m hand (Part.Sends deed) rest → is_sends (Part.Sends deed) ≡ true
@@ -266,8 +256,7 @@ in_turn_of {messages = messages} said response r (Moves.loses late near why) is 
     by_loss : {m : Machine} {message : Message} {late : List TargetCommand} → Loses m message late
         → Some message ≡ Some (Message.tells (a_response response)) → IsInTurn messages response
     by_loss Loses.by_end is = cc
-    by_loss (Loses.by_question held waits reply last) is = cc
-    by_loss (Loses.by_effect held flies reply last) is = cc
+    by_loss _ is = cc
 in_turn_of said response r _ is = cc
 
 pub disconnects : (messages before after : List Message) (m : Machine) (response : Response) → Run messages m
@@ -291,9 +280,7 @@ to_attach (a_request request) h = by_command request.command refl h
     by_command (Attach arguments) is h =
         record { request = request; arguments = arguments; is_request = refl; is_attach = is }
     by_command _ is h = cc
-to_attach (a_composite at composite) h = cc
-to_attach (a_raw at body) h = cc
-to_attach target_end h = cc
+to_attach _ h = cc
 
 greeting_at : {messages : List Message} {m : Machine} {hand : Hand} {rest : List Part} → Run messages m
     → IsAt m hand (Part.Awaits Handshake) rest → IsGreeting messages
@@ -304,7 +291,7 @@ greeting_at {messages} {m} {hand} {rest} r at =
     let h = stands_at attached sent replied at (standing r) in
     let may = split_fit (aim_of hand.item) (Part.Awaits Handshake) rest
     (fits_of attached sent replied (aim_of hand.item) (Part.Awaits Handshake ∷ rest) hand.effect h) in
-    let (for_attach, responds) = two (attaches (aim_of hand.item)) (has_response rest) may.0 in
+    let (for_attach, responds) = both_hold (attaches (aim_of hand.item)) (has_response rest) may.0 in
     let a = to_attach hand.item for_attach in
     record {
       request = a.request;
@@ -312,10 +299,6 @@ greeting_at {messages} {m} {hand} {rest} r at =
       first = first_in r at a.is_request responds;
       is_attach = a.is_attach;
     }
-  where
-    two : (first other : Bool) → cond first other false ≡ true → (first ≡ true) × (other ≡ true)
-    two true other h = (refl, h)
-    two false other h = cc
 
 -- only the guard of the handshake greets
 greeting_by : {messages : List Message} {m : Machine} {hand : Hand} {rest : List Part} (guard : Guard) → Run messages m
@@ -335,8 +318,7 @@ greeting_of {messages = messages} said r (Moves.loses late near why) is = by_los
     by_loss : {m : Machine} {message : Message} {late : List TargetCommand} → Loses m message late
         → Some message ≡ Some Message.greets → IsGreeting messages
     by_loss Loses.by_end is = cc
-    by_loss (Loses.by_question held waits reply last) is = cc
-    by_loss (Loses.by_effect held flies reply last) is = cc
+    by_loss _ is = cc
 greeting_of said r _ is = cc
 
 pub greetings : (messages before after : List Message) (m : Machine) → Run messages m

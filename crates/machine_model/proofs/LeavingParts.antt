@@ -3,16 +3,15 @@ use Rattle.std.proofs.Common.{◌≡◌, Bool, true, false, cond, not, ◌||◌,
 use Rattle.std.proofs.Common.{arith}
 use Rattle.machine_model.specs.Knowing.{is_farewell}
 use Rattle.machine_model.specs.Lookups.{finished}
-use Rattle.machine_model.specs.Names.{Written}
 use Rattle.machine_model.specs.Names.{Attach, Attached, Choice, Command, Decides, Deed, Disconnect, Dispose, Doing}
-use Rattle.machine_model.specs.Names.{Exit, Finding, Fresh, Gone, Handshake, Item, Leaves, Lookup, News, Part, Phase}
-use Rattle.machine_model.specs.Names.{TellsNews, a_composite, a_raw, a_request, an_effect, target_end}
+use Rattle.machine_model.specs.Names.{Exit, Finding, Handshake, Item, Leaves, Lookup, News, Part, Phase, TellsNews}
+use Rattle.machine_model.specs.Names.{a_request, an_effect}
 use Rattle.machine_model.specs.Plans.{Result}
 use Rattle.machine_model.specs.Rows.{chosen, gone_parts, gone_row, gone_tail, has_response, news_of, parts_of, told_in}
 use Rattle.machine_model.specs.Rows.{request_parts}
 use Rattle.machine_model.specs.State.{Hand, State, is_attached, is_none}
 use Rattle.machine_model.proofs.Tables.{of_decided, same}
-use Rattle.machine_model.specs.Names.{Stepped}
+use Rattle.machine_model.proofs.Bools.{both_hold, first_holds, second_more}
 
 -- What an item is for -------------------------------------------------------------------------------------------------
 
@@ -142,9 +141,7 @@ row_stands state command replied = grind arith
 pub begun_stands : (state : State) (item : Item) (replied : Bool)
     → stands (is_attached state.phase) false replied (aim_of item) (parts_of state item) None ≡ true
 begun_stands state (a_request request) replied = row_stands state request.command replied
-begun_stands state target_end replied = grind arith
-begun_stands state (a_composite at composite) replied = grind arith
-begun_stands state (a_raw at body) replied = grind arith
+begun_stands state _ replied = grind arith
 
 -- what a choice becomes fits where the choice did
 pub chosen_fits : (choice : Choice) (state : State) (hand : Hand) (aim : Aim) (responds ends leaves : Bool)
@@ -155,16 +152,12 @@ chosen_fits (TellsNews below) state hand aim responds ends leaves is =
   where
     by_news : (phase : Phase) (news : List News)
         → fits_before aim responds ends leaves (told_in phase news) ≡ true
-    by_news Fresh news = refl
-    by_news Gone news = refl
-    by_news Attached [] = refl
     by_news Attached (one ∷ news) = rw is (by_news Attached news)
+    by_news _ _ = refl
 chosen_fits Decides state hand aim responds ends leaves is =
     of_decided (λ (parts : List Part). fits_before aim responds ends leaves parts ≡ true) refl refl (rw is refl)
     (λ stopped thrown halt. grind (arith, is)) state hand.item
-chosen_fits Stepped state hand aim responds ends leaves is = grind (arith, is)
-chosen_fits (Written seen) state hand aim responds ends leaves is = grind (arith, is)
-chosen_fits (Leaves exits) state hand aim responds ends leaves is = grind (arith, is)
+chosen_fits _ state hand aim responds ends leaves is = grind (arith, is)
 
 -- and leaves the target only in an attached session
 pub chosen_attached : (choice : Choice) (state : State) (hand : Hand)
@@ -173,10 +166,8 @@ chosen_attached (TellsNews below) state hand =
     by_news (is_attached state.phase) state.phase (news_of below state hand.item)
   where
     none_sent : (phase : Phase) (news : List News) → has_part is_sends (told_in phase news) ≡ false
-    none_sent Fresh news = refl
-    none_sent Gone news = refl
-    none_sent Attached [] = refl
     none_sent Attached (one ∷ news) = none_sent Attached news
+    none_sent _ _ = refl
 
     by_news : (attached : Bool) (phase : Phase) (news : List News)
         → sends_attached attached (told_in phase news) ≡ true
@@ -184,18 +175,12 @@ chosen_attached (TellsNews below) state hand =
 chosen_attached Decides state hand =
     of_decided (λ (parts : List Part). sends_attached (is_attached state.phase) parts ≡ true) refl refl refl
     (λ stopped thrown halt. grind arith) state hand.item
-chosen_attached Stepped state hand = grind arith
-chosen_attached (Written seen) state hand = grind arith
-chosen_attached (Leaves exits) state hand = grind arith
+chosen_attached _ state hand = grind arith
 
 -- where it does, if the choice was to
 pub chosen_leaves : (choice : Choice) (state : State) (hand : Hand) → is_leave (Part.Unfolds choice) ≡ true
     → is_attached state.phase ≡ true → has_part is_leave (chosen choice state hand) ≡ true
-chosen_leaves (TellsNews below) state hand is near = cc
-chosen_leaves Decides state hand is near = cc
-chosen_leaves Stepped state hand is near = cc
-chosen_leaves (Written seen) state hand is near = cc
-chosen_leaves (Leaves exits) state hand is near = grind (arith, is, near)
+chosen_leaves choice state hand is near = grind (arith, is, near)
 
 -- what a look-up becomes leaves no target
 pub found_fits : (lookup : Lookup) (result : Result Finding) (state : State) (aim : Aim) (responds ends leaves : Bool)
@@ -216,9 +201,7 @@ pub gone_stands : (responds : Bool) (item : Item) (sent replied : Bool)
     → stands false sent replied (aim_of item) (gone_parts responds item) None ≡ true
 gone_stands true (a_request request) sent replied is = row_gone request.command sent replied is
 gone_stands false (a_request request) sent replied is = tail_gone request.command sent replied is
-gone_stands responds target_end sent replied is = grind (arith, is)
-gone_stands responds (a_composite at composite) sent replied is = grind (arith, is)
-gone_stands responds (a_raw at body) sent replied is = grind (arith, is)
+gone_stands responds _ sent replied is = grind (arith, is)
 
 -- Lists that are joined -----------------------------------------------------------------------------------------------
 
@@ -237,11 +220,7 @@ pub fits_joined : (aim : Aim) (parts rest : List Part)
 fits_joined aim [] rest is h = h
 fits_joined aim (part ∷ parts) rest is h =
     rw (responds_both parts rest, has_both is_ends parts rest, has_both is_leave parts rest)
-    (step _ _ _ is (λ others. fits_joined aim parts rest others h))
-  where
-    step : (may others now : Bool) → cond may others false ≡ true → (others ≡ true → now ≡ true)
-        → cond may now false ≡ true
-    step may others now is rest = grind (arith, is, rest)
+    (second_more _ _ _ is (λ others. fits_joined aim parts rest others h))
 
 -- an item that isn't to leave the target has no part that does
 none_leaves : (aim : Aim) (parts : List Part) → is_to_leave aim ≡ false → fits aim parts ≡ true
@@ -283,11 +262,8 @@ aside_stands attached replied aim parts effect not_so h =
 pub fits_of : (attached sent replied : Bool) (aim : Aim) (parts : List Part) (effect : Option Doing)
     → stands attached sent replied aim parts effect ≡ true → fits aim parts ≡ true
 fits_of attached sent replied aim parts effect h =
-    first_of (fits aim parts) (cond (sends_attached attached parts) (cond (cond sent (is_over aim parts) true)
+    first_holds (fits aim parts) (cond (sends_attached attached parts) (cond (cond sent (is_over aim parts) true)
     (was_left attached replied aim parts effect) false) false) h
-  where
-    first_of : (fit others : Bool) → cond fit others false ≡ true → fit ≡ true
-    first_of fit others h = grind (arith, h)
 
 pub left_of : (attached sent replied : Bool) (aim : Aim) (parts : List Part) (effect : Option Doing)
     → stands attached sent replied aim parts effect ≡ true → was_left attached replied aim parts effect ≡ true
@@ -320,10 +296,7 @@ tail_stands attached sent replied aim part rest effect none goes_on h =
         (cond sent (cond to_leave (cond others_end (not others_leave) false) false) true)
         (cond to_leave (cond attached (others_leave || left) true) true) false) false) false ≡ true
     by_bools true false false false fit others_send others_end others_leave to_leave left unsent none goes_on h = h
-    by_bools false sends leave ends fit others_send others_end others_leave to_leave left unsent none goes_on h = cc
-    by_bools true true leave ends fit others_send others_end others_leave to_leave left unsent none goes_on h = cc
-    by_bools true false true ends fit others_send others_end others_leave to_leave left unsent none goes_on h = cc
-    by_bools true false false true fit others_send others_end others_leave to_leave left unsent none goes_on h = cc
+    by_bools _ _ _ _ fit others_send others_end others_leave to_leave left unsent none goes_on h = cc
 
 -- behind a part that stands in no item that is to leave the target
 pub other_stands : (attached sent replied now : Bool) (aim : Aim) (part : Part) (parts rest : List Part)
@@ -339,8 +312,7 @@ other_stands attached sent replied now aim part parts rest effect later is becom
   where
     two : (may fit leaves : Bool) → may ≡ not leaves → cond may fit false ≡ true → (leaves ≡ false) × (fit ≡ true)
     two true fit false is h = (refl, h)
-    two true fit true is h = cc
-    two false fit leaves is h = cc
+    two _ fit _ is h = cc
 
 -- what a part shows that leaves the target
 pub record Leaving (sent : Bool) (aim : Aim) (part : Part) (rest : List Part) : Type 0 where
@@ -362,11 +334,7 @@ pub split_fit : (aim : Aim) (part : Part) (rest : List Part) → fits aim (part 
     → (may_stand aim part (has_response rest) (has_part is_ends rest) (has_part is_leave rest) ≡ true)
     × (fits aim rest ≡ true)
 split_fit aim part rest h =
-    both (may_stand aim part (has_response rest) (has_part is_ends rest) (has_part is_leave rest)) (fits aim rest) h
-  where
-    both : (first others : Bool) → cond first others false ≡ true → (first ≡ true) × (others ≡ true)
-    both true others h = (refl, h)
-    both false others h = cc
+    both_hold (may_stand aim part (has_response rest) (has_part is_ends rest) (has_part is_leave rest)) (fits aim rest) h
 
 pub leaving_of : (attached sent replied : Bool) (aim : Aim) (part : Part) (rest : List Part) (effect : Option Doing)
     → is_leave part ≡ true → stands attached sent replied aim (part ∷ rest) effect ≡ true

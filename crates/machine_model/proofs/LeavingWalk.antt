@@ -25,6 +25,7 @@ use Rattle.machine_model.proofs.LeavingParts.{tail_stands, other_stands, split_f
 use Rattle.machine_model.proofs.LeavingParts.{sends_leave, other_deed}
 use Rattle.machine_model.proofs.Stepping.{IsAt, Loses, Moves, Skips, by_moves, by_runs, with_said}
 use Rattle.machine_model.proofs.Testing.{same_noted, same_numbered, same_replied}
+use Rattle.std.proofs.lemmas.Bool.{not-true}
 
 -- The item in hand ----------------------------------------------------------------------------------------------------
 
@@ -59,14 +60,12 @@ stands_at attached sent replied {m} {hand} at h =
 -- what is asked for it, and what is replied, changes nothing
 asked_stands : (attached sent replied : Bool) (want : Want) (hand : Option Hand)
     → hand_stands attached sent replied (option_map (asked_hand want) hand) ≡ hand_stands attached sent replied hand
-asked_stands attached sent replied want None = refl
-asked_stands attached sent replied want (Some hand) = refl
+asked_stands attached sent replied want hand = grind arith
 
 answered_stands : (attached sent replied : Bool) (question : Question) (reply : Replied) (hand : Option Hand)
     → hand_stands attached sent replied (option_map (hand_replied (a_question question) reply) hand)
     ≡ hand_stands attached sent replied hand
-answered_stands attached sent replied question reply None = refl
-answered_stands attached sent replied question reply (Some hand) = refl
+answered_stands attached sent replied question reply hand = grind arith
 
 -- an item that is given up
 given_stands : (attached sent replied now : Bool) (hand : Option Hand)
@@ -210,12 +209,8 @@ begun_on : (m : Machine) (item : Item) (sent replied : Bool) → m.hand ≡ None
     → hand_stands (is_attached m.state.phase) sent replied m.hand ≡ true
     → stands (is_attached m.state.phase) sent replied (aim_of item) (parts_of m.state item) None ≡ true
 begun_on m item sent replied none h =
-    rw (not_yet sent (subst (λ (held : Option Hand). hand_stands (is_attached m.state.phase) sent replied held ≡ true)
+    rw (not-true sent (subst (λ (held : Option Hand). hand_stands (is_attached m.state.phase) sent replied held ≡ true)
     none h)) (begun_stands m.state item replied)
-  where
-    not_yet : (sent : Bool) → not sent ≡ true → sent ≡ false
-    not_yet true is = cc
-    not_yet false is = refl
 
 -- an item that left the target is never done with, since the session ends with it
 dropped_on : (attached sent replied : Bool) (aim : Aim) (parts : List Part) (effect : Option Doing) → parts ≡ []
@@ -263,9 +258,7 @@ same_sent attached sent replied now leaves aim parts effect is h =
 
 pub lost_apart : {m : Machine} {message : Message} {late : List TargetCommand} → Loses m message late
     → sends_farewell message ≡ false
-lost_apart Loses.by_end = refl
-lost_apart (Loses.by_question is waits reply last) = refl
-lost_apart (Loses.by_effect is flies reply last) = refl
+lost_apart why = grind (arith, why)
 
 lost_on : (m : Machine) (message : Message) (sent replied : Bool) → sends_farewell message ≡ false
     → hand_stands (is_attached m.state.phase) sent replied m.hand ≡ true
@@ -314,7 +307,6 @@ stands_on m next said sent replied h (Moves.updates {hand} {effect} {rest} free 
     (other_stands (is_attached m.state.phase) sent replied (is_attached m.state.phase) (aim_of hand.item)
     Part.Updates (Part.Updates ∷ rest) rest hand.effect (Some (record { effect = effect; reply = None })) refl
     (λ not_so fit. rw (not_so, fit) refl) (stands_at (is_attached m.state.phase) sent replied at h))
-stands_on m next said sent replied h (Moves.greets free at is near) = h
 stands_on m next said sent replied h (Moves.notes {hand} {note} {rest} free at) =
     rw (same_noted note m.state)
     (tail_stands (is_attached m.state.phase) sent replied (aim_of hand.item) (Part.Notes note) rest hand.effect
@@ -326,8 +318,6 @@ stands_on m next said sent replied h (Moves.queues free is) =
     hand_at (is_attached m.state.phase) sent replied is h
 stands_on m next said sent replied h (Moves.asks {want = want} free room is are) =
     asked_stands (is_attached m.state.phase) sent replied want m.hand ∙ h
-stands_on m next said sent replied h (Moves.hears read is) = h
-stands_on m next said sent replied h (Moves.greeted read is) = h
 stands_on m next said sent replied h (Moves.answers {question} {replied = reply} is waits good stays) =
     rw (same_replied (a_question question) reply m.state)
     (answered_stands (is_attached m.state.phase) sent replied question reply m.hand ∙ h)
@@ -338,12 +328,9 @@ stands_on m next said sent replied h (Moves.replies {effect} {replied = reply} {
     doing ≡ true) flies (hand_at (is_attached m.state.phase) sent replied is h)))
 stands_on m next said sent replied h (Moves.late {command} {replied = reply} before after is good) =
     more_replied (is_attached m.state.phase) sent replied (Message.answers command reply) m.hand h
-stands_on m next said sent replied h (Moves.ends gone) = h
 stands_on m next said sent replied h (Moves.loses {message} late near why) =
     lost_on m message sent replied (lost_apart why) h
-stands_on m next said sent replied h (Moves.comes read sized taken) = h
-stands_on m next said sent replied h (Moves.keeps is) = h
-stands_on m next said sent replied h (Moves.reads before after read is none taken) = h
+stands_on m next said sent replied h _ = h
 
 -- so it stands, by the messages so far
 abbrev pub Stands : List Message → Machine → Type 0
@@ -392,8 +379,7 @@ sent_fresh messages m next said h (Moves.sends {hand} {rest} {deed} free at near
     at h))
   where
     test_of : (test : Bool) → cond test true false ≡ true → test ≡ true
-    test_of true is = refl
-    test_of false is = cc
+    test_of test is = grind (arith, is)
 sent_fresh messages m next said h (Moves.updates {effect = effect} free at due near) is =
     let no : cond false true false ≡ true = sym (ap (λ (test : Bool). cond test true false) (due_aside m.state.wishes
     effect due)) ∙ is in cc

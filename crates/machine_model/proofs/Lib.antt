@@ -14,6 +14,7 @@ pub mod BindingPlans
 pub mod BindingReplies
 pub mod BindingSeen
 pub mod BindingWatches
+pub mod Bools
 pub mod BreakpointExamples
 pub mod CommandLemmas
 pub mod EarlyItems
@@ -43,6 +44,7 @@ pub mod NewsLaws
 pub mod NotingLaws
 pub mod NumberLaws
 pub mod OutcomeLaws
+pub mod PartTests
 pub mod PendingLaws
 pub mod PlanIds
 pub mod PlanLaws

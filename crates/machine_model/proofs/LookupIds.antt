@@ -1,10 +1,9 @@
 -- What a look-up lacks is asked with ids that its sight has: by row what its plan says.
-use Rattle.std.proofs.Common.{◌≡◌, ℕ, suc, Bool, true, false, cond, List, [], ◌∷◌, Option, Some, None, refl}
-use Rattle.std.proofs.Common.{sym, subst, zero, pos, ◌++◌, ◌==◌, ◌≤◌, arith, drop, filter, filter_map, length}
-use Rattle.std.proofs.Common.{map, nat_lt, take, zip}
-use Rattle.std.specs.List.{cons_option, list_any}
+use Rattle.std.proofs.Common.{◌≡◌, ℕ, suc, Bool, true, false, cond, List, [], ◌∷◌, Option, Some, None, refl, sym, subst}
+use Rattle.std.proofs.Common.{zero, pos, ◌++◌, ◌==◌, ◌≤◌, arith, drop, filter, filter_map, length, map, nat_lt, take}
+use Rattle.std.proofs.Common.{zip}
+use Rattle.std.specs.List.{cons_option, list_any, AllByRecursion as All, flat_map}
 use Rattle.jdwp_values.specs.Lossy.{lossy}
-use Rattle.std.specs.List.{AllByRecursion as All, flat_map}
 use Rattle.class_tables.specs.Facts.{Known}
 use Rattle.class_tables.specs.Lookups.{found_in}
 use Rattle.class_tables.specs.Tables.{keys}
@@ -14,18 +13,21 @@ use Rattle.jdwp_values.specs.declared.class.Field.{Field}
 use Rattle.jdwp_values.specs.declared.class.Method.{Method}
 use Rattle.jdwp_values.specs.declared.id.ClassId.{ClassId}
 use Rattle.jdwp_commands.specs.declared.listed.Frame.{Frame}
-use Rattle.machine_model.specs.Facts.{fact_known, lines_in, methods_in, signature_in, source_in}
+use Rattle.machine_model.specs.Facts.{fact_known, lines_in, methods_in, signature_in, source_in, above_in, fields_in}
 use Rattle.machine_model.specs.Frames.{count_from, count_in, counted_plan, frame_plan, frame_shown, frames_from}
 use Rattle.machine_model.specs.Frames.{frames_in, frames_plan, lines_plan as lines_of, methods_plan as methods_of}
 use Rattle.machine_model.specs.Frames.{shown_plan, signature_plan as signature_of, source_plan as source_of}
-use Rattle.machine_model.specs.Ids.{Id, class, ids_answered, ids_replied, method, object, thread_of}
+use Rattle.machine_model.specs.Ids.{Id, class, ids_answered, ids_replied, method, object, thread_of, field, frame}
+use Rattle.machine_model.specs.Ids.{id_of_object, ids_of_value}
 use Rattle.machine_model.specs.Lookups.{name_plan, named_by, names_plan, plan, threads_in, threads_plan}
-use Rattle.machine_model.specs.Names.{Answer, Lookup, NamedThread, Replied, ThreadId, Want}
-use Rattle.machine_model.specs.Names.{all_threads, an_answer, an_error, classes_found, class_facts}
-use Rattle.machine_model.specs.Names.{frames_found, thread_frames}
-use Rattle.machine_model.specs.Plans.{Found, Plan, Sight, answer_in, asking, beside, chained}
-use Rattle.machine_model.specs.Plans.{both, each, fact_heard, found_from, gives, heard_of}
-use Rattle.machine_model.specs.Plans.{made_with, may_hear, must_hear, need, pairs, joined, question_of}
+use Rattle.machine_model.specs.Names.{Answer, Lookup, NamedThread, Replied, ThreadId, Want, all_threads, an_answer}
+use Rattle.machine_model.specs.Names.{an_error, classes_found, class_facts, frames_found, thread_frames, Thrown}
+use Rattle.machine_model.specs.Names.{exception_found, exception_info, exception_text, text_found, Failure, Seen, Store}
+use Rattle.machine_model.specs.Names.{container_children, expression_value, no_value, value_found, variable_write}
+use Rattle.machine_model.specs.Names.{variables_found}
+use Rattle.machine_model.specs.Plans.{Found, Plan, Sight, answer_in, asking, beside, chained, both, each, fact_heard}
+use Rattle.machine_model.specs.Plans.{found_from, gives, heard_of, made_with, may_hear, must_hear, need, pairs, joined}
+use Rattle.machine_model.specs.Plans.{question_of}
 use Rattle.machine_model.specs.State.{State}
 use Rattle.machine_model.proofs.IdRows.{all_back, all_front, all_joined, is_short, none_in}
 use Rattle.class_tables.specs.declared.loaded.Loaded.{Loaded}
@@ -34,16 +36,16 @@ use Rattle.machine_model.specs.Classes.{methods_plan, package_plan, prepared_pla
 use Rattle.machine_model.specs.Exceptions.{exception_plan, heard_plan, mode_of, name_by, named_plan, text_by}
 use Rattle.machine_model.specs.Exceptions.{text_plan as text_of_exception}
 use Rattle.value_views.specs.Names.{class_name}
-use Rattle.machine_model.specs.Names.{Thrown, exception_found, exception_info, exception_text, text_found}
 use Rattle.class_tables.specs.Signatures.{package_in}
 use Rattle.wish_sets.specs.Places.{key_by}
 use Rattle.wish_sets.specs.Wanted.{Wanted}
 use Rattle.wish_sets.specs.Wished.{is_named, is_watched}
-use Rattle.std.specs.Prelude.{codes, ◌||◌}
-use Rattle.machine_model.proofs.PlanIds.{Any, AreKnown, IsAsked, IsFound, IsGood, IsHeard, IsHeardOf, IsWanted, NeedStands}
-use Rattle.machine_model.proofs.PlanIds.{OfClass, OfFrameThing, OfLookup, OfMethod, OfNamed, OfObject, OfShownFrame}
-use Rattle.machine_model.proofs.PlanIds.{OfShownVariable, OfThing, OfThread, OnSome, after_stands, beside_stands}
-use Rattle.machine_model.proofs.PlanIds.{fact_good, fact_some, found_some, need_chained, need_made, reply_heard}
+use Rattle.std.specs.Prelude.{codes, ◌||◌, Result, Ok, Err, bytes_eq, find}
+use Rattle.machine_model.proofs.PlanIds.{Any, AreKnown, IsAsked, IsFound, IsGood, IsHeard, IsHeardOf, IsWanted}
+use Rattle.machine_model.proofs.PlanIds.{NeedStands, OfClass, OfFrameThing, OfLookup, OfMethod, OfNamed, OfObject}
+use Rattle.machine_model.proofs.PlanIds.{OfShownFrame, OfShownVariable, OfThing, OfThread, OnSome, after_stands}
+use Rattle.machine_model.proofs.PlanIds.{beside_stands, fact_good, fact_some, found_some, need_chained, need_made}
+use Rattle.machine_model.proofs.PlanIds.{reply_heard}
 use Rattle.dap_messages.specs.declared.requests.Filter.{Filter}
 use Rattle.dap_messages.specs.declared.requests.Filter.TheVariants.{Both, Indexed, Named}
 use Rattle.jdwp_commands.specs.declared.listed.Slot.{Slot}
@@ -56,44 +58,36 @@ use Rattle.machine_model.specs.Children.{class_fields, elements_of, field_plan, 
 use Rattle.machine_model.specs.Children.{in_slot, is_known, is_visible, listed_variables, locals_plan}
 use Rattle.machine_model.specs.Children.{name_plan as field_name_plan, names_met, object_fields, object_named}
 use Rattle.machine_model.specs.Children.{of_classes, of_field, of_fields, of_index, of_this, of_variable, own_fields}
-use Rattle.machine_model.specs.Children.{reach, this_in, this_plan, variables_plan, visible_at}
-use Rattle.machine_model.specs.Children.{visible_plan, with_class, with_name, with_this}
-use Rattle.machine_model.specs.Facts.{above_in, fields_in}
-use Rattle.machine_model.specs.Ids.{field, frame, id_of_object, ids_of_value}
-use Rattle.machine_model.specs.Names.{Failure, Seen, Store, container_children, expression_value, no_value, value_found}
-use Rattle.machine_model.specs.Names.{variable_write}
-use Rattle.machine_model.specs.Children.{index_name}
+use Rattle.machine_model.specs.Children.{reach, this_in, this_plan, variables_plan, visible_at, visible_plan}
+use Rattle.machine_model.specs.Children.{with_class, with_name, with_this, index_name, first_byte}
 use Rattle.machine_model.specs.Writing.{Writing, child_named, child_written, digits_of, element_by, element_store}
-use Rattle.machine_model.specs.Writing.{field_store, field_written, index_written, is_index_name, local_written, slot_store}
-use Rattle.machine_model.specs.Writing.{value_for, write_by, write_with}
+use Rattle.machine_model.specs.Writing.{field_store, field_written, index_written, is_index_name, local_written}
+use Rattle.machine_model.specs.Writing.{slot_store, value_for, write_by, write_with}
 use Rattle.machine_model.proofs.WriteIds.{OfStore, OfValueRead, value_read}
 use Rattle.std.specs.Str.Parse.{digits_value}
-use Rattle.std.specs.Prelude.{Result}
-use Rattle.machine_model.specs.Names.{variables_found}
 use Rattle.dap_messages.specs.Telling.{bad_index, no_such_name}
 use Rattle.field_exprs.specs.declared.expr.Expr.{Expr}
 use Rattle.field_exprs.specs.declared.expr.Head.{Head}
 use Rattle.field_exprs.specs.declared.expr.Head.TheVariants as heads
 use Rattle.field_exprs.specs.declared.expr.Hop.{Hop}
 use Rattle.field_exprs.specs.declared.expr.Hop.TheVariants as hops
-use Rattle.machine_model.specs.Children.{first_byte}
-use Rattle.machine_model.specs.Expressions.{Sought, as_length, as_this, class_field, element_hop, element_if, field_from}
-use Rattle.machine_model.specs.Expressions.{field_hop, field_named, field_value, found_or, head_in, hop_on, hops_on}
-use Rattle.machine_model.specs.Expressions.{index_on, length_hop, length_if, missing, name_on, named_head, named_in}
-use Rattle.machine_model.specs.Expressions.{on_value, one_of, shown_value, this_by, value_plan, variable_named}
-use Rattle.std.specs.Prelude.{Ok, Err, bytes_eq, find}
+use Rattle.machine_model.specs.Expressions.{Sought, as_length, as_this, class_field, element_hop, element_if}
+use Rattle.machine_model.specs.Expressions.{field_from, field_hop, field_named, field_value, found_or, head_in, hop_on}
+use Rattle.machine_model.specs.Expressions.{hops_on, index_on, length_hop, length_if, missing, name_on, named_head}
+use Rattle.machine_model.specs.Expressions.{named_in, on_value, one_of, shown_value, this_by, value_plan}
+use Rattle.machine_model.specs.Expressions.{variable_named}
 use Rattle.stop_refs.specs.declared.thing.FrameThing.{FrameThing}
 use Rattle.stop_refs.specs.declared.thing.Thing.{Thing}
 use Rattle.stop_refs.specs.declared.thing.Thing.TheVariants as things
-use Rattle.machine_model.specs.Values.{Declared, Valued, array_plan, array_seen, by_id, class_in, class_plan as class_of}
-use Rattle.machine_model.specs.Values.{declared_plan, element_of, element_plan, is_signature, length_in, length_plan}
-use Rattle.machine_model.specs.Values.{null_plan, object_plan, object_seen, seen_by, seen_plan, string_plan, string_seen}
-use Rattle.machine_model.specs.Values.{text_in, text_plan, type_if, type_plan, typed}
+use Rattle.machine_model.specs.Values.{Declared, Valued, array_plan, array_seen, by_id, class_in}
+use Rattle.machine_model.specs.Values.{class_plan as class_of, declared_plan, element_of, element_plan, is_signature}
+use Rattle.machine_model.specs.Values.{length_in, length_plan, null_plan, object_plan, object_seen, seen_by, seen_plan}
+use Rattle.machine_model.specs.Values.{string_plan, string_seen, text_in, text_plan, type_if, type_plan, typed}
 use Rattle.machine_model.specs.Variables.{child_plan, children_plan, elements_page, elements_plan, elements_valued}
-use Rattle.machine_model.specs.Variables.{field_at, field_values, fields_of, fields_page, fields_valued}
-use Rattle.machine_model.specs.Variables.{known_at, locals_page, locals_valued, page, page_plan}
-use Rattle.machine_model.specs.Variables.{shown_as, shown_plan as values_shown, slot_at, slots_of, slots_plan}
-use Rattle.machine_model.specs.Variables.{values_in, values_known, with_known}
+use Rattle.machine_model.specs.Variables.{field_at, field_values, fields_of, fields_page, fields_valued, known_at}
+use Rattle.machine_model.specs.Variables.{locals_page, locals_valued, page, page_plan, shown_as}
+use Rattle.machine_model.specs.Variables.{shown_plan as values_shown, slot_at, slots_of, slots_plan, values_in}
+use Rattle.machine_model.specs.Variables.{values_known, with_known}
 
 abbrev OfFrame : (Id → Type 0) → ThreadId → Frame → Type 0
 OfFrame P thread one = P (frame thread.0 one.id.0) × P (class one.at.class.0) × P (method one.at.method.0)
@@ -169,7 +163,6 @@ module _ (P : Id → Type 0) (null : P (class 0)) (sight : Sight) (known : Known
 
   -- the names that are asked are those of threads in the answer to AllThreads
   threads_heard : (heard : Option Answer) → IsHeard P heard → All (OfThread P) (threads_in heard)
-  threads_heard (Some (answers.AllThreads [])) k = tt
   threads_heard (Some (answers.AllThreads (thread ∷ threads))) k =
       (k.0, threads_heard (Some (answers.AllThreads threads)) k.1)
   threads_heard _ k = tt
@@ -195,7 +188,6 @@ module _ (P : Id → Type 0) (null : P (class 0)) (sight : Sight) (known : Known
 
   -- a class is asked by its id and those of its methods
   methods_heard : (heard : Option Answer) → IsHeard P heard → All (OfMethod P) (methods_in heard)
-  methods_heard (Some (answers.Methods [])) k = tt
   methods_heard (Some (answers.Methods (one ∷ others))) k = (k.0, methods_heard (Some (answers.Methods others)) k.1)
   methods_heard _ k = tt
 
@@ -280,7 +272,6 @@ module _ (P : Id → Type 0) (null : P (class 0)) (sight : Sight) (known : Known
 
   frames_heard : (thread : ThreadId) (heard : Option Answer) → HasFrames thread heard
       → All (OfFrame P thread) (frames_in heard)
-  frames_heard thread (Some (answers.Frames [])) k = tt
   frames_heard thread (Some (answers.Frames (one ∷ frames))) k =
       ((k.0, k.1.0, k.1.1.0), frames_heard thread (Some (answers.Frames frames)) k.1.1.1)
   frames_heard thread _ k = tt
@@ -411,15 +402,7 @@ module _ (P : Id → Type 0) (null : P (class 0)) (sight : Sight) (known : Known
       by_value (values.ThreadGroup o) k = object_row_of OfSeen o.0 _ _ k (null_row types v d) (object_row types v.value)
       by_value (values.ClassLoader o) k = object_row_of OfSeen o.0 _ _ k (null_row types v d) (object_row types v.value)
       by_value (values.ClassObject o) k = object_row_of OfSeen o.0 _ _ k (null_row types v d) (object_row types v.value)
-      by_value (values.Byte x) k = gives_row OfSeen _ tt
-      by_value (values.Char x) k = gives_row OfSeen _ tt
-      by_value (values.Double x) k = gives_row OfSeen _ tt
-      by_value (values.Float x) k = gives_row OfSeen _ tt
-      by_value (values.Int x) k = gives_row OfSeen _ tt
-      by_value (values.Long x) k = gives_row OfSeen _ tt
-      by_value (values.Short x) k = gives_row OfSeen _ tt
-      by_value (values.Boolean x) k = gives_row OfSeen _ tt
-      by_value values.Void k = gives_row OfSeen _ tt
+      by_value _ k = gives_row OfSeen _ tt
 
   -- children: their values stand where ids say that were read
   abbrev OfPlace : Place → Type 0
@@ -481,8 +464,6 @@ module _ (P : Id → Type 0) (null : P (class 0)) (sight : Sight) (known : Known
   chain_row : (steps : ℕ) (met : List ℕ) (c : ℕ) → All OfNumber met → OfNumber c
       → Row (All OfNumber) (chain steps met c)
   unfolding chain
-  chain_row zero met c h k = gives_row (All OfNumber) met h
-  chain_row (suc steps) met zero h k = gives_row (All OfNumber) met h
   chain_row (suc steps) met (suc c) h k = by_met (list_any (λ other. other == suc c) met)
       (λ above good. chain_row steps (met ++ suc c ∷ []) above (all_joined OfNumber met (suc c ∷ []) h (k, tt)) good)
     where
@@ -498,9 +479,9 @@ module _ (P : Id → Type 0) (null : P (class 0)) (sight : Sight) (known : Known
           (asks (OfClass P) above_in (Want.Fact (questions.Superclass (record { 0 = suc c })))
           (record { ids = (k, tt); plain = refl; first = refl }) above_heard)
           (λ above good. behind above.0 good)
+  chain_row _ met _ h k = gives_row (All OfNumber) met h
 
   fields_heard : (heard : Option Answer) → IsHeard P heard → All OfField (fields_in heard)
-  fields_heard (Some (answers.Fields [])) k = tt
   fields_heard (Some (answers.Fields (one ∷ others))) k = (k.0, fields_heard (Some (answers.Fields others)) k.1)
   fields_heard _ k = tt
 
@@ -551,9 +532,8 @@ module _ (P : Id → Type 0) (null : P (class 0)) (sight : Sight) (known : Known
   dropped_all Good (suc n) (a ∷ list) h = dropped_all Good n list h.1
 
   taken_all : {A : Type 0} (Good : A → Type 0) (n : ℕ) (list : List A) → All Good list → All Good (take n list)
-  taken_all Good zero list h = tt
-  taken_all Good (suc n) [] h = tt
   taken_all Good (suc n) (a ∷ list) h = (h.0, taken_all Good n list h.1)
+  taken_all Good _ _ h = tt
 
   page_all : {A : Type 0} (Good : A → Type 0) (start count : ℕ) (list : List A) → All Good list
       → All Good (page start count list)
@@ -565,9 +545,8 @@ module _ (P : Id → Type 0) (null : P (class 0)) (sight : Sight) (known : Known
 
   zipped : (children : List Child) (found : List Value) → All OfChild children → All OfValue found
       → All OfTwo (zip children found)
-  zipped [] found h k = tt
-  zipped (child ∷ children) [] h k = tt
   zipped (child ∷ children) (value ∷ found) h k = ((h.0, k.0), zipped children found h.1 k.1)
+  zipped _ _ h k = tt
 
   listed_values : (found : List Value) → All P (flat_map ids_of_value found) → All OfValue found
   listed_values [] h = tt
@@ -592,9 +571,7 @@ module _ (P : Id → Type 0) (null : P (class 0)) (sight : Sight) (known : Known
       by_place : (place : Place) → OfPlace place → All OfValue (values_known children)
           → All OfValue (cons_option (known_at place) (values_known children))
       by_place (is_known value) k rest = (k, rest)
-      by_place (in_slot slot tag) k rest = rest
-      by_place (in_field one) k rest = rest
-      by_place (at_index i) k rest = rest
+      by_place _ k rest = rest
 
   slots_row : (f : FrameThing) → OfFrameThing P f → (slots : List Slot) → is_short slots ≡ true
       → Row (All OfValue) (slots_plan f slots)
@@ -637,9 +614,8 @@ module _ (P : Id → Type 0) (null : P (class 0)) (sight : Sight) (known : Known
 
   -- a page is short
   few_taken : {A : Type 0} (n : ℕ) (list : List A) → length (take n list) ≤ n
-  few_taken zero list = omega arith
-  few_taken (suc n) [] = omega arith
   few_taken (suc n) (a ∷ list) = let rest = few_taken n list in omega (arith, rest)
+  few_taken _ _ = omega arith
 
   few_counted : (total start count : ℕ) → count_from total start count ≤ 10000
   few_counted total start zero = grind arith
@@ -680,10 +656,8 @@ module _ (P : Id → Type 0) (null : P (class 0)) (sight : Sight) (known : Known
     where
       by_place : (place : Place) → OfPlace place → All (λ (one : FieldId). P (field one.0)) (fields_of children)
           → All (λ (one : FieldId). P (field one.0)) (cons_option (field_at place) (fields_of children))
-      by_place (is_known value) k rest = rest
-      by_place (in_slot slot tag) k rest = rest
       by_place (in_field one) k rest = (k, rest)
-      by_place (at_index i) k rest = rest
+      by_place _ k rest = rest
 
   fields_page_row : (id : ℕ) → P (object id) → (start count : ℕ) → Row (All OfTwo) (fields_page start count id)
   fields_page_row id k start count = chains (All OfChild) (All OfTwo) (object_fields id)
@@ -703,20 +677,17 @@ module _ (P : Id → Type 0) (null : P (class 0)) (sight : Sight) (known : Known
 
   page_row : (thing : Thing) → OfThing P thing → (filter : Filter) (start count : ℕ)
       → Row (All OfTwo) (page_plan thing filter start count)
-  page_row (things.Frame f) k filter start count = gives_row (All OfTwo) [] tt
   page_row (things.Locals f) k Both start count = locals_page_row f k start count
-  page_row (things.Locals f) k Indexed start count = gives_row (All OfTwo) [] tt
   page_row (things.Locals f) k Named start count = locals_page_row f k start count
   page_row (things.Object o) k Both start count = by_id_row (All OfTwo) o.0 (gives []) (fields_page start count)
       (gives_row (All OfTwo) [] tt) (fields_page_row o.0 k start count)
-  page_row (things.Object o) k Indexed start count = gives_row (All OfTwo) [] tt
   page_row (things.Object o) k Named start count = by_id_row (All OfTwo) o.0 (gives []) (fields_page start count)
       (gives_row (All OfTwo) [] tt) (fields_page_row o.0 k start count)
   page_row (things.Array o) k Both start count = by_id_row (All OfTwo) o.0 (gives []) (elements_page start count)
       (gives_row (All OfTwo) [] tt) (elements_page_row o.0 k start count)
   page_row (things.Array o) k Indexed start count = by_id_row (All OfTwo) o.0 (gives []) (elements_page start count)
       (gives_row (All OfTwo) [] tt) (elements_page_row o.0 k start count)
-  page_row (things.Array o) k Named start count = gives_row (All OfTwo) [] tt
+  page_row _ k _ start count = gives_row (All OfTwo) [] tt
 
   child_row : (types : Bool) (two : Child × Value) → OfTwo two → Row (OfShownVariable P) (child_plan types two)
   child_row types two k = makes OfSeen (OfShownVariable P) (shown_as two.0.name)
@@ -768,8 +739,6 @@ module _ (P : Id → Type 0) (null : P (class 0)) (sight : Sight) (known : Known
   field_from_row : (steps : ℕ) (met : List ℕ) (name : List ℕ) (c : ℕ) → OfNumber c
       → Row (OnSome OfField) (field_from steps met name c)
   unfolding field_from
-  field_from_row zero met name c k = gives_row (OnSome OfField) None tt
-  field_from_row (suc steps) met name zero k = gives_row (OnSome OfField) None tt
   field_from_row (suc steps) met name (suc c) k = by_met (list_any (λ other. other == suc c) met)
       (λ above good. field_from_row steps (met ++ suc c ∷ []) name above good)
     where
@@ -794,6 +763,7 @@ module _ (P : Id → Type 0) (null : P (class 0)) (sight : Sight) (known : Known
           (asks (OfClass P) above_in (Want.Fact (questions.Superclass (record { 0 = suc c })))
           (record { ids = (k, tt); plain = refl; first = refl }) above_heard)
           (λ above good. behind above.0 good)))
+  field_from_row _ met name _ k = gives_row (OnSome OfField) None tt
 
   field_value_row : (id : ℕ) → P (object id) → (f : Option Field) → OnSome OfField f → Row OfSought (field_value id f)
   field_value_row id k None h = missing_row no_such_name
@@ -826,7 +796,6 @@ module _ (P : Id → Type 0) (null : P (class 0)) (sight : Sight) (known : Known
   name_on_row name (values.Array o) k =
       object_row_of OfSought o.0 (missing no_such_name) (length_hop name) k (missing_row no_such_name)
       (λ id k. length_hop_row id k name)
-  name_on_row name (values.String o) k = missing_row no_such_name
   name_on_row name (values.Object o) k =
       object_row_of OfSought o.0 (missing no_such_name) (field_hop name) k (missing_row no_such_name)
       (λ id k. field_hop_row id k name)
@@ -920,23 +889,17 @@ module _ (P : Id → Type 0) (null : P (class 0)) (sight : Sight) (known : Known
 
   slot_stores : (f : FrameThing) → OfFrameThing P f → (place : Place) → OfPlace place
       → OnSome (OfStore P) (slot_store f place)
-  slot_stores f k (is_known value) h = tt
   slot_stores f k (in_slot slot tag) h = (k.0, k.1)
-  slot_stores f k (in_field one) h = tt
-  slot_stores f k (at_index i) h = tt
+  slot_stores f k _ h = tt
 
   field_stores : (id : ℕ) → P (object id) → (place : Place) → OfPlace place → OnSome (OfStore P) (field_store id place)
-  field_stores id k (is_known value) h = tt
-  field_stores id k (in_slot slot tag) h = tt
   field_stores id k (in_field one) h = (k, h)
-  field_stores id k (at_index i) h = tt
+  field_stores id k _ h = tt
 
   element_stores : (id : ℕ) → P (object id) → (place : Place) → OfPlace place
       → OnSome (OfStore P) (element_store id place)
-  element_stores id k (is_known value) h = tt
-  element_stores id k (in_slot slot tag) h = tt
-  element_stores id k (in_field one) h = tt
   element_stores id k (at_index i) h = k
+  element_stores id k _ h = tt
 
   local_written_row : (w : Writing) (f : FrameThing) → OfFrameThing P f → (name : List ℕ)
       → Row (IsGood P) (local_written w f name)

@@ -3,9 +3,9 @@ use Rattle.std.proofs.Common.{◌≡◌, Bool, true, false, cond, not, ◌||◌,
 use Rattle.std.proofs.Common.{subst, ◌∙◌, option_map, arith}
 use Rattle.machine_model.specs.Knowing.{has_last, is_fresh, is_last}
 use Rattle.machine_model.specs.Lookups.{finished}
-use Rattle.machine_model.specs.Names.{Attached, Command, Event, Failure, Fresh, Gone, Initialized, Item, Note, Outcome}
-use Rattle.machine_model.specs.Names.{Part, Phase, Replied, TargetCommand, Terminated, a_composite, a_question, a_raw}
-use Rattle.machine_model.specs.Names.{a_request, a_stop, an_effect, some_news, target_end}
+use Rattle.machine_model.specs.Names.{Command, Event, Failure, Gone, Initialized, Item, Note, Outcome, Part, Phase}
+use Rattle.machine_model.specs.Names.{Replied, TargetCommand, Terminated, a_composite, a_question, a_raw, a_request}
+use Rattle.machine_model.specs.Names.{an_effect, target_end}
 use Rattle.machine_model.specs.Outcomes.{result_of}
 use Rattle.machine_model.specs.Replying.{given_up, hand_replied, replied_to}
 use Rattle.machine_model.specs.Rows.{chosen, end_parts, failure_of, gone_parts, has_response, noted, parts_by, parts_of}
@@ -18,6 +18,8 @@ use Rattle.machine_model.proofs.Tables.{are_plain, attaches, chosen_is, finished
 use Rattle.machine_model.proofs.Testing.{IsTest, Passed, same_noted, same_numbered, same_replied, whole}
 use Rattle.machine_model.specs.Composites.{composite_parts, has_death}
 use Rattle.jdwp_events.specs.declared.kind.Policy.{Policy}
+use Rattle.machine_model.proofs.Bools.{always, first_holds}
+use Rattle.std.proofs.lemmas.Bool.{not-true}
 
 -- Lists of parts ------------------------------------------------------------------------------------------------------
 
@@ -48,9 +50,8 @@ row_once failure command state = grind arith
 
 begun_once : (state : State) (item : Item) → stand_once (parts_of state item) ≡ true
 begun_once state (a_request request) = row_once (failure_of (wanting request.command) state) request.command state
-begun_once state target_end = grind arith
-begun_once state (a_composite at composite) = grind arith
 begun_once state (a_raw at body) = refl
+begun_once state _ = grind arith
 
 gone_none : (responds : Bool) (item : Item) → has_mark (gone_parts responds item) ≡ false
 gone_none responds item = grind arith
@@ -132,10 +133,7 @@ marked_none phase terminated parts over is = rw (over, mark_attach parts is, mar
 over_in : (phase : Phase) (terminated : Bool) (hand : Option Hand) → hand_marked phase terminated hand ≡ true
     → over_gone phase terminated ≡ true
 over_in phase terminated None h = h
-over_in phase terminated (Some hand) h = by_bools (over_gone phase terminated) _ h
-  where
-    by_bools : (over others : Bool) → cond over others false ≡ true → over ≡ true
-    by_bools over others is = grind (arith, is)
+over_in phase terminated (Some hand) h = first_holds (over_gone phase terminated) _ h
 
 pub none_over : (phase : Phase) (terminated : Bool) → over_gone phase terminated ≡ true → is_gone phase ≡ false
     → terminated ≡ false
@@ -153,8 +151,7 @@ begun_marked state target_end over = rw over (by_told state.terminated)
   where
     by_told : (told : Bool) → cond (cond (has_attach (end_parts told)) (is_fresh state.phase) true)
         (cond (has_last (end_parts told)) (not told) true) false ≡ true
-    by_told true = refl
-    by_told false = refl
+    by_told told = grind arith
 begun_marked state (a_composite at composite) over =
     by_phase state.phase (has_death composite.events) composite.policy state.terminated over
   where
@@ -163,48 +160,34 @@ begun_marked state (a_composite at composite) over =
     by_phase phase dies policy told over = grind (arith, over)
 begun_marked state (a_raw at body) over = rw over refl
 
-same_told : (outcome : Outcome) (state : State) → (numbered_by outcome state).terminated ≡ state.terminated
+pub same_told : (outcome : Outcome) (state : State) → (numbered_by outcome state).terminated ≡ state.terminated
 same_told outcome state = grind arith
 
-same_note : (note : Note) (state : State) → (noted note state).terminated ≡ state.terminated
+pub same_note : (note : Note) (state : State) → (noted note state).terminated ≡ state.terminated
 same_note note state = grind arith
 
-same_reply : (command : TargetCommand) (replied : Replied) (state : State)
+pub same_reply : (command : TargetCommand) (replied : Replied) (state : State)
     → (replied_to command replied state).terminated ≡ state.terminated
 same_reply command replied state = grind arith
 
 replied_marked : (phase : Phase) (terminated : Bool) (command : TargetCommand) (replied : Replied) (hand : Option Hand)
     → hand_marked phase terminated (option_map (hand_replied command replied) hand) ≡ hand_marked phase terminated hand
-replied_marked phase terminated command replied None = refl
-replied_marked phase terminated (a_question question) replied (Some hand) = refl
-replied_marked phase terminated (an_effect effect) replied (Some hand) = refl
+replied_marked phase terminated command replied hand = grind arith
 
 told_marked : (event : Event) (state : State) (rest : List Part) → stand_once (Part.Tells event ∷ rest) ≡ true
     → marked state.phase state.terminated rest ≡ true
     → marked (after_event event state).phase (after_event event state).terminated rest ≡ true
-told_marked (some_news news) state rest is left = left
-told_marked (a_stop stopping) state rest is left = left
 told_marked Initialized state rest is left =
     marked_none (after_event Initialized state).phase state.terminated rest
-    (still_over state.phase (over_of (over_gone state.phase state.terminated) _ left))
-    (unmarked (has_mark rest) is)
+    (still_over state.phase (first_holds (over_gone state.phase state.terminated) _ left))
+    (not-true (has_mark rest) is)
   where
-    unmarked : (has : Bool) → not has ≡ true → has ≡ false
-    unmarked has is = grind (arith, is)
-
-    over_of : (over others : Bool) → cond over others false ≡ true → over ≡ true
-    over_of over others is = grind (arith, is)
-
     still_over : (phase : Phase) → over_gone phase state.terminated ≡ true
         → over_gone (attached_from phase) state.terminated ≡ true
-    still_over Fresh is = is
-    still_over Attached is = is
-    still_over Gone is = is
+    still_over phase is = grind (arith, is)
 told_marked Terminated state rest is left =
-    marked_none (after_event Terminated state).phase true rest refl (unmarked (has_mark rest) is)
-  where
-    unmarked : (has : Bool) → not has ≡ true → has ≡ false
-    unmarked has is = grind (arith, is)
+    marked_none (after_event Terminated state).phase true rest refl (not-true (has_mark rest) is)
+told_marked _ state rest is left = left
 
 -- what is left of a hand
 left_marked : (m : Machine) (hand : Hand) (part : Part) (rest : List Part) → IsMarked m → IsAt m hand part rest
@@ -233,7 +216,6 @@ marked_on m next said once h (Moves.sends {hand} {rest} {deed} free at near) =
     left_marked m hand (Part.Sends deed) rest h at
 marked_on m next said once h (Moves.updates {hand} {rest = rest} free at is near) = marked_at m hand Part.Updates
     rest h at
-marked_on m next said once h (Moves.greets free at is near) = h
 marked_on m next said once h (Moves.notes {hand} {note} {rest} free at) =
     rw (same_noted note m.state, same_note note m.state) (left_marked m hand (Part.Notes note) rest h at)
 marked_on m next said once h (Moves.unfolds {hand} {choice} {rest} free at) =
@@ -243,28 +225,18 @@ marked_on m next said once h (Moves.queues {hand} free is) =
     subst (λ (hand : Option Hand). hand_marked m.state.phase m.state.terminated hand ≡ true) is h
 marked_on m next said once h (Moves.asks {hand} free room is are) =
     rw is (subst (λ (hand : Option Hand). hand_marked m.state.phase m.state.terminated hand ≡ true) is h)
-marked_on m next said once h (Moves.hears read is) = h
-marked_on m next said once h (Moves.greeted read is) = h
 marked_on m next said once h (Moves.answers {question} {replied} is waits reply stays) =
     rw (same_replied (a_question question) replied m.state, same_reply (a_question question) replied m.state)
     (replied_marked m.state.phase m.state.terminated (a_question question) replied m.hand ∙ h)
 marked_on m next said once h (Moves.replies {effect} {replied} is flies reply stays) =
     rw (same_replied (an_effect effect) replied m.state, same_reply (an_effect effect) replied m.state)
     (replied_marked m.state.phase m.state.terminated (an_effect effect) replied m.hand ∙ h)
-marked_on m next said once h (Moves.late before after is reply) = h
-marked_on m next said once h (Moves.ends gone) = h
 marked_on m next said once h (Moves.loses late near why) = given_marked m.hand
   where
-    gone_over : (told : Bool) → cond told true true ≡ true
-    gone_over true = refl
-    gone_over false = refl
-
     given_marked : (hand : Option Hand) → hand_marked Gone m.state.terminated (option_map given_up hand) ≡ true
-    given_marked None = gone_over m.state.terminated
+    given_marked None = always m.state.terminated
     given_marked (Some hand) =
         marked_none Gone m.state.terminated
-        (gone_parts (has_response hand.parts) hand.item) (gone_over m.state.terminated)
+        (gone_parts (has_response hand.parts) hand.item) (always m.state.terminated)
         (gone_none (has_response hand.parts) hand.item)
-marked_on m next said once h (Moves.comes read sized taken) = h
-marked_on m next said once h (Moves.keeps is) = h
-marked_on m next said once h (Moves.reads before after read is none taken) = h
+marked_on m next said once h _ = h

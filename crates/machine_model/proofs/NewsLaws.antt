@@ -19,27 +19,23 @@ use Rattle.machine_model.specs.Breakpoints.{has_id, is_news, with_id}
 use Rattle.machine_model.specs.Composites.{change_told, changes_in}
 use Rattle.machine_model.specs.Due.{due}
 use Rattle.machine_model.specs.Lookups.{finished}
-use Rattle.machine_model.specs.Names.{Written, variable_write}
-use Rattle.machine_model.specs.Names.{Act, Attached, Choice, Clear, Command, Decides, Does, Effect, Failure, Finding}
-use Rattle.machine_model.specs.Names.{Fresh, Gone, Initialized, Item, Leaves, Lookup, News, Part, Phase, Question}
-use Rattle.machine_model.specs.Names.{Replied, Set, TellsNews, Terminated, a_composite, a_question, a_raw, a_request}
-use Rattle.machine_model.specs.Names.{a_stop, all_threads, an_effect, an_event, class_facts, entry_verified, some_news}
-use Rattle.machine_model.specs.Names.{target_end, thread_changed}
-use Rattle.machine_model.specs.Names.{thread_frames}
-use Rattle.machine_model.specs.Names.{container_children, exception_info, exception_text, expression_value, Stepped}
+use Rattle.machine_model.specs.Names.{Act, Attached, Choice, Command, Decides, Does, Effect, Failure, Finding}
+use Rattle.machine_model.specs.Names.{Initialized, Item, Lookup, News, Part, Phase, Question, Replied, TellsNews}
+use Rattle.machine_model.specs.Names.{Terminated, a_composite, a_question, a_raw, a_request, a_stop, an_effect}
+use Rattle.machine_model.specs.Names.{an_event, entry_verified, some_news, thread_changed, Stepped}
 use Rattle.machine_model.specs.Outcomes.{result_of}
 use Rattle.machine_model.specs.Plans.{Result}
 use Rattle.machine_model.specs.Replying.{given_up, told_by}
 use Rattle.machine_model.specs.Requests.{Wishes, wishes_after}
-use Rattle.machine_model.specs.Rows.{chosen, each_told, failure_of, gone_parts, has_response, news_of, noted}
-use Rattle.machine_model.specs.Rows.{parts_by, parts_of, refused_with, row_of, stepped_by, told_in, wanting}
+use Rattle.machine_model.specs.Rows.{chosen, each_told, failure_of, gone_parts, has_response, news_of, noted, parts_by}
+use Rattle.machine_model.specs.Rows.{parts_of, refused_with, row_of, stepped_by, told_in, wanting}
 use Rattle.machine_model.specs.Runs.{Allows, Message, Run, said}
 use Rattle.machine_model.specs.State.{Hand, Machine, State}
 use Rattle.machine_model.specs.Telling.{numbered_by}
 use Rattle.machine_model.proofs.QuietLaws.{IsQuiet, near_flies, quiet_on}
 use Rattle.machine_model.proofs.RequestLaws.{IsDue, settling, was_due}
 use Rattle.machine_model.proofs.RequestSteps.{asked_left, flying_in, flying_of, learnt_wishes, parts_left, replied_left}
-use Rattle.machine_model.proofs.Stepping.{IsAt, Loses, Moves, Skips, by_moves, by_runs, moved}
+use Rattle.machine_model.proofs.Stepping.{IsAt, Moves, Skips, by_moves, by_runs, moved, Loses}
 use Rattle.machine_model.proofs.Tables.{decided_alike, starts_updates}
 use Rattle.wish_sets.proofs.OrderLaws.{sorted-fold}
 use Rattle.wish_sets.specs.Entries.{all_entries, is_verified, verified}
@@ -73,9 +69,7 @@ none_told ids w (_ ∷ rest) is = is
 -- while event requests are set, none is
 updates_none : (ids : List ℕ) (w : Wishes) (parts : List Part) → starts_updates parts ≡ true → AreNews ids w parts
     → has_told parts ≡ false
-updates_none ids w [] is h = cc
-updates_none ids w (Part.Updates ∷ rest) is h = h
-updates_none ids w (_ ∷ rest) is h = cc
+updates_none ids w parts is h = grind (arith, is, h)
 
 -- The tables ----------------------------------------------------------------------------------------------------------
 
@@ -85,20 +79,12 @@ row_untold failure command state = grind arith
 
 begun_untold : (state : State) (item : Item) → has_told (parts_of state item) ≡ false
 begun_untold state (a_request request) = row_untold (failure_of (wanting request.command) state) request.command state
-begun_untold state target_end = grind arith
-begun_untold state (a_composite at composite) = grind arith
 begun_untold state (a_raw at body) = refl
+begun_untold state _ = grind arith
 
 found_same : (lookup : Lookup) (result : Result Finding) (state : State) (rest : List Part)
     → has_told (finished lookup result state ++ rest) ≡ has_told rest
-found_same all_threads result state rest = refl
-found_same (thread_frames thread start levels) result state rest = refl
-found_same (container_children thing filter start count) result state rest = refl
-found_same (expression_value frame expression) result state rest = refl
-found_same (variable_write thing name text) result state rest = grind arith
-found_same (exception_text thread object) result state rest = refl
-found_same (exception_info thrown) result state rest = refl
-found_same class_facts result state rest = refl
+found_same lookup result state rest = grind arith
 
 given_untold : (ids : List ℕ) (w : Wishes) (hand : Option Hand) → AreNews ids w (parts_left (option_map given_up hand))
 given_untold ids w None = tt
@@ -156,9 +142,6 @@ pub changes_alike : {A : Type 0} (f : List Part → A)
     → ((started : Bool) (thread : ThreadId) (parts : List Part)
     → f (Part.Tells (some_news (thread_changed started thread)) ∷ parts) ≡ f parts)
     → (item : Item) (rest : List Part) → f (each_told (changes_in item) ++ rest) ≡ f rest
-changes_alike f each (a_request request) rest = refl
-changes_alike f each (a_raw at body) rest = refl
-changes_alike f each target_end rest = refl
 changes_alike f each (a_composite at composite) rest = by_events composite.events
   where
     by_events : (events : List ATargetEvent) → f (each_told (flat_map change_told events) ++ rest) ≡ f rest
@@ -166,6 +149,7 @@ changes_alike f each (a_composite at composite) rest = by_events composite.event
     by_events (happened.ThreadStart request thread ∷ events) = each true thread _ ∙ by_events events
     by_events (happened.ThreadDeath request thread ∷ events) = each false thread _ ∙ by_events events
     by_events (_ ∷ events) = by_events events
+changes_alike f each _ rest = refl
 
 told_in_front : (w : Wishes) (ids : List ℕ) (entries : List VerifiedEntry) (rest : List Part) → has_told rest ≡ false
     → All (Contains (verified w)) entries → AreNew ids entries → IsStrictlySortedBy by_id entries
@@ -198,8 +182,6 @@ verified_sorted w = sorted-fold (on_total (λ (entry : VerifiedEntry). entry.id)
 
 unfolded_news : (state : State) (below : ℕ) (item : Item) (phase : Phase) (rest : List Part)
     → has_told rest ≡ false → AreNews state.bound state.wishes (told_in phase (news_of below state item) ++ rest)
-unfolded_news state below item Fresh rest none = none_told state.bound state.wishes rest none
-unfolded_news state below item Gone rest none = none_told state.bound state.wishes rest none
 unfolded_news state below item Attached rest none =
     let those = verified state.wishes in
     let test = is_news below state.bound in
@@ -210,6 +192,7 @@ unfolded_news state below item Attached rest none =
     (recursion_from_All (Contains those) (filter test those)
     (All-filter test (Contains those) those (All-contains_itself those)))
     (news_new below state.bound those) (IsStrictlySortedBy-filter by_id test those (verified_sorted state.wishes)))
+unfolded_news state below item _ rest none = none_told state.bound state.wishes rest none
 
 unfolded : (choice : Choice) (state : State) (hand : Hand) (rest : List Part) → has_told rest ≡ false
     → AreNews state.bound state.wishes (chosen choice state hand ++ rest)
@@ -223,12 +206,9 @@ unfolded Stepped state hand rest none =
     (by_code (refused_with hand.effect) ∙ none)
   where
     by_code : (code : Option ℕ) → has_told (stepped_by code ++ rest) ≡ has_told rest
-    by_code None = refl
-    by_code (Some code) = refl
-unfolded (Written seen) state hand rest none =
-    none_told state.bound state.wishes (chosen (Written seen) state hand ++ rest) (grind (arith, none))
-unfolded (Leaves exits) state hand rest none =
-    none_told state.bound state.wishes (chosen (Leaves exits) state hand ++ rest) (grind (arith, none))
+    by_code code = grind arith
+unfolded choice state hand rest none =
+    none_told state.bound state.wishes (chosen choice state hand ++ rest) (grind (arith, none))
 
 -- Runs ----------------------------------------------------------------------------------------------------------------
 
@@ -248,10 +228,8 @@ learnt_bound question replied state = grind arith
 replied_news : (ids : List ℕ) (w : Wishes) (parts : List Part) (effect : Effect) (replied : Replied)
     → IsDue w parts (Some effect) → AreNews ids w parts → AreNews ids (wishes_after effect replied w) parts
 replied_news ids w parts (Does deed) replied due h = h
-replied_news ids w parts (Set wish) replied due h =
-    none_told ids (wishes_after (Set wish) replied w) parts (updates_none ids w parts (due refl).1 h)
-replied_news ids w parts (Clear wish request) replied due h =
-    none_told ids (wishes_after (Clear wish request) replied w) parts (updates_none ids w parts (due refl).1 h)
+replied_news ids w parts effect replied due h =
+    none_told ids (wishes_after effect replied w) parts (updates_none ids w parts (due refl).1 h)
 
 pub quiet : {messages : List Message} {m : Machine} → Run messages m → IsQuiet m
 quiet r = by_moves {Holds = λ (messages : List Message) (m : Machine). IsQuiet m}
@@ -286,7 +264,6 @@ telling_on messages m next said r h (Moves.tells {rest = rest} {event = Terminat
 telling_on messages m next said r h (Moves.sends {rest = rest} free at near) =
     none_told m.state.bound m.state.wishes rest (at_front h at)
 telling_on messages m next said r h (Moves.updates free at is near) = at_front h at
-telling_on messages m next said r h (Moves.greets free at is near) = h
 telling_on messages m next said r h (Moves.notes {note = note} {rest} free at) =
     none_told (noted note m.state).bound (noted note m.state).wishes rest (at_front h at)
 telling_on messages m next said r h (Moves.unfolds {hand} {choice} {rest} free at) =
@@ -294,8 +271,6 @@ telling_on messages m next said r h (Moves.unfolds {hand} {choice} {rest} free a
 telling_on messages m next said r h (Moves.queues free is) =
     subst (λ (held : Option Hand). AreNews m.state.bound m.state.wishes (parts_left held)) is h
 telling_on messages m next said r h (Moves.asks {want = want} free room is are) = rw (asked_left want m.hand) h
-telling_on messages m next said r h (Moves.hears read is) = h
-telling_on messages m next said r h (Moves.greeted read is) = h
 telling_on messages m next said r h (Moves.answers {question} {replied} is waits reply stays) =
     rw (
       learnt_bound question replied m.state,
@@ -307,12 +282,8 @@ telling_on messages m next said r h (Moves.replies {effect} {replied} {hand} is 
     let due = was_due m effect (settling r near).awaited (ap flying_in is ∙ ap flying_of flies) in
     rw (replied_left (an_effect effect) replied m.hand)
     (replied_news m.state.bound m.state.wishes (parts_left m.hand) effect replied due h)
-telling_on messages m next said r h (Moves.late before after is reply) = h
-telling_on messages m next said r h (Moves.ends gone) = h
 telling_on messages m next said r h (Moves.loses late near why) = given_untold m.state.bound m.state.wishes m.hand
-telling_on messages m next said r h (Moves.comes read sized taken) = h
-telling_on messages m next said r h (Moves.keeps is) = h
-telling_on messages m next said r h (Moves.reads before after read is none taken) = h
+telling_on messages m next said r h _ = h
 
 telling : {messages : List Message} {m : Machine} → Run messages m → IsTelling m
 telling r = by_runs {Holds = λ (messages : List Message) (m : Machine). IsTelling m} (record {
@@ -324,16 +295,10 @@ telling r = by_runs {Holds = λ (messages : List Message) (m : Machine). IsTelli
 
 news_at : (m next : Machine) (said : Option Message) (told : Breakpoint) → IsTelling m
     → said ≡ Some (Message.tells (an_event (events.Breakpoint told))) → Moves m said next → IsNews m.state told
-news_at m next said told h is (Moves.tells {event = Initialized} free at) = cc
 news_at m next said told h is (Moves.tells {event = some_news (entry_verified entry)} free at) =
     let front = at_front h at in
     record { entry = entry; is_told = cc; is_verified = front.0; is_new = front.1 }
-news_at m next said told h is (Moves.tells {event = some_news (thread_changed started thread)} free at) = cc
-news_at m next said told h is (Moves.tells {event = a_stop stopping} free at) = cc
-news_at m next said told h is (Moves.tells {event = Terminated} free at) = cc
 news_at m next said told h is (Moves.loses late near Loses.by_end) = cc
-news_at m next said told h is (Moves.loses late near (Loses.by_question held waits reply last)) = cc
-news_at m next said told h is (Moves.loses late near (Loses.by_effect held flies reply last)) = cc
 news_at m next said told h is _ = cc
 
 pub tells_news : (messages : List Message) (m : Machine) (told : Breakpoint) → Run messages m

@@ -2,21 +2,18 @@
 use Rattle.std.proofs.Common.{◌≡◌, Bool, true, false, cond, not, ◌||◌, List, [], ◌∷◌, ◌++◌, Option, Some, None, refl}
 use Rattle.std.proofs.Common.{sym, ap, subst, ◌∙◌, append-nil, option_map, arith}
 use Rattle.machine_model.specs.Lookups.{finished}
-use Rattle.machine_model.specs.Names.{Written}
-use Rattle.machine_model.specs.Names.{Attached, Choice, Classes, ClientOptions, Command, Configured, Decides}
-use Rattle.machine_model.specs.Names.{EntryHeld, Event, Failure, Finding, Fresh, Gone, Initialized, Item, Leaves}
-use Rattle.machine_model.specs.Names.{Lines, Lookup, News, Note, Options, Outcome, Part, Phase, Replied, Request}
-use Rattle.machine_model.specs.Names.{Roots, TargetCommand, TellsNews, Terminated, Want, a_composite, a_question}
-use Rattle.machine_model.specs.Names.{a_raw, a_request, a_response, a_stop, an_effect, some_news, target_end}
+use Rattle.machine_model.specs.Names.{Attached, Choice, ClientOptions, Command, Decides, Event, Failure, Finding}
+use Rattle.machine_model.specs.Names.{Initialized, Item, Lookup, News, Note, Options, Outcome, Part, Phase, Replied}
+use Rattle.machine_model.specs.Names.{Request, TargetCommand, TellsNews, Terminated, Want, a_composite, a_question}
+use Rattle.machine_model.specs.Names.{a_raw, a_request, a_response, an_effect, target_end}
 use Rattle.machine_model.specs.Due.{asked_hand}
 use Rattle.machine_model.specs.Noting.{AreOptions, asked_options, options_in, options_noted, part_options}
 use Rattle.machine_model.specs.Outcomes.{result_of}
 use Rattle.machine_model.specs.Plans.{Result}
 use Rattle.machine_model.specs.Replying.{hand_replied, replied_machine, replied_to}
 use Rattle.machine_model.specs.Rest.{request_in, without_response}
-use Rattle.machine_model.specs.Rows.{chosen, failure_of, gone_parts, has_response, is_response, told_in, noted, parts_by}
-use Rattle.machine_model.specs.Rows.{news_of}
-use Rattle.machine_model.specs.Rows.{parts_of, request_parts, row_of, wanting}
+use Rattle.machine_model.specs.Rows.{chosen, failure_of, gone_parts, has_response, is_response, told_in, noted}
+use Rattle.machine_model.specs.Rows.{parts_by, news_of, parts_of, request_parts, row_of, wanting}
 use Rattle.machine_model.specs.Runs.{Message, Run}
 use Rattle.machine_model.specs.State.{Hand, Machine, State, is_gone, knowing, left}
 use Rattle.machine_model.specs.Telling.{after_event, numbered_by, outcome_told, response_to}
@@ -26,7 +23,7 @@ use Rattle.machine_model.proofs.Stepping.{IsAt, Loses, Moves, Skips, by_runs, wi
 use Rattle.machine_model.proofs.Tables.{chosen_is, finished_is, has_joined, of_decided, once, once_in, responds_once}
 use Rattle.machine_model.proofs.Tables.{row_is}
 use Rattle.machine_model.proofs.Testing.{IsTest, Passed, same_noted, same_numbered, same_replied, tested, whole}
-use Rattle.machine_model.specs.Names.{Functions, Stepped, Steps, StopsAt, Throws}
+use Rattle.std.proofs.lemmas.Bool.{not-true}
 
 -- Lists of parts ------------------------------------------------------------------------------------------------------
 
@@ -84,24 +81,19 @@ row_last failure command state = grind arith
 
 begun_last : (state : State) (item : Item) → stand_last (parts_of state item) ≡ true
 begun_last state (a_request request) = row_last (failure_of (wanting request.command) state) request.command state
-begun_last state target_end = grind arith
-begun_last state (a_composite at composite) = grind arith
 begun_last state (a_raw at body) = refl
+begun_last state _ = grind arith
 
 chosen_none : (choice : Choice) (state : State) (hand : Hand) → no_options (chosen choice state hand) ≡ true
 chosen_none (TellsNews below) state hand = by_news state.phase (news_of below state hand.item)
   where
     by_news : (phase : Phase) (news : List News) → no_options (told_in phase news) ≡ true
-    by_news Fresh news = refl
-    by_news Gone news = refl
-    by_news Attached [] = refl
     by_news Attached (one ∷ news) = by_news Attached news
+    by_news _ _ = refl
 chosen_none Decides state hand =
     of_decided (λ (parts : List Part). no_options parts ≡ true) refl refl refl (λ stopped thrown halt. grind arith)
     state hand.item
-chosen_none Stepped state hand = grind arith
-chosen_none (Written seen) state hand = grind arith
-chosen_none (Leaves exits) state hand = grind arith
+chosen_none _ state hand = grind arith
 
 found_none : (lookup : Lookup) (result : Result Finding) (state : State)
     → no_options (finished lookup result state) ≡ true
@@ -148,9 +140,8 @@ Fits (Some hand) = FitsItem hand.item hand.parts
 
 begun_fits : (state : State) (item : Item) → FitsItem item (parts_of state item)
 begun_fits state (a_request request) = λ has options. row_asks state request.command options
-begun_fits state (a_composite at composite) = grind arith
 begun_fits state (a_raw at body) = refl
-begun_fits state target_end = grind arith
+begun_fits state _ = grind arith
 
 -- these parts stand where a part stood that writes down nothing
 fits_joined : (item : Item) (part : Part) (parts rest : List Part) → no_options parts ≡ true
@@ -165,10 +156,7 @@ fits_joined (a_request request) part parts rest none brings plain h = λ has opt
     either : (some others first : Bool) → (some ≡ true → first ≡ true) → (some || others) ≡ true
         → (first || others) ≡ true
     either some others first brings is = grind (arith, brings, is)
-fits_joined (a_composite at composite) part parts rest none brings plain h =
-    none_joined parts rest none (grind (arith, h))
-fits_joined (a_raw at body) part parts rest none brings plain h = none_joined parts rest none (grind (arith, h))
-fits_joined target_end part parts rest none brings plain h = none_joined parts rest none (grind (arith, h))
+fits_joined _ part parts rest none brings plain h = none_joined parts rest none (grind (arith, h))
 
 fits_tail : (item : Item) (part : Part) (rest : List Part) → stand_last (part ∷ rest) ≡ true
     → FitsItem item (part ∷ rest) → FitsItem item rest
@@ -184,9 +172,7 @@ fits_tail item part rest last h = by_options item (is_options part) refl h
         let none : has_response rest ≡ false = unsaid (has_response rest) (stand_last rest)
         (ap (λ (b : Bool). cond (cond b (not (has_response rest)) true) (stand_last rest) false) (sym is) ∙ last) in
         let no : true ≡ false = sym has ∙ none in cc
-    by_options (a_composite at composite) true is h = grind (arith, h, is)
-    by_options (a_raw at body) true is h = grind (arith, h, is)
-    by_options target_end true is h = grind (arith, h, is)
+    by_options _ true is h = grind (arith, h, is)
 
 -- The walk ------------------------------------------------------------------------------------------------------------
 
@@ -286,9 +272,7 @@ still_on m next same near hands fits = record {
 
 replied_hand : (command : TargetCommand) (replied : Replied) (hand : Option Hand) (options : ClientOptions)
     → options_in (option_map (hand_replied command replied) hand) options ≡ options_in hand options
-replied_hand command replied None options = refl
-replied_hand (a_question question) replied (Some hand) options = refl
-replied_hand (an_effect effect) replied (Some hand) options = refl
+replied_hand command replied hand options = grind arith
 
 replied_fits : (command : TargetCommand) (replied : Replied) (hand : Option Hand) → Fits hand
     → Fits (option_map (hand_replied command replied) hand)
@@ -310,9 +294,8 @@ begun_options : (state : State) (item : Item) (options : ClientOptions)
     → cond (has_response (parts_of state item)) options (options_noted (parts_of state item) options) ≡ options
 begun_options state (a_request request) options =
     rw (row_is (failure_of (wanting request.command) state) request.command state).responds refl
-begun_options state target_end options = grind arith
-begun_options state (a_composite at composite) options = grind arith
 begun_options state (a_raw at body) options = refl
+begun_options state _ options = grind arith
 
 skipped_on : (m : Machine) (hand : Hand) (part : Part) (rest : List Part) → stand_last (part ∷ rest) ≡ true
     → IsAt m hand part rest → Skips m hand part → Onward m (left m hand rest)
@@ -331,48 +314,32 @@ skipped_on m hand part rest last at (Skips.no_request {outcome} is) =
     behind rest none = rw (none_same rest m.state.options none) (both (has_response rest))
       where
         both : (has : Bool) → cond has m.state.options m.state.options ≡ m.state.options
-        both true = refl
-        both false = refl
+        both has = grind arith
 
     by_item : (item : Item) → FitsItem item (Part.Responds outcome ∷ rest) → request_in item ≡ []
         → cond (has_response rest) m.state.options (options_noted rest m.state.options) ≡ m.state.options
     by_item (a_request request) h is = cc
-    by_item (a_composite at composite) h is = behind rest h
-    by_item (a_raw at body) h is = behind rest h
-    by_item target_end h is = behind rest h
+    by_item _ h is = behind rest h
 
 event_near : (event : Event) (state : State) → is_gone (after_event event state).phase ≡ false
     → is_gone state.phase ≡ false
 event_near Initialized state near = sym (attached_gone state.phase) ∙ near
-event_near (some_news news) state near = near
-event_near (a_stop stopping) state near = near
 event_near Terminated state near = cc
+event_near _ state near = near
 
 event_options : (event : Event) (state : State) → (after_event event state).options ≡ state.options
-event_options Initialized state = refl
-event_options (some_news news) state = refl
-event_options (a_stop stopping) state = refl
-event_options Terminated state = refl
+event_options event state = grind arith
 
 -- a note behind the response
 noted_same : (note : Note) (state : State) (rest : List Part) → stand_last (Part.Notes note ∷ rest) ≡ true
     → cond (has_response rest) (noted note state).options (options_noted rest (noted note state).options)
     ≡ cond (has_response rest) state.options (options_noted (Part.Notes note ∷ rest) state.options)
-noted_same (Roots roots) state rest last = refl
-noted_same EntryHeld state rest last = refl
-noted_same Configured state rest last = refl
-noted_same (Lines key path entries) state rest last = refl
-noted_same (Functions entries) state rest last = refl
-noted_same (StopsAt caught uncaught) state rest last = refl
-noted_same (Steps step) state rest last = refl
-noted_same (Throws thrown) state rest last = refl
-noted_same (Classes classes) state rest last = refl
 noted_same (Options options) state rest last = by_bool (has_response rest) last
   where
     by_bool : (has : Bool) → cond (not has) (stand_last rest) false ≡ true
         → cond has options (options_noted rest options) ≡ cond has state.options (options_noted rest options)
-    by_bool true is = cc
-    by_bool false is = refl
+    by_bool has is = grind (arith, is)
+noted_same _ state rest last = refl
 
 numbered_options : (outcome : Outcome) (state : State) → (numbered_by outcome state).options ≡ state.options
 numbered_options outcome state = grind arith
@@ -385,7 +352,7 @@ responded_on : (messages : List Message) (m : Machine) (hand : Hand) (rest : Lis
     → Noted (messages ++ Message.tells (response_to request (outcome_told outcome m.state)) ∷ [])
     (left (knowing m (numbered_by outcome m.state)) hand rest)
 responded_on messages m hand rest request outcome single last at is n =
-    let none : has_response rest ≡ false = unsaid (has_response rest) single in record {
+    let none : has_response rest ≡ false = not-true (has_response rest) single in record {
       said = λ near.
           let before = sym (ap is_gone (same_numbered outcome m.state)) ∙ near in
           let asks = subst (λ (item : Item). FitsItem item (Part.Responds outcome
@@ -401,14 +368,10 @@ responded_on messages m hand rest request outcome single last at is n =
       fits = λ near. fits_tail hand.item (Part.Responds outcome) rest last
           (fits_at at (n.fits (sym (ap is_gone (same_numbered outcome m.state)) ∙ near)));
     }
-  where
-    unsaid : (has : Bool) → not has ≡ true → has ≡ false
-    unsaid has is = grind (arith, is)
 
 asked_options_same : (want : Want) (hand : Option Hand) (options : ClientOptions)
     → options_in (option_map (asked_hand want) hand) options ≡ options_in hand options
-asked_options_same want None options = refl
-asked_options_same want (Some hand) options = refl
+asked_options_same want hand options = grind arith
 
 asked_fits : (want : Want) (hand : Option Hand) → Fits hand → Fits (option_map (asked_hand want) hand)
 asked_fits want None h = tt
@@ -445,8 +408,6 @@ on_move m next said last near other (Moves.sends {hand} {rest} {deed} free at cl
     (λ h. refl)
 on_move m next said last near other (Moves.updates {hand} free at is close) =
     still_on m next refl (λ near. near) (λ options. options_at options at) (λ h. fits_at at h)
-on_move m next said last near other (Moves.greets free at is close) =
-    still_on m next refl (λ near. near) (λ options. refl) (λ h. h)
 on_move m next said last near other (Moves.notes {hand} {note} {rest} free at) =
     tail_on m next hand (Part.Notes note) rest (whole options_last last at) at (λ options. refl) (λ h. h)
     (λ near. sym (ap is_gone (same_noted note m.state)) ∙ near)
@@ -468,9 +429,7 @@ on_move m next said last near other _ = still_on m next refl (λ near. near) (λ
 
 lost_other : {m : Machine} {message : Message} {late : List TargetCommand} → Loses m message late
     → is_other (Some message) ≡ true
-lost_other Loses.by_end = refl
-lost_other (Loses.by_question is waits reply last) = refl
-lost_other (Loses.by_effect is flies reply last) = refl
+lost_other why = grind (arith, why)
 
 noted_on : (messages : List Message) (m next : Machine) (said : Option Message) → Run messages m → Noted messages m
     → Moves m said next → Noted (with_said messages said) next

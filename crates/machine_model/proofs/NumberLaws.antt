@@ -113,12 +113,11 @@ exact_in distinct thread number h =
 one_place : (before earlier after later : List ThreadId) (one other : ThreadId)
     → before ++ one ∷ after ≡ earlier ++ other ∷ later → length before ≡ length earlier → one ≡ other
 one_place [] [] after later one other is same = cc
-one_place [] (first ∷ earlier) after later one other is same = absurd (omega arith)
-one_place (first ∷ before) [] after later one other is same = absurd (omega arith)
 one_place (first ∷ before) (second ∷ earlier) after later one other is same =
     let rest : before ++ one ∷ after ≡ earlier ++ other ∷ later = cc in
     let shorter : length before ≡ length earlier = omega arith in
     one_place before earlier after later one other rest shorter
+one_place _ _ after later one other is same = absurd (omega arith)
 
 pub numbered_once : (threads : List ThreadId) → are_distinct threads ≡ true → AreNumberedOnce threads
 numbered_once threads distinct = record {

@@ -8,15 +8,15 @@ use Rattle.machine_model.specs.Asking.{AreAsked, is_aside}
 use Rattle.machine_model.specs.Due.{Picked, asked_hand, asked_now, begun, pick}
 use Rattle.machine_model.specs.Lookups.{finished, found_for, lookup_responds}
 use Rattle.machine_model.specs.Names.{Choice, Does, Doing, Event, Finding, Initialized, Item, Lookup, Outcome, Part}
-use Rattle.machine_model.specs.Names.{Phase, Request, TargetCommand, Terminated, a_composite, a_question, a_raw}
-use Rattle.machine_model.specs.Names.{a_request, a_stop, an_effect, an_event, some_news, target_end}
+use Rattle.machine_model.specs.Names.{Phase, Request, TargetCommand, Terminated, a_question, a_request, an_effect}
+use Rattle.machine_model.specs.Names.{an_event}
 use Rattle.machine_model.specs.Outcomes.{AreExplained, IsExplained, IsInHand, Leads, Reason, answer_part, responds}
 use Rattle.machine_model.specs.Outcomes.{result_of}
 use Rattle.machine_model.specs.Plans.{Need, is_done, question_of}
 use Rattle.machine_model.specs.Replying.{given_up, hand_replied, replied_machine}
 use Rattle.machine_model.specs.Rest.{AreAnswered, request_in, requests_of, response_by, responses_of}
-use Rattle.machine_model.specs.Rows.{choice_responds, chosen, gone_parts, gone_row, has_response, is_response}
-use Rattle.machine_model.specs.Rows.{parts_of, taken}
+use Rattle.machine_model.specs.Rows.{choice_responds, chosen, gone_parts, gone_row, has_response, is_response, parts_of}
+use Rattle.machine_model.specs.Rows.{taken}
 use Rattle.machine_model.specs.Runs.{Message, Run}
 use Rattle.machine_model.specs.State.{Hand, Machine, State, in_hand, is_gone, knowing, left}
 use Rattle.machine_model.specs.Telling.{after_event, attached_from, event_told, outcome_told, response_to}
@@ -294,9 +294,7 @@ becomes {messages} {m} {hand} {part} {rest} parts responds h at is brings leads 
 
 loss_aside : {m : Machine} {message : Message} {late : List TargetCommand} → Loses m message late
     → responds message ≡ false
-loss_aside Loses.by_end = refl
-loss_aside (Loses.by_question in_hand waits reply is) = refl
-loss_aside (Loses.by_effect in_hand flying reply is) = refl
+loss_aside why = grind (arith, why)
 
 -- something comes, or is said, that changes neither the item in hand nor whether the target is gone
 same_all : (messages : List Message) (m next : Machine) (hand : Option Hand) (message : Message)
@@ -339,10 +337,7 @@ begun_order {messages} {m} picked request r none is item =
 
 -- what is learnt at its turn decides nothing of what an item does
 parts_taken : (state : State) (item : Item) → parts_of (taken item state) item ≡ parts_of state item
-parts_taken state (a_request request) = refl
-parts_taken state (a_composite at composite) = refl
-parts_taken state (a_raw at body) = refl
-parts_taken state target_end = refl
+parts_taken state item = grind arith
 
 begun_held : {messages : List Message} {m : Machine} (picked : Picked) → Run messages m → m.hand ≡ None
     → pick (is_gone m.state.phase) m.waiting ≡ Some picked → Run messages (begun m picked.item picked.rest)
@@ -442,8 +437,7 @@ not_yet true now stays near = sym (stays refl) ∙ near
 not_yet false now stays near = refl
 
 gone_responds : (responds : Bool) (item : Item) → has_response (gone_parts responds item) ≡ true → responds ≡ true
-gone_responds true item is = refl
-gone_responds false item is = grind (arith, is)
+gone_responds responds item is = grind (arith, is)
 
 given_held : (messages : List Message) (m next : Machine) (hand : Option Hand) (message : Message)
     → response_by message ≡ [] → is_gone m.state.phase ≡ false → is_gone next.state.phase ≡ true
@@ -507,12 +501,6 @@ chosen_held {messages} {m} {hand} {choice} {rest} h r at =
 skipped_held : {messages : List Message} {m : Machine} {hand : Hand} {part : Part} {rest : List Part}
     (h : Held messages m hand) → IsAt m hand part rest → Skips m hand part
     → Held messages (left m hand rest) (record hand { parts = rest })
-skipped_held {hand = hand} {rest = rest} h at (Skips.by_guard is) =
-    none_more (passed_on_held [] (record hand { parts = rest }) h at refl refl refl refl refl
-    (λ near. asked_still h near))
-skipped_held {hand = hand} {rest = rest} h at (Skips.by_wishes is) =
-    none_more (passed_on_held [] (record hand { parts = rest }) h at refl refl refl refl refl
-    (λ near. asked_still h near))
 skipped_held {messages} {m} {hand} {part} {rest} h at (Skips.no_request is) = record {
   earlier = h.earlier;
   since = h.since;
@@ -526,6 +514,9 @@ skipped_held {messages} {m} {hand} {part} {rest} h at (Skips.no_request is) = re
   in_order = h.in_order;
   leads = λ request item answer answers. let no : request ∷ [] ≡ [] = sym (ap request_in item) ∙ is in cc;
 }
+skipped_held {hand = hand} {rest = rest} h at _ =
+    none_more (passed_on_held [] (record hand { parts = rest }) h at refl refl refl refl refl
+    (λ near. asked_still h near))
 
 told_event : {messages : List Message} {m : Machine} {hand : Hand} {rest : List Part} (event : Event)
     (h : Held messages m hand) → Run messages m → IsAt m hand (Part.Tells event) rest
@@ -537,17 +528,13 @@ told_event {hand = hand} {rest} Initialized h r at =
   where
     same_attached : (phase : Phase) → is_gone (attached_from phase) ≡ is_gone phase
     same_attached phase = grind arith
-told_event {hand = hand} {rest} (some_news news) h r at =
-    passed_on_held _ (record hand { parts = rest }) h at refl refl refl refl refl
-    (λ near. asked_aside _ h refl near)
-told_event {hand = hand} {rest} (a_stop stopping) h r at =
-    passed_on_held _ (record hand { parts = rest }) h at refl refl refl refl refl
-    (λ near. asked_aside _ h refl near)
 told_event {hand = hand} {rest} Terminated h r at =
     ended_held _ h (silent_behind (whole silent_last (tested silent_test r) at)) refl
   where
     silent_behind : last_silent (Part.Tells Terminated ∷ rest) ≡ true → has_response rest ≡ false
     silent_behind is = grind (arith, is)
+told_event {hand = hand} {rest} _ h r at =
+    passed_on_held _ (record hand { parts = rest }) h at refl refl refl refl refl (λ near. asked_aside _ h refl near)
 
 one_response : {messages : List Message} {m : Machine} {hand : Hand} {outcome : Outcome} {rest : List Part}
     → Run messages m → IsAt m hand (Part.Responds outcome) rest → has_response rest ≡ false
@@ -586,10 +573,6 @@ explains_on messages m next said r h (Moves.updates {hand} {effect} {rest} free 
       held = same_held _ (held_of h at.in_hand) refl (sym at.parts) refl refl
           (λ still. AreAsked.sends effect b.silent b.lands ((held_of h at.in_hand).asked near));
     }
-explains_on messages m next said r h (Moves.greets free at is near) now = record {
-  explained = AreExplained.aside _ refl h.explained;
-  held = same_all messages m next m.hand _ refl refl (λ still. refl) h.held;
-}
 explains_on messages m next said r h (Moves.notes {hand} {note} {rest} free at) now = record {
   explained = h.explained;
   held = none_more (passed_on_held [] _ (held_of h at.in_hand) at refl (ap is_gone (same_noted note m.state)) refl refl
@@ -609,14 +592,6 @@ explains_on messages m next said r h (Moves.asks {hand} {want} {wants = others} 
           (λ still. AreAsked.asks want (next_new m hand want others (always_kept r) is are) lands
           ((held_of h is).asked near)));
     }
-explains_on messages m next said r h (Moves.hears read is) now = record {
-  explained = AreExplained.aside _ refl h.explained;
-  held = same_all messages m next m.hand _ refl refl (λ still. refl) h.held;
-}
-explains_on messages m next said r h (Moves.greeted read is) now = record {
-  explained = AreExplained.aside _ refl h.explained;
-  held = same_all messages m next m.hand _ refl refl (λ still. refl) h.held;
-}
 explains_on messages m next said r h (Moves.answers {question} {replied} {hand} is waits reply stays) now = record {
   explained = AreExplained.aside _ refl h.explained;
   held = subst (λ (held : Option Hand). HeldIn (messages ++ Message.answers (a_question question) replied ∷ [])
@@ -640,23 +615,11 @@ explains_on messages m next said r h (Moves.late {command} before after is reply
   held = same_all messages m next m.hand _ refl refl
       (λ near. let no : true ≡ false = sym (late_gone m before after command (no_late r) is) ∙ near in cc) h.held;
 }
-explains_on messages m next said r h (Moves.ends gone) now = record {
-  explained = AreExplained.aside _ refl h.explained;
-  held = same_all messages m next m.hand _ refl refl (λ still. refl) h.held;
-}
 explains_on messages m next said r h (Moves.loses {message} late near why) now = record {
   explained = AreExplained.aside message (loss_aside why) h.explained;
   held = given_held messages m next m.hand message (loss_silent why).1 near refl h.held;
 }
-explains_on messages m next said r h (Moves.comes read sized taken) now = record {
-  explained = AreExplained.aside _ refl h.explained;
-  held = same_all messages m next m.hand _ refl refl (λ still. refl) h.held;
-}
-explains_on messages m next said r h (Moves.keeps is) now = record {
-  explained = AreExplained.aside _ refl h.explained;
-  held = same_all messages m next m.hand _ refl refl (λ still. refl) h.held;
-}
-explains_on messages m next said r h (Moves.reads before after read is none taken) now = record {
+explains_on messages m next said r h _ now = record {
   explained = AreExplained.aside _ refl h.explained;
   held = same_all messages m next m.hand _ refl refl (λ still. refl) h.held;
 }

@@ -162,10 +162,9 @@ room_for : (m next : Machine) (command : TargetCommand) (said : Option Message) 
     → said ≡ Some (Message.sends command) → Turns (pending_of m) both sent said now → length (pending_of m) < 16
 room_for m next command said now both sent is (Turns.stays beside same) =
     let other : true ≡ false = sym beside ∙ ap is_beside is in cc
-room_for m next command said now both sent is (Turns.greets unsent same) = cc
 room_for m next command said now both sent is (Turns.asks question shakes room only same) = room
 room_for m next command said now both sent is (Turns.changes effect shakes none same) = rw none (omega arith)
-room_for m next command said now both sent is (Turns.answers other replied before after was same) = cc
+room_for m next command said now both sent is _ = cc
 
 pub in_window : (messages : List Message) (m : Machine) → Run messages m → IsInWindow m
 in_window messages m r = let o = all_open r in record {

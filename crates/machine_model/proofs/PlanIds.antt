@@ -1,6 +1,6 @@
 -- What a look-up lacks is asked with ids that its sight has: once over plans, and by row what its plan says.
-use Rattle.std.proofs.Common.{◌≡◌, ℕ, suc, Bool, true, false, cond, not, List, [], ◌∷◌, Option, Some, None, refl}
-use Rattle.std.proofs.Common.{◌∙◌, option_map, subst, zero}
+use Rattle.std.proofs.Common.{◌≡◌, ℕ, suc, Bool, true, false, cond, not, List, [], ◌∷◌, Option, Some, None, refl, ◌∙◌}
+use Rattle.std.proofs.Common.{option_map, subst, zero}
 use Rattle.std.specs.List.{AllByRecursion as All, flat_map}
 use Rattle.class_tables.specs.Facts.{Known, same_class}
 use Rattle.class_tables.specs.Lookups.{found_in}
@@ -18,14 +18,14 @@ use Rattle.machine_model.specs.Ids.{Id, class, frame, ids_answered, ids_asked, i
 use Rattle.machine_model.specs.Ids.{object, thread_of}
 use Rattle.machine_model.specs.Keys.{same_question}
 use Rattle.machine_model.specs.Names.{Answer, Finding, Lookup, NamedThread, Question, Replied, Sent, ThreadId, Want}
-use Rattle.machine_model.specs.Names.{all_threads, an_answer, an_error, threads_found, classes_found, class_facts}
-use Rattle.machine_model.specs.Names.{Seen, ShownFrame, ShownVariable, container_children, expression_value, frames_found, no_value, thread_frames}
-use Rattle.machine_model.specs.Names.{value_found, variable_write, write_found}
+use Rattle.machine_model.specs.Names.{all_threads, an_answer, an_error, threads_found, classes_found, class_facts, Seen}
+use Rattle.machine_model.specs.Names.{ShownFrame, ShownVariable, container_children, expression_value, frames_found}
+use Rattle.machine_model.specs.Names.{no_value, thread_frames, value_found, variable_write, write_found, Thrown}
+use Rattle.machine_model.specs.Names.{exception_found, exception_info, exception_text, text_found, variables_found}
 use Rattle.machine_model.proofs.WriteIds.{IsWrite}
-use Rattle.machine_model.specs.Names.{Thrown, exception_found, exception_info, exception_text, text_found, variables_found}
-use Rattle.machine_model.specs.Plans.{Found, Need, Plan, Sight, after, answer_in, asks_for, beside, chained}
-use Rattle.machine_model.specs.Plans.{fails, found_at, found_from, gives, has, heard_of, lacks}
-use Rattle.machine_model.specs.Plans.{made_with, need, pairs, question_of, wants}
+use Rattle.machine_model.specs.Plans.{Found, Need, Plan, Sight, after, answer_in, asks_for, beside, chained, fails}
+use Rattle.machine_model.specs.Plans.{found_at, found_from, gives, has, heard_of, lacks, made_with, need, pairs}
+use Rattle.machine_model.specs.Plans.{question_of, wants}
 use Rattle.machine_model.proofs.IdRows.{all_joined, are_plain, none_in}
 use Rattle.machine_model.proofs.KeyLaws.{is_one}
 use Rattle.stop_refs.specs.declared.thing.FrameThing.{FrameThing}
@@ -204,26 +204,21 @@ after_stands P Good Best (lacks want others) f h k = h
 pub beside_stands : {A B : Type 0} (P : Id → Type 0) (Good : A → Type 0) (Best : B → Type 0) (m : Need A) (n : Need B)
     → NeedStands P Good m → NeedStands P Best n → NeedStands P (λ two. Good two.0 × Best two.1) (beside m n)
 beside_stands P Good Best (has a) (has b) h k = (h, k)
-beside_stands P Good Best (has a) (fails fault) h k = tt
 beside_stands P Good Best (has a) (lacks want others) h k = k
 beside_stands P Good Best (fails fault) (has b) h k = tt
-beside_stands P Good Best (fails fault) (fails other) h k = tt
-beside_stands P Good Best (fails fault) (lacks want others) h k = tt
 beside_stands P Good Best (lacks want others) (has b) h k = h
-beside_stands P Good Best (lacks want others) (fails fault) h k = tt
 beside_stands P Good Best (lacks want others) (lacks other more) h k =
     all_joined (IsWanted P true) (want ∷ others) (other ∷ more) h k
+beside_stands P Good Best _ _ h k = tt
 
 after_after : {A B C : Type 0} (n : Need A) (f : A → Need B) (g : B → Need C)
     → after n (λ a. after (f a) g) ≡ after (after n f) g
 after_after (has a) f g = refl
-after_after (fails fault) f g = refl
-after_after (lacks want others) f g = refl
+after_after _ f g = refl
 
 pub after_like : {A B : Type 0} (n : Need A) (f g : A → Need B) → ((a : A) → f a ≡ g a) → after n f ≡ after n g
 after_like (has a) f g like = like a
-after_like (fails fault) f g like = refl
-after_like (lacks want others) f g like = refl
+after_like _ f g like = refl
 
 pub need_chained : {A B : Type 0} (sight : Sight) (p : Plan A) (f : A → Plan B)
     → need sight (chained p f) ≡ after (need sight p) (λ a. need sight (f a))

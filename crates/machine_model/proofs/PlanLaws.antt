@@ -1,6 +1,6 @@
 -- How a plan is read by the replies so far: it has its value, fails by its first error, or lacks what is open.
-use Rattle.std.proofs.Common.{◌≡◌, ◌≤◌, inl, inr, ℕ, zero, suc, Bool, true, false, cond, List, [], ◌∷◌, ◌++◌}
-use Rattle.std.proofs.Common.{Option, Some, None, refl, sym, ap, subst, ◌∙◌, arith, nat_le, Contains, ⊎_elim, ◌+◌}
+use Rattle.std.proofs.Common.{◌≡◌, ◌≤◌, inl, inr, ℕ, zero, suc, Bool, true, false, cond, List, [], ◌∷◌, ◌++◌, Option}
+use Rattle.std.proofs.Common.{Some, None, refl, sym, ap, subst, ◌∙◌, arith, nat_le, Contains, ⊎_elim, ◌+◌}
 use Rattle.std.proofs.lemmas.List.Elements.{Contains-append_cases, Contains-append_left, Contains-append_right}
 use Rattle.std.proofs.lemmas.List.Elements.{Contains-push, Contains-push_cases}
 use Rattle.machine_model.specs.Facts.{fact_known}
@@ -8,9 +8,8 @@ use Rattle.machine_model.specs.Names.{Answer, Question, Replied, Sent, Want, an_
 use Rattle.machine_model.specs.PlanLaws.{FailsFirst, Gives, HasMet, HasNoReply, Hears, IsMissing, IsOpen, IsRefused}
 use Rattle.machine_model.specs.PlanLaws.{IsUnheard, LacksOpen, Reaches, RepliedAt}
 use Rattle.machine_model.specs.Plans.{Fault, Found, Need, Plan, Sight, after, asks_for, beside, earlier, fact_heard}
-use Rattle.machine_model.specs.Plans.{fact_replied}
-use Rattle.machine_model.specs.Plans.{fails, found_at, found_from, gives, has, heard_of, lacks, may_hear, must_by}
-use Rattle.machine_model.specs.Plans.{must_hear, need, pairs, wants}
+use Rattle.machine_model.specs.Plans.{fact_replied, fails, found_at, found_from, gives, has, heard_of, lacks, may_hear}
+use Rattle.machine_model.specs.Plans.{must_by, must_hear, need, pairs, wants}
 
 -- What was heard ------------------------------------------------------------------------------------------------------
 
@@ -78,8 +77,7 @@ refused_fails : (sight : Sight) (fault : Fault) (want : Want) → IsRefused sigh
 refused_fails sight fault (Want.Must question) h =
     ap (must_hear question) (found_there 0 fault.place sight.asked question (an_error fault.code) h)
     ∙ ap (λ (n : ℕ). fails (record { place = n; code = fault.code })) (omega arith)
-refused_fails sight fault (Want.May question) h = absurd h
-refused_fails sight fault (Want.Fact question) h = absurd h
+refused_fails sight fault _ h = absurd h
 
 unheard_lacks : (sight : Sight) (want : Want) → IsUnheard sight want → heard_of sight want ≡ lacks want []
 unheard_lacks sight (Want.Must question) h = ap (must_hear question) (no_reply sight.asked question h)
@@ -117,15 +115,13 @@ pub beside_so : {A B : Type 0} (V : A → Type 0) (W : B → Type 0) (E : Fault 
     (m : Need B) → IsSo V E (Each L) n → IsSo W E (Each L) m
     → IsSo (λ (two : A × B). V two.0 × W two.1) E (Each L) (beside n m)
 beside_so V W E L (has a) (has b) h k = (h, k)
-beside_so V W E L (has a) (fails fault) h k = k
-beside_so V W E L (has a) (lacks want others) h k = k
 beside_so V W E L (fails fault) (has b) h k = h
 beside_so V W E L (fails fault) (fails other) h k = one_of E fault other h k
 beside_so V W E L (fails fault) (lacks want others) h k = h
 beside_so V W E L (lacks want others) (has b) h k = h
-beside_so V W E L (lacks want others) (fails fault) h k = k
 beside_so V W E L (lacks first others) (lacks other more) h k = λ want i.
     ⊎_elim (h want) (k want) (Contains-append_cases (first ∷ others) (other ∷ more) want i)
+beside_so V W E L _ _ h k = k
 
 -- what was heard of a want is so
 abbrev pub HeardSo : Sight → Want → Need (Option Answer) → Type 0
@@ -224,22 +220,18 @@ Shows E L n = IsSo (λ a. ⊥) E L n
 left_shows : {A B : Type 0} (E : Fault → Type 0) (L : List Want → Type 0) (n : Need A) (m : Need B) → Joins E L
     → Shows E L n → Shows E L (beside n m)
 left_shows E L (has a) m j h = absurd h
-left_shows E L (fails fault) (has b) j h = h
 left_shows E L (fails fault) (fails other) j h = j.left fault other h
-left_shows E L (fails fault) (lacks first others) j h = h
-left_shows E L (lacks first others) (has b) j h = h
 left_shows E L (lacks first others) (fails fault) j h = j.over (first ∷ others) fault h
 left_shows E L (lacks first others) (lacks other more) j h = j.front (first ∷ others) (other ∷ more) h
+left_shows E L _ _ j h = h
 
 right_shows : {A B : Type 0} (E : Fault → Type 0) (L : List Want → Type 0) (n : Need A) (m : Need B) → Joins E L
     → Shows E L m → Shows E L (beside n m)
 right_shows E L n (has b) j h = absurd h
-right_shows E L (has a) (fails other) j h = h
-right_shows E L (has a) (lacks first others) j h = h
 right_shows E L (fails fault) (fails other) j h = j.right fault other h
 right_shows E L (fails fault) (lacks first others) j h = j.over (first ∷ others) fault h
-right_shows E L (lacks first others) (fails fault) j h = h
 right_shows E L (lacks first others) (lacks other more) j h = j.back (first ∷ others) (other ∷ more) h
+right_shows E L _ _ j h = h
 
 -- what a plan has come to shows in what it comes to
 shows : {A : Type 0} (sight : Sight) (Kind : Want → Type 0) (E : Fault → Type 0) (L : List Want → Type 0) → Joins E L

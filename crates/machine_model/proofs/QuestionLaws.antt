@@ -10,6 +10,7 @@ use Rattle.machine_model.specs.Runs.{Message, Run}
 use Rattle.machine_model.specs.State.{Hand, Machine, is_gone}
 use Rattle.machine_model.proofs.RestLaws.{near_queue}
 use Rattle.machine_model.proofs.Stepping.{Loses, Moves, by_runs, with_said}
+use Rattle.machine_model.proofs.Standing.{queue_in}
 
 -- each of these has the property
 abbrev All : (Want → Type 0) → List Want → Type 0
@@ -45,10 +46,6 @@ all_of P all done (want ∷ wants) is each = (
 )
 
 -- The invariant -------------------------------------------------------------------------------------------------------
-
-abbrev queue_in : Option Hand → List Want
-queue_in None = []
-queue_in (Some hand) = hand.queue
 
 record Asks (messages : List Message) (m : Machine) : Type 0 where
   sent : AreLacked messages
@@ -120,8 +117,7 @@ queued_all {messages} m hand r is near =
 loss_aside : {m : Machine} {message : Message} {late : List TargetCommand} → Loses m message late
     → is_question message ≡ false
 loss_aside Loses.by_end = refl
-loss_aside (Loses.by_question in_hand waits reply is) = refl
-loss_aside (Loses.by_effect in_hand flying reply is) = refl
+loss_aside _ = refl
 
 aside_asks : {messages : List Message} {m : Machine} (next : Machine) (message : Message) → is_question message ≡ false
     → Asks messages m → All (IsLacked messages) (queue_in next.hand) → Asks (messages ++ message ∷ []) next
@@ -146,7 +142,6 @@ asks_on messages m next said r h (Moves.sends free at near) =
     aside_asks next _ refl h (same_queue messages (queue_in m.hand) (held_queue at.in_hand) h.queue)
 asks_on messages m next said r h (Moves.updates free at is near) =
     aside_asks next _ refl h (same_queue messages (queue_in m.hand) (held_queue at.in_hand) h.queue)
-asks_on messages m next said r h (Moves.greets free at is near) = aside_asks next _ refl h h.queue
 asks_on messages m next said r h (Moves.notes free at) =
     record { sent = h.sent; queue = same_queue messages (queue_in m.hand) (held_queue at.in_hand) h.queue }
 asks_on messages m next said r h (Moves.unfolds free at) =
@@ -165,19 +160,13 @@ asks_on messages m next said r h (Moves.asks {hand} {want} {wants = others} free
           (behind_first queue)) (sym are)
           (queue_more messages (Message.sends (a_question (question_of want)) ∷ []) others all.1));
     }
-asks_on messages m next said r h (Moves.hears read is) = aside_asks next _ refl h h.queue
-asks_on messages m next said r h (Moves.greeted read is) = aside_asks next _ refl h h.queue
 asks_on messages m next said r h (Moves.answers {question} {replied} is waits reply stays) =
     aside_asks next _ refl h (replied_queue (IsLacked messages) (a_question question) replied m.hand h.queue)
 asks_on messages m next said r h (Moves.replies {effect} {replied} is flying reply stays) =
     aside_asks next _ refl h (replied_queue (IsLacked messages) (an_effect effect) replied m.hand h.queue)
-asks_on messages m next said r h (Moves.late before after is reply) = aside_asks next _ refl h h.queue
-asks_on messages m next said r h (Moves.ends gone) = aside_asks next _ refl h h.queue
 asks_on messages m next said r h (Moves.loses {message} late near why) =
     aside_asks next message (loss_aside why) h (given_queue (IsLacked messages) m.hand)
-asks_on messages m next said r h (Moves.comes read sized taken) = aside_asks next _ refl h h.queue
-asks_on messages m next said r h (Moves.keeps is) = aside_asks next _ refl h h.queue
-asks_on messages m next said r h (Moves.reads before after read is none taken) = aside_asks next _ refl h h.queue
+asks_on messages m next said r h _ = aside_asks next _ refl h h.queue
 
 pub are_lacked : (messages : List Message) (m : Machine) → Run messages m → AreLacked messages
 are_lacked messages m r = (by_runs {Holds = Asks} (record {

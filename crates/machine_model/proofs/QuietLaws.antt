@@ -1,10 +1,10 @@
 -- What the gate says of the item in hand; and in a target that is gone, no command of it is pending.
-use Rattle.std.proofs.Common.{◌≡◌, Bool, true, false, cond, not, ◌||◌, List, [], ◌∷◌, ◌++◌, Option, Some, None}
-use Rattle.std.proofs.Common.{refl, sym, ap, subst, ◌∙◌, option_map, arith}
+use Rattle.std.proofs.Common.{◌≡◌, Bool, true, false, cond, not, ◌||◌, List, [], ◌∷◌, ◌++◌, Option, Some, None, refl}
+use Rattle.std.proofs.Common.{sym, ap, subst, ◌∙◌, option_map, arith}
 use Rattle.machine_model.specs.Due.{Load, Picked, busy, can_read, clear, hand_load, lacking_more, load_of, newly_lacked}
 use Rattle.machine_model.specs.Due.{passed_by, pick, queued, waiting}
 use Rattle.machine_model.specs.Names.{Effect, Event, Initialized, Item, Phase, Question, Sent, Terminated, a_composite}
-use Rattle.machine_model.specs.Names.{a_question, a_raw, a_request, a_stop, an_effect, some_news, target_end}
+use Rattle.machine_model.specs.Names.{a_question, a_raw, a_request, an_effect, target_end}
 use Rattle.machine_model.specs.Replying.{given_up, is_waiting, replied_to}
 use Rattle.machine_model.specs.Rest.{hand_silent}
 use Rattle.machine_model.specs.Runs.{Message}
@@ -75,8 +75,7 @@ pub near_flies : (m : Machine) (hand : Hand) (effect : Effect) → IsQuiet m →
 near_flies m hand effect h is flies = grind (arith, h, is, flies)
 
 either : (gone quiet : Bool) → quiet ≡ true → cond gone quiet true ≡ true
-either true quiet is = is
-either false quiet is = refl
+either gone quiet is = grind (arith, is)
 
 pub quiet_on : (m next : Machine) (said : Option Message) → IsQuiet m → Moves m said next → IsQuiet next
 quiet_on m next said h (Moves.begins picked free none is) = either (is_gone m.state.phase) true refl
@@ -92,22 +91,15 @@ quiet_on m next said h (Moves.notes {hand} free at) = either _ _ (quiet_now m ha
 quiet_on m next said h (Moves.unfolds {hand} free at) = either _ _ (quiet_now m hand h free at.in_hand)
 quiet_on m next said h (Moves.queues free is) = rw (near_queue m free) refl
 quiet_on m next said h (Moves.asks {hand} free room is are) = rw (near_asks m hand free is).0 refl
-quiet_on m next said h (Moves.hears read is) = h
-quiet_on m next said h (Moves.greeted read is) = h
 quiet_on m next said h (Moves.answers {question} {replied} {hand} is waits reply stays) =
     rw (same_replied (a_question question) replied m.state, near_waits m hand question h is waits) refl
 quiet_on m next said h (Moves.replies {effect} {replied} {hand} is flies reply stays) =
     rw (same_replied (an_effect effect) replied m.state, near_flies m hand effect h is flies) refl
-quiet_on m next said h (Moves.late before after is reply) = h
-quiet_on m next said h (Moves.ends gone) = h
 quiet_on m next said h (Moves.loses late near why) = given_silent m.hand
   where
     given_silent : (hand : Option Hand) → hand_silent (option_map given_up hand) ≡ true
-    given_silent None = refl
-    given_silent (Some hand) = refl
-quiet_on m next said h (Moves.comes read sized taken) = h
-quiet_on m next said h (Moves.keeps is) = h
-quiet_on m next said h (Moves.reads before after read is none taken) = h
+    given_silent hand = grind arith
+quiet_on m next said h _ = h
 
 -- While the target isn't gone, its end doesn't wait -------------------------------------------------------------------
 
@@ -192,9 +184,8 @@ kept_on m next said k (Moves.tells {event} free at) = told_kept event
     told_kept : (event : Event)
         → cond (is_gone (after_event event m.state).phase) true (not (has_end m.waiting)) ≡ true
     told_kept Initialized = kept_phase m (attached_from m.state.phase) k (attached_gone m.state.phase)
-    told_kept (some_news news) = k
-    told_kept (a_stop stopping) = k
     told_kept Terminated = refl
+    told_kept _ = k
 kept_on m next said k (Moves.notes {note} free at) = kept_phase m (noted note m.state).phase k
     (ap is_gone (same_noted note m.state))
 kept_on m next said k (Moves.answers {question} {replied} is waits reply stays) =
@@ -203,7 +194,6 @@ kept_on m next said k (Moves.answers {question} {replied} is waits reply stays) 
 kept_on m next said k (Moves.replies {effect} {replied} is flies reply stays) =
     kept_phase m (replied_to (an_effect effect) replied m.state).phase k
     (ap is_gone (same_replied (an_effect effect) replied m.state))
-kept_on m next said k (Moves.late before after is reply) = k
 kept_on m next said k (Moves.loses late near why) = refl
 kept_on m next said k (Moves.begins picked free none is) =
     kept_waiting m picked.rest k (λ no_end. rest_too (is_end_item picked.item) (has_end picked.rest) _
@@ -211,19 +201,8 @@ kept_on m next said k (Moves.begins picked free none is) =
   where
     rest_too : (first rest was : Bool) → was ≡ (first || rest) → was ≡ false → rest ≡ false
     rest_too first rest was is none = grind (arith, is, none)
-kept_on m next said k (Moves.drops free is none) = k
-kept_on m next said k (Moves.finds found free at needs done) = k
-kept_on m next said k (Moves.passes_over free at why) = k
-kept_on m next said k (Moves.sends free at near) = k
-kept_on m next said k (Moves.updates free at is near) = k
-kept_on m next said k (Moves.greets free at is near) = k
-kept_on m next said k (Moves.unfolds free at) = k
-kept_on m next said k (Moves.queues free is) = k
-kept_on m next said k (Moves.asks free room is are) = k
 kept_on m next said k (Moves.hears {request} read is) =
     kept_waiting m next.waiting k (end_more m.waiting (a_request request) refl)
-kept_on m next said k (Moves.greeted read is) = k
-kept_on m next said k (Moves.ends gone) = k
 kept_on m next said k (Moves.comes {at} {composite} read sized taken) =
     kept_waiting m next.waiting k (end_more m.waiting (a_composite at composite) refl)
 kept_on m next said k (Moves.keeps {at} {body} is) =
@@ -231,3 +210,4 @@ kept_on m next said k (Moves.keeps {at} {body} is) =
 kept_on m next said k (Moves.reads {at} {body} {composite} before after read is none taken) =
     kept_waiting m next.waiting k (λ no_end. end_read before after (a_composite at composite) (a_raw at body) refl
     ∙ ap has_end (sym is) ∙ no_end)
+kept_on m next said k _ = k

@@ -1,21 +1,17 @@
 -- Frames and containers are numbered as they are first told in a stop: what each move keeps.
-use Rattle.std.proofs.Common.{◌≡◌, ◌≤◌, ◌<◌, ◌+◌, ℕ, zero, suc, Bool, true, false, cond, List, [], ◌∷◌, ◌++◌}
-use Rattle.std.proofs.Common.{filter, filter_map, length, map}
-use Rattle.std.proofs.Common.{Option, Some, None, refl, sym, ap, subst, ◌∙◌, arith, rules, append-nil, option_map}
+use Rattle.std.proofs.Common.{◌≡◌, ◌≤◌, ◌<◌, ◌+◌, ℕ, zero, suc, Bool, true, false, List, [], ◌∷◌, ◌++◌, filter}
+use Rattle.std.proofs.Common.{filter_map, length, map, Option, Some, None, refl, sym, ap, subst, ◌∙◌, arith, rules}
+use Rattle.std.proofs.Common.{append-nil, option_map}
 use Rattle.std.specs.Prelude.{if◌then◌else◌, option_to_list}
 use Rattle.std.specs.List.{cons_option, list_any, position_or_len}
 use Rattle.std.proofs.lemmas.List.{append_assoc, length-append}
 use Rattle.machine_model.specs.Due.{after_deed}
 use Rattle.machine_model.specs.Frames.{frame_by, frame_told}
 use Rattle.machine_model.specs.Knowing.{may_send, view_of}
-use Rattle.machine_model.specs.Names.{Writes, a_written}
-use Rattle.machine_model.specs.Names.{Capabilities, Clear, ClientOptions, Continued, Deed, Dispose, Does, Effect, Event}
-use Rattle.machine_model.specs.Names.{Exit, Failed, Initialized, Item, Note, Nothing, Outcome, Part, Replied, Request}
-use Rattle.machine_model.specs.Names.{Resume, Set, ShownFrame, ShownVariable, Spot, Success, Suspend, TargetCommand}
-use Rattle.machine_model.specs.Names.{Terminated}
-use Rattle.machine_model.specs.Names.{a_composite, a_question, a_raw, a_request, a_stop, an_effect, an_event}
-use Rattle.machine_model.specs.Names.{breakpoint_list, entry_verified, frame_list, of_composite, of_entry, of_stop}
-use Rattle.machine_model.specs.Names.{scope_list, some_news, target_end, thread_changed, thread_list, variable_list}
+use Rattle.machine_model.specs.Names.{Clear, ClientOptions, Deed, Does, Effect, Event, Item, Note, Outcome, Part}
+use Rattle.machine_model.specs.Names.{Replied, Request, Resume, Set, ShownFrame, ShownVariable, Spot, Success}
+use Rattle.machine_model.specs.Names.{TargetCommand, Terminated, a_question, an_effect, an_event, frame_list, of_stop}
+use Rattle.machine_model.specs.Names.{scope_list, variable_list, a_value}
 use Rattle.machine_model.specs.ReferenceNumbers.{AreNumbered, HaveReferences, ReferencesAre, ends_stop, frame_number}
 use Rattle.machine_model.specs.ReferenceNumbers.{not_zero, references_by, variable_number}
 use Rattle.machine_model.specs.References.{things_of, with_things}
@@ -25,7 +21,7 @@ use Rattle.machine_model.specs.Rows.{noted, taken}
 use Rattle.machine_model.specs.Runs.{Message, Run}
 use Rattle.machine_model.specs.State.{Hand, Machine, State, numbers_over}
 use Rattle.machine_model.specs.Telling.{after_event, event_told, numbered_by, outcome_told, response_to}
-use Rattle.machine_model.specs.Variables.{reference_of, value_told, variable_told}
+use Rattle.machine_model.specs.Variables.{reference_of, variable_told}
 use Rattle.machine_model.proofs.HeldLaws.{deed_may}
 use Rattle.machine_model.proofs.HoldingParts.{IsHolding, holding}
 use Rattle.machine_model.proofs.RequestSteps.{is_deed}
@@ -36,7 +32,7 @@ use Rattle.stop_refs.specs.Things.{same_thing}
 use Rattle.stop_refs.specs.declared.thing.Thing.{Thing}
 use Rattle.stop_refs.specs.declared.thing.Thing.TheVariants.{Frame as a_frame, Locals as some_locals}
 use Rattle.wish_sets.specs.Wishes.{WishChange, clears, next_change, sets}
-use Rattle.machine_model.specs.Names.{a_value, an_exception}
+use Rattle.machine_model.proofs.Bools.{first_holds}
 
 -- Places --------------------------------------------------------------------------------------------------------------
 
@@ -162,8 +158,7 @@ frame_numbers options numbers (shown ∷ frames) =
     by_spot : (spot : Option Spot)
         → frame_number (frame_by (number_of (a_frame shown.frame) numbers) shown.name options spot)
         ≡ number_of (a_frame shown.frame) numbers
-    by_spot None = refl
-    by_spot (Some spot) = refl
+    by_spot spot = grind arith
 
 -- numbers are positive
 kept_number : (number : ℕ) (others : List ℕ) → 0 < number → filter not_zero (number ∷ others) ≡ number ∷ filter not_zero others
@@ -242,10 +237,7 @@ pub replied_numbers : (command : TargetCommand) (replied : Replied) (state : Sta
 replied_numbers command replied state = grind arith
 
 pub taken_numbers : (item : Item) (state : State) → (taken item state).numbers ≡ state.numbers
-taken_numbers (a_request request) state = refl
-taken_numbers (a_composite at composite) state = refl
-taken_numbers (a_raw at body) state = refl
-taken_numbers target_end state = refl
+taken_numbers item state = grind arith
 
 -- a message that tells things by numbers
 by_things : {messages : List Message} (things : List Thing) (numbers : InHand) (message : Message)
@@ -264,14 +256,6 @@ responded_on : {messages : List Message} (request : Request) (outcome : Outcome)
     → AreOf messages state.numbers
     → AreOf (messages ++ Message.tells (response_to request (outcome_told outcome state)) ∷ [])
     (numbered_by outcome state).numbers
-responded_on request (Failed failure) state h = aside state.numbers _ refl refl h
-responded_on request (Success Nothing) state h = aside state.numbers _ refl refl h
-responded_on request (Success Capabilities) state h = aside state.numbers _ refl refl h
-responded_on request (Success (breakpoint_list rooted listed)) state h = aside state.numbers _ refl refl h
-responded_on request (Success Continued) state h = aside state.numbers _ refl refl h
-responded_on request (Success (an_exception id mode)) state h = aside state.numbers _ refl refl h
-responded_on request (Success (a_written seen)) state h = aside state.numbers _ refl refl h
-responded_on request (Success (thread_list named)) state h = aside state.numbers _ refl refl h
 responded_on {messages} request (Success (frame_list total frames)) state h =
     by_things (things_of (frame_list total frames)) state.numbers _ refl
     (frame_numbers state.options (with_things (things_of (frame_list total frames)) state.numbers) frames) h
@@ -287,43 +271,31 @@ responded_on {messages} request (Success (a_value seen)) state h =
     by_things (things_of (a_value seen)) state.numbers _ refl
     (value_numbers now seen.thing (subst (λ (past : Past). 0 < past.next)
     (sym (past_kept (things_of (a_value seen)) state.numbers)) (positive h).0)) h
+responded_on request _ state h = aside state.numbers _ refl refl h
 
 told_on : {messages : List Message} (event : Event) (state : State) → AreOf messages state.numbers
     → AreOf (messages ++ Message.tells (an_event (event_told event (after_event event state))) ∷ [])
     (after_event event state).numbers
-told_on Initialized state h = aside state.numbers _ refl refl h
-told_on (some_news (entry_verified entry)) state h = aside state.numbers _ refl refl h
-told_on (some_news (thread_changed started thread)) state h = aside state.numbers _ refl refl h
-told_on (a_stop stopping) state h = aside state.numbers _ refl refl h
 told_on Terminated state h = aside (numbers_over state.stopped state.numbers) _ refl refl (lost_now state.stopped state.numbers h)
+told_on _ state h = aside state.numbers _ refl refl h
 
 deed_on : {messages : List Message} (deed : Deed) (state : State) → (deed ≡ Resume of_stop → state.stopped ≡ true)
     → AreOf messages state.numbers
     → AreOf (messages ++ Message.sends (an_effect (Does deed)) ∷ []) (after_deed deed state).numbers
-deed_on Suspend state in_stop h = aside state.numbers _ refl refl h
-deed_on (Resume of_composite) state in_stop h = aside state.numbers _ refl refl h
-deed_on (Resume of_entry) state in_stop h = aside state.numbers _ refl refl h
 deed_on {messages} (Resume of_stop) state in_stop h =
     subst (λ (stopped : Bool). AreOf (messages ++ Message.sends (an_effect (Does (Resume of_stop))) ∷ [])
     (numbers_over stopped state.numbers)) (sym (in_stop refl)) (spent state.numbers (ReferencesAre.resumed _ refl h))
-deed_on Dispose state in_stop h = aside state.numbers _ refl refl h
-deed_on Exit state in_stop h = aside state.numbers _ refl refl h
-deed_on (Writes write) state in_stop h = aside state.numbers _ refl refl h
+deed_on _ state in_stop h = aside state.numbers _ refl refl h
 
 in_its_stop : {m : Machine} {hand : Hand} {deed : Deed} {rest : List Part} → IsHolding m
     → IsAt m hand (Part.Sends deed) rest → deed ≡ Resume of_stop → m.state.stopped ≡ true
-in_its_stop {m} {hand} {deed} {rest} w at is = by_may m.state.stopped _
+in_its_stop {m} {hand} {deed} {rest} w at is = first_holds m.state.stopped _
     (subst (λ (deed : Deed). may_send (an_effect (Does deed)) (view_of m) ≡ true) is (deed_may m hand deed rest w at))
-  where
-    by_may : (stopped held : Bool) → cond stopped held false ≡ true → stopped ≡ true
-    by_may true held may = refl
-    by_may false held may = cc
 
 request_on : {messages : List Message} (numbers : InHand) (effect : Effect) → is_deed effect ≡ false
     → AreOf messages numbers → AreOf (messages ++ Message.sends (an_effect effect) ∷ []) numbers
-request_on numbers (Set wish) is h = aside numbers _ refl refl h
-request_on numbers (Clear wish request) is h = aside numbers _ refl refl h
 request_on numbers (Does deed) is h = cc
+request_on numbers _ is h = aside numbers _ refl refl h
 
 -- `updates` sends no deed
 pub due_request : (w : Wishes) (effect : Effect) → effect_due w ≡ Some effect → is_deed effect ≡ false
@@ -346,28 +318,20 @@ references_on messages m next said w h (Moves.tells {event = event} free at) = t
 references_on messages m next said w h (Moves.sends {deed = deed} free at near) = deed_on deed m.state (in_its_stop w at) h
 references_on messages m next said w h (Moves.updates {effect = effect} free at is near) =
     request_on m.state.numbers effect (due_request m.state.wishes effect is) h
-references_on messages m next said w h (Moves.greets free at is near) = aside m.state.numbers _ refl refl h
 references_on messages m next said w h (Moves.notes {note = note} free at) = same_numbers m.state.numbers next.state.numbers (noted_numbers note m.state) h
 references_on messages m next said w h (Moves.unfolds free at) = h
 references_on messages m next said w h (Moves.queues free is) = h
-references_on messages m next said w h (Moves.asks free room is are) = aside m.state.numbers _ refl refl h
-references_on messages m next said w h (Moves.hears read is) = aside m.state.numbers _ refl refl h
-references_on messages m next said w h (Moves.greeted read is) = aside m.state.numbers _ refl refl h
 references_on messages m next said w h (Moves.answers {question} {replied} is waits reply last) =
     aside next.state.numbers _ refl refl (same_numbers m.state.numbers next.state.numbers (replied_numbers (a_question question) replied m.state) h)
 references_on messages m next said w h (Moves.replies {effect} {replied} is flying reply last) =
     aside next.state.numbers _ refl refl (same_numbers m.state.numbers next.state.numbers (replied_numbers (an_effect effect) replied m.state) h)
-references_on messages m next said w h (Moves.late before after is reply) = aside m.state.numbers _ refl refl h
-references_on messages m next said w h (Moves.ends gone) = aside m.state.numbers _ refl refl h
 references_on messages m next said w h (Moves.loses late away Loses.by_end) =
     aside (numbers_over m.state.stopped m.state.numbers) _ refl refl (lost_now m.state.stopped m.state.numbers h)
 references_on messages m next said w h (Moves.loses late away (Loses.by_question is waits reply last)) =
     aside (numbers_over m.state.stopped m.state.numbers) _ refl refl (lost_now m.state.stopped m.state.numbers h)
 references_on messages m next said w h (Moves.loses late away (Loses.by_effect is flying reply last)) =
     aside (numbers_over m.state.stopped m.state.numbers) _ refl refl (lost_now m.state.stopped m.state.numbers h)
-references_on messages m next said w h (Moves.comes read sized taken) = aside m.state.numbers _ refl refl h
-references_on messages m next said w h (Moves.keeps is) = aside m.state.numbers _ refl refl h
-references_on messages m next said w h (Moves.reads before after read is none taken) = aside m.state.numbers _ refl refl h
+references_on messages m next said w h _ = aside m.state.numbers _ refl refl h
 
 -- The law -------------------------------------------------------------------------------------------------------------
 

@@ -6,10 +6,9 @@ use Rattle.jdwp_commands.specs.Answers.{kind_of_answer}
 use Rattle.jdwp_commands.specs.declared.answer.Answer.TheVariants as answers
 use Rattle.jdwp_commands.specs.declared.kind.CommandKind.TheVariants as kinds
 use Rattle.jdwp_commands.specs.declared.kind.EffectKind.TheVariants as effect_kinds
-use Rattle.machine_model.specs.EventRequests.{IsAsReplied, StandsAsReplied, is_set_of, refused_by_effect}
-use Rattle.machine_model.specs.EventRequests.{requests_of, about_set, set_since}
-use Rattle.machine_model.specs.Names.{Answer, Attached, Clear, Does, Effect, Part, Replied, Set}
-use Rattle.machine_model.specs.Names.{an_answer, an_effect, an_error}
+use Rattle.machine_model.specs.EventRequests.{IsAsReplied, StandsAsReplied, is_set_of, refused_by_effect, requests_of}
+use Rattle.machine_model.specs.EventRequests.{about_set, set_since}
+use Rattle.machine_model.specs.Names.{Answer, Attached, Clear, Effect, Part, Replied, Set, an_answer, an_effect}
 use Rattle.machine_model.specs.Replying.{IsReply}
 use Rattle.machine_model.specs.Requests.{Wishes, request_in, set_to, wishes_after, effect_due}
 use Rattle.machine_model.specs.Rest.{IsAtRest}
@@ -17,8 +16,8 @@ use Rattle.machine_model.specs.Runs.{Message, Run}
 use Rattle.machine_model.specs.State.{Machine, SizesRead, is_gone}
 use Rattle.machine_model.proofs.RequestLaws.{IsDue, Settling, settles, settling, step_of, was_due}
 use Rattle.machine_model.proofs.RequestSteps.{Step, flying_in, is_deed, near_before, parts_left, says_aside}
-use Rattle.machine_model.proofs.StandLaws.{refused_replied, goes_on}
-use Rattle.machine_model.proofs.Stepping.{Moves, moved}
+use Rattle.machine_model.proofs.StandLaws.{refused_replied}
+use Rattle.machine_model.proofs.Stepping.{Moves, moved, gone_on}
 use Rattle.machine_model.proofs.WishLemmas.{due_clear, left_inserted, left_same, new_set_due, none_left}
 use Rattle.machine_model.proofs.WishLemmas.{none_due_change}
 use Rattle.wish_sets.proofs.NextLaws.{surplus_clear}
@@ -52,7 +51,6 @@ new_unset w wish new = (none_left (λ one. is_wish wish one.wish) w.installed ne
 other_installed : (w : Wishes) (parts : List Part) (effect : Effect) (replied : Replied) (wish : Wish)
     → IsDue w parts (Some effect) → has_wish (wished w.wanted) wish ≡ true → is_set_of wish effect ≡ false
     → requests_of wish (wishes_after effect replied w).installed ≡ requests_of wish w.installed
-other_installed w parts (Does deed) replied wish due asked other = refl
 other_installed w parts (Set one) replied wish due asked other = by_id (request_in replied)
   where
     by_id : (found : Option ℕ) → requests_of wish (set_to found one w).installed ≡ requests_of wish w.installed
@@ -73,7 +71,7 @@ other_installed w parts (Clear one request) (an_answer answer) wish due asked ot
     kept r is = not_true (is_wish one r.wish) (λ same.
         sym unwished ∙ ap (has_wish (wished w.wanted)) (equal_is one r.wish same ∙ sym (equal_is wish r.wish is))
         ∙ asked)
-other_installed w parts (Clear one request) (an_error code) wish due asked other = refl
+other_installed w parts _ _ wish due asked other = refl
 
 pub other_stays : (sizes : Option SizesRead) (w : Wishes) (parts : List Part) (effect : Effect) (replied : Replied)
     (wish : Wish) → IsDue w parts (Some effect) → IsReply sizes (an_effect effect) replied
@@ -87,9 +85,7 @@ other_stays sizes w parts effect replied wish due reply asked other = (
     as_it_was : (effect : Effect) → is_set_of wish effect ≡ false
         → refused_by_effect wish effect replied (has_wish w.refused wish)
         ≡ has_wish w.refused wish
-    as_it_was (Does deed) other = refl
-    as_it_was (Set one) other = rw other refl
-    as_it_was (Clear one request) other = refl
+    as_it_was effect other = grind (arith, other)
 
 -- what is replied to the Set of a wish is what stands of it
 set_answered : (w : Wishes) (wish : Wish) (answer : Answer) → IsNewSet w wish
@@ -135,9 +131,8 @@ data IsTold (wish : Wish) (w : Wishes) (flying : Option Effect) : List Message �
       → IsTold wish w flying (sending wish ∷ Message.answers (an_effect (Set wish)) reply ∷ [])
 
 pub set_is : (wish : Wish) (effect : Effect) → is_set_of wish effect ≡ true → effect ≡ Set wish
-set_is wish (Does deed) is = cc
 set_is wish (Set one) is = ap Set (sym (equal_is wish one is))
-set_is wish (Clear one request) is = cc
+set_is wish _ is = cc
 
 abbrev about : Wish → Effect → Message → List Message
 about wish effect message = cond (is_set_of wish effect) (message ∷ []) []
@@ -152,11 +147,10 @@ told_sends wish w effect messages told new = by_test (is_set_of wish effect) ref
     by_test true is messages (IsTold.unset u idle) =
         subst (λ (effect : Effect). IsTold wish w (Some effect) (Message.sends (an_effect effect) ∷ []))
         (sym (set_is wish effect is)) (IsTold.flies refl)
-    by_test true is messages (IsTold.flies same) = absurd (cc)
     by_test true is messages (IsTold.replied says) = absurd (not_unset says (new (set_is wish effect is)))
     by_test false is messages (IsTold.unset u idle) = IsTold.unset u is
-    by_test false is messages (IsTold.flies same) = absurd (cc)
     by_test false is messages (IsTold.replied says) = IsTold.replied says
+    by_test _ is messages (IsTold.flies same) = absurd (cc)
 
 told_replies : (wish : Wish) (now w : Wishes) (effect : Effect) (reply : Replied) (messages : List Message)
     → IsTold wish w (Some effect) messages → (effect ≡ Set wish → IsUnset wish w × IsAsReplied now wish reply)
@@ -199,10 +193,9 @@ unwished_none : {messages : List Message} {m : Machine} (r : Run messages m) (wi
     → has_wish (wished m.state.wishes.wanted) wish ≡ false → set_since wish r ≡ []
 unfolding set_since
 unwished_none Run.starts wish is = refl
-unwished_none (Run.goes r went) wish is = rw is refl
-unwished_none (Run.moves r allows) wish is = rw is refl
+unwished_none _ wish is = rw is refl
 
-wanted_replied : (effect : Effect) (reply : Replied) (w : Wishes) → (wishes_after effect reply w).wanted ≡ w.wanted
+pub wanted_replied : (effect : Effect) (reply : Replied) (w : Wishes) → (wishes_after effect reply w).wanted ≡ w.wanted
 wanted_replied effect reply w = grind arith
 
 -- once all that is wished is set, what isn't wished is neither installed nor refused
@@ -291,7 +284,7 @@ is_told Run.starts near wish asked = IsTold.unset (refl, refl) refl
 is_told (Run.goes {m} r is) here wish asked =
     rw asked (subst (λ (those : List Message). IsTold wish (due false m).next.state.wishes
     (flying_in (due false m).next.hand) those) (append-nil (set_since wish r))
-    (told_move wish r (due false m).next None (goes_on is) here (λ near. is_told r near wish) asked))
+    (told_move wish r (due false m).next None (gone_on is) here (λ near. is_told r near wish) asked))
 is_told (Run.moves {m} {next} {message} r allows) here wish asked =
     rw asked (told_move wish r next (Some message) (moved allows) here (λ near. is_told r near wish) asked)
 

@@ -1,13 +1,11 @@
 -- The effect in flight is the one that is due, what stands is tidy, and at rest nothing is to be cleared or set.
-use Rattle.std.proofs.Common.{◌≡◌, ℕ, Bool, true, false, List, [], ◌∷◌, ◌++◌, Option, Some, None, refl}
-use Rattle.std.proofs.Common.{sym, ap, subst, ◌∙◌, inl, inr, arith}
+use Rattle.std.proofs.Common.{◌≡◌, ℕ, Bool, true, false, List, [], ◌∷◌, ◌++◌, Option, Some, None, refl, sym, ap, subst}
+use Rattle.std.proofs.Common.{◌∙◌, inl, inr, arith}
 use Rattle.machine_model.specs.EventRequests.{IsSettled}
 use Rattle.machine_model.specs.Lookups.{finished}
-use Rattle.machine_model.specs.Names.{Written}
-use Rattle.machine_model.specs.Names.{Attached, Choice, Clear, Command, Decides, Does, Effect, Finding, Fresh}
+use Rattle.machine_model.specs.Names.{Written, Attached, Choice, Clear, Command, Does, Effect, Finding, Fresh}
 use Rattle.machine_model.specs.Names.{Initialized, Item, Leaves, Lookup, Note, Part, Phase, Replied, Set, TellsNews}
-use Rattle.machine_model.specs.Names.{Terminated, a_composite, a_question, a_raw, a_request, a_stop, an_answer}
-use Rattle.machine_model.specs.Names.{an_effect, an_error, some_news, target_end}
+use Rattle.machine_model.specs.Names.{Terminated, a_question, a_raw, a_request, a_stop, an_answer, an_effect, some_news}
 use Rattle.machine_model.specs.Outcomes.{result_of}
 use Rattle.machine_model.specs.Replying.{replied_to}
 use Rattle.machine_model.specs.Requests.{Wishes, effect_due, request_in, set_to, wishes_after}
@@ -18,9 +16,7 @@ use Rattle.machine_model.specs.State.{Hand, Machine, State, is_attached, is_gone
 use Rattle.machine_model.proofs.RestLaws.{no_late}
 use Rattle.machine_model.proofs.SizeLaws.{is_idle}
 use Rattle.machine_model.proofs.Stepping.{IsAt, Moves, Skips, by_runs}
-use Rattle.machine_model.proofs.Tables.{are_followed, followed, followed_test, rewants, starts_updates}
-use Rattle.machine_model.specs.Names.{Stepped}
-use Rattle.machine_model.proofs.Tables.{told_alike}
+use Rattle.machine_model.proofs.Tables.{are_followed, followed, followed_test, rewants, starts_updates, told_alike}
 use Rattle.machine_model.proofs.Testing.{same_noted, same_numbered, same_replied, Passed, passed_on, whole}
 use Rattle.machine_model.proofs.WishLemmas.{new_set_due, none_due_change}
 use Rattle.wish_sets.proofs.LeftLaws.{at_rest}
@@ -62,14 +58,13 @@ was_due m effect h is = subst (λ (flying : Option Effect). IsDue m.state.wishes
 
 tidy_replied : (w : Wishes) (parts : List Part) (effect : Effect) (replied : Replied) → IsDue w parts (Some effect)
     → IsTidy w → IsTidy (wishes_after effect replied w)
-tidy_replied w parts (Does deed) replied due tidy = tidy
 tidy_replied w parts (Set wish) replied due tidy = by_id (request_in replied) (new_set_due w wish (due refl).0)
   where
     by_id : (found : Option ℕ) → IsNewSet w wish → IsTidy (set_to found wish w)
     by_id None new = refused_is_tidy wish w tidy new
     by_id (Some request) new = installed_is_tidy request wish w tidy new
 tidy_replied w parts (Clear wish request) (an_answer answer) due tidy = cleared_is_tidy wish w tidy
-tidy_replied w parts (Clear wish request) (an_error code) due tidy = tidy
+tidy_replied w parts _ _ due tidy = tidy
 
 tidy_on : (m next : Machine) (said : Option Message) → IsAwaited m → IsTidy m.state.wishes → Step m next said
     → IsTidy next.state.wishes
@@ -94,9 +89,8 @@ begun_needs state (a_request request) is = row_needs state request.command is
     row_needs : (state : State) (command : Command)
         → needs_set (is_attached state.phase) (request_parts command state) ≡ true → is_attached state.phase ≡ true
     row_needs state command is = grind (arith, is)
-begun_needs state target_end is = grind (arith, is)
-begun_needs state (a_composite at composite) is = grind (arith, is)
 begun_needs state (a_raw at body) is = is
+begun_needs state _ is = grind (arith, is)
 
 -- what a part becomes changes what is wanted only where it does
 found_needs : (attached : Bool) (lookup : Lookup) (result : Result Finding) (state : State) (rest : List Part)
@@ -110,10 +104,9 @@ chosen_needs : (attached : Bool) (choice : Choice) (state : State) (hand : Hand)
 chosen_needs attached (TellsNews below) state hand rest is =
     sym (told_alike (needs_set attached) (λ news parts. refl) state.phase
     (news_of below state hand.item) rest) ∙ is
-chosen_needs attached Decides state hand rest is = refl
-chosen_needs attached Stepped state hand rest is = refl
 chosen_needs attached (Written seen) state hand rest is = grind (arith, is)
 chosen_needs attached (Leaves exits) state hand rest is = grind (arith, is)
+chosen_needs attached _ state hand rest is = refl
 
 -- a part in front that isn't `updates` is done
 pub front_set : (m : Machine) (hand : Hand) (part : Part) (rest : List Part) → IsSet m → IsAt m hand part rest
@@ -131,9 +124,7 @@ replied_set : (m : Machine) (effect : Effect) (replied : Replied) → IsSet m
     → needs_set (is_attached m.state.phase) (parts_left m.hand) ≡ true
     → effect_due (wishes_after effect replied m.state.wishes) ≡ None
 replied_set m (Does deed) replied h due needs = h needs
-replied_set m (Set wish) replied h due needs =
-    absurd (in_front (is_attached m.state.phase) (parts_left m.hand) (due refl).1 needs)
-replied_set m (Clear wish request) replied h due needs =
+replied_set m _ replied h due needs =
     absurd (in_front (is_attached m.state.phase) (parts_left m.hand) (due refl).1 needs)
 
 -- behind a note that changes what is wanted stands `updates`
@@ -174,7 +165,6 @@ set_on m next said a f h (Moves.tells {event = Terminated} free at) here = cc
 set_on m next said a f h (Moves.sends {hand} {rest} {deed} free at is) here = λ needs.
     front_set m hand (Part.Sends deed) rest h at needs
 set_on m next said a f h (Moves.updates free at is away) here = λ needs. cc
-set_on m next said a f h (Moves.greets free at is away) here = h
 set_on m next said a f h (Moves.notes {hand} {note} {rest} free at) here = λ needs.
     noted_set m hand note rest (rewants (Part.Notes note)) h at (whole followed f at) refl
     (ap (λ (phase : Phase). needs_set (is_attached phase) rest) (sym (same_noted note m.state)) ∙ needs)
@@ -185,8 +175,6 @@ set_on m next said a f h (Moves.queues free is) here = λ needs.
     h (ap (needs_set (is_attached m.state.phase)) (ap parts_left is) ∙ needs)
 set_on m next said a f h (Moves.asks {want = want} free room is are) here = λ needs.
     h (ap (needs_set (is_attached m.state.phase)) (sym (asked_left want m.hand)) ∙ needs)
-set_on m next said a f h (Moves.hears read is) here = h
-set_on m next said a f h (Moves.greeted read is) here = h
 set_on m next said a f h (Moves.answers {question} {replied} is waits reply stays) here = λ needs.
     ap effect_due (learnt_wishes question replied m.state)
     ∙ h (ap (λ (phase : Phase). needs_set (is_attached phase) (parts_left m.hand))
@@ -196,12 +184,8 @@ set_on m next said a f h (Moves.answers {question} {replied} is waits reply stay
 set_on m next said a f h (Moves.replies {effect} {replied} is flying reply stays) here = λ needs.
     replied_set m effect replied h (was_due m effect a (ap flying_in is ∙ ap flying_of flying))
     (ap (needs_set (is_attached m.state.phase)) (sym (replied_left (an_effect effect) replied m.hand)) ∙ needs)
-set_on m next said a f h (Moves.late before after is reply) here = h
-set_on m next said a f h (Moves.ends gone) here = h
 set_on m next said a f h (Moves.loses late near why) here = cc
-set_on m next said a f h (Moves.comes read sized taken) here = h
-set_on m next said a f h (Moves.keeps is) here = h
-set_on m next said a f h (Moves.reads before after read is none taken) here = h
+set_on m next said a f h _ here = h
 
 -- All of it -----------------------------------------------------------------------------------------------------------
 

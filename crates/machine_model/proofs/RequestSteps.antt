@@ -1,13 +1,11 @@
 -- What each move is to the event requests: nothing, an effect that is sent, or the reply to one.
-use Rattle.std.proofs.Common.{◌≡◌, Bool, true, false, cond, List, [], ◌∷◌, ◌++◌, Option, Some, None, refl, sym, ap}
-use Rattle.std.proofs.Common.{◌∙◌, ◌⊎◌, inl, inr, option_map, arith, ◌||◌}
+use Rattle.std.proofs.Common.{◌≡◌, Bool, true, false, cond, List, [], ◌∷◌, ◌++◌, Option, Some, None, refl, sym, ap, ◌∙◌}
+use Rattle.std.proofs.Common.{◌⊎◌, inl, inr, option_map, arith, ◌||◌}
 use Rattle.machine_model.specs.Due.{asked_hand, clear, load_of}
 use Rattle.machine_model.specs.Lookups.{finished}
-use Rattle.machine_model.specs.Names.{Written}
-use Rattle.machine_model.specs.Names.{Classes, Clear, Configured, Does, Doing, Effect, EntryHeld, Event, Lines, Note}
-use Rattle.machine_model.specs.Names.{Options, Outcome, Part, Phase, Question, Replied, Roots, Set, TargetCommand}
-use Rattle.machine_model.specs.Names.{Want, a_question, an_effect, Choice, Decides, Functions, Leaves, Stepped, Steps}
-use Rattle.machine_model.specs.Names.{StopsAt, TellsNews, Throws}
+use Rattle.machine_model.specs.Names.{Written, Classes, Clear, Does, Doing, Effect, Event, Lines, Note, Outcome, Part}
+use Rattle.machine_model.specs.Names.{Phase, Question, Replied, Set, TargetCommand, Want, a_question, an_effect, Choice}
+use Rattle.machine_model.specs.Names.{Decides, Functions, Leaves, Stepped, Steps, StopsAt, TellsNews}
 use Rattle.machine_model.specs.Outcomes.{result_of}
 use Rattle.machine_model.specs.Replying.{IsReply, hand_replied, told_by}
 use Rattle.machine_model.specs.Requests.{effect_due, wishes_after}
@@ -65,35 +63,29 @@ lands m hand free near is = ap flying_in is ∙ by_effect hand.effect (is_free m
     by_effect doing is = grind (arith, is)
 
 asked_flying : (want : Want) (hand : Option Hand) → flying_in (option_map (asked_hand want) hand) ≡ flying_in hand
-asked_flying want None = refl
-asked_flying want (Some hand) = refl
+asked_flying want hand = grind arith
 
 pub asked_left : (want : Want) (hand : Option Hand) → parts_left (option_map (asked_hand want) hand) ≡ parts_left hand
-asked_left want None = refl
-asked_left want (Some hand) = refl
+asked_left want hand = grind arith
 
 answered_flying : (question : Question) (replied : Replied) (hand : Option Hand)
     → flying_in (option_map (hand_replied (a_question question) replied) hand) ≡ flying_in hand
-answered_flying question replied None = refl
-answered_flying question replied (Some hand) = refl
+answered_flying question replied hand = grind arith
 
 replied_flying : (effect : Effect) (replied : Replied) (hand : Option Hand)
     → flying_in (option_map (hand_replied (an_effect effect) replied) hand) ≡ None
-replied_flying effect replied None = refl
-replied_flying effect replied (Some hand) = refl
+replied_flying effect replied hand = grind arith
 
 pub replied_left : (command : TargetCommand) (replied : Replied) (hand : Option Hand)
     → parts_left (option_map (hand_replied command replied) hand) ≡ parts_left hand
-replied_left command replied None = refl
-replied_left (a_question question) replied (Some hand) = refl
-replied_left (an_effect effect) replied (Some hand) = refl
+replied_left command replied hand = grind arith
 
 -- What moves change of the event requests -----------------------------------------------------------------------------
 
 pub numbered_wishes : (outcome : Outcome) (state : State) → (numbered_by outcome state).wishes ≡ state.wishes
 numbered_wishes outcome state = grind arith
 
-told_wishes : (event : Event) (state : State) → (after_event event state).wishes ≡ state.wishes
+pub told_wishes : (event : Event) (state : State) → (after_event event state).wishes ≡ state.wishes
 told_wishes event state = grind arith
 
 pub noted_wishes : (note : Note) (state : State) → rewants (Part.Notes note) ≡ false
@@ -107,19 +99,14 @@ data Noted (note : Note) (state : State) : Type 0 where
       → rewants (Part.Notes note) ≡ true → Noted note state
 
 noted_by : (note : Note) (state : State) → Noted note state
-noted_by (Options options) state = Noted.leaves_all refl
-noted_by (Roots roots) state = Noted.leaves_all refl
-noted_by EntryHeld state = Noted.leaves_all refl
-noted_by Configured state = Noted.leaves_all refl
-noted_by (Lines None path entries) state = Noted.leaves_all refl
 noted_by (Lines (Some key) path entries) state = Noted.rewishes (with_lines key entries state.wishes.wanted) refl refl
 noted_by (Functions entries) state = Noted.rewishes (with_functions entries state.wishes.wanted) refl refl
 noted_by (StopsAt caught uncaught) state =
     Noted.rewishes (with_exceptions caught uncaught state.wishes.wanted) refl refl
 noted_by (Steps step) state = Noted.rewishes (with_step step state.wishes.wanted) refl refl
-noted_by (Throws thrown) state = Noted.leaves_all refl
 noted_by (Classes classes) state =
     Noted.rewishes (with_known (found_in state.classes) classes state.wishes.wanted) refl refl
+noted_by _ state = Noted.leaves_all refl
 
 pub learnt_wishes : (question : Question) (replied : Replied) (state : State)
     → (told_by question replied state).wishes ≡ state.wishes
@@ -220,7 +207,6 @@ steps m next said late (Moves.sends {hand} {rest} {deed} free at is) near here =
     Step.sends refl (lands m hand free near at.in_hand) refl (λ no. cc)
 steps m next said late (Moves.updates {hand} {effect} {rest} free at is away) near here =
     Step.sends refl (lands m hand free near at.in_hand) refl (λ no. (is, refl))
-steps m next said late (Moves.greets free at is away) near here = still m next _ refl refl refl
 steps m next said late (Moves.notes {hand} {note} {rest} free at) near here = by_note (noted_by note m.state)
   where
     by_note : Noted note m.state → Step m next None
@@ -234,8 +220,6 @@ steps m next said late (Moves.queues free is) near here =
     Step.aside refl refl (sym (ap flying_in is)) (inr (sym (ap parts_left is)))
 steps m next said late (Moves.asks {want = want} free room is are) near here =
     Step.aside refl refl (asked_flying want m.hand) (inr (asked_left want m.hand))
-steps m next said late (Moves.hears read is) near here = still m next _ refl refl refl
-steps m next said late (Moves.greeted read is) near here = still m next _ refl refl refl
 steps m next said late (Moves.answers {question} {replied} is waits reply stays) near here =
     Step.aside refl (learnt_wishes question replied m.state) (answered_flying question replied m.hand)
     (inr (replied_left (a_question question) replied m.hand))
@@ -243,8 +227,5 @@ steps m next said late (Moves.replies {effect} {replied} is flying reply stays) 
     Step.replies refl (ap flying_in is ∙ ap flying_of flying) (replied_flying effect replied m.hand) reply
 steps m next said late (Moves.late {command} before after is reply) near here =
     absurd (none_late m.state.phase m.late before after command near late is)
-steps m next said late (Moves.ends gone) near here = still m next _ refl refl refl
 steps m next said late (Moves.loses late_now away why) near here = cc
-steps m next said late (Moves.comes read sized taken) near here = still m next _ refl refl refl
-steps m next said late (Moves.keeps is) near here = still m next _ refl refl refl
-steps m next said late (Moves.reads before after read is none taken) near here = still m next _ refl refl refl
+steps m next said late _ near here = still m next _ refl refl refl

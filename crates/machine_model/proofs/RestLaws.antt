@@ -1,6 +1,6 @@
 -- At rest nothing is in hand, and no item waits but composites that can't be read yet.
-use Rattle.std.proofs.Common.{◌≡◌, Bool, true, false, cond, not, ◌||◌, ◌⊎◌, inl, inr, List, [], ◌∷◌, ◌++◌, Option}
-use Rattle.std.proofs.Common.{Some, None, refl, sym, subst, ◌∙◌, arith}
+use Rattle.std.proofs.Common.{◌≡◌, Bool, true, false, cond, not, ◌||◌, ◌⊎◌, inl, inr, List, [], ◌∷◌, ◌++◌, Option, Some}
+use Rattle.std.proofs.Common.{None, refl, sym, subst, ◌∙◌, arith}
 use Rattle.std.specs.List.{flat_map}
 use Rattle.machine_model.specs.Due.{Due, Load, Picked, asked_first, asked_next, busy, can_read, clear, due, due_by}
 use Rattle.machine_model.specs.Due.{gated, hand_due, hand_load, is_full, lacked_by, lacking_more, lets, load_of}
@@ -38,22 +38,10 @@ some_late (first ∷ before) after command = refl
 
 late_on : (m next : Machine) (said : Option Message) → late_at_end m ≡ true → Moves m said next
     → late_at_end next ≡ true
-late_on m next said h (Moves.begins picked free none is) = h
-late_on m next said h (Moves.drops free is none) = h
 late_on m next said h (Moves.responds {outcome} free at is) =
     same_late (numbered_by outcome m.state).phase m (same_numbered outcome m.state) h
-late_on m next said h (Moves.finds found free at needs done) = h
-late_on m next said h (Moves.passes_over free at why) = h
 late_on m next said h (Moves.tells {event} free at) = event_late event m.state (is_empty m.late) h
-late_on m next said h (Moves.sends free at near) = h
-late_on m next said h (Moves.updates free at is near) = h
-late_on m next said h (Moves.greets free at is near) = h
 late_on m next said h (Moves.notes {note} free at) = same_late (noted note m.state).phase m (same_noted note m.state) h
-late_on m next said h (Moves.unfolds free at) = h
-late_on m next said h (Moves.queues free is) = h
-late_on m next said h (Moves.asks free room is are) = h
-late_on m next said h (Moves.hears read is) = h
-late_on m next said h (Moves.greeted read is) = h
 late_on m next said h (Moves.answers {question} {replied} is waits reply stays) =
     same_late (replied_to (a_question question) replied m.state).phase m
     (same_replied (a_question question) replied m.state) h
@@ -62,11 +50,8 @@ late_on m next said h (Moves.replies {effect} {replied} is flying reply stays) =
     (an_effect effect) replied m.state) h
 late_on m next said h (Moves.late {command} before after is reply) =
     grind (arith, h, is, some_late before after command)
-late_on m next said h (Moves.ends gone) = h
 late_on m next said h (Moves.loses late near why) = refl
-late_on m next said h (Moves.comes read sized taken) = h
-late_on m next said h (Moves.keeps is) = h
-late_on m next said h (Moves.reads before after read is none taken) = h
+late_on m next said h _ = h
 
 -- what is late shows that the target is gone
 pub late_gone : (m : Machine) (before after : List TargetCommand) (command : TargetCommand) → late_at_end m ≡ true
@@ -128,11 +113,8 @@ free_hand state hand is = by_tests (is_flying hand.effect) (is_empty hand.queue)
     by_tests : (flies none new waits : Bool)
         → cond flies busy (cond (not none) queued (cond (not new) lacking_more (cond waits waiting clear))) ≡ clear
         → (flies ≡ false) × (waits ≡ false) × (none ≡ true) × (new ≡ true)
-    by_tests true none new waits h = cc
-    by_tests false false new waits h = cc
-    by_tests false true false waits h = cc
-    by_tests false true true true h = cc
     by_tests false true true false h = (refl, refl, refl, refl)
+    by_tests _ _ _ _ h = cc
 
 near_load : (gone read : Bool) (load : Load) → gone ≡ false → cond gone clear (cond read busy load) ≡ clear
     → load ≡ clear
@@ -153,8 +135,7 @@ near_queue m is = by_gone (is_gone m.state.phase) is
   where
     by_gone : (gone : Bool) → cond gone clear (cond (can_read m) busy (hand_load m.state m.hand)) ≡ lacking_more
         → gone ≡ false
-    by_gone true is = cc
-    by_gone false is = refl
+    by_gone gone is = grind (arith, is)
 
 -- what is to be asked goes only while no effect is in flight, and the target isn't gone
 pub near_asks : (m : Machine) (hand : Hand) → load_of m ≡ queued → m.hand ≡ Some hand
@@ -169,18 +150,15 @@ near_asks m hand is held = by_tests (is_gone m.state.phase) (can_read m) (is_fly
         (cond (not (is_empty (newly_lacked m.state hand))) lacking_more (cond
         (has_waiting hand.asked) waiting clear)))))
         ≡ queued → (gone ≡ false) × (flies ≡ false)
-    by_tests true read flies is = cc
-    by_tests false true flies is = cc
-    by_tests false false true is = cc
     by_tests false false false is = (refl, refl)
+    by_tests _ _ _ is = cc
 
 -- a part moves on, unless it waits for a handshake
 moves_part : (m : Machine) (hand : Hand) (part : Part) (rest : List Part) (gone : Bool) → is_gone m.state.phase ≡ gone
     → awaits_greeting m.state ≡ false → free_once gone (part ∷ rest) ≡ true
     → (gone ≡ false → is_empty (lacked_by m.state hand (part ∷ rest)) ≡ true)
     → lets gone (part_due m hand part rest).act ≡ true
-moves_part m hand part rest true is waited free none = grind (arith, is, waited, free)
-moves_part m hand part rest false is waited free none = grind (arith, is, waited, free, none)
+moves_part m hand part rest gone is waited free none = grind (arith, is, waited, free, none)
 
 pub record IsDone (m : Machine) : Type 0 where
   pub no_hand : m.hand ≡ None
@@ -195,8 +173,7 @@ rests_in m None is clear_now waited free stops = record {
 }
   where
     nothing : (picked : Option Picked) → lets (is_gone m.state.phase) (next_item m picked).act ≡ false → picked ≡ None
-    nothing None stops = refl
-    nothing (Some picked) stops = cc
+    nothing picked stops = grind (arith, stops)
 rests_in m (Some hand) is clear_now waited free stops = absurd (no_part hand.parts refl free stops)
   where
     none_lacked : (parts : List Part) → hand.parts ≡ parts → is_gone m.state.phase ≡ false
@@ -231,8 +208,7 @@ none_full m hand is lands silent none =
     rw (is, late, no_questions hand.asked silent) (grind (arith, lands))
 
 asks_some : (m : Machine) (queue : List Want) → (asked_first false m queue).act ≡ Act.Waits → is_empty queue ≡ true
-asks_some m [] is = refl
-asks_some m (want ∷ wants) is = cc
+asks_some m queue is = grind (arith, is)
 
 silent_load : (m : Machine) (hand : Hand) → m.hand ≡ Some hand → is_empty m.late ≡ true
     → hand_silent (Some hand) ≡ true
@@ -257,11 +233,10 @@ silent_load m hand is none silent waits =
         ≡ Act.Waits
         → cond flies busy (cond (not no_queue) queued (cond (not none_new) lacking_more
         (cond waits waiting clear))) ≡ clear
-    by_tests true no_queue none_new waits lands answered asks goes due_now = cc
     by_tests false false none_new waits lands answered asks goes due_now = let no = asks due_now in cc
     by_tests false true false waits lands answered asks goes due_now = let no = goes due_now in cc
-    by_tests false true true true lands answered asks goes due_now = cc
     by_tests false true true false lands answered asks goes due_now = refl
+    by_tests _ _ _ _ lands answered asks goes due_now = cc
 
 -- at rest nothing hinders what is wanted
 pub clear_at_rest : (m : Machine) → late_at_end m ≡ true → IsAtRest m → load_of m ≡ clear

@@ -2,7 +2,7 @@
 -- frames: by row what its plan may want.
 use Rattle.std.proofs.Common.{◌==◌, ◌&&◌, ℕ, zero, suc, pos, Bool, true, false, not, List, [], ◌∷◌, ◌++◌, None, refl}
 use Rattle.std.proofs.Common.{Option, Some}
-use Rattle.std.specs.Prelude.{codes}
+use Rattle.std.specs.Prelude.{codes, Ok, Err, bytes_eq, nat_lt}
 use Rattle.std.specs.List.{list_any}
 use Rattle.dap_messages.specs.declared.requests.Filter.{Filter}
 use Rattle.dap_messages.specs.declared.requests.Filter.TheVariants.{Both, Indexed, Named}
@@ -18,22 +18,20 @@ use Rattle.machine_model.specs.Children.{Child, FieldOf, above_plan, chain, chai
 use Rattle.machine_model.specs.Children.{fields_named, fields_plan, listed_variables, locals_plan}
 use Rattle.machine_model.specs.Children.{name_plan as field_name_plan, object_fields, of_classes, of_field, reach}
 use Rattle.machine_model.specs.Children.{this_in, this_plan, variables_plan, visible_at, visible_plan, with_class}
-use Rattle.machine_model.specs.Children.{with_this}
+use Rattle.machine_model.specs.Children.{with_this, Place, index_name, of_index, first_byte}
 use Rattle.machine_model.specs.Exceptions.{exception_plan, heard_plan, mode_of, name_by, named_plan, text_by}
 use Rattle.machine_model.specs.Exceptions.{text_plan as thrown_text}
 use Rattle.machine_model.specs.Facts.{above_in, fields_in, signature_in}
 use Rattle.machine_model.specs.Frames.{count_from, count_in, counted_plan, frame_plan, frame_shown, frames_from}
-use Rattle.machine_model.specs.Frames.{frames_in}
-use Rattle.machine_model.specs.Frames.{frames_plan, lines_plan as lines_of, methods_plan as methods_of, shown_plan}
-use Rattle.machine_model.specs.Frames.{signature_plan as signature_of, source_plan as source_of}
+use Rattle.machine_model.specs.Frames.{frames_in, frames_plan, lines_plan as lines_of, methods_plan as methods_of}
+use Rattle.machine_model.specs.Frames.{shown_plan, signature_plan as signature_of, source_plan as source_of}
 use Rattle.machine_model.specs.Harmless.{is_harmless}
 use Rattle.machine_model.specs.Lookups.{name_plan, names_plan, threads_in, threads_plan}
-use Rattle.machine_model.specs.Names.{Answer, ClassId, ThreadId, Thrown, Want, exception_found, frames_found, text_found}
-use Rattle.machine_model.specs.Names.{Failure, Store, no_value, value_found, variables_found}
-use Rattle.machine_model.specs.Children.{Place, index_name, of_index}
+use Rattle.machine_model.specs.Names.{Answer, ClassId, ThreadId, Thrown, Want, exception_found, frames_found}
+use Rattle.machine_model.specs.Names.{text_found, Failure, Store, no_value, value_found, variables_found}
 use Rattle.machine_model.specs.Writing.{Writing, child_named, child_written, digits_of, element_by, element_store}
-use Rattle.machine_model.specs.Writing.{field_store, field_written, index_written, is_index_name, local_written, slot_store}
-use Rattle.machine_model.specs.Writing.{value_for, write_by, write_with}
+use Rattle.machine_model.specs.Writing.{field_store, field_written, index_written, is_index_name, local_written}
+use Rattle.machine_model.specs.Writing.{slot_store, value_for, write_by, write_with}
 use Rattle.std.specs.Str.Parse.{digits_value}
 use Rattle.dap_messages.specs.Telling.{bad_index, no_such_name}
 use Rattle.field_exprs.specs.declared.expr.Expr.{Expr}
@@ -43,22 +41,20 @@ use Rattle.field_exprs.specs.declared.expr.Hop.{Hop}
 use Rattle.field_exprs.specs.declared.expr.Hop.TheVariants as hops
 use Rattle.jdwp_values.specs.declared.class.Field.{Field}
 use Rattle.jdwp_values.specs.declared.class.Variable.{Variable}
-use Rattle.machine_model.specs.Children.{first_byte}
-use Rattle.machine_model.specs.Expressions.{Sought, as_length, as_this, class_field, element_hop, element_if, field_from}
-use Rattle.machine_model.specs.Expressions.{field_hop, field_named, field_value, found_or, head_in, hop_on, hops_on}
-use Rattle.machine_model.specs.Expressions.{index_on, length_hop, length_if, missing, name_on, named_head, named_in}
-use Rattle.machine_model.specs.Expressions.{on_value, one_of, shown_value, value_plan, variable_named}
-use Rattle.std.specs.Prelude.{Ok, Err, bytes_eq, nat_lt}
+use Rattle.machine_model.specs.Expressions.{Sought, as_length, as_this, class_field, element_hop, element_if}
+use Rattle.machine_model.specs.Expressions.{field_from, field_hop, field_named, field_value, found_or, head_in, hop_on}
+use Rattle.machine_model.specs.Expressions.{hops_on, index_on, length_hop, length_if, missing, name_on, named_head}
+use Rattle.machine_model.specs.Expressions.{named_in, on_value, one_of, shown_value, value_plan, variable_named}
 use Rattle.machine_model.specs.Plans.{Plan, asking, both, chained, each, gives, made_with, question_of}
 use Rattle.machine_model.specs.State.{State}
-use Rattle.machine_model.specs.Values.{Declared, Valued, array_plan, array_seen, by_id, class_in, class_plan as class_of}
-use Rattle.machine_model.specs.Values.{declared_plan, element_of, element_plan, is_signature, length_in, length_plan}
-use Rattle.machine_model.specs.Values.{null_plan, object_plan, object_seen, seen_by, seen_plan, string_plan, string_seen}
-use Rattle.machine_model.specs.Values.{text_in, text_plan, type_if, type_plan, typed}
+use Rattle.machine_model.specs.Values.{Declared, Valued, array_plan, array_seen, by_id, class_in}
+use Rattle.machine_model.specs.Values.{class_plan as class_of, declared_plan, element_of, element_plan, is_signature}
+use Rattle.machine_model.specs.Values.{length_in, length_plan, null_plan, object_plan, object_seen, seen_by, seen_plan}
+use Rattle.machine_model.specs.Values.{string_plan, string_seen, text_in, text_plan, type_if, type_plan, typed}
 use Rattle.machine_model.specs.Variables.{child_plan, children_plan, elements_page, elements_plan, elements_valued}
-use Rattle.machine_model.specs.Variables.{field_values, fields_of, fields_page, fields_valued, locals_page, locals_valued}
-use Rattle.machine_model.specs.Variables.{page, page_plan, shown_as, shown_plan as values_shown, slots_of, slots_plan}
-use Rattle.machine_model.specs.Variables.{values_in, with_known}
+use Rattle.machine_model.specs.Variables.{field_values, fields_of, fields_page, fields_valued, locals_page}
+use Rattle.machine_model.specs.Variables.{locals_valued, page, page_plan, shown_as, shown_plan as values_shown}
+use Rattle.machine_model.specs.Variables.{slots_of, slots_plan, values_in, with_known}
 use Rattle.machine_model.proofs.BindingPlans.{AllWants, asks, chains, every, makes, wants_other}
 use Rattle.value_views.specs.Names.{class_name}
 use Rattle.machine_model.proofs.Frameless.{asks_frames}
@@ -173,15 +169,7 @@ seen_safe types v = by_value v.value
     by_value (values.ThreadGroup o) = by_id_safe o.0 _ _ (null_safe types v) (object_safe types v.value)
     by_value (values.ClassLoader o) = by_id_safe o.0 _ _ (null_safe types v) (object_safe types v.value)
     by_value (values.ClassObject o) = by_id_safe o.0 _ _ (null_safe types v) (object_safe types v.value)
-    by_value (values.Byte x) = gives_safe _
-    by_value (values.Char x) = gives_safe _
-    by_value (values.Double x) = gives_safe _
-    by_value (values.Float x) = gives_safe _
-    by_value (values.Int x) = gives_safe _
-    by_value (values.Long x) = gives_safe _
-    by_value (values.Short x) = gives_safe _
-    by_value (values.Boolean x) = gives_safe _
-    by_value values.Void = gives_safe _
+    by_value _ = gives_safe _
 
 -- What was thrown ------------------------------------------------------------------------------------------------------
 
@@ -211,8 +199,6 @@ locals_safe f = makes is_safe with_this (both (this_plan f) (visible_plan f))
 
 chain_safe : (steps : ℕ) (met : List ℕ) (class : ℕ) → Safe (chain steps met class)
 unfolding chain
-chain_safe zero met class = gives_safe met
-chain_safe (suc steps) met zero = gives_safe met
 chain_safe (suc steps) met (suc class) =
     by_met (list_any (λ other. other == suc class) met) (chain_safe steps (met ++ suc class ∷ []))
   where
@@ -224,6 +210,7 @@ chain_safe (suc steps) met (suc class) =
     by_met false behind = chains is_safe (above_plan (suc class)) (λ above. chain steps (met ++ suc class ∷ []) above.0)
         (asks is_safe above_in (Want.Fact (questions.Superclass (record { 0 = suc class }))) refl)
         (λ above. behind above.0)
+chain_safe _ met _ = gives_safe met
 
 class_fields_safe : (class : ℕ) → Safe (class_fields class)
 class_fields_safe class = makes is_safe _ (fields_plan class)
@@ -280,20 +267,17 @@ elements_page_safe start count id = chains is_safe (length_plan (suc id))
     (elements_safe id start (count_from total start count)))
 
 page_safe : (thing : Thing) (filter : Filter) (start count : ℕ) → Safe (page_plan thing filter start count)
-page_safe (things.Frame f) filter start count = gives_safe []
 page_safe (things.Locals f) Both start count = locals_page_safe f start count
-page_safe (things.Locals f) Indexed start count = gives_safe []
 page_safe (things.Locals f) Named start count = locals_page_safe f start count
 page_safe (things.Object o) Both start count =
     by_id_safe o.0 (gives []) (fields_page start count) (gives_safe []) (fields_page_safe start count)
-page_safe (things.Object o) Indexed start count = gives_safe []
 page_safe (things.Object o) Named start count =
     by_id_safe o.0 (gives []) (fields_page start count) (gives_safe []) (fields_page_safe start count)
 page_safe (things.Array o) Both start count =
     by_id_safe o.0 (gives []) (elements_page start count) (gives_safe []) (elements_page_safe start count)
 page_safe (things.Array o) Indexed start count =
     by_id_safe o.0 (gives []) (elements_page start count) (gives_safe []) (elements_page_safe start count)
-page_safe (things.Array o) Named start count = gives_safe []
+page_safe _ _ start count = gives_safe []
 
 child_safe : (types : Bool) (two : Child × Value) → Safe (child_plan types two)
 child_safe types two = makes is_safe (shown_as two.0.name)
@@ -322,8 +306,6 @@ found_safe None above k = k
 
 field_from_safe : (steps : ℕ) (met : List ℕ) (name : List ℕ) (class : ℕ) → Safe (field_from steps met name class)
 unfolding field_from
-field_from_safe zero met name class = gives_safe None
-field_from_safe (suc steps) met name zero = gives_safe None
 field_from_safe (suc steps) met name (suc class) =
     by_met (list_any (λ other. other == suc class) met) (field_from_safe steps (met ++ suc class ∷ []) name)
   where
@@ -341,6 +323,7 @@ field_from_safe (suc steps) met name (suc class) =
         (λ above. field_from steps (met ++ suc class ∷ []) name above.0)
         (asks is_safe above_in (Want.Fact (questions.Superclass (record { 0 = suc class }))) refl)
         (λ above. behind above.0)))
+field_from_safe _ met name _ = gives_safe None
 
 field_value_safe : (id : ℕ) (f : Option Field) → Safe (field_value (suc id) f)
 field_value_safe id None = missing_safe no_such_name
@@ -374,7 +357,6 @@ field_on_safe name id =
 name_on_safe : (name : List ℕ) (value : Value) → Safe (name_on name value)
 name_on_safe name (values.Array o) =
     by_id_safe o.0 (missing no_such_name) (length_hop name) (missing_safe no_such_name) (length_hop_safe name)
-name_on_safe name (values.String o) = missing_safe no_such_name
 name_on_safe name (values.Object o) = field_on_safe name o.0
 name_on_safe name (values.Thread o) = field_on_safe name o.0
 name_on_safe name (values.ThreadGroup o) = field_on_safe name o.0

@@ -45,14 +45,11 @@ given_up_same (Some hand) = given_up_item (has_response hand.parts) hand.item
 
 pub replied_same : (command : TargetCommand) (replied : Replied) (hand : Option Hand)
     → unanswered_hand (option_map (hand_replied command replied) hand) ≡ unanswered_hand hand
-replied_same command replied None = refl
-replied_same (a_question question) replied (Some hand) = refl
-replied_same (an_effect effect) replied (Some hand) = refl
+replied_same command replied hand = grind arith
 
 pub asked_same : (want : Want) (hand : Option Hand)
     → unanswered_hand (option_map (asked_hand want) hand) ≡ unanswered_hand hand
-asked_same want None = refl
-asked_same want (Some hand) = refl
+asked_same want hand = grind arith
 
 -- what is picked leaves what there is of the others, in order, where there is nothing of a raw composite
 picked_first : {A : Type 0} (f : Item → List A) (item : Item) (items : List Item) (picked : Picked) (raw : Bool)
@@ -78,8 +75,7 @@ picked_all f gone (item ∷ items) picked none is =
     (λ raw. none item (not_gone gone (is_raw item) raw)) (λ other are. picked_all f gone items other none are) is
   where
     not_gone : (gone raw : Bool) → cond gone false raw ≡ true → raw ≡ true
-    not_gone true raw is = cc
-    not_gone false raw is = is
+    not_gone gone raw is = grind (arith, is)
 
 raw_none : (item : Item) → is_raw item ≡ true → request_in item ≡ []
 raw_none item is = grind (arith, is)
@@ -126,8 +122,7 @@ waiting_same m item none = ap (λ (left : List Request). unanswered_hand m.hand 
 pub loss_silent : {m : Machine} {message : Message} {late : List TargetCommand} → Loses m message late
     → (request_by message ≡ []) × (response_by message ≡ [])
 loss_silent Loses.by_end = (refl, refl)
-loss_silent (Loses.by_question in_hand waits reply is) = (refl, refl)
-loss_silent (Loses.by_effect in_hand flying reply is) = (refl, refl)
+loss_silent _ = (refl, refl)
 
 -- what is left, by what is said
 pub silent_left : {left now : List Request} → IsLeft left now None → left ≡ now
@@ -135,9 +130,7 @@ silent_left (IsLeft.silent same) = same
 
 pub aside_left : {left now : List Request} (message : Message) → request_by message ≡ [] → response_by message ≡ []
     → IsLeft left now (Some message) → left ≡ now
-aside_left message none_heard none_told (IsLeft.aside _ no_request no_response same) = same
-aside_left message none_heard none_told (IsLeft.hears request is) = cc
-aside_left message none_heard none_told (IsLeft.responds request outcome is) = cc
+aside_left message none_heard none_told apart = grind (arith, none_heard, none_told, apart)
 
 -- the response is told: the request in hand was the first without one
 pub responded_left : {m : Machine} {hand : Hand} {rest : List Part} {request : Request} {outcome : Outcome}
@@ -167,7 +160,6 @@ left_on m next said once (Moves.sends {rest = rest} free at near) =
     IsLeft.aside _ refl refl (hand_on m (same_front rest at refl))
 left_on m next said once (Moves.updates {rest = rest} free at is near) =
     IsLeft.aside _ refl refl (hand_on m (same_front (Part.Updates ∷ rest) at refl))
-left_on m next said once (Moves.greets free at is near) = IsLeft.aside _ refl refl refl
 left_on m next said once (Moves.notes {rest = rest} free at) = IsLeft.silent (hand_on m (same_front rest at refl))
 left_on m next said once (Moves.unfolds {hand} {choice} {rest} free at) =
     let b = chosen_is choice m.state hand in
@@ -180,13 +172,10 @@ left_on m next said once (Moves.hears {request} read is) =
     IsLeft.hears request (ap (λ (left : List Request). unanswered_hand m.hand ++ left)
     (one_more request_in m.waiting (a_request request))
     ∙ sym (append_assoc (unanswered_hand m.hand) (flat_map request_in m.waiting) (request ∷ [])))
-left_on m next said once (Moves.greeted read is) = IsLeft.aside _ refl refl refl
 left_on m next said once (Moves.answers {question} {replied} is waits reply stays) =
     IsLeft.aside _ refl refl (hand_on m (replied_same (a_question question) replied m.hand))
 left_on m next said once (Moves.replies {effect} {replied} is flying reply stays) =
     IsLeft.aside _ refl refl (hand_on m (replied_same (an_effect effect) replied m.hand))
-left_on m next said once (Moves.late before after is reply) = IsLeft.aside _ refl refl refl
-left_on m next said once (Moves.ends gone) = IsLeft.aside _ refl refl refl
 left_on m next said once (Moves.loses {message} late near why) =
     IsLeft.aside message (loss_silent why).0 (loss_silent why).1 (waiting_same m target_end refl
     ∙ ap (λ (first : List Request). first ++ flat_map request_in (m.waiting ++ target_end ∷ []))
@@ -200,6 +189,7 @@ left_on m next said once (Moves.reads {at} {body} {composite} before after read 
     (ap (λ (items : List Item). flat_map request_in items) is ∙ flat_map-append request_in before
     (a_raw at body ∷ after)
     ∙ sym (flat_map-append request_in before (a_composite at composite ∷ after))))
+left_on m next said once _ = IsLeft.aside _ refl refl refl
 
 -- The invariant ------------------------------------------------------------------------------------------------------
 

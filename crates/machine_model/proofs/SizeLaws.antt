@@ -7,8 +7,8 @@ use Rattle.jdwp_commands.specs.declared.question.Question.TheVariants as questio
 use Rattle.machine_model.specs.Due.{asked_hand, pick}
 use Rattle.machine_model.specs.Lookups.{finished}
 use Rattle.machine_model.specs.Names.{Answer, Attached, Event, Failure, Fresh, Gone, IdSizes, Item, Outcome, Part}
-use Rattle.machine_model.specs.Names.{Phase, Question, Replied, TargetCommand, Want, a_composite, a_question, a_raw}
-use Rattle.machine_model.specs.Names.{a_request, an_answer, an_effect, target_end, Command, Note}
+use Rattle.machine_model.specs.Names.{Phase, Question, Replied, TargetCommand, Want, a_question, a_raw, a_request}
+use Rattle.machine_model.specs.Names.{an_answer, an_effect, Command, Note}
 use Rattle.machine_model.specs.Replying.{IsReply, hand_replied, is_end, replied_to, shows_end, sizes_in, wire}
 use Rattle.machine_model.specs.Responses.{IsIdle, are_raw}
 use Rattle.machine_model.specs.Rest.{IsAtRest}
@@ -20,9 +20,12 @@ use Rattle.machine_model.proofs.RestLaws.{at_rest, none_waiting}
 use Rattle.machine_model.proofs.Stepping.{IsAt, Moves, Skips, by_moves}
 use Rattle.machine_model.specs.Outcomes.{result_of}
 use Rattle.machine_model.proofs.Tables.{are_plain, chosen_is, finished_is, has_attach, plain_attach}
+use Rattle.machine_model.proofs.Bools.{other_fails}
+use Rattle.machine_model.proofs.Testing.{same_replied}
+use Rattle.machine_model.proofs.RequestSteps.{parts_left}
 
 -- it waits for the sizes of ids
-abbrev sizes_first : Part → Bool
+abbrev pub sizes_first : Part → Bool
 sizes_first (Part.Awaits IdSizes) = true
 sizes_first _ = false
 
@@ -35,12 +38,8 @@ abbrev parts_sized : Phase → Option SizesRead → List Part → Bool
 parts_sized phase sizes parts =
     cond (is_gone phase) true (cond (is_attached phase || has_attach parts) (is_some sizes || has_sizes parts) true)
 
-abbrev pub parts_in : Option Hand → List Part
-parts_in None = []
-parts_in (Some hand) = hand.parts
-
 abbrev IsSized : Machine → Type 0
-IsSized m = parts_sized m.state.phase m.state.sizes (parts_in m.hand) ≡ true
+IsSized m = parts_sized m.state.phase m.state.sizes (parts_left m.hand) ≡ true
 
 row_sized : (failure : Option Failure) (command : Command) (state : State)
     → cond (has_attach (parts_by failure (row_of command state))) (has_sizes (parts_by failure (row_of command state))) true ≡ true
@@ -49,9 +48,8 @@ row_sized failure command state = grind arith
 begun_sized : (state : State) (item : Item) → cond (has_attach (parts_of state item)) (has_sizes
     (parts_of state item)) true ≡ true
 begun_sized state (a_request request) = row_sized (failure_of (wanting request.command) state) request.command state
-begun_sized state target_end = grind arith
-begun_sized state (a_composite at composite) = grind arith
 begun_sized state (a_raw at body) = refl
+begun_sized state _ = grind arith
 
 -- what a part becomes leaves the guard where it is
 has_behind : (parts rest : List Part) → has_sizes rest ≡ true → has_sizes (parts ++ rest) ≡ true
@@ -68,7 +66,7 @@ noted_sizes : (note : Note) (state : State)
 noted_sizes note state = (grind arith, grind arith)
 
 -- a reply that isn't the target's end gives sizes where they were asked for
-good_answer : (answer : Answer) → kind_of_answer answer ≡ kind_of (wire (a_question questions.IdSizes))
+pub good_answer : (answer : Answer) → kind_of_answer answer ≡ kind_of (wire (a_question questions.IdSizes))
     → is_some (sizes_in (an_answer answer)) ≡ true
 good_answer answer is = grind (arith, is)
 
@@ -97,36 +95,26 @@ sized_by phase sizes later parts grows h = by_tests (is_gone phase) (is_attached
         (then_ || guard) true) ≡ true
     by_tests gone needs now then_ guard grows h = grind (arith, grows, h)
 
-pub near_end : (gone last : Bool) → gone ≡ false → cond gone false last ≡ false → last ≡ false
-near_end gone last near is = grind (arith, near, is)
-
 -- a reply keeps the invariant
 replied_sized : (m : Machine) (command : TargetCommand) (replied : Replied) → IsReply m.state.sizes command replied
     → shows_end m.state.phase command replied ≡ false → IsSized m
-    → parts_sized m.state.phase (replied_to command replied m.state).sizes (parts_in m.hand) ≡ true
+    → parts_sized m.state.phase (replied_to command replied m.state).sizes (parts_left m.hand) ≡ true
 replied_sized m (an_effect effect) replied reply stays h = h
 replied_sized m (a_question question) replied reply stays h = by_gone (is_gone m.state.phase) refl
   where
     by_gone : (gone : Bool) → is_gone m.state.phase ≡ gone
-        → parts_sized m.state.phase (replied_to (a_question question) replied m.state).sizes (parts_in m.hand) ≡ true
+        → parts_sized m.state.phase (replied_to (a_question question) replied m.state).sizes (parts_left m.hand) ≡ true
     by_gone true gone = rw gone refl
     by_gone false near = sized_by m.state.phase m.state.sizes (replied_to (a_question question) replied m.state).sizes
-        (parts_in m.hand) (question_sizes m.state question replied reply
-        (near_end (is_gone m.state.phase) (is_end (a_question question) replied) near stays)) h
+        (parts_left m.hand) (question_sizes m.state question replied reply
+        (other_fails (is_gone m.state.phase) (is_end (a_question question) replied) near stays)) h
 
-pub same_phase : (command : TargetCommand) (replied : Replied) (state : State)
-    → (replied_to command replied state).phase ≡ state.phase
-same_phase command replied state = grind arith
+pub replied_parts : (command : TargetCommand) (replied : Replied) (hand : Option Hand)
+    → parts_left (option_map (hand_replied command replied) hand) ≡ parts_left hand
+replied_parts command replied hand = grind arith
 
-replied_parts : (command : TargetCommand) (replied : Replied) (hand : Option Hand)
-    → parts_in (option_map (hand_replied command replied) hand) ≡ parts_in hand
-replied_parts command replied None = refl
-replied_parts (a_question question) replied (Some hand) = refl
-replied_parts (an_effect effect) replied (Some hand) = refl
-
-asked_parts : (want : Want) (hand : Option Hand) → parts_in (option_map (asked_hand want) hand) ≡ parts_in hand
-asked_parts want None = refl
-asked_parts want (Some hand) = refl
+pub asked_parts : (want : Want) (hand : Option Hand) → parts_left (option_map (asked_hand want) hand) ≡ parts_left hand
+asked_parts want hand = grind arith
 
 -- what is left behind the part in front
 left_sized : (m : Machine) (hand : Hand) (part : Part) (rest : List Part) → IsSized m → IsAt m hand part rest
@@ -168,11 +156,11 @@ same_sized : (m : Machine) (state : State) (parts : List Part)
 same_sized m state parts same h = rw (same.0, same.1) h
 
 held_sized : (m : Machine) (hand : Option Hand) (hand_now : Option Hand) → m.hand ≡ hand
-    → parts_in hand_now ≡ parts_in hand
-    → IsSized m → parts_sized m.state.phase m.state.sizes (parts_in hand_now) ≡ true
+    → parts_left hand_now ≡ parts_left hand
+    → IsSized m → parts_sized m.state.phase m.state.sizes (parts_left hand_now) ≡ true
 held_sized m hand hand_now is same h =
     subst (λ (parts : List Part). parts_sized m.state.phase m.state.sizes parts ≡ true) (sym same)
-    (subst (λ (hand : Option Hand). parts_sized m.state.phase m.state.sizes (parts_in hand) ≡ true) is h)
+    (subst (λ (hand : Option Hand). parts_sized m.state.phase m.state.sizes (parts_left hand) ≡ true) is h)
 
 sized_on : (m next : Machine) (said : Option Message) → IsSized m → Moves m said next → IsSized next
 sized_on m next said h (Moves.begins picked free none is) = begun_on m picked.item none h
@@ -190,7 +178,6 @@ sized_on m next said h (Moves.sends {hand} {rest} {deed} free at near) =
     left_sized m hand (Part.Sends deed) rest h at refl
 sized_on m next said h (Moves.updates {hand} {effect} {rest} free at is near) =
     held_sized m (Some hand) (Some (record hand { parts = Part.Updates ∷ rest })) at.in_hand (sym at.parts) h
-sized_on m next said h (Moves.greets free at is near) = h
 sized_on m next said h (Moves.notes {hand} {note} {rest} free at) =
     same_sized m (noted note m.state) rest (noted_sizes note m.state) (left_sized m hand
     (Part.Notes note) rest h at refl)
@@ -200,19 +187,13 @@ sized_on m next said h (Moves.unfolds {hand} {choice} {rest} free at) =
 sized_on m next said h (Moves.queues {hand} free is) = held_sized m (Some hand) (Some hand) is refl h
 sized_on m next said h (Moves.asks {hand} {want} free room is are) =
     held_sized m m.hand (option_map (asked_hand want) m.hand) refl (asked_parts want m.hand) h
-sized_on m next said h (Moves.hears read is) = h
-sized_on m next said h (Moves.greeted read is) = h
 sized_on m next said h (Moves.answers {question} {replied} is waits reply stays) =
-    rw (replied_parts (a_question question) replied m.hand, same_phase (a_question question) replied m.state)
+    rw (replied_parts (a_question question) replied m.hand, same_replied (a_question question) replied m.state)
     (replied_sized m (a_question question) replied reply stays h)
 sized_on m next said h (Moves.replies {effect} {replied} is flying reply stays) =
     rw (replied_parts (an_effect effect) replied m.hand) h
-sized_on m next said h (Moves.late before after is reply) = h
-sized_on m next said h (Moves.ends gone) = h
 sized_on m next said h (Moves.loses late near why) = refl
-sized_on m next said h (Moves.comes read sized taken) = h
-sized_on m next said h (Moves.keeps is) = h
-sized_on m next said h (Moves.reads before after read is none taken) = h
+sized_on m next said h _ = h
 
 pub always_sized : {messages : List Message} {m : Machine} → Run messages m → IsSized m
 always_sized r = by_moves {Holds = λ (messages : List Message) (m : Machine). IsSized m}

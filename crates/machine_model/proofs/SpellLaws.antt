@@ -1,6 +1,6 @@
 -- The sizes of ids are replied once, and each command has a spelling with them.
-use Rattle.std.proofs.Common.{◌≡◌, ◌<◌, ◌^◌, ℕ, zero, suc, Bool, true, false, cond, List, [], ◌∷◌, ◌++◌, Option, Some}
-use Rattle.std.proofs.Common.{None, refl, sym, ap, subst, ◌∙◌, arith}
+use Rattle.std.proofs.Common.{◌≡◌, ◌<◌, ◌^◌, ℕ, Bool, true, false, cond, List, [], ◌∷◌, ◌++◌, Option, Some, None, refl}
+use Rattle.std.proofs.Common.{sym, ap, subst, ◌∙◌, arith}
 use Rattle.std.specs.List.{AllByRecursion as All}
 use Rattle.jdwp_commands.specs.Answers.{kind_of_answer, limit_of, told_answer}
 use Rattle.jdwp_commands.specs.Commands.{kind_of}
@@ -8,12 +8,11 @@ use Rattle.jdwp_commands.specs.declared.kind.CommandKind.TheVariants as kinds
 use Rattle.jdwp_commands.specs.declared.kind.EffectKind.{EffectKind}
 use Rattle.jdwp_commands.specs.declared.question.Question.TheVariants as questions
 use Rattle.jdwp_values.specs.declared.sizes.IdSizes.{IdSizes}
-use Rattle.machine_model.specs.Due.{Load, asked_first, asked_next, busy, can_read, clear, due, due_by, is_full}
-use Rattle.machine_model.specs.Due.{lacking_more, load_of, queued, waiting}
-use Rattle.machine_model.specs.Ids.{Id, class, field, frame, ids_answered, ids_given, ids_replied, method}
-use Rattle.machine_model.specs.Ids.{ids_asked, ids_of_composite, no_thread, object, thread_of}
-use Rattle.machine_model.specs.Names.{Answer, Composite, Effect, Question, Replied, TargetCommand, Want}
-use Rattle.machine_model.specs.Names.{a_question, an_effect}
+use Rattle.machine_model.specs.Due.{Load, asked_first, asked_next, can_read, due, due_by, is_full, load_of, queued}
+use Rattle.machine_model.specs.Ids.{Id, class, field, frame, ids_answered, ids_given, ids_replied, method, ids_asked}
+use Rattle.machine_model.specs.Ids.{ids_of_composite, no_thread, object, thread_of}
+use Rattle.machine_model.specs.Names.{Answer, Composite, Effect, Question, Replied, TargetCommand, Want, a_question}
+use Rattle.machine_model.specs.Names.{an_effect}
 use Rattle.machine_model.specs.Replying.{IsReply, SizesFor, any_sizes, is_waiting, sizes_of, sizes_read, wire}
 use Rattle.machine_model.specs.Runs.{Allows, Message, Run, Takes, said}
 use Rattle.machine_model.specs.Spelling.{AreSpelled, IsSpelled, all_sizes, first_sizes, sizes_replied}
@@ -26,16 +25,13 @@ use Rattle.machine_model.proofs.StandingReplies.{not_empty, only_sizes, sizes_is
 use Rattle.machine_model.proofs.Stepping.{Moves, moved}
 use Rattle.machine_model.proofs.Testing.{same_replied}
 use Rattle.machine_model.proofs.WishIds.{MaySend}
+use Rattle.machine_model.proofs.WriteIds.{power}
 
 -- The ids that an answer brings ---------------------------------------------------------------------------------------
 
 -- an id fits the sizes that were replied; before that it fits any
 abbrev Fits : Option SizesRead → Id → Type 0
 Fits sizes id = (used : IdSizes) → SizesFor sizes used → FitsId used id
-
-power : (n : ℕ) → 0 < 256 ^ n
-power zero = omega arith
-power (suc n) = omega (arith, power n)
 
 first_grows : (all more : List SizesRead) (used : IdSizes) → SizesFor (first_sizes (all ++ more)) used
     → SizesFor (first_sizes all) used
@@ -158,8 +154,7 @@ spelled = record {
 -- a full window lets no question go, and is nothing to the rest
 due_first : (full : Bool) (m : Machine) (wants : List Want) (message : Message)
     → said (asked_first true m wants).act ≡ Some message → said (asked_first full m wants).act ≡ Some message
-due_first full m [] message is = cc
-due_first full m (want ∷ wants) message is = cc
+due_first full m wants message is = grind (arith, is)
 
 due_next : (full : Bool) (m : Machine) (hand : Option Hand) (message : Message)
     → said (asked_next true m hand).act ≡ Some message → said (asked_next full m hand).act ≡ Some message
@@ -168,11 +163,8 @@ due_next full m (Some hand) message is = due_first full m hand.queue message is
 
 due_load : (full : Bool) (m : Machine) (load : Load) (message : Message)
     → said (due_by true load m).act ≡ Some message → said (due_by full load m).act ≡ Some message
-due_load full m busy message is = is
 due_load full m queued message is = due_next full m m.hand message is
-due_load full m lacking_more message is = is
-due_load full m waiting message is = is
-due_load full m clear message is = is
+due_load full m _ message is = is
 
 due_any : (id_pending : Bool) (m : Machine) (message : Message) → said (due id_pending m).act ≡ Some message
     → said (due false m).act ≡ Some message

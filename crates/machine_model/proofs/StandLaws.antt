@@ -1,6 +1,6 @@
 -- Event requests stand as the messages say, each is set and cleared once, and at rest each is as the target replied.
-use Rattle.std.proofs.Common.{◌≡◌, Bool, true, false, cond, not, ◌||◌, List, [], ◌∷◌, Option, Some, None, refl, sym}
-use Rattle.std.proofs.Common.{ap, subst, ◌∙◌, arith, ◌&&◌}
+use Rattle.std.proofs.Common.{◌≡◌, Bool, true, false, cond, not, ◌||◌, List, [], ◌∷◌, Option, Some, None, refl, sym, ap}
+use Rattle.std.proofs.Common.{subst, ◌∙◌, arith, ◌&&◌}
 use Rattle.std.specs.Prelude.{◌&&◌}
 use Rattle.std.specs.List.{list_any}
 use Rattle.std.proofs.lemmas.List.Sums.{fold-append}
@@ -11,15 +11,15 @@ use Rattle.jdwp_commands.specs.declared.kind.EffectKind.TheVariants as effect_ki
 use Rattle.machine_model.specs.Due.{due}
 use Rattle.machine_model.specs.EventRequests.{AreStanding, Counted, IsNew, IsSentOnce, count, counted, installed_after}
 use Rattle.machine_model.specs.EventRequests.{is_request, refused_after, refused_by_effect, refused_since, set_answered}
-use Rattle.machine_model.specs.Names.{Act, Answer, Clear, Does, Effect, Part, Replied, Set, TargetCommand}
-use Rattle.machine_model.specs.Names.{an_answer, an_effect, an_error}
+use Rattle.machine_model.specs.Names.{Act, Answer, Clear, Does, Effect, Part, Replied, Set, TargetCommand, an_answer}
+use Rattle.machine_model.specs.Names.{an_effect, an_error}
 use Rattle.machine_model.specs.Replying.{IsReply}
 use Rattle.machine_model.specs.Requests.{Wishes, effect_due, request_in, set_to, wishes_after}
 use Rattle.machine_model.specs.Runs.{Allows, Message, Run, said}
 use Rattle.machine_model.specs.State.{Machine, SizesRead, is_gone}
 use Rattle.machine_model.proofs.RequestLaws.{IsDue, Settling, settling, settling_on, step_of, was_due}
 use Rattle.machine_model.proofs.RequestSteps.{Step, flying_in, is_deed, lands, near_before, parts_left, says_aside}
-use Rattle.machine_model.proofs.Stepping.{Loses, Moves, by_runs, moved, walks_due, with_said}
+use Rattle.machine_model.proofs.Stepping.{Loses, Moves, by_runs, moved, with_said, gone_on}
 use Rattle.machine_model.proofs.WishLemmas.{any_kept, any_with, cleared_once, due_clear, new_set_due}
 use Rattle.wish_sets.proofs.NextLaws.{clears-is, installed_clear, surplus_clear}
 use Rattle.wish_sets.proofs.OrderLaws.{any-insert}
@@ -63,17 +63,15 @@ same_set wish _ w installed new h test = h test
 same_replied : (w : Wishes) (parts : List Part) (effect : Effect) (replied : Replied) (installed : List EventRequest)
     → IsDue w parts (Some effect) → IsTidy w → AreSame w.installed installed
     → AreSame (wishes_after effect replied w).installed (installed_after effect replied installed)
-same_replied w parts (Does deed) replied installed due tidy h test = h test
 same_replied w parts (Set wish) (an_answer answer) installed due tidy h test =
     same_set wish answer w installed (new_set_due w wish (due refl).0) h test
-same_replied w parts (Set wish) (an_error code) installed due tidy h test = h test
 same_replied w parts (Clear wish request) (an_answer answer) installed due tidy h test =
     let keep : EventRequest → Bool = λ one. not (is_request wish request one) in
     ap (list_any test) (sym (cleared_once (is_surplus (wished w.wanted)) (record { wish = wish; request = request })
     w.installed tidy.installed_in_order
     (clears-is w (record { wish = wish; request = request }) (due_clear w wish request (due refl).0))))
     ∙ any_kept test keep w.installed ∙ h (λ one. keep one && test one) ∙ sym (any_kept test keep installed)
-same_replied w parts (Clear wish request) (an_error code) installed due tidy h test = h test
+same_replied w parts _ _ installed due tidy h test = h test
 
 same_on : (m next : Machine) (said : Option Message) (c : Counted) → Settling m → Step m next said
     → AreSame m.state.wishes.installed c.installed → AreSame next.state.wishes.installed (count_said said c).installed
@@ -113,8 +111,7 @@ refused_answered w other wish (answers.Set request) new is = by_test (is_wish wi
 refused_answered w other wish _ new is = cc
 
 or_cond : (a b : Bool) → (a || b) ≡ cond a true b
-or_cond true b = refl
-or_cond false b = refl
+or_cond a b = grind arith
 
 pub refused_replied : (sizes : Option SizesRead) (w : Wishes) (parts : List Part) (effect : Effect) (replied : Replied)
     (wish : Wish) → IsDue w parts (Some effect) → IsReply sizes (an_effect effect) replied
@@ -130,8 +127,7 @@ refused_replied sizes w parts (Clear other request) (an_answer answer) wish due 
 refused_replied sizes w parts (Clear other request) (an_error code) wish due reply = refl
 
 and_cond : (a b : Bool) → (a && b) ≡ cond a b false
-and_cond true b = refl
-and_cond false b = refl
+and_cond a b = grind arith
 
 abbrev pub refused_said : Wish → Option Message → Bool → Bool
 refused_said wish None was = was
@@ -148,9 +144,8 @@ kept_so wish w was tidy is = by_tests (has_wish (wished w.wanted) wish) was refl
   where
     by_tests : (asked was : Bool) → has_wish (wished w.wanted) wish ≡ asked → has_wish w.refused wish ≡ was
         → has_wish w.refused wish ≡ cond asked was false
-    by_tests true was e is = is
     by_tests false true e is = absurd (let h = tidy.refused_is_wished wish is in cc)
-    by_tests false false e is = is
+    by_tests _ _ e is = is
 
 refused_on : {messages : List Message} {m : Machine} (r : Run messages m) (wish : Wish) (next : Machine)
     (said : Option Message) (was : Bool) → Moves m said next → is_gone next.state.phase ≡ false
@@ -181,17 +176,13 @@ refused_on {messages} {m} r wish next said was moved here is = by_step said (ste
         ∙ refused_replied m.state.sizes m.state.wishes (parts_left m.hand) effect replied wish
         (was_due m effect s.awaited flew) reply ∙ ap (refused_said wish said) is)
 
--- a silent step of a run is a move
-pub goes_on : {m : Machine} → (due false m).act ≡ Act.Goes → Moves m None (due false m).next
-goes_on {m} is = rw is at (walks_due m)
-
 are_refused : {messages : List Message} {m : Machine} (r : Run messages m) → is_gone m.state.phase ≡ false
     → (wish : Wish)
     → has_wish m.state.wishes.refused wish ≡ refused_since wish r
 unfolding refused_since
 are_refused Run.starts near wish = refl
 are_refused (Run.goes {m} r is) here wish =
-    let move = goes_on is in
+    let move = gone_on is in
     refused_on r wish (due false m).next None (refused_since wish r) move here
     (are_refused r (near_before m (due false m).next None move here) wish)
 are_refused (Run.moves {m} {next} {message} r allows) here wish =
@@ -258,8 +249,7 @@ is_sending m next message effect (Moves.loses late near why) is = absurd (not_lo
     not_lost : {message : Message} {late : List TargetCommand} → Loses m message late
         → ¬ (message ≡ Message.sends (an_effect effect))
     not_lost Loses.by_end is = cc
-    not_lost (Loses.by_question held waits reply last) is = cc
-    not_lost (Loses.by_effect held flying reply last) is = cc
+    not_lost _ is = cc
 is_sending m next message effect _ is = absurd (cc)
 
 is_new : {messages : List Message} {m : Machine} (r : Run messages m) (effect : Effect) → IsSending m effect

@@ -6,11 +6,10 @@ use Rattle.std.specs.List.{AllByRecursion as All}
 use Rattle.std.proofs.lemmas.List.Concat.{flat_map-append}
 use Rattle.jdwp_commands.specs.declared.question.Question.TheVariants as questions
 use Rattle.machine_model.proofs.WriteIds.{OfDeed}
-use Rattle.machine_model.specs.Names.{Writes}
+use Rattle.machine_model.specs.Names.{Writes, Body, Classes, Failed, IdSizes, Initialized, Lines, Outcome, Part, Sent}
+use Rattle.machine_model.specs.Names.{Success, TargetCommand, Want, a_question, an_effect, frame_list, scope_list}
+use Rattle.machine_model.specs.Names.{thread_list, a_value, variable_list, Functions, Steps}
 use Rattle.machine_model.specs.Ids.{Id, ids_given}
-use Rattle.machine_model.specs.Names.{Body, Classes, Failed, IdSizes, Initialized, Lines, Outcome, Part, Sent, Success}
-use Rattle.machine_model.specs.Names.{TargetCommand, Want, a_question, an_effect, frame_list, scope_list, thread_list}
-use Rattle.machine_model.specs.Names.{a_value, variable_list, Functions, Steps}
 use Rattle.machine_model.specs.Plans.{question_of}
 use Rattle.machine_model.specs.Replying.{waits_for}
 use Rattle.machine_model.specs.Runs.{Message}
@@ -18,15 +17,11 @@ use Rattle.machine_model.specs.Spelling.{all_sizes, first_sizes, sizes_by, sizes
 use Rattle.machine_model.specs.State.{State, Hand, Machine, SizesRead, is_attached, is_gone, is_some}
 use Rattle.machine_model.proofs.PlanIds.{AreKnown, IsAsked, IsWanted, OfClass, OfFrameThing, OfLookup, OfNamed}
 use Rattle.machine_model.proofs.PlanIds.{OfShownFrame, OfSeen, OfShownVariable, OnSome, is_sizes}
-use Rattle.machine_model.proofs.RequestSteps.{is_choice}
+use Rattle.machine_model.proofs.RequestSteps.{is_choice, parts_left}
 use Rattle.machine_model.proofs.Stepping.{IsAt, with_said}
 use Rattle.machine_model.proofs.WishIds.{AreWished, IsShortFunction, IsShortKey, OfStep}
 
 -- The item in hand ----------------------------------------------------------------------------------------------------
-
-abbrev pub left_in : Option Hand → List Part
-left_in None = []
-left_in (Some hand) = hand.parts
 
 abbrev pub queue_in : Option Hand → List Want
 queue_in None = []
@@ -130,7 +125,7 @@ pub record Kept (P : Id → Type 0) (messages : List Message) (state : State) (l
 
 -- it holds of this hand, and of a machine
 abbrev pub KeptHand : (Id → Type 0) → List Message → State → Option Hand → List TargetCommand → Type 0
-KeptHand P messages state hand late = Kept P messages state (left_in hand) (queue_in hand) (asked_in hand) late
+KeptHand P messages state hand late = Kept P messages state (parts_left hand) (queue_in hand) (asked_in hand) late
 
 abbrev pub IsKept : (Id → Type 0) → List Message → Machine → Type 0
 IsKept P messages m = KeptHand P messages m.state m.hand m.late

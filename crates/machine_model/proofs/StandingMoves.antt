@@ -1,24 +1,22 @@
 -- What each move keeps of the ids that stand in the machine: the parts.
-use Rattle.jdwp_events.specs.declared.kind.Policy.TheVariants.{All as AllThreads, EventThread, NoThread}
+use Rattle.jdwp_events.specs.declared.kind.Policy.TheVariants.{All as AllThreads, NoThread, EventThread}
 use Rattle.jdwp_events.specs.declared.kind.Policy.{Policy}
-use Rattle.std.proofs.Common.{◌≡◌, Bool, true, false, cond, List, [], ◌∷◌, ◌++◌, Option}
-use Rattle.std.proofs.Common.{Some, None, refl, sym, ap, subst, ◌∙◌, arith}
+use Rattle.std.proofs.Common.{◌≡◌, Bool, true, false, cond, List, [], ◌∷◌, ◌++◌, Option, Some, None, refl, sym, ap}
+use Rattle.std.proofs.Common.{subst, ◌∙◌, arith}
 use Rattle.std.specs.List.{AllByRecursion as All}
-use Rattle.machine_model.specs.Names.{Deed, Dispose, Exit, Resume, Suspend, Writes}
-use Rattle.machine_model.specs.Ids.{Id, class}
-use Rattle.machine_model.specs.Lookups.{finished, found_for, sight_of}
-use Rattle.machine_model.specs.Names.{Written, variable_write, write_found}
-use Rattle.machine_model.specs.Names.{Attach, Attached, BadArguments, Choice, Classes, Command}
-use Rattle.machine_model.specs.Names.{ConfigurationDone, Configured, Continue, Decides, Disconnect, Effect, EntryHeld}
-use Rattle.machine_model.specs.Names.{Event, Failed, Failure, Finding, Fresh, Gone, Initialize, Initialized, Item}
-use Rattle.machine_model.specs.Names.{Leaves, Lines, Lookup, News, Note, Options, Outcome, Part}
-use Rattle.machine_model.specs.Names.{Pause, Phase, Replied, Roots, Sent, SetBreakpoints, Success, TargetCommand}
-use Rattle.machine_model.specs.Names.{TellsNews, Terminated, ThreadId, Threads, Unsupported, Want, a_composite, a_raw}
-use Rattle.machine_model.specs.Names.{a_request, a_stop, all_threads, class_facts, classes_found}
-use Rattle.machine_model.specs.Names.{some_news, target_end, threads_found}
+use Rattle.machine_model.specs.Names.{Deed, Writes, Written, variable_write, write_found, Attach, Attached, Choice}
+use Rattle.machine_model.specs.Names.{Classes, Command, ConfigurationDone, Continue, Decides, Disconnect, Effect, Event}
+use Rattle.machine_model.specs.Names.{Failed, Finding, Initialize, Initialized, Item, Leaves, Lines, Lookup, News, Note}
+use Rattle.machine_model.specs.Names.{Outcome, Part, Pause, Phase, Replied, Sent, SetBreakpoints, Success, Fresh, Gone}
+use Rattle.machine_model.specs.Names.{TargetCommand, TellsNews, Terminated, ThreadId, Want, a_composite, a_raw}
+use Rattle.machine_model.specs.Names.{a_request, all_threads, class_facts, classes_found, target_end, threads_found}
 use Rattle.machine_model.specs.Names.{Body, Scopes, StackTrace, Variables, container_children, frames_found, scope_list}
-use Rattle.machine_model.specs.Names.{Evaluate, SetVariable, expression_value, no_value, thread_frames, value_found, variables_found}
-use Rattle.machine_model.specs.Lookups.{body_of, outcome_by, shown_by, value_outcome}
+use Rattle.machine_model.specs.Names.{Evaluate, SetVariable, expression_value, no_value, thread_frames, value_found}
+use Rattle.machine_model.specs.Names.{variables_found, ExceptionInfo, Functions, Halt, HaltCause, Next}
+use Rattle.machine_model.specs.Names.{SetExceptionBreakpoints, SetFunctionBreakpoints, StepIn, StepOut, Stepped, Steps}
+use Rattle.machine_model.specs.Names.{StopsAt, Thrown, exception_info, threw}
+use Rattle.machine_model.specs.Ids.{Id, class}
+use Rattle.machine_model.specs.Lookups.{finished, found_for, sight_of, body_of, outcome_by, shown_by, value_outcome}
 use Rattle.machine_model.specs.References.{has_room, things_of}
 use Rattle.dap_messages.specs.Telling.{references_spent}
 use Rattle.machine_model.specs.Plans.{Need, fails, has, lacks}
@@ -26,40 +24,31 @@ use Rattle.machine_model.specs.Replying.{done_by}
 use Rattle.machine_model.proofs.Testing.{same_numbered}
 use Rattle.field_exprs.specs.Parsing.{parsed}
 use Rattle.field_exprs.specs.declared.expr.Expr.{Expr}
-use Rattle.machine_model.specs.Rows.{write_by, written_by}
-use Rattle.machine_model.specs.Rows.{evaluate_by}
-use Rattle.machine_model.specs.Rows.{chosen, configured_parts, continue_parts, failure_of, leaves, news_of, noted}
-use Rattle.machine_model.specs.Rows.{parts_by, parts_of, pause_parts, request_parts, row_of, thread_with, told_in}
-use Rattle.machine_model.specs.Rows.{wanting}
-use Rattle.machine_model.specs.Rows.{scopes_parts, stack_parts, variables_parts}
+use Rattle.machine_model.specs.Rows.{write_by, written_by, evaluate_by, chosen, configured_parts, continue_parts}
+use Rattle.machine_model.specs.Rows.{failure_of, leaves, news_of, noted, parts_of, pause_parts, request_parts, row_of}
+use Rattle.machine_model.specs.Rows.{thread_with, told_in, wanting, scopes_parts, stack_parts, variables_parts}
+use Rattle.machine_model.specs.Rows.{exception_parts, refused_with, step_parts, stepped_by, thread_there, thrown_first}
 use Rattle.machine_model.specs.Runs.{Message}
 use Rattle.machine_model.specs.State.{Hand, Machine, State, is_attached, is_gone, is_some, left}
 use Rattle.machine_model.specs.Telling.{after_event, numbered_by}
 use Rattle.machine_model.proofs.IdRows.{all_joined}
 use Rattle.machine_model.proofs.LookupIds.{rows_stand}
-use Rattle.machine_model.proofs.PlanIds.{AreKnown, IsAsked, IsGood, NeedStands, OfFrameThing, OfLookup, OfThing, OfThread}
-use Rattle.machine_model.proofs.PlanIds.{OfThrown, OnSome}
+use Rattle.machine_model.proofs.PlanIds.{AreKnown, IsAsked, IsGood, NeedStands, OfFrameThing, OfLookup, OfThing}
+use Rattle.machine_model.proofs.PlanIds.{OfThread, OfThrown, OnSome}
 use Rattle.machine_model.proofs.Stepping.{IsAt, Skips}
 use Rattle.machine_model.specs.Outcomes.{result_of}
 use Rattle.machine_model.proofs.Standing.{IsKept, Kept, Near, OfBody, OfOutcome, PartStands, Same, at_front, in_order}
-use Rattle.machine_model.proofs.Standing.{same_state}
-use Rattle.machine_model.proofs.Standing.{awaits_sizes, needs_sizes, stays}
+use Rattle.machine_model.proofs.Standing.{same_state, awaits_sizes, needs_sizes, stays}
 use Rattle.machine_model.proofs.HitIds.{ItemStands, OfCause, OfHalt, found_one, halt_stands}
 use Rattle.machine_model.proofs.Tables.{told_alike}
 use Rattle.machine_model.specs.Stops.{decided, decided_by, events_in, hits_in, holds_entry, stop_among, surplus}
 use Rattle.machine_model.specs.Stops.{thrown_in, told_part}
 use Rattle.dap_messages.specs.declared.requests.FunctionBreakpoint.{FunctionBreakpoint}
-use Rattle.machine_model.specs.Breakpoints.{functions_from}
-use Rattle.machine_model.specs.Names.{ExceptionInfo, Functions, Halt, HaltCause, Next, SetExceptionBreakpoints}
-use Rattle.machine_model.specs.Names.{SetFunctionBreakpoints, StepIn, StepOut, Stepped, Steps, StopsAt, Throws, Thrown}
-use Rattle.machine_model.specs.Names.{came_to, exception_found, exception_info, exception_text, has_stepped, text_found}
-use Rattle.machine_model.specs.Names.{threw}
-use Rattle.machine_model.specs.Rows.{exception_parts, refused_with, step_parts, stepped_by, thread_there, thrown_first}
+use Rattle.machine_model.specs.Breakpoints.{functions_from, behind_roots, key_of, longest_key, short_key, slashed}
 use Rattle.wish_sets.specs.declared.wish.Depth.{Depth}
 use Rattle.wish_sets.specs.declared.wish.Depth.TheVariants.{Into, Out, Over}
-use Rattle.machine_model.specs.Breakpoints.{behind_roots, key_of, longest_key, short_key, slashed}
-use Rattle.std.specs.Prelude.{ℕ, zero, suc, ◌-◌, ◌==◌, nat_le, nat_lt, length, slice_get, if◌then◌else◌}
-use Rattle.std.specs.Prelude.{Result, Ok, Err, ◌+◌, ◌≤◌, option_and_then}
+use Rattle.std.specs.Prelude.{ℕ, zero, suc, ◌-◌, ◌==◌, nat_le, nat_lt, length, slice_get, if◌then◌else◌, Result, Ok}
+use Rattle.std.specs.Prelude.{Err, ◌+◌, ◌≤◌, option_and_then}
 use Rattle.stop_refs.specs.Numbers.{InHand, and_then, container, frame, next_in, or_unknown, refused_in, stop_with}
 use Rattle.stop_refs.specs.Numbers.{thing_with}
 use Rattle.stop_refs.specs.Things.{as_container, as_frame}
@@ -70,6 +59,7 @@ use Rattle.stop_refs.specs.declared.thing.Thing.TheVariants as things
 use Rattle.machine_model.proofs.WishIds.{AreWished, IsShortFunction, IsShortKey, classes_stand, functions_stand}
 use Rattle.machine_model.proofs.WishIds.{lines_stand, step_stands}
 use Rattle.machine_model.specs.Composites.{composite_parts, has_death}
+use Rattle.machine_model.proofs.PartTests.{of_failure}
 
 -- Tables --------------------------------------------------------------------------------------------------------------
 
@@ -104,26 +94,19 @@ effect_wanted effect replied state = grind arith
 
 pub note_wished : (P : Id → Type 0) (note : Note) (state : State) → PartStands P (Part.Notes note)
     → AreKnown P state.classes → AreWished P state.wishes.wanted → AreWished P (noted note state).wishes.wanted
-note_wished P (Options options) state k facts h = h
-note_wished P (Roots roots) state k facts h = h
-note_wished P EntryHeld state k facts h = h
-note_wished P Configured state k facts h = h
-note_wished P (Lines None path entries) state k facts h = h
 note_wished P (Lines (Some key) path entries) state k facts h = lines_stand P key entries state.wishes.wanted k h
 note_wished P (Functions entries) state k facts h = functions_stand P entries state.wishes.wanted k h
 note_wished P (StopsAt caught uncaught) state k facts h =
     record { short = h.short; functions = h.functions; bound = h.bound; step = h.step }
 note_wished P (Steps step) state k facts h = step_stands P step state.wishes.wanted k h
-note_wished P (Throws thrown) state k facts h = h
 note_wished P (Classes classes) state k facts h =
     classes_stand P state.classes classes state.wishes.wanted k facts h
+note_wished P _ state k facts h = h
 
 -- what needs the sizes has them
 pub sized_by : (sized attached : Bool) (part : Part) (rest : List Part) → in_order sized attached (part ∷ rest) ≡ true
     → awaits_sizes part ≡ false → needs_sizes part ≡ true → sized ≡ true
-sized_by true attached part rest h other needs = refl
-sized_by false true part rest h other needs = cc
-sized_by false false part rest h other needs = grind (arith, h, other, needs)
+sized_by sized attached part rest h other needs = grind (arith, h, other, needs)
 
 pub in_any_order : (sized attached : Bool) (parts : List Part) → sized ≡ true → in_order sized attached parts ≡ true
 in_any_order sized attached parts is = rw is refl
@@ -136,9 +119,8 @@ row_order state sized command h = grind (arith, h)
 pub begun_order : (state : State) (sized : Bool) (item : Item) → in_order sized (is_attached state.phase) [] ≡ true
     → in_order sized (is_attached state.phase) (parts_of state item) ≡ true
 begun_order state sized (a_request request) h = row_order state sized request.command h
-begun_order state sized target_end h = grind (arith, h)
-begun_order state sized (a_composite at composite) h = grind (arith, h)
 begun_order state sized (a_raw at body) h = h
+begun_order state sized _ h = grind (arith, h)
 
 key_is_short : (roots : List (List ℕ)) (path : List ℕ) → IsShortKey (key_of roots path)
 unfolding key_of
@@ -204,10 +186,7 @@ told_frame P number numbers h = by_thing (thing_with number numbers) (told_thing
     by_thing : (found : Result Thing RefFault) → OnFound (OfThing P) found
         → OnFound (OfFrameThing P) (and_then as_frame found)
     by_thing (Ok (things.Frame one)) k = k
-    by_thing (Ok (things.Locals one)) k = tt
-    by_thing (Ok (things.Object one)) k = tt
-    by_thing (Ok (things.Array one)) k = tt
-    by_thing (Err fault) k = tt
+    by_thing _ k = tt
 
 told_container : (P : Id → Type 0) (number : ℕ) (numbers : InHand) → All (OfThing P) numbers.things
     → OnFound (OfThing P) (container number numbers)
@@ -215,11 +194,10 @@ told_container P number numbers h = by_thing (thing_with number numbers) (told_t
   where
     by_thing : (found : Result Thing RefFault) → OnFound (OfThing P) found
         → OnFound (OfThing P) (and_then as_container found)
-    by_thing (Ok (things.Frame one)) k = tt
     by_thing (Ok (things.Locals one)) k = k
     by_thing (Ok (things.Object one)) k = k
     by_thing (Ok (things.Array one)) k = k
-    by_thing (Err fault) k = tt
+    by_thing _ k = tt
 
 functions_short : (id : ℕ) (functions : List FunctionBreakpoint) → All IsShortFunction (functions_from id functions)
 functions_short id [] = tt
@@ -270,7 +248,6 @@ row_parts P (SetBreakpoints arguments) state told told_things threw_them =
 row_parts P (SetFunctionBreakpoints arguments) state told told_things threw_them =
     (functions_short state.next_entry arguments.breakpoints, (tt, (tt, (tt, (tt, (tt, tt))))))
 row_parts P (SetExceptionBreakpoints arguments) state told told_things threw_them = (tt, (tt, (tt, tt)))
-row_parts P Threads state told told_things threw_them = (tt, tt)
 row_parts P (Next arguments) state told told_things threw_them =
     step_stand P Over state.threads arguments.thread_id told
 row_parts P (StepIn arguments) state told told_things threw_them =
@@ -328,17 +305,12 @@ row_parts P (Evaluate arguments) state told told_things threw_them =
     by_frame (Err place) (Ok one) k = (tt, tt)
     by_frame read (Err fault) k = (tt, tt)
 row_parts P (Disconnect arguments) state told told_things threw_them = (tt, (tt, (tt, tt)))
-row_parts P Unsupported state told told_things threw_them = (tt, tt)
-row_parts P (BadArguments name) state told told_things threw_them = (tt, tt)
-
-unless_fails : (P : Id → Type 0) (failure : Option Failure) (row : List Part) → All (PartStands P) row
-    → All (PartStands P) (parts_by failure row)
-unless_fails P (Some failure) row h = (tt, tt)
-unless_fails P None row h = h
+row_parts P _ state told told_things threw_them = (tt, tt)
 
 pub begun_parts : (P : Id → Type 0) (state : State) (item : Item) → All (OfThread P) state.threads
     → All (OfThing P) state.numbers.things → All (OfThrown P) state.thrown → All (PartStands P) (parts_of state item)
-begun_parts P state (a_request request) told told_things threw_them = unless_fails P (failure_of (wanting request.command) state)
+begun_parts P state (a_request request) told told_things threw_them =
+    of_failure (PartStands P) (λ failure. tt) (failure_of (wanting request.command) state)
     (row_of request.command state) (row_parts P request.command state told told_things threw_them)
 begun_parts P state target_end told told_things threw_them = by_end state.terminated
   where
@@ -374,8 +346,7 @@ chosen_order Stepped state hand sized attached rest h =
 chosen_order (Written seen) state hand sized attached rest h = by_code (refused_with hand.effect)
   where
     by_code : (code : Option ℕ) → in_order sized attached (written_by seen code ++ rest) ≡ true
-    by_code None = h
-    by_code (Some code) = h
+    by_code code = grind arith
 chosen_order (Leaves exits) state hand sized attached rest h = grind (arith, h)
 
 pub chosen_parts : (P : Id → Type 0) (choice : Choice) (state : State) (hand : Hand) (rest : List Part)
@@ -384,19 +355,16 @@ chosen_parts P (TellsNews below) state hand rest item h =
     by_news state.phase (news_of below state hand.item)
   where
     by_news : (phase : Phase) (news : List News) → All (PartStands P) (told_in phase news ++ rest)
-    by_news Fresh news = h
-    by_news Gone news = h
-    by_news Attached [] = h
     by_news Attached (one ∷ news) = (tt, by_news Attached news)
+    by_news _ _ = h
 chosen_parts P Decides state hand rest item h =
     by_stop (is_attached state.phase) state.stopped (holds_entry state (events_in hand.item))
     (thrown_in state.wishes (events_in hand.item))
     (stop_among state.wishes (hits_in state.wishes (events_in hand.item))) (halt_stands P state.wishes hand.item item)
   where
     told : (cause : HaltCause) (thread : ThreadId) → OfCause P cause → PartStands P (told_part cause thread)
-    told (came_to at) thread k = tt
     told (threw one) thread k = k
-    told has_stepped thread k = tt
+    told _ thread k = tt
 
     by_surplus : (stopped : Bool) → All (PartStands P) (surplus stopped ++ rest)
     by_surplus false = h
@@ -422,76 +390,39 @@ chosen_parts P (Written seen) state hand rest item h = by_code (refused_with han
 chosen_parts P (Leaves exits) state hand rest item h = by_phase state.phase exits
   where
     by_phase : (phase : Phase) (exits : Bool) → All (PartStands P) (leaves phase exits ++ rest)
-    by_phase Fresh exits = h
     by_phase Attached true = (tt, h)
     by_phase Attached false = (tt, h)
-    by_phase Gone exits = h
+    by_phase _ exits = h
 
 body_good : (P : Id → Type 0) (finding : Finding) → IsGood P finding → OfBody P (body_of finding)
 body_good P (threads_found named) h = h
-body_good P (classes_found classes) h = tt
 body_good P (frames_found total frames) h = h
 body_good P (variables_found shown) h = h
 body_good P (value_found seen) h = h
-body_good P (no_value failure) h = tt
-body_good P (write_found write seen) h = tt
-body_good P (text_found text) h = tt
-body_good P (exception_found id mode) h = tt
+body_good P _ h = tt
 
 outcome_good : (P : Id → Type 0) (numbers : InHand) (found : Need Finding) → NeedStands P (IsGood P) found
     → OfOutcome P (outcome_by numbers (result_of found))
 outcome_good P numbers (has finding) h = shown_good P numbers (body_of finding) (body_good P finding h)
-outcome_good P numbers (fails fault) h = tt
-outcome_good P numbers (lacks want others) h = tt
+outcome_good P numbers _ h = tt
 
 value_good : (P : Id → Type 0) (numbers : InHand) (found : Need Finding) → NeedStands P (IsGood P) found
     → OfOutcome P (value_outcome numbers (result_of found))
 value_good P numbers (has (no_value failure)) h = tt
-value_good P numbers (has (threads_found named)) h = outcome_good P numbers (has (threads_found named)) h
-value_good P numbers (has (classes_found classes)) h = outcome_good P numbers (has (classes_found classes)) h
-value_good P numbers (has (frames_found total frames)) h = outcome_good P numbers (has (frames_found total frames)) h
-value_good P numbers (has (variables_found shown)) h = outcome_good P numbers (has (variables_found shown)) h
-value_good P numbers (has (value_found seen)) h = outcome_good P numbers (has (value_found seen)) h
-value_good P numbers (has (write_found write seen)) h = outcome_good P numbers (has (write_found write seen)) h
-value_good P numbers (has (text_found text)) h = outcome_good P numbers (has (text_found text)) h
-value_good P numbers (has (exception_found id mode)) h = outcome_good P numbers (has (exception_found id mode)) h
 value_good P numbers (fails fault) h = tt
 value_good P numbers (lacks want others) h = tt
+value_good P numbers found h = outcome_good P numbers found h
 
 found_parts : (P : Id → Type 0) (lookup : Lookup) (found : Need Finding) (state : State) → NeedStands P (IsGood P) found
     → All (PartStands P) (finished lookup (result_of found) state)
 found_parts P all_threads (has finding) state h = (body_good P finding h, tt)
-found_parts P all_threads (fails fault) state h = (tt, tt)
-found_parts P all_threads (lacks want others) state h = (tt, tt)
-found_parts P (exception_text thread one) found state h = (tt, tt)
 found_parts P (exception_info thrown) (has finding) state h = (body_good P finding h, tt)
-found_parts P (exception_info thrown) (fails fault) state h = (tt, tt)
-found_parts P (exception_info thrown) (lacks want others) state h = (tt, tt)
 found_parts P (thread_frames thread start levels) found state h = (outcome_good P state.numbers found h, tt)
 found_parts P (container_children thing filter start count) found state h = (outcome_good P state.numbers found h, tt)
 found_parts P (expression_value one expression) found state h = (value_good P state.numbers found h, tt)
 found_parts P (variable_write thing name text) (has (write_found write seen)) state h = (h, (tt, tt))
-found_parts P (variable_write thing name text) (has (no_value failure)) state h = (tt, tt)
-found_parts P (variable_write thing name text) (has (threads_found named)) state h = (tt, tt)
-found_parts P (variable_write thing name text) (has (classes_found classes)) state h = (tt, tt)
-found_parts P (variable_write thing name text) (has (frames_found total frames)) state h = (tt, tt)
-found_parts P (variable_write thing name text) (has (variables_found shown)) state h = (tt, tt)
-found_parts P (variable_write thing name text) (has (value_found seen)) state h = (tt, tt)
-found_parts P (variable_write thing name text) (has (text_found found)) state h = (tt, tt)
-found_parts P (variable_write thing name text) (has (exception_found id mode)) state h = (tt, tt)
-found_parts P (variable_write thing name text) (fails fault) state h = (tt, tt)
-found_parts P (variable_write thing name text) (lacks want others) state h = (tt, tt)
-found_parts P class_facts (has (threads_found named)) state h = (tt, tt)
 found_parts P class_facts (has (classes_found classes)) state h = (h, tt)
-found_parts P class_facts (has (frames_found total frames)) state h = (tt, tt)
-found_parts P class_facts (has (variables_found shown)) state h = (tt, tt)
-found_parts P class_facts (has (value_found seen)) state h = (tt, tt)
-found_parts P class_facts (has (no_value failure)) state h = (tt, tt)
-found_parts P class_facts (has (write_found write seen)) state h = (tt, tt)
-found_parts P class_facts (has (text_found text)) state h = (tt, tt)
-found_parts P class_facts (has (exception_found id mode)) state h = (tt, tt)
-found_parts P class_facts (fails fault) state h = (tt, tt)
-found_parts P class_facts (lacks want others) state h = (tt, tt)
+found_parts P _ _ state h = (tt, tt)
 
 -- Parts that need the sizes -------------------------------------------------------------------------------------------
 
@@ -505,21 +436,17 @@ skipped_order rest (Skips.no_request is) h = h
 
 pub sent_order : (sized attached : Bool) (deed : Deed) (rest : List Part)
     → in_order sized attached (Part.Sends deed ∷ rest) ≡ true → in_order sized attached rest ≡ true
-sent_order sized attached Suspend rest h = h
-sent_order sized attached (Resume suspension) rest h = h
-sent_order sized attached Dispose rest h = h
-sent_order sized attached Exit rest h = h
 sent_order sized attached (Writes write) rest h = in_any_order sized attached rest
     (sized_by sized attached (Part.Sends (Writes write)) rest h refl refl)
+sent_order sized attached _ rest h = h
 
 pub event_order : (state : State) (event : Event) (rest : List Part) → is_gone (after_event event state).phase ≡ false
     → in_order (is_some state.sizes) (is_attached state.phase) (Part.Tells event ∷ rest) ≡ true
     → in_order (is_some state.sizes) (is_attached (after_event event state).phase) rest ≡ true
 event_order state Initialized rest near h = in_any_order _ _ rest
     (sized_by (is_some state.sizes) (is_attached state.phase) (Part.Tells Initialized) rest h refl refl)
-event_order state (some_news news) rest near h = h
-event_order state (a_stop stopping) rest near h = h
 event_order state Terminated rest near h = cc
+event_order state _ rest near h = h
 
 -- a look-up that stands in front, where the sizes are known
 pub looks_stand : {P : Id → Type 0} {state : State} {left : List Part} {queue : List Want} (hand : Hand)

@@ -3,8 +3,6 @@ use Rattle.std.proofs.Common.{◌≡◌, ◌≤◌, ◌+◌, ℕ, Bool, true, fa
 use Rattle.std.proofs.Common.{Some, None, refl, sym, ap, subst, ◌∙◌, option_map, arith, length-append}
 use Rattle.std.specs.List.{AllByRecursion as All, flat_map}
 use Rattle.class_tables.specs.Facts.{Known, same_class}
-use Rattle.jdwp_commands.specs.Answers.{kind_of_answer}
-use Rattle.jdwp_commands.specs.Commands.{kind_of}
 use Rattle.jdwp_commands.specs.declared.answer.Answer.TheVariants as answers
 use Rattle.jdwp_commands.specs.declared.question.Question.TheVariants as questions
 use Rattle.jdwp_values.specs.Classes.{field_row, method_row}
@@ -12,14 +10,15 @@ use Rattle.jdwp_values.specs.declared.class.Field.{Field}
 use Rattle.jdwp_values.specs.declared.class.Method.{Method}
 use Rattle.jdwp_values.specs.declared.id.ClassId.{ClassId}
 use Rattle.machine_model.specs.Due.{asked_by, asked_hand, lacked_by, lacking_more, load_of, newly_lacked, queued}
-use Rattle.machine_model.specs.Due.{is_listed, way, with_want, with_wants}
+use Rattle.machine_model.specs.Due.{is_listed, way, with_want, with_wants, asked_now, behind_first, Load, clear}
+use Rattle.machine_model.specs.Due.{greeted_by, queueing, sized_by as due_sized}
 use Rattle.machine_model.specs.Facts.{above_in, fields_in, methods_in}
 use Rattle.machine_model.specs.Ids.{Id, class, ids_of, ids_replied, thread_of}
 use Rattle.machine_model.specs.Lookups.{found_for}
 use Rattle.machine_model.specs.Names.{Answer, Guard, Handshake, IdSizes, Part, Phase, Question, Replied, Sent}
-use Rattle.machine_model.specs.Names.{TargetCommand, Want, a_question, an_answer, an_effect}
-use Rattle.machine_model.specs.Plans.{Need, answer_in, asks_for, fails, has, lacking, lacks, question_of}
-use Rattle.machine_model.specs.Replying.{wire, replied_machine, is_failed, IsReply, ended_with, filled, given_up}
+use Rattle.machine_model.specs.Names.{TargetCommand, Want, a_question, an_effect}
+use Rattle.machine_model.specs.Plans.{Need, answer_in, asks_for, lacking, lacks, question_of}
+use Rattle.machine_model.specs.Replying.{replied_machine, is_failed, IsReply, ended_with, filled, given_up}
 use Rattle.machine_model.specs.Replying.{hand_replied, is_waiting, knows_fact, learnt, pending_in, shows_end, sizes_in}
 use Rattle.machine_model.specs.Replying.{told_by, unanswered, unless_failed, unanswered_effect, waits_for}
 use Rattle.machine_model.specs.Replying.{still_unlisted, with_heard}
@@ -28,12 +27,11 @@ use Rattle.machine_model.specs.Spelling.{listed, all_sizes, first_sizes, sizes_b
 use Rattle.machine_model.specs.State.{Hand, Machine, SizesRead, State, is_attached, is_gone, is_none, is_some}
 use Rattle.machine_model.proofs.IdRows.{all_front, all_joined, all_weak}
 use Rattle.machine_model.proofs.KeyLaws.{is_one}
-use Rattle.machine_model.proofs.PlanIds.{AreKnown, IsAsked, IsGood, IsHeard, IsHeardOf, IsWanted, NeedStands}
-use Rattle.machine_model.proofs.PlanIds.{is_sizes, put_all, put_key, reply_heard}
+use Rattle.machine_model.proofs.PlanIds.{AreKnown, IsAsked, IsGood, IsHeard, IsHeardOf, IsWanted, NeedStands, is_sizes}
+use Rattle.machine_model.proofs.PlanIds.{put_all, put_key, reply_heard}
 use Rattle.machine_model.proofs.Stepping.{Loses}
 use Rattle.machine_model.proofs.Testing.{same_replied}
 use Rattle.machine_model.specs.Keys.{same_question}
-use Rattle.machine_model.specs.Due.{asked_now, behind_first, Load, clear, greeted_by, queueing, sized_by as due_sized}
 use Rattle.machine_model.proofs.StandingMoves.{in_any_order, looks_stand, sized_by}
 use Rattle.machine_model.proofs.Standing.{IsKept, Kept, KeptHand, Near, asked_in, by_command, by_sent, by_want, one_if}
 use Rattle.machine_model.proofs.Standing.{put_back, queue_in, same_sizes, sizes_more, taken_out, total}
@@ -41,6 +39,9 @@ use Rattle.class_tables.specs.declared.loaded.Loaded.{Loaded}
 use Rattle.jdwp_commands.specs.declared.listed.LoadedClass.{LoadedClass}
 use Rattle.machine_model.specs.Classes.{classes_in, with_listed}
 use Rattle.std.specs.Prelude.{fold}
+use Rattle.machine_model.proofs.Bools.{second_holds}
+use Rattle.machine_model.proofs.RestLaws.{near_queue}
+use Rattle.machine_model.proofs.SizeLaws.{good_answer}
 
 -- Numbers -------------------------------------------------------------------------------------------------------------
 
@@ -97,9 +98,8 @@ all_taken Good asked queue (want ∷ wants) h k =
 
 lacking_all : {A : Type 0} (P : Id → Type 0) (Good : A → Type 0) (found : Need A) → NeedStands P Good found
     → All (IsWanted P true) (lacking found)
-lacking_all P Good (has a) h = tt
-lacking_all P Good (fails fault) h = tt
 lacking_all P Good (lacks want others) h = h
+lacking_all P Good _ h = tt
 
 guard_all : (P : Id → Type 0) (guard : Guard) (state : State)
     → All (IsWanted P (is_some state.sizes)) (asked_by (way guard state))
@@ -118,13 +118,12 @@ guard_all P Handshake state = by_tests state.greeting_sent state.greeting_heard
 lacked_all : {P : Id → Type 0} {state : State} {queue : List Want} (hand : Hand) (left : List Part)
     → P (class 0) → Near P state left queue hand.asked
     → All (IsWanted P (is_some state.sizes)) (lacked_by state hand left)
-lacked_all hand [] null n = tt
 lacked_all {P} {state} hand (Part.Looks lookup ∷ rest) null n =
     let sized = sized_by (is_some state.sizes) (is_attached state.phase) (Part.Looks lookup) rest n.order refl refl in
     subst (λ sized. All (IsWanted P sized) (lacking (found_for lookup state hand))) (sym sized)
     (lacking_all P (IsGood P) (found_for lookup state hand) (looks_stand hand lookup null n sized n.parts.0))
 lacked_all {P} {state} hand (Part.Awaits guard ∷ rest) null n = guard_all P guard state
-lacked_all hand (_ ∷ rest) null n = tt
+lacked_all hand _ null n = tt
 
 none_of : (P : Id → Type 0) (queue : List Want) → All (IsWanted P true) queue → total by_want queue ≡ 0
 none_of P [] h = refl
@@ -134,10 +133,6 @@ near_by : (gone : Bool) (load other : Load) → cond gone clear load ≡ other �
     → gone ≡ false
 near_by true load other is apart = apart is
 near_by false load other is apart = refl
-
-lacking_near : (m : Machine) → load_of m ≡ lacking_more → is_gone m.state.phase ≡ false
-unfolding load_of
-lacking_near m is = near_by (is_gone m.state.phase) _ lacking_more is (λ no. cc)
 
 pub queued_near : (m : Machine) → load_of m ≡ queued → is_gone m.state.phase ≡ false
 unfolding load_of
@@ -149,8 +144,7 @@ known_once [] is = cc
 known_once (one ∷ later) is = omega arith
 
 none_known : (sizes : List SizesRead) → is_some (first_sizes sizes) ≡ false → length sizes ≡ 0
-none_known [] is = refl
-none_known (one ∷ later) is = cc
+none_known sizes is = grind (arith, is)
 
 new_few : {P : Id → Type 0} {messages : List Message} {state : State} (hand : Hand) {late : List TargetCommand}
     (sized : Bool) → P (class 0) → KeptHand P messages state (Some hand) late → is_gone state.phase ≡ false
@@ -174,7 +168,7 @@ pub queued_kept : {P : Id → Type 0} {messages : List Message} (m : Machine) {h
 unfolding newly_lacked
 queued_kept {P} {messages} m {hand} null kept load is =
     let k = taken_out m kept is in
-    let gone = lacking_near m load in
+    let gone = near_queue m load in
     let n = k.near gone in
     let late : total by_command m.late ≡ 0 = ap (total by_command) (k.none_late gone) in
     let few = new_few hand (is_some m.state.sizes) null k gone refl in
@@ -199,8 +193,7 @@ asked_first P sized want w = record { reply = tt; first = by_sized sized w.first
   where
     by_sized : (sized : Bool) → is_sizes (question_of want) ≡ not sized
         → cond sized true (is_sizes (question_of want)) ≡ true
-    by_sized true is = refl
-    by_sized false is = is
+    by_sized sized is = grind (arith, is)
 
 asked_on : {P : Id → Type 0} {messages : List Message} {state : State} {left : List Part} {want : Want}
     {wants : List Want} {asked : List Sent} {late : List TargetCommand} → Kept P messages state left
@@ -268,8 +261,7 @@ listed_few (Some sizes) = omega arith
 said_few : (command : TargetCommand) (replied : Replied)
     → length (sizes_by (Message.answers command replied)) ≤ by_command command
 said_few (a_question questions.IdSizes) replied = listed_few (sizes_in replied)
-said_few (a_question _) replied = omega arith
-said_few (an_effect effect) replied = omega arith
+said_few _ replied = omega arith
 
 unless_fewer : (failed : Bool) (queue : List Want) → total by_want (unless_failed failed queue) ≤ total by_want queue
 unless_fewer true queue = omega arith
@@ -282,17 +274,13 @@ filled_all P sized question replied [] r h = tt
 filled_all P sized question replied (sent ∷ asked) r h =
     by_test (waits_for sent question) refl (filled_all P sized question replied asked r h.1)
   where
-    asks_it : (open_one asks : Bool) → cond open_one asks false ≡ true → asks ≡ true
-    asks_it true asks is = is
-    asks_it false asks is = cc
-
     by_test : (waits : Bool) → waits_for sent question ≡ waits → All (IsAsked P sized) (filled question replied asked)
         → All (IsAsked P sized)
         (cond waits (record sent { reply = Some replied } ∷ asked) (sent ∷ filled question replied asked))
     by_test true is rest = (
       record {
         reply = subst (λ (q : Question). All P (ids_replied (thread_of q) replied))
-            (sym (is_one (question_of sent.want) question (asks_it (is_none sent.reply) (asks_for sent question) is))) r;
+            (sym (is_one (question_of sent.want) question (second_holds (is_none sent.reply) (asks_for sent question) is))) r;
         first = h.0.first;
       },
       h.1,
@@ -336,7 +324,6 @@ heard_known P null questions.AllClasses heard known r h =
   where
     by_heard : (heard : Option Answer) → IsHeard P heard → All (λ (c : LoadedClass). P (class c.class.0))
         (classes_in heard)
-    by_heard (Some (answers.AllClasses [])) r = tt
     by_heard (Some (answers.AllClasses (c ∷ classes))) r = (r.0, by_heard (Some (answers.AllClasses classes)) r.1)
     by_heard _ r = tt
 heard_known P null (questions.Methods c) heard known r h = record {
@@ -395,8 +382,7 @@ told_learns : (question : Question) (replied : Replied) (state : State) → is_s
       classes = learnt question (answer_in replied) state.classes;
       unlisted = still_unlisted question state.unlisted;
     }
-told_learns questions.IdSizes replied state is = cc
-told_learns _ replied state is = refl
+told_learns question replied state is = grind (arith, is)
 
 -- before the sizes are known nothing else is waited for
 pub only_sizes : (P : Id → Type 0) (question : Question) (asked : List Sent) → All (IsAsked P false) asked
@@ -413,15 +399,9 @@ only_sizes P question (sent ∷ asked) h waits =
         → (is_waiting question asked ≡ true → is_sizes question ≡ true) → is_sizes question ≡ true
     by_test true true asks waits rest = as_sizes question
         (subst (λ (q : Question). same_question q question ≡ true) (sizes_is (question_of sent.want) h.0.first) asks)
-    by_test true false asks waits rest = rest waits
-    by_test false asks same waits rest = rest waits
+    by_test _ _ _ waits rest = rest waits
 
 -- What a reply to a question leaves -----------------------------------------------------------------------------------
-
--- a reply that isn't the target's end gives the sizes where they were asked for
-good_answer : (answer : Answer) → kind_of_answer answer ≡ kind_of (wire (a_question questions.IdSizes))
-    → is_some (sizes_in (an_answer answer)) ≡ true
-good_answer answer is = grind (arith, is)
 
 sizes_given : (sizes : Option SizesRead) (phase : Phase) (replied : Replied) → IsReply sizes
     (a_question questions.IdSizes) replied
@@ -554,8 +534,7 @@ pending_few (Some hand) = grind (
 
 given_up_none : (hand : Option Hand) → total by_want (queue_in (option_map given_up hand))
     + total by_sent (asked_in (option_map given_up hand)) ≡ 0
-given_up_none None = refl
-given_up_none (Some hand) = refl
+given_up_none hand = grind arith
 
 -- what is left pending has the question of the sizes no more often than it was asked
 lost_few : {m : Machine} (message : Message) (late : List TargetCommand) → Loses m message late

@@ -11,10 +11,9 @@ use Rattle.machine_model.proofs.Testing.{same_noted, same_numbered, same_replied
 use Rattle.machine_model.proofs.Standing.{IsKept, at_front, ids_said, put_back, quiet_kept, same_state, stays}
 use Rattle.machine_model.proofs.Standing.{taken_out}
 use Rattle.machine_model.proofs.StandingMoves.{begun_order, begun_parts, chosen_order, chosen_parts, dropped_kept}
-use Rattle.machine_model.proofs.StandingMoves.{sent_order}
-use Rattle.machine_model.proofs.StandingMoves.{effect_same, event_order, event_same, found_kept}
-use Rattle.machine_model.proofs.StandingMoves.{note_same, skipped_order, told_same}
-use Rattle.machine_model.proofs.StandingMoves.{effect_wanted, event_wanted, told_wanted, note_wished}
+use Rattle.machine_model.proofs.StandingMoves.{sent_order, effect_same, event_order, event_same, found_kept, note_same}
+use Rattle.machine_model.proofs.StandingMoves.{skipped_order, told_same, effect_wanted, event_wanted, told_wanted}
+use Rattle.machine_model.proofs.StandingMoves.{note_wished}
 use Rattle.machine_model.proofs.StandingReplies.{answered_kept, asked_kept, late_kept, lost_kept, queued_kept}
 use Rattle.machine_model.specs.Rows.{chosen, noted}
 use Rattle.machine_model.specs.Replying.{done_by, hand_replied}
@@ -81,8 +80,6 @@ kept_on {P} messages m next said null w k (Moves.unfolds {hand} {choice} {rest} 
     })
 kept_on messages m next said null w k (Moves.queues free is) brought = queued_kept m null k free is
 kept_on messages m next said null w k (Moves.asks free room is are) brought = asked_kept m k is are
-kept_on messages m next said null w k (Moves.hears read is) brought =
-    quiet_kept m.state said k (same_state m.state) refl refl refl
 kept_on messages m next said null w k (Moves.greeted read is) brought =
     quiet_kept next.state said k
     (record { sizes = refl; classes = refl; back = λ near. near }) refl refl refl
@@ -95,12 +92,5 @@ kept_on messages m next said null w k (Moves.replies {effect} {replied} is flyin
     (effect_same effect replied m.state) refl refl (effect_wanted effect replied m.state))
 kept_on messages m next said null w k (Moves.late {command} {replied} before after is reply) brought =
     late_kept m command replied before after k is
-kept_on messages m next said null w k (Moves.ends gone) brought =
-    quiet_kept m.state said k (same_state m.state) refl refl refl
 kept_on messages m next said null w k (Moves.loses {message} late near why) brought = lost_kept message late k why
-kept_on messages m next said null w k (Moves.comes read sized taken) brought =
-    quiet_kept m.state said k (same_state m.state) refl refl refl
-kept_on messages m next said null w k (Moves.keeps is) brought =
-    quiet_kept m.state said k (same_state m.state) refl refl refl
-kept_on messages m next said null w k (Moves.reads before after read is none taken) brought =
-    quiet_kept m.state said k (same_state m.state) refl refl refl
+kept_on messages m next said null w k _ brought = quiet_kept m.state said k (same_state m.state) refl refl refl

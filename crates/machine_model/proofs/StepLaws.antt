@@ -1,37 +1,35 @@
 -- A step is cleared where a stop is told, and at rest none is installed but the one in flight.
-use Rattle.std.proofs.Common.{◌≡◌, Bool, true, false, cond, not, ◌||◌, ◌&&◌, List, [], ◌∷◌, ◌++◌, Option, Some, None, refl}
-use Rattle.std.proofs.Common.{sym, ap, subst, ◌∙◌, option_map, arith, ℕ}
+use Rattle.std.proofs.Common.{◌≡◌, Bool, true, false, cond, not, ◌||◌, ◌&&◌, List, [], ◌∷◌, ◌++◌, Option, Some, None}
+use Rattle.std.proofs.Common.{refl, sym, ap, subst, ◌∙◌, option_map, arith, ℕ}
 use Rattle.std.specs.Prelude.{map}
 use Rattle.dap_messages.specs.declared.told.Event.TheVariants as events
 use Rattle.dap_messages.specs.declared.told.Stopped.{Stopped}
 use Rattle.class_tables.specs.Lookups.{found_in}
-use Rattle.machine_model.specs.Due.{after_deed, asked_hand, due}
+use Rattle.machine_model.specs.Due.{asked_hand, due}
 use Rattle.machine_model.specs.Knowing.{lookup_stops, stopped_behind, stopped_told}
 use Rattle.machine_model.specs.Lookups.{finished}
-use Rattle.machine_model.specs.Names.{Written}
-use Rattle.machine_model.specs.Names.{Act, Attached, Choice, Classes, Command, Configured, Decides, Deed, Effect, EntryHeld, Event}
-use Rattle.machine_model.specs.Names.{Finding, Functions, HaltCause, Initialized, Item, Leaves, Lines, Lookup, Note, Options}
-use Rattle.machine_model.specs.Names.{Outcome, Part, Replied, Roots, Stepped, Steps, StopsAt, TargetCommand, TellsNews}
-use Rattle.machine_model.specs.Names.{Terminated, ThreadId, Throws, Want, a_composite, a_question, a_raw, a_request, a_stop}
-use Rattle.machine_model.specs.Names.{an_effect, an_event, entry_verified, some_news, target_end, thread_changed}
+use Rattle.machine_model.specs.Names.{Written, Act, Attached, Choice, Classes, Command, Decides, Effect, Event, Finding}
+use Rattle.machine_model.specs.Names.{HaltCause, Item, Leaves, Lookup, Note, Part, Replied, Stepped, Steps}
+use Rattle.machine_model.specs.Names.{TargetCommand, TellsNews, ThreadId, Want, a_question, a_raw, a_request, a_stop}
+use Rattle.machine_model.specs.Names.{an_effect, an_event, Lines, entry_verified, some_news}
 use Rattle.machine_model.specs.Outcomes.{result_of}
 use Rattle.machine_model.specs.Plans.{Result}
-use Rattle.machine_model.specs.Replying.{given_up, hand_replied, replied_to}
-use Rattle.machine_model.specs.Requests.{Wishes, effect_due, wishes_after}
+use Rattle.machine_model.specs.Replying.{given_up, hand_replied}
+use Rattle.machine_model.specs.Requests.{Wishes, wishes_after}
 use Rattle.machine_model.specs.Rest.{IsAtRest}
-use Rattle.machine_model.specs.Rows.{chosen, gone_parts, has_response, news_of, noted, parts_of, refused_with, request_parts}
-use Rattle.machine_model.specs.Rows.{stepped_by}
+use Rattle.machine_model.specs.Rows.{chosen, gone_parts, has_response, news_of, noted, parts_of, refused_with}
+use Rattle.machine_model.specs.Rows.{request_parts, stepped_by}
 use Rattle.machine_model.specs.Runs.{Allows, Message, Run, said}
 use Rattle.machine_model.specs.State.{Hand, Machine, State, is_empty, is_gone, is_some}
 use Rattle.machine_model.specs.Steps.{HasNoStep, IsStepAtRest}
 use Rattle.machine_model.specs.Stops.{surplus, told_part}
-use Rattle.machine_model.specs.Telling.{after_event, numbered_by}
+use Rattle.machine_model.specs.Telling.{after_event}
 use Rattle.machine_model.proofs.BindingFacts.{only_classes}
 use Rattle.machine_model.proofs.BindingWatches.{or_false}
 use Rattle.machine_model.proofs.HoldingParts.{numbered_stop, same_stop}
 use Rattle.machine_model.proofs.RequestLaws.{settles, settling}
 use Rattle.machine_model.proofs.RequestSteps.{learnt_wishes, numbered_wishes}
-use Rattle.machine_model.proofs.Stepping.{IsAt, Loses, Moves, Skips, by_moves, moved}
+use Rattle.machine_model.proofs.Stepping.{IsAt, Moves, Skips, by_moves, moved, Loses}
 use Rattle.machine_model.proofs.SuspendLaws.{bound_at_stop}
 use Rattle.machine_model.proofs.Tables.{free as free_test, free_once, of_decided, told_alike}
 use Rattle.machine_model.proofs.Testing.{tested, whole}
@@ -47,9 +45,10 @@ use Rattle.wish_sets.specs.declared.wish.Depth.TheVariants.{Over}
 use Rattle.wish_sets.specs.declared.wish.Wish.{Wish}
 use Rattle.wish_sets.specs.declared.wish.StepWish.{StepWish}
 use Rattle.wish_sets.specs.declared.wish.Wish.TheVariants as wishes
-use Rattle.wish_sets.specs.Wanted.{Wanted, with_known}
+use Rattle.wish_sets.specs.Wanted.{Wanted}
 use Rattle.wish_sets.specs.Wished.{stepping, stops, thrown, watched, wished}
 use Rattle.wish_sets.specs.Wishes.{is_installed}
+use Rattle.machine_model.proofs.Bools.{and_first, first_fails, second_holds}
 
 -- What is left of an item ----------------------------------------------------------------------------------------------
 
@@ -113,9 +112,8 @@ row_steps state command steps is = grind (arith, is)
 begun_steps : (state : State) (item : Item) (steps : Bool) → ends_well state.stopped steps ≡ true
     → steps_well state.stopped steps (parts_of state item) ≡ true
 begun_steps state (a_request request) steps is = row_steps state request.command steps is
-begun_steps state target_end steps is = grind (arith, is)
-begun_steps state (a_composite at composite) steps is = grind (arith, is)
 begun_steps state (a_raw at body) steps is = is
+begun_steps state _ steps is = grind (arith, is)
 
 found_steps : (stopped steps : Bool) (lookup : Lookup) (result : Result Finding) (state : State) (rest : List Part)
     → steps_well stopped steps (Part.Looks lookup ∷ rest) ≡ true
@@ -127,14 +125,11 @@ chosen_steps : (stopped steps : Bool) (choice : Choice) (state : State) (hand : 
     → steps_well stopped steps (chosen choice state hand ++ rest) ≡ true
 chosen_steps stopped steps (TellsNews below) state hand rest same is =
     told_alike (steps_well stopped steps) (λ news parts. refl) state.phase (news_of below state hand.item) rest ∙ is
-chosen_steps stopped steps (Written seen) state hand rest same is = grind (arith, is)
-chosen_steps stopped steps (Leaves exits) state hand rest same is = grind (arith, is)
 chosen_steps stopped steps Stepped state hand rest same is = by_rest rest (refused_with hand.effect) is
   where
     by_rest : (rest : List Part) (code : Option ℕ) → steps_well stopped steps (Part.Unfolds Stepped ∷ rest) ≡ true
         → steps_well stopped steps (stepped_by code ++ rest) ≡ true
-    by_rest [] code is = grind arith
-    by_rest (part ∷ rest) code is = cc
+    by_rest rest code is = grind (arith, is)
 chosen_steps stopped steps Decides state hand [] same is =
     of_decided (λ (parts : List Part). steps_well stopped steps (parts ++ []) ≡ true) is is is
     (λ again thrown halt. by_halt again halt.cause halt.thread) state hand.item
@@ -143,34 +138,23 @@ chosen_steps stopped steps Decides state hand [] same is =
         → steps_well stopped false (told_part cause thread ∷ surplus again ++ []) ≡ true
     by_halt again cause thread = grind arith
 chosen_steps stopped steps Decides state hand (part ∷ rest) same is = cc
+chosen_steps stopped steps _ state hand rest same is = grind (arith, is)
 
 gone_steps : (steps responds : Bool) (item : Item) → steps_well false steps (gone_parts responds item) ≡ true
 gone_steps steps responds item = grind arith
 
 tail_steps : (stopped steps : Bool) (part : Part) (rest : List Part) → steps_well stopped steps (part ∷ rest) ≡ true
     → steps_well (stopped_behind part stopped) (steps_behind part steps) rest ≡ true
-tail_steps stopped steps part rest is = second (may_part steps part rest) _ is
-  where
-    second : (first others : Bool) → cond first others false ≡ true → others ≡ true
-    second true others is = is
-    second false others is = cc
+tail_steps stopped steps part rest is = second_holds (may_part steps part rest) _ is
 
 -- what changes of the step in a state
 noted_steps : (note : Note) (state : State) → steps_in (noted note state) ≡ steps_noted note (steps_in state)
-noted_steps (Options options) state = refl
-noted_steps (Roots roots) state = refl
-noted_steps EntryHeld state = refl
-noted_steps Configured state = refl
 noted_steps (Lines None path entries) state = refl
-noted_steps (Lines (Some key) path entries) state = refl
-noted_steps (Functions entries) state = refl
-noted_steps (StopsAt caught uncaught) state = refl
-noted_steps (Steps step) state = refl
-noted_steps (Throws thrown) state = refl
 noted_steps (Classes classes) state = ap (λ (wanted : Wanted). is_some wanted.step)
     (only_classes (found_in state.classes) classes state.wishes.wanted)
+noted_steps _ state = refl
 
-noted_stop : (note : Note) (state : State) → (noted note state).stopped ≡ state.stopped
+pub noted_stop : (note : Note) (state : State) → (noted note state).stopped ≡ state.stopped
 noted_stop note state = grind arith
 
 replied_steps : (effect : Effect) (replied : Replied) (w : Wishes)
@@ -180,10 +164,7 @@ replied_steps effect replied w = grind arith
 event_steps : (event : Event) (state : State) (rest : List Part) → steps_well (stopped_told event state.stopped)
     (steps_in state) rest ≡ true
     → steps_well (after_event event state).stopped (steps_in (after_event event state)) rest ≡ true
-event_steps Initialized state rest is = is
-event_steps (some_news news) state rest is = is
-event_steps (a_stop stopping) state rest is = is
-event_steps Terminated state rest is = is
+event_steps event state rest is = grind (arith, is)
 
 -- In runs -------------------------------------------------------------------------------------------------------------
 
@@ -194,21 +175,16 @@ steps_front {m} h at = subst (λ (parts : List Part). steps_well m.state.stopped
 
 same_hand : (stopped steps : Bool) (command : TargetCommand) (replied : Replied) (hand : Option Hand)
     → hand_steps stopped steps (option_map (hand_replied command replied) hand) ≡ hand_steps stopped steps hand
-same_hand stopped steps command replied None = refl
-same_hand stopped steps (a_question question) replied (Some hand) = refl
-same_hand stopped steps (an_effect effect) replied (Some hand) = refl
+same_hand stopped steps command replied hand = grind arith
 
 asked_same : (stopped steps : Bool) (want : Want) (hand : Option Hand)
     → hand_steps stopped steps (option_map (asked_hand want) hand) ≡ hand_steps stopped steps hand
-asked_same stopped steps want None = refl
-asked_same stopped steps want (Some hand) = refl
+asked_same stopped steps want hand = grind arith
 
 skipped_steps : {m : Machine} {hand : Hand} {part : Part} (rest : List Part) → Skips m hand part
     → steps_well m.state.stopped (steps_in m.state) (part ∷ rest) ≡ true
     → steps_well m.state.stopped (steps_in m.state) rest ≡ true
-skipped_steps rest (Skips.by_guard is) h = h
-skipped_steps rest (Skips.by_wishes is) h = h
-skipped_steps rest (Skips.no_request is) h = h
+skipped_steps rest why h = grind (arith, why, h)
 
 stepping_on : (m next : Machine) (said : Option Message) → IsStepping m → Moves m said next → IsStepping next
 stepping_on m next said h (Moves.begins picked free none is) =
@@ -227,7 +203,6 @@ stepping_on m next said h (Moves.tells {rest = rest} {event} free at) = event_st
 stepping_on m next said h (Moves.sends {rest = rest} {deed} free at near) =
     tail_steps m.state.stopped (steps_in m.state) (Part.Sends deed) rest (steps_front h at)
 stepping_on m next said h (Moves.updates free at is near) = steps_front h at
-stepping_on m next said h (Moves.greets free at is near) = h
 stepping_on m next said h (Moves.notes {note = note} {rest} free at) =
     rw (noted_stop note m.state, noted_steps note m.state)
     (tail_steps m.state.stopped (steps_in m.state) (Part.Notes note) rest (steps_front h at))
@@ -237,24 +212,18 @@ stepping_on m next said h (Moves.queues free is) =
     subst (λ (held : Option Hand). hand_steps m.state.stopped (steps_in m.state) held ≡ true) is h
 stepping_on m next said h (Moves.asks {want = want} free room is are) =
     asked_same m.state.stopped (steps_in m.state) want m.hand ∙ h
-stepping_on m next said h (Moves.hears read is) = h
-stepping_on m next said h (Moves.greeted read is) = h
 stepping_on m next said h (Moves.answers {question} {replied} is waits reply stays) =
     rw (same_stop (a_question question) replied m.state, learnt_wishes question replied m.state)
     (same_hand m.state.stopped (steps_in m.state) (a_question question) replied m.hand ∙ h)
 stepping_on m next said h (Moves.replies {effect} {replied} is flies reply stays) =
     rw (same_stop (an_effect effect) replied m.state, replied_steps effect replied m.state.wishes)
     (same_hand m.state.stopped (steps_in m.state) (an_effect effect) replied m.hand ∙ h)
-stepping_on m next said h (Moves.late before after is reply) = h
-stepping_on m next said h (Moves.ends gone) = h
 stepping_on m next said h (Moves.loses late near why) = given_steps m.hand
   where
     given_steps : (hand : Option Hand) → hand_steps false (steps_in m.state) (option_map given_up hand) ≡ true
     given_steps None = refl
     given_steps (Some hand) = gone_steps (steps_in m.state) (has_response hand.parts) hand.item
-stepping_on m next said h (Moves.comes read sized taken) = h
-stepping_on m next said h (Moves.keeps is) = h
-stepping_on m next said h (Moves.reads before after read is none taken) = h
+stepping_on m next said h _ = h
 
 steps_kept : {messages : List Message} {m : Machine} → Run messages m → IsStepping m
 steps_kept r = by_moves {Holds = λ (messages : List Message) (m : Machine). IsStepping m}
@@ -274,9 +243,7 @@ no_place thread depth (place ∷ those) = no_place thread depth those
 
 no_thrown : (thread : ThreadId) (depth : Depth) (caught uncaught : Bool)
     → has_wish (thrown caught uncaught) (wishes.Step thread depth) ≡ false
-no_thrown thread depth true uncaught = refl
-no_thrown thread depth false true = refl
-no_thrown thread depth false false = refl
+no_thrown thread depth caught uncaught = grind arith
 
 step_wished : (wanted : Wanted) (thread : ThreadId) (depth : Depth)
     → has_wish (wished wanted) (wishes.Step thread depth) ≡ has_wish (stepping wanted.step) (wishes.Step thread depth)
@@ -305,12 +272,8 @@ only_step : (w : Wishes) (thread : ThreadId) (depth : Depth)
     → is_installed w.installed (wishes.Step thread depth) ≡ true
     → w.wanted.step ≡ Some (record { thread = thread; depth = depth })
 only_step w thread depth is installed =
-    by_step w.wanted.step (sym (step_wished w.wanted thread depth) ∙ first _ _ (sym is ∙ installed))
+    by_step w.wanted.step (sym (step_wished w.wanted thread depth) ∙ and_first _ _ (sym is ∙ installed))
   where
-    first : (a b : Bool) → (a && b) ≡ true → a ≡ true
-    first true b is = refl
-    first false b is = cc
-
     by_step : (step : Option StepWish) → has_wish (stepping step) (wishes.Step thread depth) ≡ true
         → step ≡ Some (record { thread = thread; depth = depth })
     by_step None is = cc
@@ -330,33 +293,22 @@ no_step w are none = record {
 }
 
 none_of : (step : Option StepWish) → is_some step ≡ false → step ≡ None
-none_of None is = refl
-none_of (Some step) is = cc
+none_of step is = grind (arith, is)
 
 -- The laws ------------------------------------------------------------------------------------------------------------
 
 cleared_at : {messages : List Message} (m next : Machine) (said : Option Message) (stop : Stopped) → Run messages m
     → said ≡ Some (Message.tells (an_event (events.Stopped stop))) → Moves m said next → HasNoStep m.state.wishes
-cleared_at m next said stop r is (Moves.tells {event = Initialized} free at) = cc
 cleared_at m next said stop r is (Moves.tells {event = some_news (entry_verified entry)} free at) = cc
-cleared_at m next said stop r is (Moves.tells {event = some_news (thread_changed started thread)} free at) = cc
-cleared_at m next said stop r is (Moves.tells {event = Terminated} free at) = cc
 cleared_at m next said stop r is (Moves.tells {hand} {rest} {event = a_stop stopping} free at) =
-    let near = near_stop (is_gone m.state.phase) _ (whole free_once (tested free_test r) at) in
+    let near = first_fails (is_gone m.state.phase) _ (whole free_once (tested free_test r) at) in
     no_step m.state.wishes (λ thread depth. at_rest m.state.wishes (settling r near).tidy
     (none_due_change m.state.wishes (bound_at_stop r at).none_due) (wishes.Step thread depth))
     (none_of m.state.wishes.wanted.step (none_steps (steps_in m.state) _ (steps_front (steps_kept r) at)))
   where
-    near_stop : (gone others : Bool) → cond (cond gone false true) others false ≡ true → gone ≡ false
-    near_stop true others is = cc
-    near_stop false others is = refl
-
     none_steps : (steps others : Bool) → cond (not steps) others false ≡ true → steps ≡ false
-    none_steps true others is = cc
-    none_steps false others is = refl
+    none_steps steps others is = grind (arith, is)
 cleared_at m next said stop r is (Moves.loses late near Loses.by_end) = cc
-cleared_at m next said stop r is (Moves.loses late near (Loses.by_question held waits reply last)) = cc
-cleared_at m next said stop r is (Moves.loses late near (Loses.by_effect held flies reply last)) = cc
 cleared_at m next said stop r is _ = cc
 
 pub clears_steps : (messages : List Message) (m : Machine) (stop : Stopped) → Run messages m
@@ -376,6 +328,4 @@ steps_at_rest messages m r rests attached =
     }
   where
     none_in : (stopped steps : Bool) → stopped ≡ true → ends_well stopped steps ≡ true → steps ≡ false
-    none_in true true is well = cc
-    none_in true false is well = refl
-    none_in false steps is well = cc
+    none_in stopped steps is well = grind (arith, is, well)

@@ -1,25 +1,26 @@
 -- One induction over runs: what each move keeps holds of every run.
-use Rattle.std.proofs.Common.{◌≡◌, ℕ, Bool, true, false, cond, not, List, [], ◌∷◌, ◌++◌, Option, Some, None, refl}
-use Rattle.std.proofs.Common.{ap, subst, option_map}
+use Rattle.std.proofs.Common.{◌≡◌, ℕ, Bool, true, false, cond, List, [], ◌∷◌, ◌++◌, Option, Some, None, refl, ap, subst}
+use Rattle.std.proofs.Common.{option_map}
 use Rattle.machine_model.specs.Due.{Due, Load, Picked, Way, after_deed, asked_first, asked_next, asked_now, begun}
-use Rattle.machine_model.specs.Due.{busy, can_read, clear, due, due_by, gated, guarded, hand_due, is_full}
-use Rattle.machine_model.specs.Due.{lacking_more, lets, load_of, looked, next_item, part_due, pick, queued}
-use Rattle.machine_model.specs.Due.{queued_next, queueing, responded, sent, updated, waiting, wanted, wanted_in, way}
-use Rattle.machine_model.specs.Due.Way.{passes, greets as greets_way, holds as holds_way, asks as asks_way}
+use Rattle.machine_model.specs.Due.{can_read, clear, due, due_by, gated, guarded, hand_due, is_full, lacking_more, lets}
+use Rattle.machine_model.specs.Due.{load_of, looked, next_item, part_due, pick, queued, queued_next, queueing}
+use Rattle.machine_model.specs.Due.{responded, sent, updated, waiting, wanted, wanted_in, way}
+use Rattle.machine_model.specs.Due.Way.{passes, greets as greets_way}
 use Rattle.machine_model.specs.Lookups.{finished, found_for}
 use Rattle.machine_model.specs.Outcomes.{result_of}
 use Rattle.machine_model.specs.Names.{Act, Composite, Deed, Does, Effect, Event, Finding, Guard, Item, Lookup, Note}
 use Rattle.machine_model.specs.Names.{Choice, Outcome, Part, Question, Replied, Request, TargetCommand, Want}
-use Rattle.machine_model.specs.Names.{a_composite, a_question, a_raw, a_request, an_effect, an_event, target_end}
-use Rattle.machine_model.specs.Plans.{Need, fails, has, is_done, lacks, question_of}
-use Rattle.machine_model.specs.Replying.{IsReply, answered_by, ended, ended_with, hand_replied, is_end}
-use Rattle.machine_model.specs.Replying.{is_waiting, pending_in, replied_machine, shows_end}
+use Rattle.machine_model.specs.Names.{a_composite, a_question, a_raw, a_request, an_effect, an_event}
+use Rattle.machine_model.specs.Plans.{Need, is_done, lacks, question_of}
+use Rattle.machine_model.specs.Replying.{IsReply, answered_by, ended, ended_with, hand_replied, is_end, is_waiting}
+use Rattle.machine_model.specs.Replying.{pending_in, replied_machine, shows_end}
 use Rattle.machine_model.specs.Requests.{effect_due}
 use Rattle.machine_model.specs.Rest.{request_in}
 use Rattle.machine_model.specs.Rows.{chosen, noted}
 use Rattle.machine_model.specs.Runs.{Allows, Message, Run, Takes, greeting_heard, heard, said, with_item}
 use Rattle.machine_model.specs.State.{Hand, Machine, fresh, has_raw, is_gone, is_some, knowing, left}
 use Rattle.machine_model.specs.Telling.{after_event, event_told, numbered_by, outcome_told, response_to}
+use Rattle.std.proofs.lemmas.Bool.{not-true}
 
 -- Moves --------------------------------------------------------------------------------------------------------------
 
@@ -138,46 +139,36 @@ Walked m (Act.Over finish) next = Unit {0}
 abbrev Walks : Machine → Due → Type 0
 Walks m to = load_of m ≡ clear → lets (is_gone m.state.phase) to.act ≡ true → Walked m to.act to.next
 
-within : (gone : Bool) → not gone ≡ true → gone ≡ false
-within true is = cc
-within false is = refl
-
 walks_responded : (m : Machine) (hand : Hand) (rest : List Part) (outcome : Outcome) (item : Item) → hand.item ≡ item
     → IsAt m hand (Part.Responds outcome) rest → Walks m (responded item outcome m hand rest)
 walks_responded m hand rest outcome (a_request request) is at = λ free gate. Moves.responds free at is
-walks_responded m hand rest outcome (a_composite place composite) is at =
-    λ free gate. Moves.passes_over free at (Skips.no_request (ap request_in is))
-walks_responded m hand rest outcome (a_raw place body) is at =
-    λ free gate. Moves.passes_over free at (Skips.no_request (ap request_in is))
-walks_responded m hand rest outcome target_end is at =
+walks_responded m hand rest outcome _ is at =
     λ free gate. Moves.passes_over free at (Skips.no_request (ap request_in is))
 
 walks_looked : (m : Machine) (hand : Hand) (rest : List Part) (lookup : Lookup) (found : Need Finding)
     → IsAt m hand (Part.Looks lookup) rest → found_for lookup m.state hand ≡ found
     → Walks m (looked lookup found m hand rest)
-walks_looked m hand rest lookup (has finding) at is = λ free gate. Moves.finds (has finding) free at is refl
-walks_looked m hand rest lookup (fails fault) at is = λ free gate. Moves.finds (fails fault) free at is refl
 walks_looked m hand rest lookup (lacks want others) at is = λ free gate. tt
+walks_looked m hand rest lookup found at is = λ free gate. Moves.finds found free at is refl
 
 walks_guarded : (m : Machine) (hand : Hand) (rest : List Part) (guard : Guard) (found : Way)
     → IsAt m hand (Part.Awaits guard) rest → way guard m.state ≡ found → Walks m (guarded found m hand rest)
 walks_guarded m hand rest guard passes at is = λ free gate. Moves.passes_over free at (Skips.by_guard is)
 walks_guarded m hand rest guard greets_way at is =
-    λ free gate. Moves.greets free at is (within (is_gone m.state.phase) gate)
-walks_guarded m hand rest guard holds_way at is = λ free gate. tt
-walks_guarded m hand rest guard (asks_way want) at is = λ free gate. tt
+    λ free gate. Moves.greets free at is (not-true (is_gone m.state.phase) gate)
+walks_guarded m hand rest guard _ at is = λ free gate. tt
 
 walks_updated : (m : Machine) (hand : Hand) (rest : List Part) (found : Option Effect)
     → IsAt m hand Part.Updates rest → effect_due m.state.wishes ≡ found → Walks m (updated found m hand rest)
 walks_updated m hand rest (Some effect) at is =
-    λ free gate. Moves.updates free at is (within (is_gone m.state.phase) gate)
+    λ free gate. Moves.updates free at is (not-true (is_gone m.state.phase) gate)
 walks_updated m hand rest None at is = λ free gate. Moves.passes_over free at (Skips.by_wishes is)
 
 walks_part : (m : Machine) (hand : Hand) (rest : List Part) (part : Part) → IsAt m hand part rest
     → Walks m (part_due m hand part rest)
 walks_part m hand rest (Part.Responds outcome) at = walks_responded m hand rest outcome hand.item refl at
 walks_part m hand rest (Part.Tells event) at = λ free gate. Moves.tells free at
-walks_part m hand rest (Part.Sends deed) at = λ free gate. Moves.sends free at (within (is_gone m.state.phase) gate)
+walks_part m hand rest (Part.Sends deed) at = λ free gate. Moves.sends free at (not-true (is_gone m.state.phase) gate)
 walks_part m hand rest (Part.Looks lookup) at =
     walks_looked m hand rest lookup (found_for lookup m.state hand) at refl
 walks_part m hand rest (Part.Awaits guard) at = walks_guarded m hand rest guard (way guard m.state) at refl
@@ -230,12 +221,11 @@ walks_gated false m to walked = tt
 
 walks_by : (m : Machine) (load : Load) → load_of m ≡ load
     → Walked m (due_by (is_full false m) load m).act (due_by (is_full false m) load m).next
-walks_by m busy is = tt
 walks_by m queued is = walks_queued (is_full false m) m m.hand refl is refl
 walks_by m lacking_more is = walks_lacking m m.hand is refl
-walks_by m waiting is = tt
 walks_by m clear is =
     walks_gated (lets (is_gone m.state.phase) (wanted m).act) m (wanted m) (λ gate. walks m is gate)
+walks_by m _ is = tt
 
 pub walks_due : (m : Machine) → Walked m (due false m).act (due false m).next
 unfolding due
@@ -247,13 +237,10 @@ acted : {m next : Machine} {message : Message} (act : Act) → said act ≡ Some
     → Moves m (Some message) next
 acted Act.Waits is w = cc
 acted Act.Goes is w = cc
-acted {m} {next} (Act.Tells told) is w = subst (λ (s : Option Message). Moves m s next) is w
-acted {m} {next} Act.Greets is w = subst (λ (s : Option Message). Moves m s next) is w
-acted {m} {next} (Act.Sends effect) is w = subst (λ (s : Option Message). Moves m s next) is w
-acted {m} {next} (Act.Asks question) is w = subst (λ (s : Option Message). Moves m s next) is w
 acted (Act.Over finish) is w = cc
+acted {m} {next} _ is w = subst (λ (s : Option Message). Moves m s next) is w
 
-gone_on : {m : Machine} → (due false m).act ≡ Act.Goes → Moves m None (due false m).next
+pub gone_on : {m : Machine} → (due false m).act ≡ Act.Goes → Moves m None (due false m).next
 gone_on {m} is = subst (λ (act : Act). Walked m act (due false m).next) is (walks_due m)
 
 lost : {m : Machine} (gone : Bool) → is_gone m.state.phase ≡ gone → Moves m (Some Message.ends) (ended gone m)

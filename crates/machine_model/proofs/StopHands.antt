@@ -1,18 +1,15 @@
 -- What the item in hand does in a stop: frames are asked for in a stop alone, and an item that ends the stop has asked
 -- nothing.
-use Rattle.std.proofs.Common.{◌≡◌, Bool, true, false, cond, not, ◌||◌, List, [], ◌∷◌, ◌++◌, Option, Some, None, refl}
-use Rattle.std.proofs.Common.{sym, ap, subst, ◌∙◌, arith, option_map, ℕ}
+use Rattle.std.proofs.Common.{◌≡◌, Bool, true, false, cond, ◌||◌, List, [], ◌∷◌, ◌++◌, Option, Some, None, refl, sym}
+use Rattle.std.proofs.Common.{ap, subst, ◌∙◌, arith, option_map, ℕ}
 use Rattle.std.specs.List.{AllByRecursion as All}
 use Rattle.machine_model.specs.Due.{asked_hand, behind_first, lacked_by, newly_lacked, stopped_by, with_wants}
 use Rattle.machine_model.specs.Lookups.{finished}
-use Rattle.machine_model.specs.Names.{Writes, Written, variable_write}
-use Rattle.machine_model.specs.Names.{Attached, Choice, Decides, Deed, Dispose, Event, Exit, Finding, Fresh, Gone}
-use Rattle.machine_model.specs.Names.{Initialized, Item, Leaves, Lookup, Part, Phase, Question, Replied, Resume, Sent}
-use Rattle.machine_model.specs.Names.{Suspend, TellsNews, Terminated, Want, a_question, a_stop, all_threads}
-use Rattle.machine_model.specs.Names.{an_effect, class_facts, container_children, of_composite, of_entry, of_stop}
-use Rattle.machine_model.specs.Names.{Stepped, exception_info, exception_text, expression_value, some_news, thread_frames}
+use Rattle.machine_model.specs.Names.{Choice, Decides, Deed, Event, Finding, Initialized, Item, Lookup, Part, Phase}
+use Rattle.machine_model.specs.Names.{Question, Replied, Resume, Sent, Suspend, TellsNews, Want, a_question, an_effect}
+use Rattle.machine_model.specs.Names.{of_stop, Stepped, some_news}
 use Rattle.machine_model.specs.Outcomes.{result_of}
-use Rattle.machine_model.specs.Plans.{Result, asks_for, lacking, question_of}
+use Rattle.machine_model.specs.Plans.{Result, asks_for, question_of}
 use Rattle.machine_model.specs.Replying.{filled, given_up, hand_replied, is_failed, is_waiting, unless_failed}
 use Rattle.machine_model.specs.Replying.{waits_for}
 use Rattle.machine_model.specs.Rows.{chosen, news_of, noted, parts_of, refused_with, stepped_by}
@@ -24,13 +21,14 @@ use Rattle.machine_model.proofs.Frameless.{asks_frames}
 use Rattle.machine_model.proofs.HoldingParts.{numbered_stop, same_stop}
 use Rattle.machine_model.proofs.IdRows.{all_joined}
 use Rattle.machine_model.proofs.KeyLaws.{is_one}
-use Rattle.machine_model.proofs.Standing.{asked_in, left_in, queue_in}
+use Rattle.machine_model.proofs.Standing.{asked_in, queue_in}
 use Rattle.machine_model.proofs.Stepping.{IsAt, Moves, by_runs}
-use Rattle.machine_model.proofs.StopTurns.{noted_stop}
 use Rattle.machine_model.proofs.Tables.{decided_alike, told_alike}
 use Rattle.machine_model.proofs.Testing.{Passed, passed, same_noted, same_numbered, same_replied, tested}
 use Rattle.machine_model.proofs.StopParts.{IsCalm, IsCalmSent, are_bare, bare_ends, bare_parts, bare_test, ends_ahead}
 use Rattle.machine_model.proofs.StopParts.{ends_one, frames_ahead, lacked_calm, lacked_none, looks_frames, taken_calm}
+use Rattle.machine_model.proofs.StepLaws.{noted_stop}
+use Rattle.machine_model.proofs.RequestSteps.{parts_left}
 
 -- The invariant -------------------------------------------------------------------------------------------------------
 
@@ -45,7 +43,7 @@ record Quiet (state : State) (parts : List Part) (queue : List Want) (asked : Li
   calm : is_gone state.phase ≡ false → state.stopped ≡ false → Calm parts queue asked
 
 abbrev QuietHand : State → Option Hand → Type 0
-QuietHand state hand = Quiet state (left_in hand) (queue_in hand) (asked_in hand)
+QuietHand state hand = Quiet state (parts_left hand) (queue_in hand) (asked_in hand)
 
 abbrev IsQuiet : Machine → Type 0
 IsQuiet m = QuietHand m.state m.hand
@@ -57,8 +55,7 @@ in_front {m} {hand} q at = subst (λ (parts : List Part). Quiet m.state parts ha
 
 -- none of both
 none_of : (first others : Bool) → cond first true others ≡ false → others ≡ false
-none_of true others is = cc
-none_of false others is = is
+none_of first others is = grind (arith, is)
 
 -- what is left of the parts, in a stop where one was, and not in one where none was
 behind : {state : State} {part : Part} {rest : List Part} {queue : List Want} {asked : List Sent} (next : State)
@@ -75,8 +72,7 @@ behind {part = part} {rest} next q back = record {
 }
   where
     more : (first others : Bool) → others ≡ true → cond first true others ≡ true
-    more true others is = refl
-    more false others is = is
+    more first others is = grind (arith, is)
 
 -- other parts stand in place of one
 instead : {state : State} {part : Part} {rest : List Part} {queue : List Want} {asked : List Sent} (parts : List Part)
@@ -101,8 +97,7 @@ chosen_ends Decides state hand rest is =
     sym (decided_alike ends_ahead (λ thrown parts. refl) (λ stopping parts. refl) (λ thread object parts. refl)
     (λ parts. refl) (λ parts. refl) state hand.item rest) ∙ is
 chosen_ends Stepped state hand rest is = refl
-chosen_ends (Written seen) state hand rest is = grind (arith, is)
-chosen_ends (Leaves exits) state hand rest is = grind (arith, is)
+chosen_ends _ state hand rest is = grind (arith, is)
 
 chosen_looks : (choice : Choice) (state : State) (hand : Hand) (rest : List Part)
     → frames_ahead (Part.Unfolds choice ∷ rest) ≡ false → frames_ahead (chosen choice state hand ++ rest) ≡ false
@@ -114,32 +109,16 @@ chosen_looks Decides state hand rest is =
 chosen_looks Stepped state hand rest is = by_code (refused_with hand.effect)
   where
     by_code : (code : Option ℕ) → frames_ahead (stepped_by code ++ rest) ≡ false
-    by_code None = is
-    by_code (Some code) = is
-chosen_looks (Written seen) state hand rest is = grind (arith, is)
-chosen_looks (Leaves exits) state hand rest is = grind (arith, is)
+    by_code code = grind arith
+chosen_looks _ state hand rest is = grind (arith, is)
 
 found_ends : (lookup : Lookup) (result : Result Finding) (state : State) (rest : List Part)
     → ends_ahead (finished lookup result state ++ rest) ≡ ends_ahead rest
-found_ends all_threads result state rest = refl
-found_ends (thread_frames thread start levels) result state rest = refl
-found_ends (container_children thing filter start count) result state rest = refl
-found_ends (expression_value frame expression) result state rest = refl
-found_ends (variable_write thing name text) result state rest = grind arith
-found_ends (exception_text thread object) result state rest = refl
-found_ends (exception_info thrown) result state rest = refl
-found_ends class_facts result state rest = refl
+found_ends lookup result state rest = grind arith
 
 found_looks : (lookup : Lookup) (result : Result Finding) (state : State) (rest : List Part)
     → frames_ahead (finished lookup result state ++ rest) ≡ frames_ahead rest
-found_looks all_threads result state rest = refl
-found_looks (thread_frames thread start levels) result state rest = refl
-found_looks (container_children thing filter start count) result state rest = refl
-found_looks (expression_value frame expression) result state rest = refl
-found_looks (variable_write thing name text) result state rest = grind arith
-found_looks (exception_text thread object) result state rest = refl
-found_looks (exception_info thrown) result state rest = refl
-found_looks class_facts result state rest = refl
+found_looks lookup result state rest = grind arith
 
 was_running : (event : Event) (state : State) → is_gone (after_event event state).phase ≡ false
     → (after_event event state).stopped ≡ false → (is_gone state.phase ≡ false) × (state.stopped ≡ false)
@@ -147,12 +126,9 @@ was_running Initialized state near running = (by_phase state.phase near, running
   where
     by_phase : (phase : Phase) → is_gone (after_event Initialized (record state { phase = phase })).phase ≡ false
         → is_gone phase ≡ false
-    by_phase Fresh near = refl
-    by_phase Attached near = refl
-    by_phase Gone near = cc
+    by_phase phase near = grind (arith, near)
 was_running (some_news news) state near running = (near, running)
-was_running (a_stop stopping) state near running = cc
-was_running Terminated state near running = cc
+was_running _ state near running = cc
 
 noted_running : (state now : State) → now.phase ≡ state.phase → now.stopped ≡ state.stopped
     → is_gone now.phase ≡ false → now.stopped ≡ false → (is_gone state.phase ≡ false) × (state.stopped ≡ false)
@@ -180,11 +156,7 @@ sent_on : (m : Machine) {rest : List Part} (hand : Hand) (deed : Deed)
 sent_on m hand (Resume of_stop) q bare next phase stopped = ended next q (bare refl)
 sent_on m hand Suspend q bare next phase stopped =
     behind next q (λ near running. absurd (let no : true ≡ false = sym stopped ∙ running in cc))
-sent_on m hand (Resume of_composite) q bare next phase stopped = behind next q (noted_running m.state next phase stopped)
-sent_on m hand (Resume of_entry) q bare next phase stopped = behind next q (noted_running m.state next phase stopped)
-sent_on m hand Dispose q bare next phase stopped = behind next q (noted_running m.state next phase stopped)
-sent_on m hand Exit q bare next phase stopped = behind next q (noted_running m.state next phase stopped)
-sent_on m hand (Writes write) q bare next phase stopped = behind next q (noted_running m.state next phase stopped)
+sent_on m hand _ q bare next phase stopped = behind next q (noted_running m.state next phase stopped)
 
 filled_calm : (question : Question) (replied : Replied) (asked : List Sent) → All IsCalmSent asked
     → All IsCalmSent (filled question replied asked)
@@ -201,8 +173,7 @@ unless_calm true queue h = tt
 unless_calm false queue h = h
 
 unless_none : (failed : Bool) (queue : List Want) → queue ≡ [] → unless_failed failed queue ≡ []
-unless_none true queue is = refl
-unless_none false queue is = is
+unless_none failed queue is = grind (arith, is)
 
 -- a question is replied to
 answered_on : {state : State} {parts : List Part} {queue : List Want} {asked : List Sent} (question : Question)
@@ -249,8 +220,7 @@ queued_on {state} hand q bare = record {
 }
   where
     all_bare : (ends bare : Bool) → ends ≡ true → cond ends bare true ≡ true → bare ≡ true
-    all_bare true bare ends is = is
-    all_bare false bare ends is = cc
+    all_bare ends bare ended is = grind (arith, ended, is)
 
 -- nothing is left of an item that is given up
 given_on : (state : State) (hand : Option Hand) → is_gone state.phase ≡ true → QuietHand state (option_map given_up hand)
@@ -305,7 +275,6 @@ quiet_on messages m next said r q (Moves.asks {hand} {want} {wants} free room is
     (hand.asked ++ record { want = want; reply = None } ∷ [])) (sym are)
     (asked_on (subst (λ (queue : List Want). Quiet m.state hand.parts queue hand.asked) are
     (subst (λ (held : Option Hand). QuietHand m.state held) is q))))
-quiet_on messages m next said r q (Moves.hears read is) = q
 quiet_on messages m next said r q (Moves.greeted read is) = same_hand m.state next.state m.hand refl refl q
 quiet_on messages m next said r q (Moves.answers {question} {replied} {hand} is waits reply last) =
     subst (λ (held : Option Hand). QuietHand next.state (option_map (hand_replied (a_question question) replied) held))
@@ -316,12 +285,8 @@ quiet_on messages m next said r q (Moves.replies {effect} {replied} {hand} is fl
     subst (λ (held : Option Hand). QuietHand next.state (option_map (hand_replied (an_effect effect) replied) held))
     (sym is) (same_hand m.state next.state (Some hand) (same_replied (an_effect effect) replied m.state)
     (same_stop (an_effect effect) replied m.state) (subst (λ (held : Option Hand). QuietHand m.state held) is q))
-quiet_on messages m next said r q (Moves.late before after is reply) = q
-quiet_on messages m next said r q (Moves.ends gone) = q
 quiet_on messages m next said r q (Moves.loses late near why) = given_on next.state m.hand refl
-quiet_on messages m next said r q (Moves.comes read sized taken) = q
-quiet_on messages m next said r q (Moves.keeps is) = q
-quiet_on messages m next said r q (Moves.reads before after read is none taken) = q
+quiet_on messages m next said r q _ = q
 
 quiet : {messages : List Message} {m : Machine} → Run messages m → IsQuiet m
 quiet r = by_runs {Holds = λ (messages : List Message) (m : Machine). IsQuiet m} (record {
@@ -354,5 +319,4 @@ calm_reply {m = m} {hand} question r is waits near running = by_asked hand.asked
             → (is_waiting question asked ≡ true → asks_frames question ≡ false) → asks_frames question ≡ false
         by_test true true same waits rest =
             ap asks_frames (sym (is_one (question_of sent.want) question same)) ∙ h.0
-        by_test true false same waits rest = rest waits
-        by_test false asks same waits rest = rest waits
+        by_test _ _ same waits rest = rest waits

@@ -1,70 +1,50 @@
 -- A stop is told of what halted a thread, or that the client asked for.
-use Rattle.std.proofs.Common.{◌≡◌, ℕ, Bool, true, false, cond, not, ◌||◌, List, [], ◌∷◌, ◌++◌, Option, Some, None}
-use Rattle.std.proofs.Common.{refl, sym, ap, subst, ◌∙◌, option_map, arith, append_assoc, append-nil}
+use Rattle.std.proofs.Common.{◌≡◌, ℕ, Bool, true, false, cond, ◌||◌, List, [], ◌∷◌, ◌++◌, Option, Some, None, refl, sym}
+use Rattle.std.proofs.Common.{ap, subst, ◌∙◌, option_map, append_assoc, append-nil, arith}
 use Rattle.std.specs.List.{AllByRecursion as All}
 use Rattle.std.specs.Option.{option_or}
-use Rattle.std.specs.Prelude as prelude
-use Rattle.std.specs.Prelude.{find, Ok, Err, option_and_then}
-use Rattle.stop_refs.specs.Numbers.{container, frame}
-use Rattle.stop_refs.specs.declared.fault.RefFault.{RefFault}
-use Rattle.stop_refs.specs.declared.thing.FrameThing.{FrameThing}
-use Rattle.stop_refs.specs.declared.thing.Thing.{Thing}
+use Rattle.std.specs.Prelude.{find}
 use Rattle.dap_messages.specs.declared.told.Event.TheVariants as events
 use Rattle.dap_messages.specs.declared.told.StopReason.TheVariants as reasons
 use Rattle.dap_messages.specs.declared.told.Stopped.{Stopped}
 use Rattle.jdwp_events.specs.declared.event.Event.{Event as ATargetEvent}
 use Rattle.jdwp_events.specs.declared.event.Event.TheVariants as happened
 use Rattle.jdwp_events.specs.declared.kind.EventKind.TheVariants as kinds
-use Rattle.jdwp_events.specs.declared.kind.Policy.{Policy}
-use Rattle.jdwp_events.specs.declared.kind.Policy.TheVariants.{NoThread, EventThread, All as AllThreads}
 use Rattle.jdwp_values.specs.declared.id.ObjectId.{ObjectId}
 use Rattle.machine_model.specs.Children.{object_named}
-use Rattle.machine_model.specs.Composites.{composite_parts, has_death}
 use Rattle.machine_model.specs.Due.{Load, asked_hand, busy, can_read, clear, due, hand_load, load_of, newly_lacked}
 use Rattle.machine_model.specs.Due.{wanted}
-use Rattle.machine_model.specs.Lookups.{finished, found_for, text_of, written_parts}
-use Rattle.machine_model.specs.Names.{Written, classes_found, exception_found, frames_found, no_value, text_found, threads_found, value_found, variable_write, variables_found, write_found}
-use Rattle.machine_model.specs.Names.{Act, Attach, Attached, BadArguments, Choice, Command, ConfigurationDone}
-use Rattle.machine_model.specs.Names.{Continue, Decides, Deed, Disconnect, Does, Event, ExceptionInfo, Failure, Finding}
-use Rattle.machine_model.specs.Names.{Fresh, Gone, Halt, HaltCause, Hit, Initialize, Initialized, Item, Leaves, Lookup}
-use Rattle.machine_model.specs.Names.{News, Next, Part, Pause, Phase, Replied, Resume, Scopes, SetBreakpoints}
-use Rattle.machine_model.specs.Names.{SetExceptionBreakpoints, SetFunctionBreakpoints, StackTrace, StepIn, StepOut}
-use Rattle.machine_model.specs.Names.{Stepped, StopCause, Stopping, TargetCommand, TellsNews, Terminated, ThreadId}
-use Rattle.machine_model.specs.Names.{Threads, Thrown, Unsupported, Variables, Want, a_composite, a_question, a_raw}
-use Rattle.machine_model.specs.Names.{a_request, a_stop, all_threads, an_effect, an_event, by_client, by_exception}
-use Rattle.machine_model.specs.Names.{Evaluate, SetVariable, by_step, came_to, class_facts, container_children, entry_verified, expression_value}
-use Rattle.machine_model.specs.Names.{exception_info, exception_text, has_stepped, of_composite, some_news, target_end}
-use Rattle.machine_model.specs.Names.{thread_changed, thread_frames, threw}
+use Rattle.machine_model.specs.Lookups.{finished, found_for, text_of}
+use Rattle.machine_model.specs.Names.{Act, Attached, Choice, Command, Decides, Deed, Does, Event, Finding, Halt}
+use Rattle.machine_model.specs.Names.{HaltCause, Hit, Initialized, Item, Lookup, News, Part, Pause, Phase, Replied}
+use Rattle.machine_model.specs.Names.{Resume, StopCause, Stopping, TargetCommand, TellsNews, Terminated, ThreadId}
+use Rattle.machine_model.specs.Names.{Thrown, Want, a_composite, a_question, a_request, a_stop, an_effect, an_event}
+use Rattle.machine_model.specs.Names.{by_client, by_exception, by_step, came_to, exception_text, has_stepped}
+use Rattle.machine_model.specs.Names.{of_composite, some_news, threw, entry_verified}
 use Rattle.machine_model.specs.Outcomes.{result_of}
-use Rattle.machine_model.specs.Plans.{Need, Result, gave, is_done, refused}
+use Rattle.machine_model.specs.Plans.{Need, is_done}
 use Rattle.machine_model.specs.Replying.{given_up, hand_replied}
 use Rattle.machine_model.specs.Requests.{Wishes}
-use Rattle.field_exprs.specs.Parsing.{parsed}
-use Rattle.field_exprs.specs.declared.expr.Expr.{Expr}
-use Rattle.machine_model.specs.Rows.{write_by, written_by}
-use Rattle.machine_model.specs.Rows.{evaluate_by}
-use Rattle.machine_model.specs.Rows.{chosen, configured_parts, continue_parts, end_parts, exception_parts, failure_of}
-use Rattle.machine_model.specs.Rows.{gone_parts, gone_row, gone_tail, has_response, leaves, news_of, parts_by, parts_of}
-use Rattle.machine_model.specs.Rows.{pause_parts, refused_with, request_parts, row_of, scopes_parts, stack_parts}
-use Rattle.machine_model.specs.Rows.{step_parts, stepped_by, stepped_thread, thread_with, thrown_first, told_in}
-use Rattle.machine_model.specs.Rows.{variables_parts, wanting}
+use Rattle.machine_model.specs.Rows.{chosen, failure_of, gone_parts, has_response, news_of, parts_of, pause_parts}
+use Rattle.machine_model.specs.Rows.{row_of, thread_with, told_in, wanting}
 use Rattle.machine_model.specs.Runs.{Allows, Message, Run, said}
 use Rattle.machine_model.specs.State.{Hand, Machine, State, is_attached, is_gone, knowing, left}
 use Rattle.machine_model.specs.Stopping.{HasHalted, IsHalt, IsHit, IsStop, IsToldAs, IsToldOf, WasHalted, WasNamed}
-use Rattle.machine_model.specs.Stops.{decided, decided_by, events_in, first_of, first_with, hit_by, hits_in, holds_entry}
-use Rattle.machine_model.specs.Stops.{is_at_line, is_breakpoint, is_live, is_thrown, stop_among, surplus, thrown_in}
-use Rattle.machine_model.specs.Stops.{told_part}
+use Rattle.machine_model.specs.Stops.{decided, decided_by, events_in, first_of, first_with, hit_by, hits_in}
+use Rattle.machine_model.specs.Stops.{holds_entry, is_at_line, is_breakpoint, is_live, is_thrown, stop_among, surplus}
+use Rattle.machine_model.specs.Stops.{thrown_in, told_part}
 use Rattle.machine_model.specs.Suspending.{IsBoundFirst}
 use Rattle.machine_model.specs.Telling.{after_event, reason_told}
-use Rattle.wish_sets.specs.declared.wish.Depth.{Depth}
-use Rattle.wish_sets.specs.declared.wish.Depth.TheVariants.{Into, Out, Over}
 use Rattle.machine_model.proofs.HoldingParts.{holding, may_all, may_front, may_stop, only_resumes}
 use Rattle.machine_model.proofs.RequestSteps.{decides}
 use Rattle.machine_model.proofs.RestLaws.{is_free}
-use Rattle.machine_model.proofs.Stepping.{IsAt, Loses, Moves, by_runs, moved, with_said}
+use Rattle.machine_model.proofs.Stepping.{IsAt, Moves, by_runs, moved, with_said, Loses}
 use Rattle.machine_model.proofs.SuspendLaws.{bound_at_choice, bound_at_stop}
 use Rattle.machine_model.proofs.Tables.{free as free_test, free_once}
 use Rattle.machine_model.proofs.Testing.{tested, whole}
+use Rattle.machine_model.proofs.PartTests.{all_pass, all_passing, begun_mute, chosen_mute, found_mute, given_mute}
+use Rattle.machine_model.proofs.PartTests.{is_mute, is_pause_command, of_failure, row_mute}
+use Rattle.machine_model.proofs.Bools.{first_fails, first_holds}
 
 -- Hits ----------------------------------------------------------------------------------------------------------------
 
@@ -108,11 +88,7 @@ hits_are w (event ∷ events) = by_event event (all_before w event events (hits_
         by_live (happened.Exception request thread at exception catch)
         (record { cause = threw (record { 0 = object_named exception }); thread = thread })
         (is_live w kinds.Exception request) (λ is. IsHalt.at_exception is) h
-    by_event (happened.ThreadStart request thread) h = h
-    by_event (happened.ThreadDeath request thread) h = h
-    by_event (happened.ClassPrepare request thread tag class signature status) h = h
-    by_event (happened.VMStart request thread) h = h
-    by_event (happened.VMDeath request) h = h
+    by_event _ h = h
 
 -- what holds of all holds of the one that is picked
 abbrev OfSome : (P : Halt → Type 0) → Option Halt → Type 0
@@ -144,10 +120,6 @@ told_halt P w hits h = with_test (is_at_line w) _ (with_test is_breakpoint _ (wi
         either (find (λ hit. test hit.cause) hits) other (found_of P (λ hit. test hit.cause) hits h) also
 
 -- What an item is still to tell ---------------------------------------------------------------------------------------
-
-abbrev is_pause_command : Command → Bool
-is_pause_command (Pause arguments) = true
-is_pause_command _ = false
 
 abbrev is_pause : Item → Bool
 is_pause (a_request request) = is_pause_command request.command
@@ -231,37 +203,21 @@ module _ (messages more : List Message) (item : Item) where
 
   cause_still : (stopping : Stopping) (cause : StopCause) → StopOf messages item stopping cause
       → StopOf (messages ++ more) item stopping cause
-  cause_still stopping (Hit at) h = hit_still h
-  cause_still stopping (by_exception text) h = hit_still h
-  cause_still stopping by_step h = hit_still h
   cause_still stopping by_client h = h
+  cause_still stopping _ h = hit_still h
 
   event_still : (event : Event) → EventTells messages item event → EventTells (messages ++ more) item event
-  event_still Initialized h = tt
-  event_still (some_news news) h = tt
   event_still (a_stop stopping) h = cause_still stopping stopping.cause h
-  event_still Terminated h = tt
+  event_still _ h = tt
 
   look_still : (lookup : Lookup) → LookTells messages item lookup → LookTells (messages ++ more) item lookup
   look_still (exception_text thread object) h = halted_still h
-  look_still all_threads h = tt
-  look_still (thread_frames thread start levels) h = tt
-  look_still (container_children thing filter start count) h = tt
-  look_still (expression_value frame expression) h = tt
-  look_still (variable_write thing name text) h = tt
-  look_still (exception_info thrown) h = tt
-  look_still class_facts h = tt
+  look_still _ h = tt
 
   part_still : (part : Part) → PartTells messages item part → PartTells (messages ++ more) item part
   part_still (Part.Tells event) h = event_still event h
-  part_still (Part.Responds outcome) h = tt
-  part_still (Part.Sends deed) h = tt
   part_still (Part.Looks lookup) h = look_still lookup h
-  part_still (Part.Awaits guard) h = tt
-  part_still Part.Updates h = tt
-  part_still (Part.Notes note) h = tt
-  part_still (Part.Unfolds choice) h = tt
-  part_still (Part.Ends finish) h = tt
+  part_still _ h = tt
 
   parts_still : (parts : List Part) → All (PartTells messages item) parts
       → All (PartTells (messages ++ more) item) parts
@@ -275,41 +231,14 @@ tells_still messages more (Some hand) h = parts_still messages more hand.item ha
 
 -- The tables ----------------------------------------------------------------------------------------------------------
 
-step_tells : (messages : List Message) (item : Item) (depth : Depth) (thread : Option ThreadId)
-    → All (PartTells messages item) (step_parts depth thread)
-step_tells messages item depth None = (tt, tt)
-step_tells messages item depth (Some thread) = (tt, (tt, (tt, tt)))
+-- a part that tells of no thread
+mute_tells : (messages : List Message) (item : Item) (part : Part) → is_mute part ≡ true → PartTells messages item part
+mute_tells messages item (Part.Tells (a_stop stopping)) is = cc
+mute_tells messages item (Part.Looks (exception_text thread object)) is = cc
+mute_tells messages item _ is = tt
 
 row_tells : (messages : List Message) (item : Item) (command : Command) (state : State)
     → (is_pause_command command ≡ true → is_pause item ≡ true) → All (PartTells messages item) (row_of command state)
-row_tells messages item (Initialize arguments) state is = (tt, (tt, tt))
-row_tells messages item (Attach arguments) state is = (tt, (tt, (tt, (tt, (tt, (tt, tt))))))
-row_tells messages item ConfigurationDone state is = by_entry state.entry
-  where
-    by_entry : (entry : Bool) → All (PartTells messages item) (configured_parts entry)
-    by_entry true = (tt, (tt, (tt, tt)))
-    by_entry false = (tt, (tt, tt))
-row_tells messages item (SetBreakpoints arguments) state is = (tt, (tt, (tt, (tt, (tt, (tt, tt))))))
-row_tells messages item (SetFunctionBreakpoints arguments) state is = (tt, (tt, (tt, (tt, (tt, (tt, tt))))))
-row_tells messages item (SetExceptionBreakpoints arguments) state is = (tt, (tt, (tt, tt)))
-row_tells messages item Threads state is = (tt, tt)
-row_tells messages item (Next arguments) state is =
-    step_tells messages item Over (stepped_thread state arguments.thread_id)
-row_tells messages item (StepIn arguments) state is =
-    step_tells messages item Into (stepped_thread state arguments.thread_id)
-row_tells messages item (StepOut arguments) state is =
-    step_tells messages item Out (stepped_thread state arguments.thread_id)
-row_tells messages item (ExceptionInfo arguments) state is =
-    by_thrown (option_and_then (thrown_first state.thrown) (thread_with state.threads arguments.thread_id))
-  where
-    by_thrown : (thrown : Option Thrown) → All (PartTells messages item) (exception_parts thrown)
-    by_thrown None = (tt, tt)
-    by_thrown (Some thrown) = (tt, tt)
-row_tells messages item (Continue arguments) state is = by_thread (thread_with state.threads arguments.thread_id)
-  where
-    by_thread : (thread : Option ThreadId) → All (PartTells messages item) (continue_parts thread)
-    by_thread None = (tt, tt)
-    by_thread (Some thread) = (tt, (tt, tt))
 row_tells messages item (Pause arguments) state is =
     by_stop state.stopped (thread_with state.threads arguments.thread_id) (is refl)
   where
@@ -318,89 +247,20 @@ row_tells messages item (Pause arguments) state is =
     by_stop stopped None is = (tt, tt)
     by_stop true (Some thread) is = (tt, tt)
     by_stop false (Some thread) is = (tt, (tt, (tt, (tt, (is, tt)))))
-row_tells messages item (StackTrace arguments) state is = by_thread (thread_with state.threads arguments.thread_id)
-  where
-    by_thread : (thread : Option ThreadId) → All (PartTells messages item) (stack_parts thread arguments)
-    by_thread None = (tt, tt)
-    by_thread (Some thread) = (tt, tt)
-row_tells messages item (Scopes arguments) state is = by_frame (frame arguments.frame_id state.numbers)
-  where
-    by_frame : (found : prelude.Result FrameThing RefFault) → All (PartTells messages item) (scopes_parts state.numbers found)
-    by_frame (Ok one) = (tt, tt)
-    by_frame (Err fault) = (tt, tt)
-row_tells messages item (Variables arguments) state is = by_thing (container arguments.variables_reference state.numbers)
-  where
-    by_thing : (found : prelude.Result Thing RefFault) → All (PartTells messages item) (variables_parts arguments found)
-    by_thing (Ok thing) = (tt, tt)
-    by_thing (Err fault) = (tt, tt)
-row_tells messages item (SetVariable arguments) state is =
-    by_thing (container arguments.variables_reference state.numbers)
-  where
-    by_thing : (found : prelude.Result Thing RefFault) → All (PartTells messages item) (write_by arguments found)
-    by_thing (Ok thing) = (tt, tt)
-    by_thing (Err fault) = (tt, tt)
-row_tells messages item (Evaluate arguments) state is =
-    by_frame (parsed arguments.expression) (frame arguments.frame_id state.numbers)
-  where
-    by_frame : (read : prelude.Result Expr ℕ) (found : prelude.Result FrameThing RefFault)
-        → All (PartTells messages item) (evaluate_by read found)
-    by_frame (Ok expression) (Ok one) = (tt, tt)
-    by_frame (Err place) (Ok one) = (tt, tt)
-    by_frame read (Err fault) = (tt, tt)
-row_tells messages item (Disconnect arguments) state is = (tt, (tt, (tt, tt)))
-row_tells messages item Unsupported state is = (tt, tt)
-row_tells messages item (BadArguments name) state is = (tt, tt)
-
-unless_fails : (messages : List Message) (item : Item) (failure : Option Failure) (row : List Part) → All (PartTells messages item) row
-    → All (PartTells messages item) (parts_by failure row)
-unless_fails messages item (Some failure) row h = (tt, tt)
-unless_fails messages item None row h = h
+row_tells messages item command state is =
+    all_pass is_mute (mute_tells messages item) (row_of command state) (row_mute command state refl)
 
 begun_tells : (messages : List Message) (state : State) (item : Item) → All (PartTells messages item) (parts_of state item)
 begun_tells messages state (a_request request) =
-    unless_fails messages (a_request request) (failure_of (wanting request.command) state) (row_of request.command state)
-    (row_tells messages (a_request request) request.command state (λ is. is))
-begun_tells messages state target_end = by_end state.terminated
-  where
-    by_end : (told : Bool) → All (PartTells messages target_end) (end_parts told)
-    by_end true = tt
-    by_end false = (tt, tt)
-begun_tells messages state (a_composite at composite) =
-    by_phase state.phase (has_death composite.events) composite.policy
-  where
-    by_phase : (phase : Phase) (dies : Bool) (policy : Policy)
-        → All (PartTells messages (a_composite at composite)) (composite_parts phase dies policy at state.next_entry)
-    by_phase Fresh dies policy = tt
-    by_phase Attached true NoThread = (tt, tt)
-    by_phase Attached true EventThread = (tt, tt)
-    by_phase Attached true AllThreads = (tt, tt)
-    by_phase Attached false NoThread = (tt, (tt, (tt, tt)))
-    by_phase Attached false EventThread = (tt, tt)
-    by_phase Attached false AllThreads = (tt, (tt, (tt, (tt, tt))))
-    by_phase Gone dies policy = tt
-begun_tells messages state (a_raw at body) = tt
+    of_failure (PartTells messages (a_request request)) (λ failure. tt) (failure_of (wanting request.command) state)
+    (row_of request.command state) (row_tells messages (a_request request) request.command state (λ is. is))
+begun_tells messages state item =
+    all_pass is_mute (mute_tells messages item) (parts_of state item) (begun_mute state item refl)
 
 found_tells : {messages : List Message} {m : Machine} {hand : Hand} → Run messages m → m.hand ≡ Some hand
     → (lookup : Lookup) (found : Need Finding) → found_for lookup m.state hand ≡ found → is_done found ≡ true
     → (rest : List Part) → LookTells messages hand.item lookup → All (PartTells messages hand.item) rest
     → All (PartTells messages hand.item) (finished lookup (result_of found) m.state ++ rest)
-found_tells r is all_threads found needs done rest looks h = (tt, h)
-found_tells r is (thread_frames thread start levels) found needs done rest looks h = (tt, h)
-found_tells r is (container_children thing filter start count) found needs done rest looks h = (tt, h)
-found_tells r is (expression_value frame expression) found needs done rest looks h = (tt, h)
-found_tells {messages} {hand = hand} r is (variable_write thing name text) found needs done rest looks h = by_result (result_of found)
-  where
-    by_result : (result : Result Finding) → All (PartTells messages hand.item) (written_parts result ++ rest)
-    by_result (refused code) = (tt, h)
-    by_result (gave (write_found write seen)) = (tt, (tt, h))
-    by_result (gave (no_value failure)) = (tt, h)
-    by_result (gave (threads_found named)) = (tt, h)
-    by_result (gave (classes_found classes)) = (tt, h)
-    by_result (gave (frames_found total frames)) = (tt, h)
-    by_result (gave (variables_found shown)) = (tt, h)
-    by_result (gave (value_found seen)) = (tt, h)
-    by_result (gave (text_found text)) = (tt, h)
-    by_result (gave (exception_found id mode)) = (tt, h)
 found_tells {messages} {m} {hand} r is (exception_text thread object) found needs done rest looks h = (
   record {
     halt = record { cause = threw object; thread = thread };
@@ -420,8 +280,9 @@ found_tells {messages} {m} {hand} r is (exception_text thread object) found need
   },
   h,
 )
-found_tells r is (exception_info thrown) found needs done rest looks h = (tt, h)
-found_tells r is class_facts found needs done rest looks h = (tt, h)
+found_tells {messages} {m} {hand} r is lookup found needs done rest looks h =
+    all_passing is_mute (mute_tells messages hand.item) (finished lookup (result_of found) m.state) rest
+    (found_mute lookup (result_of found) m.state refl) h
 
 -- what is decided of a composite tells of what halted a thread in it
 decided_tells : {messages : List Message} {m : Machine} {hand : Hand} → Run messages m → m.hand ≡ Some hand
@@ -484,84 +345,18 @@ chosen_tells {messages} {m} {hand} r is (TellsNews below) rest bound h =
     by_news m.state.phase (news_of below m.state hand.item)
   where
     by_news : (phase : Phase) (news : List News) → All (PartTells messages hand.item) (told_in phase news ++ rest)
-    by_news Fresh news = h
-    by_news Gone news = h
-    by_news Attached [] = h
     by_news Attached (one ∷ news) = (tt, by_news Attached news)
-chosen_tells {messages} {m} {hand} r is (Leaves exits) rest bound h = by_phase m.state.phase
-  where
-    by_phase : (phase : Phase) → All (PartTells messages hand.item) (leaves phase exits ++ rest)
-    by_phase Fresh = h
-    by_phase Attached = (tt, h)
-    by_phase Gone = h
+    by_news _ _ = h
 chosen_tells r is Decides rest bound h = decided_tells r is (bound refl) rest h
-chosen_tells {messages} {m} {hand} r is (Written seen) rest bound h = by_code (refused_with hand.effect)
-  where
-    by_code : (code : Option ℕ) → All (PartTells messages hand.item) (written_by seen code ++ rest)
-    by_code None = (tt, h)
-    by_code (Some code) = (tt, h)
-chosen_tells {messages} {m} {hand} r is Stepped rest bound h = by_code (refused_with hand.effect)
-  where
-    by_code : (code : Option ℕ) → All (PartTells messages hand.item) (stepped_by code ++ rest)
-    by_code None = (tt, (tt, h))
-    by_code (Some code) = (tt, (tt, (tt, h)))
+chosen_tells {messages} {m} {hand} r is choice rest bound h =
+    all_passing is_mute (mute_tells messages hand.item) (chosen choice m.state hand) rest
+    (chosen_mute choice m.state hand refl) h
 
 given_tells : (messages : List Message) (hand : Option Hand) → HandTells messages (option_map given_up hand)
 given_tells messages None = tt
-given_tells messages (Some hand) = by_item (has_response hand.parts) hand.item
-  where
-    by_row : (item : Item) (command : Command) → All (PartTells messages item) (gone_row command)
-    by_row item (Disconnect arguments) = (tt, (tt, tt))
-    by_row item (Initialize arguments) = (tt, tt)
-    by_row item (Attach arguments) = (tt, tt)
-    by_row item ConfigurationDone = (tt, tt)
-    by_row item (SetBreakpoints arguments) = (tt, tt)
-    by_row item (SetFunctionBreakpoints arguments) = (tt, tt)
-    by_row item (SetExceptionBreakpoints arguments) = (tt, tt)
-    by_row item (Next arguments) = (tt, tt)
-    by_row item (StepIn arguments) = (tt, tt)
-    by_row item (StepOut arguments) = (tt, tt)
-    by_row item (ExceptionInfo arguments) = (tt, tt)
-    by_row item Threads = (tt, tt)
-    by_row item (Continue arguments) = (tt, tt)
-    by_row item (Pause arguments) = (tt, tt)
-    by_row item (StackTrace arguments) = (tt, tt)
-    by_row item (Scopes arguments) = (tt, tt)
-    by_row item (Variables arguments) = (tt, tt)
-    by_row item (SetVariable arguments) = (tt, tt)
-    by_row item (Evaluate arguments) = (tt, tt)
-    by_row item Unsupported = (tt, tt)
-    by_row item (BadArguments name) = (tt, tt)
-
-    by_tail : (item : Item) (command : Command) → All (PartTells messages item) (gone_tail command)
-    by_tail item (Disconnect arguments) = (tt, tt)
-    by_tail item (Initialize arguments) = tt
-    by_tail item (Attach arguments) = tt
-    by_tail item ConfigurationDone = tt
-    by_tail item (SetBreakpoints arguments) = tt
-    by_tail item (SetFunctionBreakpoints arguments) = tt
-    by_tail item (SetExceptionBreakpoints arguments) = tt
-    by_tail item (Next arguments) = tt
-    by_tail item (StepIn arguments) = tt
-    by_tail item (StepOut arguments) = tt
-    by_tail item (ExceptionInfo arguments) = tt
-    by_tail item Threads = tt
-    by_tail item (Continue arguments) = tt
-    by_tail item (Pause arguments) = tt
-    by_tail item (StackTrace arguments) = tt
-    by_tail item (Scopes arguments) = tt
-    by_tail item (Variables arguments) = tt
-    by_tail item (SetVariable arguments) = tt
-    by_tail item (Evaluate arguments) = tt
-    by_tail item Unsupported = tt
-    by_tail item (BadArguments name) = tt
-
-    by_item : (responds : Bool) (item : Item) → All (PartTells messages item) (gone_parts responds item)
-    by_item true (a_request request) = by_row (a_request request) request.command
-    by_item false (a_request request) = by_tail (a_request request) request.command
-    by_item responds (a_composite at composite) = tt
-    by_item responds (a_raw at body) = tt
-    by_item responds target_end = tt
+given_tells messages (Some hand) =
+    all_pass is_mute (mute_tells messages hand.item) (gone_parts (has_response hand.parts) hand.item)
+    (given_mute (has_response hand.parts) hand.item)
 
 -- In runs -------------------------------------------------------------------------------------------------------------
 
@@ -594,7 +389,6 @@ stopping_on messages m next said r h (Moves.passes_over free at why) = (stops_fr
 stopping_on messages m next said r h (Moves.tells free at) = (stops_front messages h at).1
 stopping_on messages m next said r h (Moves.sends free at near) = (stops_front messages h at).1
 stopping_on messages m next said r h (Moves.updates free at is near) = stops_front messages h at
-stopping_on messages m next said r h (Moves.greets free at is near) = h
 stopping_on messages m next said r h (Moves.notes free at) = (stops_front messages h at).1
 stopping_on messages m next said r h (Moves.unfolds {hand} {choice} {rest} free at) =
     chosen_tells r at.in_hand choice rest (λ is. bound_at_choice r at is) (stops_front messages h at).1
@@ -602,18 +396,12 @@ stopping_on messages m next said r h (Moves.queues free is) =
     subst (λ (held : Option Hand). HandTells messages held) is h
 stopping_on messages m next said r h (Moves.asks {want = want} free room is are) =
     asked_tells messages want m.hand h
-stopping_on messages m next said r h (Moves.hears read is) = h
-stopping_on messages m next said r h (Moves.greeted read is) = h
 stopping_on messages m next said r h (Moves.answers {question} {replied} is waits reply stays) =
     replied_tells messages (a_question question) replied m.hand h
 stopping_on messages m next said r h (Moves.replies {effect} {replied} is flies reply stays) =
     replied_tells messages (an_effect effect) replied m.hand h
-stopping_on messages m next said r h (Moves.late before after is reply) = h
-stopping_on messages m next said r h (Moves.ends gone) = h
 stopping_on messages m next said r h (Moves.loses late near why) = given_tells messages m.hand
-stopping_on messages m next said r h (Moves.comes read sized taken) = h
-stopping_on messages m next said r h (Moves.keeps is) = h
-stopping_on messages m next said r h (Moves.reads before after read is none taken) = h
+stopping_on messages m next said r h _ = h
 
 said_tells : (messages : List Message) (said : Option Message) (hand : Option Hand) → HandTells messages hand
     → HandTells (with_said messages said) hand
@@ -646,11 +434,9 @@ no_hit none hit = no_halt (subst (λ (events : List ATargetEvent). HasHalted hit
 told_stop : (messages : List Message) (m : Machine) (hand : Hand) (stopping : Stopping) (stop : Stopped)
     → m.hand ≡ Some hand → IsToldAs m.state stopping stop → IsBoundFirst m.state → (item : Item) → hand.item ≡ item
     → IsHit messages hand.item stopping → IsStop messages m stop
-told_stop messages m hand stopping stop is told bound (a_request request) item hit = no_hit (ap events_in item) hit
 told_stop messages m hand stopping stop is told bound (a_composite at composite) item hit =
     IsStop.by_hit stopping is item hit told bound
-told_stop messages m hand stopping stop is told bound (a_raw at body) item hit = no_hit (ap events_in item) hit
-told_stop messages m hand stopping stop is told bound target_end item hit = no_hit (ap events_in item) hit
+told_stop messages m hand stopping stop is told bound _ item hit = no_hit (ap events_in item) hit
 
 asked_stop : (messages : List Message) (m : Machine) (hand : Hand) (stop : Stopped) → m.hand ≡ Some hand → stop.reason ≡ reasons.Pause
     → m.state.stopped ≡ true → (item : Item) → hand.item ≡ item → is_pause item ≡ true → IsStop messages m stop
@@ -658,36 +444,12 @@ asked_stop messages m hand stop is reason stopped (a_request request) item pause
   where
     by_command : (command : Command) → request.command ≡ command → is_pause_command command ≡ true → IsStop messages m stop
     by_command (Pause arguments) same pauses = IsStop.by_pause is item same reason stopped
-    by_command (Initialize arguments) same pauses = cc
-    by_command (Attach arguments) same pauses = cc
-    by_command ConfigurationDone same pauses = cc
-    by_command (SetBreakpoints arguments) same pauses = cc
-    by_command (SetFunctionBreakpoints arguments) same pauses = cc
-    by_command (SetExceptionBreakpoints arguments) same pauses = cc
-    by_command (Next arguments) same pauses = cc
-    by_command (StepIn arguments) same pauses = cc
-    by_command (StepOut arguments) same pauses = cc
-    by_command (ExceptionInfo arguments) same pauses = cc
-    by_command Threads same pauses = cc
-    by_command (Continue arguments) same pauses = cc
-    by_command (StackTrace arguments) same pauses = cc
-    by_command (Scopes arguments) same pauses = cc
-    by_command (Variables arguments) same pauses = cc
-    by_command (SetVariable arguments) same pauses = cc
-    by_command (Evaluate arguments) same pauses = cc
-    by_command (Disconnect arguments) same pauses = cc
-    by_command Unsupported same pauses = cc
-    by_command (BadArguments name) same pauses = cc
-asked_stop messages m hand stop is reason stopped (a_composite at composite) item pauses = cc
-asked_stop messages m hand stop is reason stopped (a_raw at body) item pauses = cc
-asked_stop messages m hand stop is reason stopped target_end item pauses = cc
+    by_command _ same pauses = cc
+asked_stop messages m hand stop is reason stopped _ item pauses = cc
 
 stop_at : {messages : List Message} (m next : Machine) (said : Option Message) (stop : Stopped) → Run messages m
     → said ≡ Some (Message.tells (an_event (events.Stopped stop))) → Moves m said next → IsStop messages m stop
-stop_at m next said stop r is (Moves.tells {event = Initialized} free at) = cc
 stop_at m next said stop r is (Moves.tells {event = some_news (entry_verified entry)} free at) = cc
-stop_at m next said stop r is (Moves.tells {event = some_news (thread_changed started thread)} free at) = cc
-stop_at m next said stop r is (Moves.tells {event = Terminated} free at) = cc
 stop_at {messages} m next said stop r is (Moves.tells {hand} {rest} {event = a_stop stopping} free at) =
     by_cause stopping.cause refl (stops_front messages (always_stopping r) at).0 (first_may (may_front (holding r) at))
   where
@@ -696,11 +458,7 @@ stop_at {messages} m next said stop r is (Moves.tells {hand} {rest} {event = a_s
 
     first_may : may_all m.state.phase m.state.stopped m.state.entry (Part.Tells (a_stop stopping) ∷ rest) ≡ true
         → may_stop stopping.cause m.state.stopped rest ≡ true
-    first_may may = first (may_stop stopping.cause m.state.stopped rest) _ may
-      where
-        first : (one others : Bool) → cond one others false ≡ true → one ≡ true
-        first true others is = refl
-        first false others is = cc
+    first_may may = first_holds (may_stop stopping.cause m.state.stopped rest) _ may
 
     reason_is : stop.reason ≡ reason_told stopping.cause (after_event (a_stop stopping) m.state)
     reason_is = cc
@@ -710,15 +468,11 @@ stop_at {messages} m next said stop r is (Moves.tells {hand} {rest} {event = a_s
 
     by_cause : (cause : StopCause) → stopping.cause ≡ cause → StopOf messages hand.item stopping cause
         → may_stop cause m.state.stopped rest ≡ true → IsStop messages m stop
-    by_cause (Hit place) same hit may = by_hit hit
-    by_cause (by_exception text) same hit may = by_hit hit
-    by_cause by_step same hit may = by_hit hit
     by_cause by_client same pauses may =
         asked_stop messages m hand stop at.in_hand (reason_is ∙ ap (λ (cause : StopCause).
         reason_told cause (after_event (a_stop stopping) m.state)) same) may hand.item refl pauses
+    by_cause _ same hit may = by_hit hit
 stop_at m next said stop r is (Moves.loses late near Loses.by_end) = cc
-stop_at m next said stop r is (Moves.loses late near (Loses.by_question held waits reply last)) = cc
-stop_at m next said stop r is (Moves.loses late near (Loses.by_effect held flies reply last)) = cc
 stop_at m next said stop r is _ = cc
 
 -- A surplus -----------------------------------------------------------------------------------------------------------
@@ -742,41 +496,27 @@ still_free m hand stopping deed rest free near is =
   where
     none_read : (gone read : Bool) (load : Load) → gone ≡ false → cond gone clear (cond read busy load) ≡ clear
         → read ≡ false
-    none_read true read load near is = cc
-    none_read false true load near is = cc
     none_read false false load near is = refl
+    none_read _ _ load near is = cc
 
     by_parts : (gone read : Bool) (load : Load) → gone ≡ false → read ≡ false → load ≡ clear
         → cond gone clear (cond read busy load) ≡ clear
-    by_parts true read load near none is = cc
-    by_parts false true load near none is = cc
-    by_parts false false load near none is = is
+    by_parts gone read load near none is = grind (arith, near, none, is)
 
 surplus_at : {messages : List Message} (m next : Machine) (said : Option Message) (stop : Stopped) → Run messages m
     → m.state.stopped ≡ true → ¬ (stop.reason ≡ reasons.Pause)
     → said ≡ Some (Message.tells (an_event (events.Stopped stop))) → Moves m said next
     → (due false next).act ≡ Act.Sends (Does (Resume of_composite))
-surplus_at m next said stop r stopped hit is (Moves.tells {event = Initialized} free at) = cc
 surplus_at m next said stop r stopped hit is (Moves.tells {event = some_news (entry_verified entry)} free at) = cc
-surplus_at m next said stop r stopped hit is (Moves.tells {event = some_news (thread_changed started thread)} free at) = cc
-surplus_at m next said stop r stopped hit is (Moves.tells {event = Terminated} free at) = cc
 surplus_at m next said stop r stopped hit is (Moves.tells {hand} {rest} {event = a_stop stopping} free at) =
     by_cause stopping.cause refl (first_may (may_front (holding r) at))
   where
     near : is_gone m.state.phase ≡ false
-    near = near_stop (is_gone m.state.phase) _ (whole free_once (tested free_test r) at)
-      where
-        near_stop : (gone others : Bool) → cond (cond gone false true) others false ≡ true → gone ≡ false
-        near_stop true others is = cc
-        near_stop false others is = refl
+    near = first_fails (is_gone m.state.phase) _ (whole free_once (tested free_test r) at)
 
     first_may : may_all m.state.phase m.state.stopped m.state.entry (Part.Tells (a_stop stopping) ∷ rest) ≡ true
         → may_stop stopping.cause m.state.stopped rest ≡ true
-    first_may may = first (may_stop stopping.cause m.state.stopped rest) _ may
-      where
-        first : (one others : Bool) → cond one others false ≡ true → one ≡ true
-        first true others is = refl
-        first false others is = cc
+    first_may may = first_holds (may_stop stopping.cause m.state.stopped rest) _ may
 
     reason_is : stop.reason ≡ reason_told stopping.cause (after_event (a_stop stopping) m.state)
     reason_is = cc
@@ -806,8 +546,6 @@ surplus_at m next said stop r stopped hit is (Moves.tells {hand} {rest} {event =
         absurd (hit (reason_is ∙ ap (λ (cause : StopCause). reason_told cause (after_event (a_stop stopping) m.state))
         same))
 surplus_at m next said stop r stopped hit is (Moves.loses late near Loses.by_end) = cc
-surplus_at m next said stop r stopped hit is (Moves.loses late near (Loses.by_question held waits reply last)) = cc
-surplus_at m next said stop r stopped hit is (Moves.loses late near (Loses.by_effect held flies reply last)) = cc
 surplus_at m next said stop r stopped hit is _ = cc
 
 pub undoes_surplus : (messages : List Message) (m : Machine) (stop : Stopped) → Run messages m

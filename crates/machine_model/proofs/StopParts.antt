@@ -1,20 +1,17 @@
 -- Which parts an item has that ends the stop: such as ask nothing and show nothing by numbers. And the look-up of frames
 -- alone asks for them.
-use Rattle.std.proofs.Common.{◌≡◌, Bool, true, false, cond, not, ◌&&◌, ◌||◌, List, [], ◌∷◌, ◌++◌, refl, ◌∙◌, arith}
-use Rattle.std.proofs.Common.{ap, ℕ, Option, Some, None}
+use Rattle.std.proofs.Common.{◌≡◌, Bool, true, false, cond, not, ◌&&◌, ◌||◌, List, [], ◌∷◌, ◌++◌, refl, ◌∙◌, arith, ap}
+use Rattle.std.proofs.Common.{ℕ, Option}
 use Rattle.std.specs.List.{AllByRecursion as All}
 use Rattle.class_tables.specs.Lookups.{found_in}
 use Rattle.jdwp_commands.specs.declared.question.Question.TheVariants as questions
-use Rattle.machine_model.specs.Names.{Writes, a_written}
+use Rattle.machine_model.specs.Names.{Writes, a_written, variable_write, Body, Capabilities, Choice, Continued, Decides}
+use Rattle.machine_model.specs.Names.{Failed, Finding, Item, Lookup, Nothing, Outcome, Part, Question, Resume, Sent}
+use Rattle.machine_model.specs.Names.{Success, TellsNews, Want, breakpoint_list, class_facts, classes_found, Stepped}
+use Rattle.machine_model.specs.Names.{of_stop, thread_frames}
 use Rattle.machine_model.specs.Classes.{classes_plan}
 use Rattle.machine_model.specs.Due.{is_listed, lacked_by, with_want, with_wants}
 use Rattle.machine_model.specs.Lookups.{finished, sight_of}
-use Rattle.machine_model.specs.Names.{Written, variable_write}
-use Rattle.machine_model.specs.Names.{Body, Capabilities, Choice, Continued, Decides, Failed, Finding, Item, Leaves}
-use Rattle.machine_model.specs.Names.{Lookup, Nothing, Outcome, Part, Question, Resume, Sent, Success, TellsNews}
-use Rattle.machine_model.specs.Names.{Want, all_threads, breakpoint_list, class_facts, classes_found}
-use Rattle.machine_model.specs.Names.{Stepped, container_children, exception_info, exception_text, expression_value, of_stop}
-use Rattle.machine_model.specs.Names.{thread_frames}
 use Rattle.machine_model.specs.Plans.{Result, lacking, made_with, need, question_of}
 use Rattle.machine_model.specs.Replying.{is_waiting}
 use Rattle.machine_model.specs.Rows.{chosen, news_of, parts_of, refused_with, stepped_by}
@@ -29,6 +26,8 @@ use Rattle.machine_model.proofs.Stepping.{IsAt}
 use Rattle.machine_model.proofs.Tables.{decided_alike, told_alike}
 use Rattle.machine_model.proofs.Testing.{IsTest, tested, whole}
 use Rattle.wish_sets.specs.Wanted.{Wanted}
+use Rattle.machine_model.proofs.Bools.{and_second}
+use Rattle.std.proofs.lemmas.Bool.{not-true}
 
 -- The end of a stop ---------------------------------------------------------------------------------------------------
 
@@ -77,11 +76,7 @@ tail_bare part rest is = by_tests (ends_one part) (ends_ahead rest) (is_bare par
   where
     by_tests : (ends behind bare others : Bool) → cond (cond ends true behind) (cond bare others false) true ≡ true
         → cond behind others true ≡ true
-    by_tests ends false bare others is = refl
-    by_tests true true true others is = is
-    by_tests false true true others is = is
-    by_tests true true false others is = cc
-    by_tests false true false others is = cc
+    by_tests ends behind bare others is = grind (arith, is)
 
 begun_bare : (state : State) (item : Item) → bare_ends false (parts_of state item) ≡ true
 begun_bare state item = grind arith
@@ -101,28 +96,19 @@ chosen_bare Decides state hand rest is = by_end (ends_ahead rest)
 chosen_bare Stepped state hand rest is = by_code (refused_with hand.effect)
   where
     by_code : (code : Option ℕ) → bare_ends false (stepped_by code ++ rest) ≡ true
-    by_code None = is
-    by_code (Some code) = grind (arith, is)
-chosen_bare (Written seen) state hand rest is = grind (arith, is)
-chosen_bare (Leaves exits) state hand rest is = grind (arith, is)
+    by_code code = grind arith
+chosen_bare _ state hand rest is = grind (arith, is)
 
 found_bare : (lookup : Lookup) (result : Result Finding) (state : State) (rest : List Part)
     → bare_ends false (Part.Looks lookup ∷ rest) ≡ true → bare_ends false (finished lookup result state ++ rest) ≡ true
 found_bare lookup result state rest is = by_lookup lookup
   where
     no_end : (ends bare : Bool) → cond ends false true ≡ true → cond ends bare true ≡ true
-    no_end true bare is = cc
-    no_end false bare is = refl
+    no_end ends bare is = grind (arith, is)
 
     by_lookup : (lookup : Lookup) → bare_ends false (finished lookup result state ++ rest) ≡ true
-    by_lookup all_threads = no_end (ends_ahead rest) _ is
-    by_lookup (thread_frames thread start levels) = no_end (ends_ahead rest) _ is
-    by_lookup (container_children thing filter start count) = no_end (ends_ahead rest) _ is
-    by_lookup (expression_value frame expression) = no_end (ends_ahead rest) _ is
     by_lookup (variable_write thing name text) = grind (arith, is)
-    by_lookup (exception_text thread object) = no_end (ends_ahead rest) _ is
-    by_lookup (exception_info thrown) = no_end (ends_ahead rest) _ is
-    by_lookup class_facts = no_end (ends_ahead rest) _ is
+    by_lookup _ = no_end (ends_ahead rest) _ is
 
 pub bare_test : IsTest bare_ends
 bare_test = record {
@@ -142,9 +128,7 @@ bare_parts {m = m} {part = part} {rest} r at ends =
   where
     by_tests : (ends behind bare others : Bool) → ends ≡ true
         → cond (cond ends true behind) (cond bare others false) true ≡ true → others ≡ true
-    by_tests true behind true others ends is = is
-    by_tests true behind false others ends is = cc
-    by_tests false behind bare others ends is = cc
+    by_tests ends behind bare others fits is = grind (arith, fits, is)
 
 -- Frames that are asked for -------------------------------------------------------------------------------------------
 
@@ -164,27 +148,17 @@ IsCalmSent sent = IsCalm sent.want
 
 -- the look-up of classes asks for no frames
 fact_calm : (want : Want) → wants_fact want ≡ true → IsCalm want
-fact_calm (Want.Must question) is = cc
-fact_calm (Want.May question) is = cc
 fact_calm (Want.Fact question) is = by_question question is
   where
     by_question : (question : Question) → is_fact question ≡ true → asks_frames question ≡ false
-    by_question (questions.Frames thread start length) is = cc
-    by_question _ is = refl
-
-no_true : (is : Bool) → not is ≡ true → is ≡ false
-no_true true is = cc
-no_true false is = refl
-
-second_of : (first second : Bool) → (first && second) ≡ true → second ≡ true
-second_of true second is = is
-second_of false second is = cc
+    by_question question is = grind (arith, is)
+fact_calm _ is = cc
 
 classes_calm : (unlisted : Bool) (wanted : Wanted) (state : State) (hand : Hand)
     → All IsCalm (lacking (need (sight_of state hand)
     (made_with classes_found (classes_plan unlisted wanted (found_in state.classes)))))
 classes_calm true wanted state hand = all_weak (λ want. not (asks_frames (question_of want)) ≡ true) IsCalm
-    (λ want is. no_true (asks_frames (question_of want)) is) _
+    (λ want is. not-true (asks_frames (question_of want)) is) _
     (plan_lacks (λ want. not (asks_frames (question_of want))) (sight_of state hand)
     (made_with classes_found (classes_plan true wanted (found_in state.classes)))
     (makes _ classes_found _ (asks _ _ (Want.Must questions.AllClasses) refl)))
@@ -201,16 +175,13 @@ lacked_calm state hand parts none = by_apart (looks_apart parts) refl
   where
     by_apart : (apart : Bool) → looks_apart parts ≡ apart → All IsCalm (lacked_by state hand parts)
     by_apart false is = all_weak (λ want. is_safe want ≡ true) IsCalm
-        (λ want safe. no_true (asks_frames (question_of want))
-        (second_of (is_meek want) (not (asks_frames (question_of want))) safe)) (lacked_by state hand parts)
+        (λ want safe. not-true (asks_frames (question_of want))
+        (and_second (is_meek want) (not (asks_frames (question_of want))) safe)) (lacked_by state hand parts)
         (lacked_safe state hand parts is)
     by_apart true is = cc
 
 pub lacked_none : (state : State) (hand : Hand) (parts : List Part) → are_bare parts ≡ true → lacked_by state hand parts ≡ []
-lacked_none state hand [] bare = refl
-lacked_none state hand (Part.Looks lookup ∷ rest) bare = cc
-lacked_none state hand (Part.Awaits guard ∷ rest) bare = cc
-lacked_none state hand (_ ∷ rest) bare = refl
+lacked_none state hand parts bare = grind (arith, bare)
 
 pub taken_calm : (asked : List Sent) (queue wants : List Want) → All IsCalm queue → All IsCalm wants
     → All IsCalm (with_wants asked queue wants)
@@ -219,6 +190,5 @@ taken_calm asked queue (want ∷ wants) h k = taken_calm asked (with_want asked 
     (by_test (is_waiting (question_of want) asked) (is_listed (question_of want) queue)) k.1
   where
     by_test : (waits listed : Bool) → All IsCalm (cond (waits || listed) queue (queue ++ want ∷ []))
-    by_test true listed = h
-    by_test false true = h
     by_test false false = all_joined IsCalm queue (want ∷ []) h (k.0, tt)
+    by_test _ _ = h

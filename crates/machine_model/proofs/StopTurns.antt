@@ -1,19 +1,17 @@
 -- What each move is to the stop in hand: it goes on, or one begins, or it is over, also with its target.
-use Rattle.std.proofs.Common.{◌≡◌, Bool, true, false, List, [], ◌∷◌, Option, Some, None, refl, option_map, arith}
-use Rattle.machine_model.specs.Due.{after_deed, sent, stopped_by}
+use Rattle.std.proofs.Common.{◌≡◌, Bool, true, false, List, [], ◌∷◌, Option, Some, None, refl}
+use Rattle.machine_model.specs.Due.{after_deed, sent}
 use Rattle.machine_model.specs.Ids.{begins_stop, ids_given}
-use Rattle.machine_model.specs.Names.{Writes}
-use Rattle.machine_model.specs.Names.{Clear, Deed, Dispose, Does, Effect, Event, Exit, Initialized, Note, Part, Resume, Set}
-use Rattle.machine_model.specs.Names.{Suspend, Terminated, a_question, a_stop, an_effect, of_composite, of_entry, of_stop}
-use Rattle.machine_model.specs.Names.{some_news}
+use Rattle.machine_model.specs.Names.{Does, Effect, Part, Resume, Suspend, Terminated, a_question, a_stop, an_effect}
+use Rattle.machine_model.specs.Names.{of_stop}
 use Rattle.machine_model.specs.ReferenceNumbers.{ends_stop}
-use Rattle.machine_model.specs.Rows.{noted}
 use Rattle.machine_model.specs.Runs.{Message}
-use Rattle.machine_model.specs.State.{Hand, Machine, State, is_gone, knowing}
+use Rattle.machine_model.specs.State.{Hand, Machine, is_gone, knowing}
 use Rattle.machine_model.proofs.HoldingParts.{numbered_stop, same_stop}
 use Rattle.machine_model.proofs.ReferenceLaws.{due_request}
 use Rattle.machine_model.proofs.RequestSteps.{is_deed}
-use Rattle.machine_model.proofs.Stepping.{IsAt, Loses, Moves}
+use Rattle.machine_model.proofs.Stepping.{IsAt, Moves}
+use Rattle.machine_model.proofs.StepLaws.{noted_stop}
 
 abbrev pub says_end : Option Message → Bool
 says_end None = false
@@ -31,47 +29,22 @@ pub data Turns (m : Machine) : Option Message → Machine → Type 0 where
   loses : {said : Option Message} {next : Machine} → is_gone next.state.phase ≡ true → next.state.stopped ≡ false
       → Turns m said next
 
-pub noted_stop : (note : Note) (state : State) → (noted note state).stopped ≡ state.stopped
-noted_stop note state = grind arith
-
 request_quiet : (effect : Effect) → is_deed effect ≡ false → ends_stop (Message.sends (an_effect effect)) ≡ false
-request_quiet (Set wish) is = refl
-request_quiet (Clear wish request) is = refl
 request_quiet (Does deed) is = cc
+request_quiet _ is = refl
 
 pub turns : (m next : Machine) (said : Option Message) → Moves m said next → Turns m said next
-turns m next said (Moves.begins picked free none is) = Turns.goes_on refl refl
-turns m next said (Moves.drops free is none) = Turns.goes_on refl refl
 turns m next said (Moves.responds {outcome = outcome} free at is) = Turns.goes_on (numbered_stop outcome m.state) refl
-turns m next said (Moves.finds found free at needs done) = Turns.goes_on refl refl
-turns m next said (Moves.passes_over free at why) = Turns.goes_on refl refl
-turns m next said (Moves.tells {event = Initialized} free at) = Turns.goes_on refl refl
-turns m next said (Moves.tells {event = some_news news} free at) = Turns.goes_on refl refl
 turns m next said (Moves.tells {event = a_stop stopping} free at) = Turns.begins refl refl refl refl
 turns m next said (Moves.tells {event = Terminated} free at) = Turns.loses refl refl
 turns m next said (Moves.sends {deed = Suspend} free at near) = Turns.begins refl refl refl refl
-turns m next said (Moves.sends {deed = Resume of_composite} free at near) = Turns.goes_on refl refl
-turns m next said (Moves.sends {deed = Resume of_entry} free at near) = Turns.goes_on refl refl
 turns m next said (Moves.sends {deed = Resume of_stop} free at near) = Turns.ends at
-turns m next said (Moves.sends {deed = Dispose} free at near) = Turns.goes_on refl refl
-turns m next said (Moves.sends {deed = Exit} free at near) = Turns.goes_on refl refl
-turns m next said (Moves.sends {deed = Writes write} free at near) = Turns.goes_on refl refl
 turns m next said (Moves.updates {effect = effect} free at is near) =
     Turns.goes_on refl (request_quiet effect (due_request m.state.wishes effect is))
-turns m next said (Moves.greets free at is near) = Turns.goes_on refl refl
 turns m next said (Moves.notes {note = note} free at) = Turns.goes_on (noted_stop note m.state) refl
-turns m next said (Moves.unfolds free at) = Turns.goes_on refl refl
-turns m next said (Moves.queues free is) = Turns.goes_on refl refl
-turns m next said (Moves.asks free room is are) = Turns.goes_on refl refl
-turns m next said (Moves.hears read is) = Turns.goes_on refl refl
-turns m next said (Moves.greeted read is) = Turns.goes_on refl refl
 turns m next said (Moves.answers {question} {replied} is waits reply last) =
     Turns.goes_on (same_stop (a_question question) replied m.state) refl
 turns m next said (Moves.replies {effect} {replied} is flying reply last) =
     Turns.goes_on (same_stop (an_effect effect) replied m.state) refl
-turns m next said (Moves.late before after is reply) = Turns.goes_on refl refl
-turns m next said (Moves.ends gone) = Turns.goes_on refl refl
 turns m next said (Moves.loses late near why) = Turns.loses refl refl
-turns m next said (Moves.comes read sized taken) = Turns.goes_on refl refl
-turns m next said (Moves.keeps is) = Turns.goes_on refl refl
-turns m next said (Moves.reads before after read is none taken) = Turns.goes_on refl refl
+turns m next said _ = Turns.goes_on refl refl

@@ -1,22 +1,18 @@
 -- What is done before a suspension is undone, and that at rest none is held.
-use Rattle.std.proofs.Common.{◌≡◌, Bool, true, false, cond, List, [], ◌∷◌, ◌++◌, Option, Some, None, refl, ap, subst}
-use Rattle.std.proofs.Common.{◌∙◌, option_map, arith, ℕ}
-use Rattle.machine_model.specs.Due.{asked_hand, due}
+use Rattle.std.proofs.Common.{◌≡◌, Bool, true, false, cond, List, [], ◌∷◌, ◌++◌, Option, Some, refl, ap, subst, ◌∙◌}
+use Rattle.std.proofs.Common.{arith, ℕ}
+use Rattle.machine_model.specs.Due.{due}
 use Rattle.machine_model.specs.Knowing.{held_in, held_with, lookup_stops, may_send, view_of}
 use Rattle.machine_model.specs.Lookups.{finished}
-use Rattle.machine_model.specs.Names.{Written, variable_write}
-use Rattle.machine_model.specs.Names.{Act, Attached, Choice, Command, Configured, Decides, Deed, Does, EntryHeld}
-use Rattle.machine_model.specs.Names.{Event, Failure, Finding, Item, Leaves, Lookup, Note, Part, Phase, Replied}
-use Rattle.machine_model.specs.Names.{Resume, Stopping, Suspension, TargetCommand, TellsNews, Want, a_composite}
-use Rattle.machine_model.specs.Names.{a_question, a_raw, a_request, a_stop, all_threads, an_effect, class_facts}
-use Rattle.machine_model.specs.Names.{of_composite, of_entry, of_stop, target_end}
-use Rattle.machine_model.specs.Names.{thread_frames}
-use Rattle.machine_model.specs.Names.{container_children, exception_info, exception_text, expression_value, HaltCause, Stepped, ThreadId}
+use Rattle.machine_model.specs.Names.{Written, Act, Attached, Choice, Command, Configured, Decides, Deed, Does}
+use Rattle.machine_model.specs.Names.{EntryHeld, Event, Failure, Finding, Item, Leaves, Lookup, Note, Part, Phase}
+use Rattle.machine_model.specs.Names.{Resume, Stopping, Suspension, TellsNews, a_question, a_raw, a_request, a_stop}
+use Rattle.machine_model.specs.Names.{an_effect, of_composite, HaltCause, Stepped, ThreadId, of_entry, of_stop}
 use Rattle.machine_model.specs.Outcomes.{result_of}
 use Rattle.machine_model.specs.Plans.{Result}
-use Rattle.machine_model.specs.Replying.{hand_replied}
 use Rattle.machine_model.specs.Rest.{IsAtRest}
 use Rattle.machine_model.specs.Rows.{chosen, failure_of, news_of, parts_by, parts_of, request_parts, row_of, wanting}
+use Rattle.machine_model.specs.Rows.{refused_with, stepped_by, written_by}
 use Rattle.machine_model.specs.Runs.{Allows, Message, Run, said}
 use Rattle.machine_model.specs.State.{Hand, Machine, State, is_attached, is_gone}
 use Rattle.machine_model.specs.Suspending.{IsBoundFirst, IsHeld}
@@ -26,16 +22,15 @@ use Rattle.machine_model.proofs.BindingParts.{IsBinding}
 use Rattle.machine_model.proofs.HeldLaws.{due_sends}
 use Rattle.machine_model.proofs.KnowingLaws.{is_known}
 use Rattle.machine_model.proofs.RequestLaws.{Settling, front_set, settles, settling}
-use Rattle.machine_model.proofs.SizeLaws.{parts_in}
-use Rattle.machine_model.proofs.Stepping.{IsAt, Loses, Moves, by_runs, moved}
+use Rattle.machine_model.proofs.SizeLaws.{replied_parts, asked_parts}
+use Rattle.machine_model.proofs.Stepping.{IsAt, Moves, by_runs, moved, Loses}
 use Rattle.machine_model.proofs.Tables.{free, free_once, of_decided, told_alike}
 use Rattle.machine_model.proofs.Testing.{IsTest, Passed, same_noted, same_numbered, same_replied, tested, whole}
 use Rattle.machine_model.specs.Stops.{decided, surplus, told_part}
-use Rattle.machine_model.specs.Rows.{refused_with, stepped_by, written_by}
 use Rattle.machine_model.specs.Pending.{bit}
 use Rattle.machine_model.proofs.BindingHands.{binds_ahead}
 use Rattle.std.specs.Prelude.{◌+◌}
-use Rattle.machine_model.proofs.RequestSteps.{decides, is_choice, needs_set}
+use Rattle.machine_model.proofs.RequestSteps.{decides, is_choice, needs_set, parts_left}
 
 -- Behind a Resume nothing more is set or bound ----------------------------------------------------------------------
 
@@ -78,9 +73,8 @@ row_last failure command state = grind arith
 
 begun_last : (state : State) (item : Item) → resume_last (parts_of state item) ≡ true
 begun_last state (a_request request) = row_last (failure_of (wanting request.command) state) request.command state
-begun_last state target_end = grind arith
-begun_last state (a_composite at composite) = grind arith
 begun_last state (a_raw at body) = refl
+begun_last state _ = grind arith
 
 rest_last : (part : Part) (rest : List Part) → resume_last (part ∷ rest) ≡ true → resume_last rest ≡ true
 rest_last part rest is = grind (arith, is)
@@ -96,9 +90,7 @@ chosen_last Decides state hand rest is = let last = rest_last (Part.Unfolds Deci
     by_stop : (stopped : Bool) (cause : HaltCause) (thread : ThreadId)
         → resume_last (told_part cause thread ∷ surplus stopped ++ rest) ≡ true
     by_stop stopped cause thread = grind (arith, is)
-chosen_last Stepped state hand rest is = grind (arith, is)
-chosen_last (Written seen) state hand rest is = grind (arith, is)
-chosen_last (Leaves exits) state hand rest is = grind (arith, is)
+chosen_last _ state hand rest is = grind (arith, is)
 
 last_test : IsTest ends_resumed
 last_test = record {
@@ -132,7 +124,7 @@ abbrev resumes_attached : Phase → List Part → Bool
 resumes_attached phase parts = cond (is_gone phase) true (cond (has_resume parts) (is_attached phase) true)
 
 abbrev IsResumed : Machine → Type 0
-IsResumed m = resumes_attached m.state.phase (parts_in m.hand) ≡ true
+IsResumed m = resumes_attached m.state.phase (parts_left m.hand) ≡ true
 
 row_resumed : (state : State) (command : Command)
     → resumes_attached state.phase (request_parts command state) ≡ true
@@ -140,14 +132,12 @@ row_resumed state command = grind arith
 
 begun_resumed : (state : State) (item : Item) → resumes_attached state.phase (parts_of state item) ≡ true
 begun_resumed state (a_request request) = row_resumed state request.command
-begun_resumed state target_end = grind arith
-begun_resumed state (a_composite at composite) = grind arith
-begun_resumed state (a_raw at body) = grind arith
+begun_resumed state _ = grind arith
 
 at_front : {m : Machine} {hand : Hand} {part : Part} {rest : List Part} → IsResumed m → IsAt m hand part rest
     → resumes_attached m.state.phase (part ∷ rest) ≡ true
 at_front {m} h at = subst (λ (parts : List Part). resumes_attached m.state.phase parts ≡ true) at.parts
-    (subst (λ (held : Option Hand). resumes_attached m.state.phase (parts_in held) ≡ true) at.in_hand h)
+    (subst (λ (held : Option Hand). resumes_attached m.state.phase (parts_left held) ≡ true) at.in_hand h)
 
 rest_resumed : (phase : Phase) (part : Part) (rest : List Part) → resumes_attached phase (part ∷ rest) ≡ true
     → resumes_attached phase rest ≡ true
@@ -155,14 +145,7 @@ rest_resumed phase part rest is = grind (arith, is)
 
 found_same : (lookup : Lookup) (result : Result Finding) (state : State) (rest : List Part)
     → has_resume (finished lookup result state ++ rest) ≡ has_resume (Part.Looks lookup ∷ rest)
-found_same all_threads result state rest = refl
-found_same (thread_frames thread start levels) result state rest = refl
-found_same (container_children thing filter start count) result state rest = refl
-found_same (expression_value frame expression) result state rest = refl
-found_same (variable_write thing name text) result state rest = grind arith
-found_same (exception_text thread object) result state rest = refl
-found_same (exception_info thrown) result state rest = refl
-found_same class_facts result state rest = refl
+found_same lookup result state rest = grind arith
 
 chosen_resumed : (choice : Choice) (state : State) (hand : Hand) (rest : List Part)
     → resumes_attached state.phase (Part.Unfolds choice ∷ rest) ≡ true
@@ -173,43 +156,28 @@ chosen_resumed Decides state hand rest is =
     there (is_gone state.phase) (is_attached state.phase) (has_resume (decided state hand.item ++ rest)) is
   where
     there : (gone attached has : Bool) → cond gone true attached ≡ true → cond gone true (cond has attached true) ≡ true
-    there true attached has is = refl
-    there false attached true is = is
-    there false attached false is = refl
+    there gone attached has is = grind (arith, is)
 chosen_resumed Stepped state hand rest is =
     attached_there (is_gone state.phase) (is_attached state.phase) (has_resume (stepped_by (refused_with hand.effect) ++ rest)) is
   where
     attached_there : (gone attached has : Bool) → cond gone true attached ≡ true
         → cond gone true (cond has attached true) ≡ true
-    attached_there true attached has is = refl
-    attached_there false attached true is = is
-    attached_there false attached false is = refl
+    attached_there gone attached has is = grind (arith, is)
 chosen_resumed (Written seen) state hand rest is = by_code (refused_with hand.effect)
   where
     by_code : (code : Option ℕ) → resumes_attached state.phase (written_by seen code ++ rest) ≡ true
-    by_code None = is
-    by_code (Some code) = is
+    by_code code = grind arith
 chosen_resumed (Leaves exits) state hand rest is = grind (arith, is)
 
 event_resumed : (event : Event) (state : State) (rest : List Part) → resumes_attached state.phase rest ≡ true
     → resumes_attached (after_event event state).phase rest ≡ true
 event_resumed event state rest is = grind (arith, is)
 
-replied_parts : (command : TargetCommand) (replied : Replied) (hand : Option Hand)
-    → parts_in (option_map (hand_replied command replied) hand) ≡ parts_in hand
-replied_parts command replied None = refl
-replied_parts (a_question question) replied (Some hand) = refl
-replied_parts (an_effect effect) replied (Some hand) = refl
-
-asked_parts : (want : Want) (hand : Option Hand) → parts_in (option_map (asked_hand want) hand) ≡ parts_in hand
-asked_parts want None = refl
-asked_parts want (Some hand) = refl
-
 resumed_on : (m next : Machine) (said : Option Message) → IsResumed m → Moves m said next → IsResumed next
 resumed_on m next said h (Moves.begins picked free none is) = begun_resumed m.state picked.item
 resumed_on m next said h (Moves.drops {hand} free is none) =
     subst (λ (parts : List Part). resumes_attached m.state.phase parts ≡ true) none
-    (subst (λ (held : Option Hand). resumes_attached m.state.phase (parts_in held) ≡ true) is h)
+    (subst (λ (held : Option Hand). resumes_attached m.state.phase (parts_left held) ≡ true) is h)
 resumed_on m next said h (Moves.responds {rest = rest} {outcome = outcome} free at is) =
     rw (same_numbered outcome m.state) (rest_resumed m.state.phase (Part.Responds outcome) rest (at_front h at))
 resumed_on m next said h (Moves.finds {rest = rest} {lookup} found free at needs done) =
@@ -221,26 +189,19 @@ resumed_on m next said h (Moves.tells {rest = rest} {event} free at) =
 resumed_on m next said h (Moves.sends {rest = rest} {deed} free at near) =
     rest_resumed m.state.phase (Part.Sends deed) rest (at_front h at)
 resumed_on m next said h (Moves.updates free at is near) = at_front h at
-resumed_on m next said h (Moves.greets free at is near) = h
 resumed_on m next said h (Moves.notes {note = note} {rest} free at) =
     rw (same_noted note m.state) (rest_resumed m.state.phase (Part.Notes note) rest (at_front h at))
 resumed_on m next said h (Moves.unfolds {hand} {choice} {rest} free at) =
     chosen_resumed choice m.state hand rest (at_front h at)
 resumed_on m next said h (Moves.queues free is) =
-    subst (λ (held : Option Hand). resumes_attached m.state.phase (parts_in held) ≡ true) is h
+    subst (λ (held : Option Hand). resumes_attached m.state.phase (parts_left held) ≡ true) is h
 resumed_on m next said h (Moves.asks {want = want} free room is are) = rw (asked_parts want m.hand) h
-resumed_on m next said h (Moves.hears read is) = h
-resumed_on m next said h (Moves.greeted read is) = h
 resumed_on m next said h (Moves.answers {question} {replied} is waits reply stays) =
     rw (same_replied (a_question question) replied m.state, replied_parts (a_question question) replied m.hand) h
 resumed_on m next said h (Moves.replies {effect} {replied} is flies reply stays) =
     rw (same_replied (an_effect effect) replied m.state, replied_parts (an_effect effect) replied m.hand) h
-resumed_on m next said h (Moves.late before after is reply) = h
-resumed_on m next said h (Moves.ends gone) = h
 resumed_on m next said h (Moves.loses late near why) = refl
-resumed_on m next said h (Moves.comes read sized taken) = h
-resumed_on m next said h (Moves.keeps is) = h
-resumed_on m next said h (Moves.reads before after read is none taken) = h
+resumed_on m next said h _ = h
 
 resumed : {messages : List Message} {m : Machine} → Run messages m → IsResumed m
 resumed r = by_runs {Holds = λ (messages : List Message) (m : Machine). IsResumed m} (record {
@@ -332,17 +293,12 @@ resume_at m next said suspension s b t h is close (Moves.updates {effect = effec
     no_resume of_entry may = cc
     no_resume of_stop may = cc
 resume_at m next said suspension s b t h is close (Moves.loses late near Loses.by_end) = cc
-resume_at m next said suspension s b t h is close (Moves.loses late near (Loses.by_question held waits reply last)) = cc
-resume_at m next said suspension s b t h is close (Moves.loses late near (Loses.by_effect held flies reply last)) = cc
 resume_at m next said suspension s b t h is close _ = cc
 
 near_sends : (m next : Machine) (said : Option Message) (suspension : Suspension)
     → said ≡ Some (Message.sends (an_effect (Does (Resume suspension)))) → Moves m said next
     → is_gone m.state.phase ≡ false
-near_sends m next said suspension is (Moves.sends free at near) = near
-near_sends m next said suspension is (Moves.updates free at due near) = near
-near_sends m next said suspension is (Moves.loses late near why) = near
-near_sends m next said suspension is _ = cc
+near_sends m next said suspension is moved = grind (arith, is, moved)
 
 pub binds_first : (messages : List Message) (m : Machine) (suspension : Suspension) → Run messages m
     → (due false m).act ≡ Act.Sends (Does (Resume suspension)) → IsBoundFirst m.state

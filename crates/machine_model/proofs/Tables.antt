@@ -2,13 +2,11 @@
 use Rattle.std.proofs.Common.{◌≡◌, Bool, true, false, cond, not, ◌||◌, List, [], ◌∷◌, ◌++◌, Option, refl, arith, ◌∙◌}
 use Rattle.std.proofs.Common.{Some, None}
 use Rattle.machine_model.specs.Lookups.{finished, lookup_responds}
-use Rattle.machine_model.specs.Names.{Written}
-use Rattle.machine_model.specs.Names.{Attached, Choice, Classes, Command, Decides, EntryHeld, Failure, Finding, Fresh}
-use Rattle.machine_model.specs.Names.{Gone, Initialized, Item, Leaves, Lines, Lookup, News, Note, Part, Phase, Resume}
-use Rattle.machine_model.specs.Names.{Stopping, TellsNews, Terminated, a_composite, a_raw, a_request, a_stop}
-use Rattle.machine_model.specs.Names.{by_step, came_to, class_facts, exception_text, has_stepped, of_composite, some_news}
-use Rattle.machine_model.specs.Names.{target_end, threw, Functions, Halt, HaltCause, Hit, Stepped, Steps, StopsAt, ThreadId}
-use Rattle.machine_model.specs.Names.{Throws, Thrown}
+use Rattle.machine_model.specs.Names.{Attached, Choice, Classes, Command, Decides, EntryHeld, Failure, Finding}
+use Rattle.machine_model.specs.Names.{Initialized, Item, Leaves, Lines, Lookup, News, Note, Part, Phase, Resume}
+use Rattle.machine_model.specs.Names.{Stopping, TellsNews, Terminated, a_raw, a_request, a_stop, by_step, came_to}
+use Rattle.machine_model.specs.Names.{class_facts, exception_text, has_stepped, of_composite, some_news, threw}
+use Rattle.machine_model.specs.Names.{Functions, Halt, HaltCause, Hit, Steps, StopsAt, ThreadId, Throws, Thrown}
 use Rattle.jdwp_values.specs.declared.id.ObjectId.{ObjectId}
 use Rattle.machine_model.specs.Plans.{Result}
 use Rattle.machine_model.specs.Rows.{choice_responds, chosen, each_told, failure_of, gone_parts, has_response, news_of}
@@ -18,6 +16,7 @@ use Rattle.machine_model.proofs.Testing.{IsTest, gone_behind}
 use Rattle.machine_model.specs.Stops.{decided, decided_by, events_in, hit_parts, hits_in, holds_entry, stop_among}
 use Rattle.machine_model.specs.Stops.{surplus, thrown_in, told_part}
 use Rattle.machine_model.specs.Knowing.{is_last}
+use Rattle.machine_model.proofs.Bools.{first_holds}
 
 -- Tests of parts ------------------------------------------------------------------------------------------------------
 
@@ -178,15 +177,12 @@ chosen_block (TellsNews below) state hand =
     by_phase state.phase (news_of below state hand.item)
   where
     by_phase : (phase : Phase) (news : List News) → is_block false (told_in phase news) ≡ true
-    by_phase Fresh news = refl
     by_phase Attached news = rw (told_once news, told_silent news) (told_plain news)
-    by_phase Gone news = refl
+    by_phase _ news = refl
 chosen_block Decides state hand =
     of_decided (λ (parts : List Part). is_block false parts ≡ true) refl refl refl (λ stopped thrown halt. grind arith)
     state hand.item
-chosen_block Stepped state hand = grind arith
-chosen_block (Written seen) state hand = grind arith
-chosen_block (Leaves exits) state hand = grind arith
+chosen_block _ state hand = grind arith
 
 pub finished_block : (lookup : Lookup) (result : Result Finding) (state : State)
     → is_block (lookup_responds lookup) (finished lookup result state) ≡ true
@@ -247,11 +243,9 @@ row_is failure command state = row_facts (parts_by failure (row_of command state
 pub told_alike : {A : Type 0} (f : List Part → A)
     → ((news : News) (parts : List Part) → f (Part.Tells (some_news news) ∷ parts) ≡ f parts)
     → (phase : Phase) (news : List News) (rest : List Part) → f (told_in phase news ++ rest) ≡ f rest
-told_alike f each Fresh news rest = refl
-told_alike f each Gone news rest = refl
-told_alike f each Attached [] rest = refl
 told_alike f each Attached (one ∷ news) rest =
     each one (each_told news ++ rest) ∙ told_alike f each Attached news rest
+told_alike f each _ _ rest = refl
 
 pub has_joined : (parts rest : List Part) → has_response (parts ++ rest) ≡ (has_response parts || has_response rest)
 has_joined [] rest = refl
@@ -292,9 +286,8 @@ responds_once gone parts = once_in parts
 
 once_begun : (state : State) (item : Item) → once_in (parts_of state item) ≡ true
 once_begun state (a_request request) = (row_is (failure_of (wanting request.command) state) request.command state).once
-once_begun state target_end = grind arith
-once_begun state (a_composite at composite) = grind arith
 once_begun state (a_raw at body) = refl
+once_begun state _ = grind arith
 
 pub once : IsTest responds_once
 once = record {
@@ -310,17 +303,12 @@ once = record {
 
 free_begun : (state : State) (item : Item) → free_once (is_gone state.phase) (parts_of state item) ≡ true
 free_begun state (a_request request) = row_free state request.command (is_gone state.phase) refl
-free_begun state target_end = grind arith
-free_begun state (a_composite at composite) = grind arith
 free_begun state (a_raw at body) = refl
+free_begun state _ = grind arith
 
 front_free : (gone : Bool) (part : Part) (rest : List Part) → free_once gone (part ∷ rest) ≡ true
     → cond gone (is_free part) true ≡ true
-front_free gone part rest is = first (cond gone (is_free part) true) _ is
-  where
-    first : (one others : Bool) → cond one others false ≡ true → one ≡ true
-    first true others is = refl
-    first false others is = cc
+front_free gone part rest is = first_holds (cond gone (is_free part) true) _ is
 
 chosen_free : (choice : Choice) (state : State) (hand : Hand) (gone : Bool) → is_gone state.phase ≡ gone
     → cond gone (is_free (Part.Unfolds choice)) true ≡ true → free_once gone (chosen choice state hand) ≡ true
@@ -370,9 +358,8 @@ row_silent failure command state = grind arith
 
 silent_begun : (state : State) (item : Item) → last_silent (parts_of state item) ≡ true
 silent_begun state (a_request request) = row_silent (failure_of (wanting request.command) state) request.command state
-silent_begun state target_end = grind arith
-silent_begun state (a_composite at composite) = grind arith
 silent_begun state (a_raw at body) = refl
+silent_begun state _ = grind arith
 
 silent_tail : (part : Part) (rest : List Part) → last_silent (part ∷ rest) ≡ true → last_silent rest ≡ true
 silent_tail part rest is = grind (arith, is)
@@ -409,9 +396,8 @@ row_followed failure command state = grind arith
 followed_begun : (state : State) (item : Item) → are_followed (parts_of state item) ≡ true
 followed_begun state (a_request request) =
     row_followed (failure_of (wanting request.command) state) request.command state
-followed_begun state target_end = grind arith
-followed_begun state (a_composite at composite) = grind arith
 followed_begun state (a_raw at body) = refl
+followed_begun state _ = grind arith
 
 followed_chosen : (choice : Choice) (state : State) (hand : Hand) (rest : List Part) → are_followed rest ≡ true
     → are_followed (chosen choice state hand ++ rest) ≡ true
@@ -420,9 +406,7 @@ followed_chosen (TellsNews below) state hand rest is =
 followed_chosen Decides state hand rest is =
     decided_alike are_followed (λ thrown parts. refl) (λ stopping parts. refl) (λ thread object parts. refl)
     (λ parts. refl) (λ parts. refl) state hand.item rest ∙ is
-followed_chosen Stepped state hand rest is = grind (arith, is)
-followed_chosen (Written seen) state hand rest is = grind (arith, is)
-followed_chosen (Leaves exits) state hand rest is = grind (arith, is)
+followed_chosen _ state hand rest is = grind (arith, is)
 
 pub followed_test : IsTest followed
 followed_test = record {

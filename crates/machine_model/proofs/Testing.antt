@@ -1,6 +1,6 @@
 -- Tests on what is left of the item in hand: what each row passes, each tail, choice and result, holds in every run.
-use Rattle.std.proofs.Common.{◌≡◌, Bool, true, List, [], ◌∷◌, ◌++◌, Option, Some, None, refl, sym, ap, subst}
-use Rattle.std.proofs.Common.{◌∙◌, option_map, arith}
+use Rattle.std.proofs.Common.{◌≡◌, Bool, true, List, [], ◌∷◌, ◌++◌, Option, Some, None, refl, sym, ap, subst, ◌∙◌}
+use Rattle.std.proofs.Common.{option_map, arith}
 use Rattle.machine_model.specs.Due.{asked_hand}
 use Rattle.machine_model.specs.Lookups.{finished}
 use Rattle.machine_model.specs.Names.{Choice, Event, Finding, Item, Lookup, Note, Outcome, Part, Phase, Replied}
@@ -69,14 +69,11 @@ behind_event event state = grind arith
 
 replied_passed : (test : Bool → List Part → Bool) (gone : Bool) (command : TargetCommand) (replied : Replied)
     (hand : Option Hand) → passed test gone (option_map (hand_replied command replied) hand) ≡ passed test gone hand
-replied_passed test gone command replied None = refl
-replied_passed test gone (a_question question) replied (Some hand) = refl
-replied_passed test gone (an_effect effect) replied (Some hand) = refl
+replied_passed test gone command replied hand = grind arith
 
 asked_passed : (test : Bool → List Part → Bool) (gone : Bool) (want : Want) (hand : Option Hand)
     → passed test gone (option_map (asked_hand want) hand) ≡ passed test gone hand
-asked_passed test gone want None = refl
-asked_passed test gone want (Some hand) = refl
+asked_passed test gone want hand = grind arith
 
 given_up_hand : {test : Bool → List Part → Bool} → IsTest test → (hand : Option Hand)
     → passed test true (option_map given_up hand) ≡ true
@@ -108,7 +105,6 @@ passed_on t m next said h (Moves.tells {event} free at) =
     behind t (after_event event m.state).phase h at (behind_event event m.state)
 passed_on t m next said h (Moves.sends free at near) = behind t m.state.phase h at refl
 passed_on {test} t m next said h (Moves.updates free at is near) = whole test h at
-passed_on t m next said h (Moves.greets free at is near) = h
 passed_on t m next said h (Moves.notes {note} free at) =
     behind t (noted note m.state).phase h at (ap is_gone (same_noted note m.state))
 passed_on {test} t m next said h (Moves.unfolds {hand} {choice} {rest} free at) =
@@ -117,18 +113,12 @@ passed_on {test} t m next said h (Moves.queues free is) =
     subst (λ (hand : Option Hand). passed test (is_gone m.state.phase) hand ≡ true) is h
 passed_on {test} t m next said h (Moves.asks {hand} {want} free room is are) =
     asked_passed test (is_gone m.state.phase) want m.hand ∙ h
-passed_on t m next said h (Moves.hears read is) = h
-passed_on t m next said h (Moves.greeted read is) = h
 passed_on {test} t m next said h (Moves.answers {question} {replied} is waits reply stays) =
     now_passed test m (a_question question) replied h
 passed_on {test} t m next said h (Moves.replies {effect} {replied} is flying reply stays) =
     now_passed test m (an_effect effect) replied h
-passed_on t m next said h (Moves.late before after is reply) = h
-passed_on t m next said h (Moves.ends gone) = h
 passed_on t m next said h (Moves.loses late near why) = given_up_hand t m.hand
-passed_on t m next said h (Moves.comes read sized taken) = h
-passed_on t m next said h (Moves.keeps is) = h
-passed_on t m next said h (Moves.reads before after read is none taken) = h
+passed_on t m next said h _ = h
 
 -- a test that the tables pass is passed by what is left in every run
 pub tested : {test : Bool → List Part → Bool} → IsTest test → {messages : List Message} {m : Machine}

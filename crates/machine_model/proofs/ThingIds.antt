@@ -5,12 +5,8 @@ use Rattle.std.specs.Prelude.{if◌then◌else◌, option_to_list}
 use Rattle.std.specs.List.{AllByRecursion as All, cons_option, list_any}
 use Rattle.machine_model.specs.Due.{after_deed}
 use Rattle.machine_model.specs.Ids.{Id}
-use Rattle.machine_model.specs.Names.{Writes, a_written}
-use Rattle.machine_model.specs.Names.{Capabilities, Continued, Deed, Dispose, Event, Exit, Failed, Initialized}
-use Rattle.machine_model.specs.Names.{Nothing, Outcome, Resume, ShownFrame, ShownVariable, Success, Suspend}
-use Rattle.machine_model.specs.Names.{Terminated, a_question, a_stop, breakpoint_list, entry_verified, frame_list}
-use Rattle.machine_model.specs.Names.{of_composite, of_entry, of_stop, scope_list, some_news, thread_changed, thread_list}
-use Rattle.machine_model.specs.Names.{a_value, variable_list}
+use Rattle.machine_model.specs.Names.{Deed, Event, Outcome, Resume, ShownFrame, ShownVariable, Success, Terminated}
+use Rattle.machine_model.specs.Names.{a_question, frame_list, of_stop, scope_list, a_value, variable_list}
 use Rattle.machine_model.specs.References.{things_of, with_things}
 use Rattle.machine_model.specs.Runs.{Message}
 use Rattle.machine_model.specs.State.{Machine, State, is_gone, numbers_over}
@@ -25,7 +21,6 @@ use Rattle.stop_refs.specs.Numbers.{InHand, with_thing}
 use Rattle.stop_refs.specs.Things.{same_thing}
 use Rattle.stop_refs.specs.declared.thing.Thing.{Thing}
 use Rattle.stop_refs.specs.declared.thing.Thing.TheVariants.{Frame as a_frame, Locals as some_locals}
-use Rattle.machine_model.specs.Names.{an_exception}
 
 -- what was told in a stop passes
 abbrev pub AreThings : (Id → Type 0) → InHand → Type 0
@@ -68,14 +63,6 @@ of_variables P (one ∷ shown) h = by_thing one.seen.thing h.0 (of_variables P s
 -- behind a response
 responded_things : (P : Id → Type 0) (outcome : Outcome) (state : State) → OfOutcome P outcome
     → AreThings P state.numbers → AreThings P (numbered_by outcome state).numbers
-responded_things P (Failed failure) state k h = h
-responded_things P (Success Nothing) state k h = h
-responded_things P (Success Capabilities) state k h = h
-responded_things P (Success (breakpoint_list rooted listed)) state k h = h
-responded_things P (Success Continued) state k h = h
-responded_things P (Success (an_exception id mode)) state k h = h
-responded_things P (Success (a_written seen)) state k h = h
-responded_things P (Success (thread_list named)) state k h = h
 responded_things P (Success (frame_list total frames)) state k h =
     some_more P (things_of (frame_list total frames)) state.numbers (of_frames P frames k) h
 responded_things P (Success (scope_list one)) state k h = one_more P (some_locals one) state.numbers k h
@@ -87,6 +74,7 @@ responded_things P (Success (a_value seen)) state k h =
     of_option : (thing : Option Thing) → OnSome (OfThing P) thing → All (OfThing P) (option_to_list thing)
     of_option None k = tt
     of_option (Some thing) k = (k, tt)
+responded_things P _ state k h = h
 
 -- where a stop is over nothing is told in it
 over_things : (P : Id → Type 0) (stopped : Bool) (numbers : InHand) → AreThings P numbers
@@ -96,21 +84,13 @@ over_things P true numbers h = tt
 
 event_things : (P : Id → Type 0) (event : Event) (state : State) → AreThings P state.numbers
     → AreThings P (after_event event state).numbers
-event_things P Initialized state h = h
-event_things P (some_news (entry_verified entry)) state h = h
-event_things P (some_news (thread_changed started thread)) state h = h
-event_things P (a_stop stopping) state h = h
 event_things P Terminated state h = over_things P state.stopped state.numbers h
+event_things P _ state h = h
 
 deed_things : (P : Id → Type 0) (deed : Deed) (state : State) → AreThings P state.numbers
     → AreThings P (after_deed deed state).numbers
-deed_things P Suspend state h = h
-deed_things P (Resume of_composite) state h = h
-deed_things P (Resume of_entry) state h = h
 deed_things P (Resume of_stop) state h = over_things P state.stopped state.numbers h
-deed_things P Dispose state h = h
-deed_things P Exit state h = h
-deed_things P (Writes write) state h = h
+deed_things P _ state h = h
 
 same_things : (P : Id → Type 0) (numbers now : InHand) → now ≡ numbers → AreThings P numbers → AreThings P now
 same_things P numbers now is h = subst (λ (numbers : InHand). AreThings P numbers) (sym is) h

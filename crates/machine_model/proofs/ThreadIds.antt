@@ -1,61 +1,33 @@
 -- The ids of threads that are told were read: those in composites that are in hand, and those in answers.
-use Rattle.std.proofs.Common.{◌≡◌, Bool, true, false, cond, List, [], ◌∷◌, ◌++◌, Option, Some, None}
-use Rattle.std.proofs.Common.{arith}
-use Rattle.std.specs.Prelude.{find, map, ◌==◌}
-use Rattle.std.specs.List.{AllByRecursion as All, flat_map}
-use Rattle.std.specs.Option.{option_or}
+use Rattle.std.proofs.Common.{◌≡◌, Bool, true, false, cond, List, [], ◌∷◌, ◌++◌, Option, Some, None, arith, refl}
+use Rattle.std.specs.Prelude.{map, ◌==◌}
+use Rattle.std.specs.List.{AllByRecursion as All}
 use Rattle.jdwp_events.specs.declared.event.Event.{Event as ATargetEvent}
 use Rattle.jdwp_events.specs.declared.event.Event.TheVariants as happened
-use Rattle.jdwp_events.specs.declared.kind.Policy.{Policy}
-use Rattle.jdwp_events.specs.declared.kind.Policy.TheVariants.{NoThread, EventThread, All as AllThreads}
 use Rattle.machine_model.specs.Breakpoints.{newly_verified}
-use Rattle.machine_model.specs.Composites.{change_told, changes_in, composite_parts, has_death}
-use Rattle.machine_model.specs.Ids.{Id, ids_of_composite, ids_of_event}
-use Rattle.machine_model.specs.Names.{Written, a_written, classes_found, exception_found, frames_found, no_value, text_found, threads_found, value_found, variable_write, variables_found, write_found}
-use Rattle.machine_model.specs.Names.{Attach, Attached, BadArguments, Choice, Command, ConfigurationDone, Continue}
-use Rattle.machine_model.specs.Names.{Decides, Disconnect, Event, Failed, Failure, Fresh, Gone, Initialize, Initialized}
-use Rattle.machine_model.specs.Names.{Item, Leaves, Lookup, NamedThread, News, Outcome, Part, Pause, Phase, Replied}
-use Rattle.machine_model.specs.Names.{SetBreakpoints, StackTrace, Stopping, Success, TargetCommand, TellsNews, Terminated}
-use Rattle.machine_model.specs.Names.{ThreadId, Threads, Unsupported, a_composite, a_raw, a_request, a_stop}
-use Rattle.machine_model.specs.Names.{breakpoint_list, class_facts, all_threads, thread_frames, Capabilities, Continued}
-use Rattle.machine_model.specs.Names.{Nothing, Note}
-use Rattle.machine_model.specs.Names.{entry_verified, frame_list, some_news, target_end, thread_changed, thread_list}
-use Rattle.machine_model.specs.Lookups.{finished, written_parts}
-use Rattle.machine_model.specs.Names.{Finding, Hit}
-use Rattle.machine_model.specs.Names.{Evaluate, SetVariable, a_value, container_children, expression_value, scope_list, variable_list}
-use Rattle.machine_model.specs.Plans.{Result, gave, refused}
+use Rattle.machine_model.specs.Composites.{change_told, changes_in}
+use Rattle.machine_model.specs.Ids.{Id, ids_of_event}
+use Rattle.machine_model.specs.Names.{Attached, Choice, Command, Decides, Event, Initialized, Item, Lookup, NamedThread}
+use Rattle.machine_model.specs.Names.{News, Outcome, Part, Pause, Phase, Replied, Success, TargetCommand, TellsNews}
+use Rattle.machine_model.specs.Names.{Terminated, ThreadId, a_composite, a_request, a_stop, Note, entry_verified}
+use Rattle.machine_model.specs.Names.{some_news, thread_changed, thread_list, Finding, Halt, HaltCause, Throws, Thrown}
+use Rattle.machine_model.specs.Names.{came_to, exception_text}
+use Rattle.machine_model.specs.Lookups.{finished}
+use Rattle.machine_model.specs.Plans.{Result}
 use Rattle.machine_model.specs.Replying.{replied_to}
-use Rattle.field_exprs.specs.Parsing.{parsed}
-use Rattle.field_exprs.specs.declared.expr.Expr.{Expr}
-use Rattle.machine_model.specs.Rows.{write_by, written_by}
-use Rattle.machine_model.specs.Rows.{evaluate_by}
-use Rattle.machine_model.specs.Rows.{chosen, configured_parts, continue_parts, end_parts, failure_of}
-use Rattle.machine_model.specs.Rows.{leaves, news_of, noted, parts_by, parts_of, pause_parts, row_of, stack_parts}
-use Rattle.machine_model.specs.Rows.{taken, thread_with, told_in, wanting, gone_parts, gone_row, gone_tail}
+use Rattle.machine_model.specs.Rows.{chosen, failure_of, news_of, noted, parts_of, pause_parts, row_of, taken}
+use Rattle.machine_model.specs.Rows.{thread_with, told_in, wanting}
 use Rattle.machine_model.specs.State.{Hand, State, is_attached}
 use Rattle.machine_model.specs.Stops.{decided_by, events_in, holds_entry, hits_in, stop_among, surplus, thrown_in}
 use Rattle.machine_model.specs.Stops.{told_part}
 use Rattle.machine_model.proofs.HitIds.{ItemStands, OfHalt, all_thrown, each_event, halt_stands}
-use Rattle.machine_model.specs.Names.{ExceptionInfo, Halt, HaltCause, Next, SetExceptionBreakpoints, StepIn, StepOut}
-use Rattle.machine_model.specs.Names.{SetFunctionBreakpoints, Stepped, Throws, Thrown, an_exception, came_to}
-use Rattle.machine_model.specs.Names.{exception_info, exception_text, has_stepped, threw}
-use Rattle.machine_model.specs.Rows.{exception_parts, refused_with, step_parts, stepped_by, stepped_thread, thrown_first}
-use Rattle.wish_sets.specs.declared.wish.Depth.{Depth}
-use Rattle.wish_sets.specs.declared.wish.Depth.TheVariants.{Into, Out, Over}
 use Rattle.machine_model.specs.Telling.{after_event, is_among, numbered_by, with_thread, with_threads}
-use Rattle.machine_model.proofs.IdRows.{all_back, all_front, all_joined}
+use Rattle.machine_model.proofs.IdRows.{all_joined}
 use Rattle.machine_model.proofs.PlanIds.{OfNamed, OfThread, OfThrown, OnSome}
 use Rattle.machine_model.proofs.Standing.{PartStands}
 use Rattle.machine_model.proofs.StandingMoves.{told_thread}
-use Rattle.wish_sets.specs.Wishes.{Wishes}
-use Rattle.machine_model.specs.Names.{Scopes, Variables}
-use Rattle.machine_model.specs.Rows.{scopes_parts, variables_parts}
-use Rattle.std.specs.Prelude as prelude
-use Rattle.std.specs.Prelude.{Ok, Err, option_and_then, ℕ}
-use Rattle.stop_refs.specs.Numbers.{container, frame}
-use Rattle.stop_refs.specs.declared.fault.RefFault.{RefFault}
-use Rattle.stop_refs.specs.declared.thing.FrameThing.{FrameThing}
-use Rattle.stop_refs.specs.declared.thing.Thing.{Thing}
+use Rattle.machine_model.proofs.PartTests.{all_pass, all_passing, begun_mute, chosen_mute, found_mute, is_mute}
+use Rattle.machine_model.proofs.PartTests.{of_failure, row_mute}
 
 -- What a part tells ---------------------------------------------------------------------------------------------------
 
@@ -104,35 +76,21 @@ some_more P threads (first ∷ others) k h =
 -- behind a response
 pub responded_threads : (P : Id → Type 0) (outcome : Outcome) (state : State) → PartStands P (Part.Responds outcome)
     → All (OfThread P) state.threads → All (OfThread P) (numbered_by outcome state).threads
-responded_threads P (Failed failure) state k h = h
-responded_threads P (Success Nothing) state k h = h
-responded_threads P (Success Capabilities) state k h = h
-responded_threads P (Success (breakpoint_list rooted listed)) state k h = h
-responded_threads P (Success (frame_list total frames)) state k h = h
-responded_threads P (Success (scope_list frame)) state k h = h
-responded_threads P (Success (variable_list shown)) state k h = h
-responded_threads P (Success (a_value seen)) state k h = h
-responded_threads P (Success (a_written seen)) state k h = h
-responded_threads P (Success Continued) state k h = h
-responded_threads P (Success (an_exception id mode)) state k h = h
 responded_threads P (Success (thread_list named)) state k h = some_more P state.threads named k h
+responded_threads P _ state k h = h
 
 -- behind an event
 pub event_threads : (P : Id → Type 0) (event : Event) (state : State) → TellStands P (Part.Tells event)
     → All (OfThread P) state.threads → All (OfThread P) (after_event event state).threads
-event_threads P Initialized state k h = h
-event_threads P (some_news (entry_verified entry)) state k h = h
 event_threads P (some_news (thread_changed started thread)) state k h = one_more P state.threads thread k h
 event_threads P (a_stop stopping) state k h = one_more P state.threads stopping.thread k h
-event_threads P Terminated state k h = h
+event_threads P _ state k h = h
 
 -- where an item is taken
 pub taken_threads : (P : Id → Type 0) (item : Item) (state : State) → All (OfThread P) state.threads
     → All (OfThread P) (taken item state).threads
 taken_threads P (a_request request) state h = h
-taken_threads P (a_composite at composite) state h = h
-taken_threads P (a_raw at body) state h = h
-taken_threads P target_end state h = h
+taken_threads P _ state h = h
 
 -- behind a note, and a reply
 pub noted_threads : (note : Note) (state : State) → (noted note state).threads ≡ state.threads
@@ -144,37 +102,16 @@ replied_threads command replied state = grind arith
 
 -- Rows ----------------------------------------------------------------------------------------------------------------
 
-step_tells : (P : Id → Type 0) (depth : Depth) (thread : Option ThreadId) → All (TellStands P) (step_parts depth thread)
-step_tells P depth None = (tt, tt)
-step_tells P depth (Some thread) = (tt, (tt, (tt, tt)))
+-- a part that tells of no thread
+mute_tells : (P : Id → Type 0) (part : Part) → is_mute part ≡ true → TellStands P part
+mute_tells P (Part.Tells (a_stop stopping)) is = cc
+mute_tells P (Part.Tells (some_news (thread_changed started thread))) is = cc
+mute_tells P (Part.Looks (exception_text thread one)) is = cc
+mute_tells P (Part.Notes (Throws thrown)) is = cc
+mute_tells P _ is = tt
 
 row_tells : (P : Id → Type 0) (command : Command) (state : State) → All (OfThread P) state.threads
     → All (TellStands P) (row_of command state)
-row_tells P (Initialize arguments) state told = (tt, (tt, tt))
-row_tells P (Attach arguments) state told = (tt, (tt, (tt, (tt, (tt, (tt, tt))))))
-row_tells P ConfigurationDone state told = by_entry state.entry
-  where
-    by_entry : (entry : Bool) → All (TellStands P) (configured_parts entry)
-    by_entry true = (tt, (tt, (tt, tt)))
-    by_entry false = (tt, (tt, tt))
-row_tells P (SetBreakpoints arguments) state told = (tt, (tt, (tt, (tt, (tt, (tt, tt))))))
-row_tells P (SetFunctionBreakpoints arguments) state told = (tt, (tt, (tt, (tt, (tt, (tt, tt))))))
-row_tells P (SetExceptionBreakpoints arguments) state told = (tt, (tt, (tt, tt)))
-row_tells P Threads state told = (tt, tt)
-row_tells P (Next arguments) state told = step_tells P Over (stepped_thread state arguments.thread_id)
-row_tells P (StepIn arguments) state told = step_tells P Into (stepped_thread state arguments.thread_id)
-row_tells P (StepOut arguments) state told = step_tells P Out (stepped_thread state arguments.thread_id)
-row_tells P (ExceptionInfo arguments) state told =
-    by_thrown (option_and_then (thrown_first state.thrown) (thread_with state.threads arguments.thread_id))
-  where
-    by_thrown : (thrown : Option Thrown) → All (TellStands P) (exception_parts thrown)
-    by_thrown None = (tt, tt)
-    by_thrown (Some thrown) = (tt, tt)
-row_tells P (Continue arguments) state told = by_thread (thread_with state.threads arguments.thread_id)
-  where
-    by_thread : (thread : Option ThreadId) → All (TellStands P) (continue_parts thread)
-    by_thread None = (tt, tt)
-    by_thread (Some thread) = (tt, (tt, tt))
 row_tells P (Pause arguments) state told = by_stop state.stopped (thread_with state.threads arguments.thread_id)
     (told_thread P state.threads arguments.thread_id told)
   where
@@ -183,89 +120,20 @@ row_tells P (Pause arguments) state told = by_stop state.stopped (thread_with st
     by_stop stopped None k = (tt, tt)
     by_stop true (Some thread) k = (tt, tt)
     by_stop false (Some thread) k = (tt, (tt, (tt, (tt, (k, tt)))))
-row_tells P (StackTrace arguments) state told = by_thread (thread_with state.threads arguments.thread_id)
-  where
-    by_thread : (thread : Option ThreadId) → All (TellStands P) (stack_parts thread arguments)
-    by_thread None = (tt, tt)
-    by_thread (Some thread) = (tt, tt)
-row_tells P (Scopes arguments) state told = by_frame (frame arguments.frame_id state.numbers)
-  where
-    by_frame : (found : prelude.Result FrameThing RefFault) → All (TellStands P) (scopes_parts state.numbers found)
-    by_frame (Ok one) = (tt, tt)
-    by_frame (Err fault) = (tt, tt)
-row_tells P (Variables arguments) state told = by_thing (container arguments.variables_reference state.numbers)
-  where
-    by_thing : (found : prelude.Result Thing RefFault) → All (TellStands P) (variables_parts arguments found)
-    by_thing (Ok thing) = (tt, tt)
-    by_thing (Err fault) = (tt, tt)
-row_tells P (SetVariable arguments) state told = by_thing (container arguments.variables_reference state.numbers)
-  where
-    by_thing : (found : prelude.Result Thing RefFault) → All (TellStands P) (write_by arguments found)
-    by_thing (Ok thing) = (tt, tt)
-    by_thing (Err fault) = (tt, tt)
-row_tells P (Evaluate arguments) state told =
-    by_frame (parsed arguments.expression) (frame arguments.frame_id state.numbers)
-  where
-    by_frame : (read : prelude.Result Expr ℕ) (found : prelude.Result FrameThing RefFault)
-        → All (TellStands P) (evaluate_by read found)
-    by_frame (Ok expression) (Ok one) = (tt, tt)
-    by_frame (Err place) (Ok one) = (tt, tt)
-    by_frame read (Err fault) = (tt, tt)
-row_tells P (Disconnect arguments) state told = (tt, (tt, (tt, tt)))
-row_tells P Unsupported state told = (tt, tt)
-row_tells P (BadArguments name) state told = (tt, tt)
-
-unless_fails : (P : Id → Type 0) (failure : Option Failure) (row : List Part) → All (TellStands P) row
-    → All (TellStands P) (parts_by failure row)
-unless_fails P (Some failure) row h = (tt, tt)
-unless_fails P None row h = h
+row_tells P command state told = all_pass is_mute (mute_tells P) (row_of command state) (row_mute command state refl)
 
 pub begun_tells : (P : Id → Type 0) (state : State) (item : Item) → All (OfThread P) state.threads
     → All (TellStands P) (parts_of state item)
-begun_tells P state (a_request request) told = unless_fails P (failure_of (wanting request.command) state)
+begun_tells P state (a_request request) told =
+    of_failure (TellStands P) (λ failure. tt) (failure_of (wanting request.command) state)
     (row_of request.command state) (row_tells P request.command state told)
-begun_tells P state target_end told = by_end state.terminated
-  where
-    by_end : (ended : Bool) → All (TellStands P) (end_parts ended)
-    by_end true = tt
-    by_end false = (tt, tt)
-begun_tells P state (a_composite at composite) told =
-    by_phase state.phase (has_death composite.events) composite.policy
-  where
-    by_phase : (phase : Phase) (dies : Bool) (policy : Policy)
-        → All (TellStands P) (composite_parts phase dies policy at state.next_entry)
-    by_phase Fresh dies policy = tt
-    by_phase Attached true NoThread = (tt, tt)
-    by_phase Attached true EventThread = (tt, tt)
-    by_phase Attached true AllThreads = (tt, tt)
-    by_phase Attached false NoThread = (tt, (tt, (tt, tt)))
-    by_phase Attached false EventThread = (tt, tt)
-    by_phase Attached false AllThreads = (tt, (tt, (tt, (tt, tt))))
-    by_phase Gone dies policy = tt
-begun_tells P state (a_raw at body) told = tt
+begun_tells P state item told = all_pass is_mute (mute_tells P) (parts_of state item) (begun_mute state item refl)
 
 pub found_tells : (P : Id → Type 0) (lookup : Lookup) (result : Result Finding) (state : State) (rest : List Part)
     → LookTells P lookup → All (TellStands P) rest → All (TellStands P) (finished lookup result state ++ rest)
-found_tells P all_threads result state rest k h = (tt, h)
-found_tells P (thread_frames thread start levels) result state rest k h = (tt, h)
-found_tells P (container_children thing filter start count) result state rest k h = (tt, h)
-found_tells P (expression_value frame expression) result state rest k h = (tt, h)
-found_tells P (variable_write thing name text) result state rest k h = by_result result
-  where
-    by_result : (result : Result Finding) → All (TellStands P) (written_parts result ++ rest)
-    by_result (refused code) = (tt, h)
-    by_result (gave (write_found write seen)) = (tt, (tt, h))
-    by_result (gave (no_value failure)) = (tt, h)
-    by_result (gave (threads_found named)) = (tt, h)
-    by_result (gave (classes_found classes)) = (tt, h)
-    by_result (gave (frames_found total frames)) = (tt, h)
-    by_result (gave (variables_found shown)) = (tt, h)
-    by_result (gave (value_found seen)) = (tt, h)
-    by_result (gave (text_found text)) = (tt, h)
-    by_result (gave (exception_found id mode)) = (tt, h)
 found_tells P (exception_text thread one) result state rest k h = (k, h)
-found_tells P (exception_info thrown) result state rest k h = (tt, h)
-found_tells P class_facts result state rest k h = (tt, h)
+found_tells P lookup result state rest k h =
+    all_passing is_mute (mute_tells P) (finished lookup result state) rest (found_mute lookup result state refl) h
 
 -- What a composite tells ----------------------------------------------------------------------------------------------
 
@@ -276,11 +144,9 @@ change_stands P (happened.ThreadDeath request thread) h = (h.0, tt)
 change_stands P _ h = tt
 
 changes_stand : (P : Id → Type 0) (item : Item) → ItemStands P item → All (OfNews P) (changes_in item)
-changes_stand P (a_request request) h = tt
 changes_stand P (a_composite at composite) h =
     each_event P (OfNews P) change_told (change_stands P) composite.events h
-changes_stand P (a_raw at body) h = tt
-changes_stand P target_end h = tt
+changes_stand P _ h = tt
 
 -- Choices -------------------------------------------------------------------------------------------------------------
 
@@ -296,16 +162,8 @@ chosen_tells P (TellsNews below) state hand rest item h = by_news state.phase (n
     (changes_stand P hand.item item))
   where
     by_news : (phase : Phase) (news : List News) → All (OfNews P) news → All (TellStands P) (told_in phase news ++ rest)
-    by_news Fresh news k = h
-    by_news Gone news k = h
-    by_news Attached [] k = h
     by_news Attached (one ∷ news) k = (k.0, by_news Attached news k.1)
-chosen_tells P (Leaves exits) state hand rest item h = by_phase state.phase
-  where
-    by_phase : (phase : Phase) → All (TellStands P) (leaves phase exits ++ rest)
-    by_phase Fresh = h
-    by_phase Attached = (tt, h)
-    by_phase Gone = h
+    by_news _ _ k = h
 chosen_tells P Decides state hand rest item h =
     by_stop (is_attached state.phase) state.stopped (holds_entry state (events_in hand.item))
     (thrown_in state.wishes (events_in hand.item)) (all_thrown P state.wishes hand.item item)
@@ -313,8 +171,7 @@ chosen_tells P Decides state hand rest item h =
   where
     told : (cause : HaltCause) (thread : ThreadId) → OfThread P thread → TellStands P (told_part cause thread)
     told (came_to at) thread k = k
-    told (threw one) thread k = k
-    told has_stepped thread k = k
+    told _ thread k = k
 
     by_surplus : (stopped : Bool) → All (TellStands P) (surplus stopped ++ rest)
     by_surplus false = h
@@ -327,30 +184,5 @@ chosen_tells P Decides state hand rest item h =
     by_stop true stopped false thrown k None hit = (tt, h)
     by_stop true stopped holds thrown k (Some halt) hit =
         (k, (tt, (tt, (told halt.cause halt.thread hit.0, by_surplus stopped))))
-chosen_tells P (Written seen) state hand rest item h = by_code (refused_with hand.effect)
-  where
-    by_code : (code : Option ℕ) → All (TellStands P) (written_by seen code ++ rest)
-    by_code None = (tt, h)
-    by_code (Some code) = (tt, h)
-chosen_tells P Stepped state hand rest item h = by_code (refused_with hand.effect)
-  where
-    by_code : (code : Option ℕ) → All (TellStands P) (stepped_by code ++ rest)
-    by_code None = (tt, (tt, h))
-    by_code (Some code) = (tt, (tt, (tt, h)))
-
--- An item that is given up --------------------------------------------------------------------------------------------
-
-pub given_tells : (P : Id → Type 0) (responds : Bool) (item : Item) → All (TellStands P) (gone_parts responds item)
-given_tells P true (a_request request) = by_row request.command
-  where
-    by_row : (command : Command) → All (TellStands P) (gone_row command)
-    by_row (Disconnect arguments) = (tt, (tt, tt))
-    by_row _ = (tt, tt)
-given_tells P false (a_request request) = by_tail request.command
-  where
-    by_tail : (command : Command) → All (TellStands P) (gone_tail command)
-    by_tail (Disconnect arguments) = (tt, tt)
-    by_tail _ = tt
-given_tells P responds (a_composite at composite) = tt
-given_tells P responds (a_raw at body) = tt
-given_tells P responds target_end = tt
+chosen_tells P choice state hand rest item h =
+    all_passing is_mute (mute_tells P) (chosen choice state hand) rest (chosen_mute choice state hand refl) h

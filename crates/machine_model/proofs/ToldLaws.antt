@@ -1,40 +1,33 @@
 -- At rest the client was told of each breakpoint that is verified.
-use Rattle.std.proofs.Common.{◌≡◌, ℕ, Bool, true, false, cond, List, [], ◌∷◌, ◌++◌, Option, Some, None, refl, ap}
-use Rattle.std.proofs.Common.{subst, ◌∙◌, sym, ◌||◌, ◌==◌, map, option_map, arith, filter, fold, nat_lt}
-use Rattle.std.proofs.lemmas.Bool.{eqb-true}
+use Rattle.std.proofs.Common.{◌≡◌, ℕ, Bool, true, false, cond, List, [], ◌∷◌, ◌++◌, Option, Some, None, refl, ap, subst}
+use Rattle.std.proofs.Common.{◌∙◌, sym, ◌||◌, ◌==◌, map, option_map, arith, filter, fold, nat_lt}
+use Rattle.std.proofs.lemmas.Bool.{eqb-true, or_left, or_right}
 use Rattle.std.specs.BTreeSet.{insert_key}
 use Rattle.std.specs.List.{AllByRecursion as All, list_any}
 use Rattle.std.specs.Ordering.{nat_cmp, on}
 use Rattle.machine_model.specs.Breakpoints.{breakpoint_told, has_id, newly_verified, is_verified as is_told_verified}
 use Rattle.machine_model.specs.Breakpoints.{with_id, with_told}
-use Rattle.machine_model.specs.Lookups.{finished, plain_outcome, text_of}
-use Rattle.machine_model.specs.Names.{Seen, Written, a_written, variable_write, write_found}
-use Rattle.machine_model.specs.Names.{Attached, Capabilities, Choice, Clear, Continued, Decides, Does, Effect}
-use Rattle.machine_model.specs.Names.{Failed, Finding, Fresh, Gone, Initialized, Item, Leaves}
-use Rattle.machine_model.specs.Names.{ListedBreakpoint, Lookup, Nothing, Outcome, Part, Phase, Question, Replied}
-use Rattle.machine_model.specs.Names.{Set, Success, TargetCommand, TellsNews, Terminated, Want, a_composite}
-use Rattle.machine_model.specs.Names.{a_question, a_raw, a_request, a_stop, all_threads, an_answer, an_effect}
-use Rattle.machine_model.specs.Names.{an_error, breakpoint_list, class_facts, entry_verified, some_news}
-use Rattle.machine_model.specs.Names.{target_end, thread_changed, thread_list}
-use Rattle.machine_model.specs.Names.{classes_found, container_children, frame_list, frames_found, scope_list}
-use Rattle.machine_model.specs.Names.{thread_frames, threads_found, variable_list, variables_found, an_exception, a_value, expression_value, no_value, value_found}
-use Rattle.machine_model.specs.Names.{by_exception, exception_found, exception_info, exception_text, Stepped}
-use Rattle.machine_model.specs.Names.{text_found}
-use Rattle.machine_model.specs.Lookups.{body_of, outcome_by, refusal, value_outcome, written_parts}
+use Rattle.machine_model.specs.Lookups.{finished, plain_outcome, text_of, body_of, outcome_by, refusal, value_outcome}
+use Rattle.machine_model.specs.Lookups.{written_parts}
+use Rattle.machine_model.specs.Names.{Seen, Written, variable_write, write_found, Attached, Choice, Clear, Decides}
+use Rattle.machine_model.specs.Names.{Effect, Failed, Finding, Fresh, Gone, Initialized, Item, Leaves, ListedBreakpoint}
+use Rattle.machine_model.specs.Names.{Lookup, Nothing, Outcome, Part, Phase, Question, Replied, Set, Success}
+use Rattle.machine_model.specs.Names.{TargetCommand, TellsNews, Terminated, Want, a_question, a_stop, an_answer}
+use Rattle.machine_model.specs.Names.{an_effect, breakpoint_list, class_facts, entry_verified, some_news}
+use Rattle.machine_model.specs.Names.{thread_changed, container_children, thread_frames, expression_value, no_value}
+use Rattle.machine_model.specs.Names.{by_exception, exception_text, Stepped}
 use Rattle.machine_model.specs.References.{has_room, things_of}
 use Rattle.stop_refs.specs.Numbers.{InHand}
 use Rattle.dap_messages.specs.Telling.{references_spent}
 use Rattle.machine_model.specs.Due.{asked_hand}
 use Rattle.machine_model.specs.Knowing.{is_fresh}
 use Rattle.machine_model.specs.Outcomes.{result_of}
-use Rattle.machine_model.specs.Plans.{Result}
-use Rattle.machine_model.specs.Plans.{gave, refused}
+use Rattle.machine_model.specs.Plans.{Result, gave, refused}
 use Rattle.machine_model.specs.Replying.{hand_replied, told_by}
 use Rattle.machine_model.specs.Requests.{Wishes, request_in as request_id, set_to, wishes_after}
 use Rattle.machine_model.specs.Rest.{IsAtRest, request_in}
 use Rattle.machine_model.specs.Composites.{changes_in}
-use Rattle.machine_model.specs.Rows.{written_by}
-use Rattle.machine_model.specs.Rows.{chosen, each_told, leaves, news_of, refused_with, stepped_by, told_in}
+use Rattle.machine_model.specs.Rows.{written_by, chosen, each_told, leaves, news_of, refused_with, stepped_by, told_in}
 use Rattle.machine_model.specs.Runs.{Message, Run}
 use Rattle.machine_model.specs.State.{Hand, Machine, State, is_attached, is_gone}
 use Rattle.machine_model.specs.Telling.{attached_from, numbered_by}
@@ -42,8 +35,8 @@ use Rattle.machine_model.proofs.NewsLaws.{breakpoints_told, changes_alike, each_
 use Rattle.machine_model.proofs.BareLaws.{bare_cleared, bare_installed, bare_none, bare_refused, is_bare}
 use Rattle.machine_model.proofs.BareLaws.{placed_cleared, placed_installed}
 use Rattle.machine_model.proofs.RequestLaws.{IsDue, IsSet, front_set, settles, settling, was_due}
-use Rattle.machine_model.proofs.RequestSteps.{asked_left, flying_in, flying_of, learnt_wishes, near_before}
-use Rattle.machine_model.proofs.RequestSteps.{is_choice, needs_set, parts_left, replied_left}
+use Rattle.machine_model.proofs.RequestSteps.{asked_left, flying_in, flying_of, learnt_wishes, near_before, is_choice}
+use Rattle.machine_model.proofs.RequestSteps.{needs_set, parts_left, replied_left}
 use Rattle.machine_model.proofs.Stepping.{IsAt, Moves, Skips, by_runs}
 use Rattle.machine_model.proofs.Tables.{decided_alike, starts_updates}
 use Rattle.machine_model.proofs.Testing.{same_replied}
@@ -52,12 +45,13 @@ use Rattle.wish_sets.specs.Entries.{all_entries, is_verified, state_of, verified
 use Rattle.wish_sets.specs.Wishes.{cleared, installed_as, is_installed, refused_now}
 use Rattle.wish_sets.specs.declared.entry.EntryState.TheVariants.{Verified}
 use Rattle.wish_sets.specs.declared.entry.VerifiedEntry.{VerifiedEntry}
-use Rattle.machine_model.proofs.VerifiedLaws.{both, has_now, has_still, is_listed, is_placed, is_shown, or_left}
-use Rattle.machine_model.proofs.VerifiedLaws.{or_right, placed_listed, stands_verified, verified_news}
+use Rattle.machine_model.proofs.VerifiedLaws.{has_now, has_still, is_listed, is_placed, is_shown, placed_listed}
+use Rattle.machine_model.proofs.VerifiedLaws.{stands_verified, verified_news}
 use Rattle.machine_model.proofs.ToldParts.{AreNoted, Covers, as_bare, begun, calmer, covers, covers_rest, has_lists}
 use Rattle.machine_model.proofs.ToldParts.{is_asked, none_noted, noted_covers, passes, rebinds, skips, tells_it}
 use Rattle.machine_model.proofs.ToldParts.{will_tell}
 use Rattle.machine_model.specs.Stops.{decided}
+use Rattle.machine_model.proofs.Bools.{both_hold}
 
 module _ (id : ℕ) where
   -- Replies -----------------------------------------------------------------------------------------------------------
@@ -67,7 +61,6 @@ module _ (id : ℕ) where
       → now.wanted ≡ w.wanted → starts_updates parts ≡ true → (is_bare id w ≡ false → is_bare id now ≡ false)
       → (is_placed id now ≡ true → (is_placed id w || is_bare id w) ≡ true) → Covers id asked w phase next ids parts
       → Covers id asked now phase next ids parts
-  settled {asked} now [] same starts calm placed c = cc
   settled {asked} {w} {ids = ids} now (Part.Updates ∷ rest) same starts calm placed c = record {
     early = λ is. ap (is_listed id) same ∙ c.early is;
     below = λ is. c.below (sym (ap (is_listed id) same) ∙ is);
@@ -87,19 +80,18 @@ module _ (id : ℕ) where
 
       behind : (bare : Bool) → covers id asked bare (Part.Updates ∷ rest) ≡ true → bare ≡ true
           → will_tell id asked rest ≡ true
-      behind true h is = (both (will_tell id asked rest) (covers id asked false rest) h).0
+      behind true h is = (both_hold (will_tell id asked rest) (covers id asked false rest) h).0
       behind false h is = cc
 
       told_now : (known tells placed bare : Bool) → (placed || bare) ≡ true
           → (placed ≡ true → (known || (false || tells)) ≡ true) → (bare ≡ true → tells ≡ true)
           → (known || (false || tells)) ≡ true
       told_now known tells placed bare either h new = grind (arith, either, h, new)
-  settled now (_ ∷ rest) same starts calm placed c = cc
+  settled now _ same starts calm placed c = cc
 
   replied_covers : {asked : Bool} {phase : Phase} {next : ℕ} {ids : List ℕ} (w : Wishes) (parts : List Part)
       (effect : Effect) (replied : Replied) → IsDue w parts (Some effect) → Covers id asked w phase next ids parts
       → Covers id asked (wishes_after effect replied w) phase next ids parts
-  replied_covers w parts (Does deed) replied due c = c
   replied_covers {asked} {phase} {next} {ids} w parts (Set wish) replied due c = by_id (request_id replied)
     where
       by_id : (found : Option ℕ) → Covers id asked (set_to found wish w) phase next ids parts
@@ -112,7 +104,7 @@ module _ (id : ℕ) where
   replied_covers w parts (Clear wish request) (an_answer answer) due c =
       settled (cleared wish w) parts refl (due refl).1 (λ none. bare_cleared id w wish request (due refl).0 ∙ none)
       (λ is. or_left (is_placed id w) (is_bare id w) (sym (placed_cleared id w wish request (due refl).0) ∙ is)) c
-  replied_covers w parts (Clear wish request) (an_error code) due c = c
+  replied_covers w parts _ _ due c = c
 
   -- Choices -----------------------------------------------------------------------------------------------------------
 
@@ -188,12 +180,6 @@ module _ (id : ℕ) where
   leaves_covers : {asked : Bool} (state : State) (exits : Bool) (rest : List Part) (phase : Phase)
       → Covers id asked state.wishes state.phase state.next_entry state.bound (Part.Unfolds (Leaves exits) ∷ rest)
       → Covers id asked state.wishes state.phase state.next_entry state.bound (leaves phase exits ++ rest)
-  leaves_covers state exits rest Fresh c =
-      skips id state.phase (Part.Unfolds (Leaves exits)) rest c c.noted (as_bare id (is_bare id state.wishes))
-      (λ fresh. fresh) refl
-  leaves_covers state exits rest Gone c =
-      skips id state.phase (Part.Unfolds (Leaves exits)) rest c c.noted (as_bare id (is_bare id state.wishes))
-      (λ fresh. fresh) refl
   leaves_covers state exits rest Attached c = record {
     early = c.early;
     below = c.below;
@@ -201,6 +187,9 @@ module _ (id : ℕ) where
     covered = c.covered;
     told = c.told;
   }
+  leaves_covers state exits rest _ c =
+      skips id state.phase (Part.Unfolds (Leaves exits)) rest c c.noted (as_bare id (is_bare id state.wishes)) (λ fresh.
+      fresh) refl
 
   -- Where no location is bare, a part becomes parts that tell nothing and are as good as none.
   becomes : {asked : Bool} {w : Wishes} {phase : Phase} {next : ℕ} {ids : List ℕ} (choice : Choice)
@@ -299,8 +288,7 @@ module _ (id : ℕ) where
       by_one true same true plain is again =
           rw (plain, ap (state_of w) (eqb-true one.id id same) ∙ stands)
           (told_still true w listed (with_id ids one.id) (has_now id ids one.id same))
-      by_one true same false plain is again = again is
-      by_one false same shown plain is again = again is
+      by_one _ same _ plain is again = again is
 
   list_told : (asked rooted : Bool) (w : Wishes) (listed : List ListedBreakpoint) (ids : List ℕ)
       → is_listed id w.wanted ≡ true → is_placed id w ≡ true
@@ -313,8 +301,7 @@ module _ (id : ℕ) where
           → has_id (with_told ids (map (breakpoint_told rooted w) listed)) id ≡ true
       by_known true had asked rooted known = told_still rooted w listed ids had
       by_known false had true true known = told_shown w listed ids (stands_verified id w is placed) known
-      by_known false had true false known = cc
-      by_known false had false rooted known = cc
+      by_known false had _ _ known = cc
 
   -- a response that tells no breakpoint
   silent_covers : {asked : Bool} (outcome : Outcome) (state : State) (rest : List Part)
@@ -334,22 +321,7 @@ module _ (id : ℕ) where
       (Part.Responds (Success (breakpoint_list rooted listed))) rest c c.noted (as_bare id (is_bare id state.wishes))
       (λ fresh. fresh)
       (λ is placed known. list_told asked rooted state.wishes listed state.bound is placed known)
-  responded_covers (Success Nothing) state rest c = silent_covers (Success Nothing) state rest refl c
-  responded_covers (Success Capabilities) state rest c = silent_covers (Success Capabilities) state rest refl c
-  responded_covers (Success Continued) state rest c = silent_covers (Success Continued) state rest refl c
-  responded_covers (Success (frame_list total frames)) state rest c =
-      silent_covers (Success (frame_list total frames)) state rest refl c
-  responded_covers (Success (scope_list frame)) state rest c =
-      silent_covers (Success (scope_list frame)) state rest refl c
-  responded_covers (Success (variable_list shown)) state rest c =
-      silent_covers (Success (variable_list shown)) state rest refl c
-  responded_covers (Success (a_value seen)) state rest c = silent_covers (Success (a_value seen)) state rest refl c
-  responded_covers (Success (a_written seen)) state rest c = silent_covers (Success (a_written seen)) state rest refl c
-  responded_covers (Success (an_exception text mode)) state rest c =
-      silent_covers (Success (an_exception text mode)) state rest refl c
-  responded_covers (Success (thread_list named)) state rest c =
-      silent_covers (Success (thread_list named)) state rest refl c
-  responded_covers (Failed failure) state rest c = silent_covers (Failed failure) state rest refl c
+  responded_covers outcome state rest c = silent_covers outcome state rest refl c
 
   -- Runs --------------------------------------------------------------------------------------------------------------
 
@@ -376,19 +348,13 @@ module _ (id : ℕ) where
 
   replied_asked : (command : TargetCommand) (replied : Replied) (hand : Option Hand)
       → asked_in (option_map (hand_replied command replied) hand) ≡ asked_in hand
-  replied_asked command replied None = refl
-  replied_asked (a_question question) replied (Some hand) = refl
-  replied_asked (an_effect effect) replied (Some hand) = refl
+  replied_asked command replied hand = grind arith
 
   want_asked : (want : Want) (hand : Option Hand) → asked_in (option_map (asked_hand want) hand) ≡ asked_in hand
-  want_asked want None = refl
-  want_asked want (Some hand) = refl
+  want_asked want hand = grind arith
 
   not_asked : (item : Item) → request_in item ≡ [] → is_asked item ≡ false
-  not_asked (a_request request) is = cc
-  not_asked (a_composite at composite) is = refl
-  not_asked (a_raw at body) is = refl
-  not_asked target_end is = refl
+  not_asked item is = grind (arith, is)
 
   -- a response that goes to nobody
   untold : (asked : Bool) (outcome : Outcome) → asked ≡ false → tells_it id asked (Part.Responds outcome) ≡ false
@@ -406,30 +372,13 @@ module _ (id : ℕ) where
     where
       by_room : (room : Bool) (finding : Finding)
           → tells_it id asked (Part.Responds (cond room (Success (body_of finding)) (Failed references_spent))) ≡ false
-      by_room false finding = refl
-      by_room true (threads_found named) = refl
-      by_room true (classes_found classes) = refl
-      by_room true (frames_found total frames) = refl
-      by_room true (variables_found shown) = refl
-      by_room true (value_found seen) = refl
-      by_room true (no_value failure) = refl
-      by_room true (write_found write seen) = refl
-      by_room true (text_found text) = refl
-      by_room true (exception_found text mode) = refl
+      by_room room finding = grind arith
 
   value_shown : (asked : Bool) (numbers : InHand) (result : Result Finding)
       → tells_it id asked (Part.Responds (value_outcome numbers result)) ≡ false
   value_shown asked numbers (refused code) = refl
   value_shown asked numbers (gave (no_value failure)) = refl
-  value_shown asked numbers (gave (threads_found named)) = none_shown asked numbers (gave (threads_found named))
-  value_shown asked numbers (gave (classes_found classes)) = none_shown asked numbers (gave (classes_found classes))
-  value_shown asked numbers (gave (frames_found total frames)) = none_shown asked numbers (gave (frames_found total frames))
-  value_shown asked numbers (gave (variables_found shown)) = none_shown asked numbers (gave (variables_found shown))
-  value_shown asked numbers (gave (value_found seen)) = none_shown asked numbers (gave (value_found seen))
-  value_shown asked numbers (gave (write_found write seen)) = none_shown asked numbers (gave (write_found write seen))
-  value_shown asked numbers (gave (text_found text)) = none_shown asked numbers (gave (text_found text))
-  value_shown asked numbers (gave (exception_found text mode)) =
-      none_shown asked numbers (gave (exception_found text mode))
+  value_shown asked numbers result = none_shown asked numbers result
 
   -- a look-up becomes a part that tells no breakpoint
   found_silent : {asked : Bool} {w : Wishes} {phase : Phase} {next : ℕ} {ids : List ℕ} (lookup : Lookup) (part : Part)
@@ -450,9 +399,6 @@ module _ (id : ℕ) where
       (result : Result Finding) (state : State) (rest : List Part)
       → Covers id asked w phase next ids (Part.Looks lookup ∷ rest)
       → Covers id asked w phase next ids (finished lookup result state ++ rest)
-  found_covers {asked} {w} all_threads result state rest c =
-      found_silent all_threads (Part.Responds (plain_outcome result)) rest refl (plain_shown asked result)
-      (ap (λ b. covers id asked b rest) (as_bare id (is_bare id w))) c.noted c
   found_covers {asked} {w} (thread_frames thread start levels) result state rest c =
       found_silent (thread_frames thread start levels) (Part.Responds (outcome_by state.numbers result)) rest refl
       (none_shown asked state.numbers result) (ap (λ b. covers id asked b rest) (as_bare id (is_bare id w))) c.noted c
@@ -481,19 +427,10 @@ module _ (id : ℕ) where
         covered = λ is. ap (λ b. covers id asked b rest) (as_bare id (is_bare id w || false)) ∙ c.covered is;
         told = c.told;
       }
-      by_result (gave (threads_found named)) = responds (Success Nothing) refl
-      by_result (gave (classes_found classes)) = responds (Success Nothing) refl
-      by_result (gave (frames_found total frames)) = responds (Success Nothing) refl
-      by_result (gave (variables_found shown)) = responds (Success Nothing) refl
-      by_result (gave (value_found seen)) = responds (Success Nothing) refl
-      by_result (gave (text_found text)) = responds (Success Nothing) refl
-      by_result (gave (exception_found text mode)) = responds (Success Nothing) refl
+      by_result _ = responds (Success Nothing) refl
   found_covers {asked} {w} (exception_text thread object) result state rest c =
       found_silent (exception_text thread object)
       (Part.Tells (a_stop (record { cause = by_exception (text_of result); thread = thread }))) rest refl refl
-      (ap (λ b. covers id asked b rest) (as_bare id (is_bare id w))) c.noted c
-  found_covers {asked} {w} (exception_info thrown) result state rest c =
-      found_silent (exception_info thrown) (Part.Responds (plain_outcome result)) rest refl (plain_shown asked result)
       (ap (λ b. covers id asked b rest) (as_bare id (is_bare id w))) c.noted c
   found_covers {asked} {w} class_facts result state rest c = record {
     early = c.early;
@@ -502,6 +439,9 @@ module _ (id : ℕ) where
     covered = c.covered;
     told = c.told;
   }
+  found_covers {asked} {w} lookup result state rest c =
+      found_silent lookup (Part.Responds (plain_outcome result)) rest refl (plain_shown asked result) (ap (λ b. covers
+      id asked b rest) (as_bare id (is_bare id w))) c.noted c
 
   -- where an item begins no location of a breakpoint that is listed is bare
   begun_calm : (m : Machine) → IsSet m → is_gone m.state.phase ≡ false → m.hand ≡ None
@@ -590,7 +530,6 @@ module _ (id : ℕ) where
       skips id m.state.phase (Part.Sends deed) rest front front.noted (as_bare id (is_bare id m.state.wishes))
       (λ fresh. fresh) refl
   covered_on messages m next said r near here c (Moves.updates free at is away) = at_front c at
-  covered_on messages m next said r near here c (Moves.greets free at is away) = c
   covered_on messages m next said r near here c (Moves.notes {note = note} {rest} free at) =
       noted_covers id note m.state rest (at_front c at)
   covered_on messages m next said r near here c (Moves.unfolds {hand} {choice} {rest} free at) =
@@ -602,8 +541,6 @@ module _ (id : ℕ) where
       m.state.bound (parts_left held)) is c
   covered_on messages m next said r near here c (Moves.asks {want = want} free room is are) =
       rw (want_asked want m.hand, asked_left want m.hand) c
-  covered_on messages m next said r near here c (Moves.hears read is) = c
-  covered_on messages m next said r near here c (Moves.greeted read is) = c
   covered_on messages m next said r near here c (Moves.answers {question} {replied} is waits reply stays) =
       rw (
         replied_asked (a_question question) replied m.hand,
@@ -617,12 +554,8 @@ module _ (id : ℕ) where
       let due = was_due m effect (settling r near).awaited (ap flying_in is ∙ ap flying_of flies) in
       rw (replied_asked (an_effect effect) replied m.hand, replied_left (an_effect effect) replied m.hand)
       (replied_covers m.state.wishes (parts_left m.hand) effect replied due c)
-  covered_on messages m next said r near here c (Moves.late before after is reply) = c
-  covered_on messages m next said r near here c (Moves.ends gone) = c
   covered_on messages m next said r near here c (Moves.loses late away why) = cc
-  covered_on messages m next said r near here c (Moves.comes read sized taken) = c
-  covered_on messages m next said r near here c (Moves.keeps is) = c
-  covered_on messages m next said r near here c (Moves.reads before after read is none taken) = c
+  covered_on messages m next said r near here c _ = c
 
   covered : {messages : List Message} {m : Machine} → Run messages m → is_gone m.state.phase ≡ false → IsCovered m
   covered r = by_runs {Holds = λ (messages : List Message) (m : Machine). is_gone m.state.phase ≡ false → IsCovered m}

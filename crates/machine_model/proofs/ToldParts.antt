@@ -7,29 +7,14 @@ use Rattle.dap_messages.specs.declared.requests.SourceBreakpoint.{SourceBreakpoi
 use Rattle.jdwp_values.specs.declared.id.ClassId.{ClassId}
 use Rattle.dap_messages.specs.declared.requests.FunctionBreakpoint.{FunctionBreakpoint}
 use Rattle.machine_model.specs.Breakpoints.{entry_of, function_listed, functions_from, has_id, key_of, numbered_from}
-use Rattle.machine_model.specs.Names.{Attach, BadArguments, Classes, Command, ConfigurationDone, Configured, Continue}
-use Rattle.machine_model.specs.Names.{Disconnect, EntryHeld, Failure, Initialize, Item, Lines, ListedBreakpoint, Note}
-use Rattle.machine_model.specs.Names.{Options, Part, Pause, Phase, Roots, SetBreakpoints, Success, TellsNews, ThreadId}
-use Rattle.machine_model.specs.Names.{Threads, Unsupported, a_composite, a_raw, a_request, breakpoint_list}
-use Rattle.machine_model.specs.Names.{class_facts, entry_verified, some_news, target_end}
-use Rattle.machine_model.specs.Names.{Scopes, StackTrace, Variables, Evaluate, SetVariable, ExceptionInfo, Functions, Next}
-use Rattle.machine_model.specs.Names.{SetExceptionBreakpoints, SetFunctionBreakpoints, StepIn, StepOut, Steps}
-use Rattle.machine_model.specs.Names.{StopsAt, Throws, Thrown}
-use Rattle.std.specs.Prelude.{Result, Ok, Err, option_and_then}
-use Rattle.stop_refs.specs.Numbers.{container, frame}
-use Rattle.stop_refs.specs.declared.fault.RefFault.{RefFault}
-use Rattle.stop_refs.specs.declared.thing.FrameThing.{FrameThing}
-use Rattle.stop_refs.specs.declared.thing.Thing.{Thing}
+use Rattle.machine_model.specs.Names.{Classes, Command, Failure, Item, Lines, ListedBreakpoint, Note, Part, Phase}
+use Rattle.machine_model.specs.Names.{SetBreakpoints, Success, TellsNews, a_composite, a_raw, a_request}
+use Rattle.machine_model.specs.Names.{breakpoint_list, class_facts, entry_verified, some_news, target_end, Functions}
+use Rattle.machine_model.specs.Names.{SetFunctionBreakpoints, Steps, StopsAt}
 use Rattle.machine_model.specs.Knowing.{is_fresh}
 use Rattle.machine_model.specs.Requests.{Wishes}
-use Rattle.field_exprs.specs.Parsing.{parsed}
-use Rattle.field_exprs.specs.declared.expr.Expr.{Expr}
-use Rattle.machine_model.specs.Rows.{write_by}
-use Rattle.machine_model.specs.Rows.{evaluate_by}
-use Rattle.machine_model.specs.Rows.{breakpoint_parts, configured_parts, continue_parts, end_parts, failure_of}
-use Rattle.machine_model.specs.Rows.{if_attached, noted, parts_by, parts_of, pause_parts, row_of, thread_with, wanting}
-use Rattle.machine_model.specs.Rows.{exception_parts, scopes_parts, stack_parts}
-use Rattle.machine_model.specs.Rows.{step_parts, stepped_thread, thrown_first, variables_parts}
+use Rattle.machine_model.specs.Rows.{breakpoint_parts, end_parts, failure_of, noted, parts_by, parts_of, row_of}
+use Rattle.machine_model.specs.Rows.{wanting, if_attached}
 use Rattle.machine_model.specs.State.{State}
 use Rattle.class_tables.specs.Lookups.{Lookups, found_in}
 use Rattle.class_tables.specs.Tables.{put}
@@ -40,11 +25,12 @@ use Rattle.wish_sets.specs.Places.{places}
 use Rattle.wish_sets.specs.Wishes.{is_installed, is_missing, rewished}
 use Rattle.wish_sets.specs.declared.entry.FunctionEntry.{FunctionEntry}
 use Rattle.wish_sets.specs.declared.entry.LineEntry.{LineEntry}
-use Rattle.wish_sets.specs.declared.wish.Depth.{Depth}
-use Rattle.wish_sets.specs.declared.wish.Depth.TheVariants.{Into, Out, Over}
 use Rattle.machine_model.proofs.BareLaws.{bare_rewished, is_bare}
-use Rattle.machine_model.proofs.VerifiedLaws.{both, function_mark, is_it, is_listed, is_placed, is_shown, line_mark}
-use Rattle.machine_model.proofs.VerifiedLaws.{line_marks, marks, or_right}
+use Rattle.machine_model.proofs.VerifiedLaws.{function_mark, is_it, is_listed, is_placed, is_shown, line_mark}
+use Rattle.machine_model.proofs.VerifiedLaws.{line_marks, marks}
+use Rattle.std.proofs.lemmas.Bool.{or_right}
+use Rattle.machine_model.proofs.Bools.{both_hold}
+use Rattle.machine_model.proofs.BindingHands.{notes_list}
 
 -- Parts ---------------------------------------------------------------------------------------------------------------
 
@@ -66,14 +52,9 @@ abbrev pub bare_behind : Bool → Part → Bool
 bare_behind bare Part.Updates = false
 bare_behind bare part = bare || rebinds part
 
-abbrev pub is_list : Part → Bool
-is_list (Part.Notes (Lines key path entries)) = true
-is_list (Part.Notes (Functions entries)) = true
-is_list _ = false
-
 abbrev pub has_lists : List Part → Bool
 has_lists [] = false
-has_lists (part ∷ parts) = cond (is_list part) true (has_lists parts)
+has_lists (part ∷ parts) = cond (notes_list part) true (has_lists parts)
 
 abbrev pub is_asked : Item → Bool
 is_asked (a_request request) = true
@@ -111,7 +92,7 @@ module _ (id : ℕ) where
   pub calmer : (asked bare : Bool) (parts : List Part) → covers asked true parts ≡ true → covers asked bare parts ≡ true
   calmer asked bare [] is = refl
   calmer asked true (part ∷ parts) is = is
-  calmer asked false (Part.Updates ∷ parts) is = (both (will_tell asked parts) (covers asked false parts) is).1
+  calmer asked false (Part.Updates ∷ parts) is = (both_hold (will_tell asked parts) (covers asked false parts) is).1
   calmer asked false (part ∷ parts) is = by_test (rebinds part) is (calmer asked false parts)
     where
       by_test : (binds : Bool) → cond (cond binds (will_tell asked parts) true) (covers asked true parts) false ≡ true
@@ -155,7 +136,7 @@ module _ (id : ℕ) where
   pub covers_rest : (asked bare : Bool) (part : Part) (rest : List Part) → covers asked bare (part ∷ rest) ≡ true
       → covers asked (bare_behind bare part) rest ≡ true
   covers_rest asked bare part rest is =
-      (both (cond (verifies bare part) (will_tell asked rest) true) (covers asked (bare_behind bare part) rest) is).1
+      (both_hold (cond (verifies bare part) (will_tell asked rest) true) (covers asked (bare_behind bare part) rest) is).1
 
   -- a part is done that told the breakpoint, or doesn't tell it
   pub passes : {asked : Bool} {w : Wishes} {phase : Phase} {next : ℕ} {ids : List ℕ} (now : Phase) (known : List ℕ)
@@ -199,8 +180,7 @@ module _ (id : ℕ) where
   row_covers : (failure : Option Failure) (command : Command) (state : State) → nat_lt id state.next_entry ≡ true
       → is_fresh state.phase ≡ false → failure_of (wanting command) state ≡ failure
       → covers true false (parts_by failure (row_of command state)) ≡ true
-  row_covers None (Attach arguments) state is near same = grind (arith, near, same)
-  row_covers failure command state is near same = grind (arith, is)
+  row_covers failure command state is near same = grind (arith, is, near, same)
 
   begun_covers : (state : State) (item : Item) → nat_lt id state.next_entry ≡ true → is_fresh state.phase ≡ false
       → covers (is_asked item) false (parts_of state item) ≡ true
@@ -288,25 +268,12 @@ module _ (id : ℕ) where
       tells : (shown less : Bool) → shown ≡ true → (less || (shown || false)) ≡ true
       tells shown less is = grind (arith, is)
 
-  step_noted : (phase : Phase) (next : ℕ) (depth : Depth) (thread : Option ThreadId)
-      → AreNoted true phase next (step_parts depth thread)
-  step_noted phase next depth None = refl
-  step_noted phase next depth (Some thread) = refl
-
   near_phase : (phase : Phase) → if_attached phase ≡ None → is_fresh phase ≡ false
   near_phase phase is = grind (arith, is)
 
   row_noted : (failure : Option Failure) (command : Command) (state : State)
       → failure_of (wanting command) state ≡ failure
       → AreNoted true state.phase state.next_entry (parts_by failure (row_of command state))
-  row_noted (Some failure) command state same = refl
-  row_noted None (Initialize arguments) state same = refl
-  row_noted None (Attach arguments) state same = refl
-  row_noted None ConfigurationDone state same = by_entry state.entry
-    where
-      by_entry : (entry : Bool) → AreNoted true state.phase state.next_entry (configured_parts entry)
-      by_entry true = refl
-      by_entry false = refl
   row_noted None (SetBreakpoints arguments) state same =
       by_key (key_of state.roots arguments.path) (near_phase state.phase same)
     where
@@ -329,65 +296,8 @@ module _ (id : ℕ) where
       (plains_of arguments.breakpoints) (map function_listed entries) (near_phase state.phase same)
       (functions_marked state.next_entry arguments.breakpoints)
       (functions_counted state.next_entry arguments.breakpoints) (functions_shown entries)
-  row_noted None (SetExceptionBreakpoints arguments) state same = refl
-  row_noted None (Next arguments) state same =
-      step_noted state.phase state.next_entry Over (stepped_thread state arguments.thread_id)
-  row_noted None (StepIn arguments) state same =
-      step_noted state.phase state.next_entry Into (stepped_thread state arguments.thread_id)
-  row_noted None (StepOut arguments) state same =
-      step_noted state.phase state.next_entry Out (stepped_thread state arguments.thread_id)
-  row_noted None (ExceptionInfo arguments) state same =
-      by_thrown (option_and_then (thrown_first state.thrown) (thread_with state.threads arguments.thread_id))
-    where
-      by_thrown : (thrown : Option Thrown) → AreNoted true state.phase state.next_entry (exception_parts thrown)
-      by_thrown None = refl
-      by_thrown (Some thrown) = refl
-  row_noted None Threads state same = refl
-  row_noted None (Continue arguments) state same = by_thread (thread_with state.threads arguments.thread_id)
-    where
-      by_thread : (thread : Option ThreadId) → AreNoted true state.phase state.next_entry (continue_parts thread)
-      by_thread None = refl
-      by_thread (Some thread) = refl
-  row_noted None (Pause arguments) state same = by_stop state.stopped (thread_with state.threads arguments.thread_id)
-    where
-      by_stop : (stopped : Bool) (thread : Option ThreadId)
-          → AreNoted true state.phase state.next_entry (pause_parts stopped thread)
-      by_stop stopped None = refl
-      by_stop true (Some thread) = refl
-      by_stop false (Some thread) = refl
-  row_noted None (StackTrace arguments) state same = by_thread (thread_with state.threads arguments.thread_id)
-    where
-      by_thread : (thread : Option ThreadId) → AreNoted true state.phase state.next_entry (stack_parts thread arguments)
-      by_thread None = refl
-      by_thread (Some thread) = refl
-  row_noted None (Scopes arguments) state same = by_frame (frame arguments.frame_id state.numbers)
-    where
-      by_frame : (found : Result FrameThing RefFault)
-          → AreNoted true state.phase state.next_entry (scopes_parts state.numbers found)
-      by_frame (Ok one) = refl
-      by_frame (Err fault) = refl
-  row_noted None (Variables arguments) state same = by_thing (container arguments.variables_reference state.numbers)
-    where
-      by_thing : (found : Result Thing RefFault)
-          → AreNoted true state.phase state.next_entry (variables_parts arguments found)
-      by_thing (Ok thing) = refl
-      by_thing (Err fault) = refl
-  row_noted None (SetVariable arguments) state same = by_thing (container arguments.variables_reference state.numbers)
-    where
-      by_thing : (found : Result Thing RefFault) → AreNoted true state.phase state.next_entry (write_by arguments found)
-      by_thing (Ok thing) = refl
-      by_thing (Err fault) = refl
-  row_noted None (Evaluate arguments) state same =
-      by_frame (parsed arguments.expression) (frame arguments.frame_id state.numbers)
-    where
-      by_frame : (read : Result Expr ℕ) (found : Result FrameThing RefFault)
-          → AreNoted true state.phase state.next_entry (evaluate_by read found)
-      by_frame (Ok expression) (Ok one) = refl
-      by_frame (Err place) (Ok one) = refl
-      by_frame read (Err fault) = refl
-  row_noted None (Disconnect arguments) state same = refl
-  row_noted None Unsupported state same = refl
-  row_noted None (BadArguments name) state same = refl
+  row_noted failure command state same = none_noted true state.phase state.next_entry
+      (parts_by failure (row_of command state)) (grind arith)
 
   begun_noted : (state : State) (item : Item)
       → AreNoted (is_asked item) state.phase state.next_entry (parts_of state item)
@@ -505,8 +415,8 @@ module _ (id : ℕ) where
       by_tests : (bare binds : Bool) → binds ≡ true
           → cond (cond binds (will_tell asked rest) true) (covers asked (bare || binds) rest) false ≡ true
           → (will_tell asked rest ≡ true) × (covers asked true rest ≡ true)
-      by_tests true true binds is = both (will_tell asked rest) (covers asked true rest) is
-      by_tests false true binds is = both (will_tell asked rest) (covers asked true rest) is
+      by_tests true true binds is = both_hold (will_tell asked rest) (covers asked true rest) is
+      by_tests false true binds is = both_hold (will_tell asked rest) (covers asked true rest) is
       by_tests bare false binds is = cc
 
   -- a list is written down
@@ -559,19 +469,6 @@ module _ (id : ℕ) where
       → Covers asked state.wishes state.phase state.next_entry state.bound (Part.Notes note ∷ rest)
       → Covers asked (noted note state).wishes (noted note state).phase (noted note state).next_entry
       (noted note state).bound rest
-  noted_covers (Options options) state rest c =
-      skips state.phase (Part.Notes (Options options)) rest c c.noted (as_bare (is_bare id state.wishes))
-      (λ fresh. fresh) refl
-  noted_covers (Roots roots) state rest c =
-      skips state.phase (Part.Notes (Roots roots)) rest c c.noted (as_bare (is_bare id state.wishes))
-      (λ fresh. fresh) refl
-  noted_covers (Throws thrown) state rest c =
-      skips state.phase (Part.Notes (Throws thrown)) rest c c.noted (as_bare (is_bare id state.wishes))
-      (λ fresh. fresh) refl
-  noted_covers EntryHeld state rest c =
-      skips state.phase (Part.Notes EntryHeld) rest c c.noted (as_bare (is_bare id state.wishes)) (λ fresh. fresh) refl
-  noted_covers Configured state rest c =
-      skips state.phase (Part.Notes Configured) rest c c.noted (as_bare (is_bare id state.wishes)) (λ fresh. fresh) refl
   noted_covers (StopsAt caught uncaught) state rest c =
       others_noted (with_exceptions caught uncaught state.wishes.wanted) (StopsAt caught uncaught) rest refl refl refl
       c.noted c
@@ -602,3 +499,5 @@ module _ (id : ℕ) where
         told = λ is placed. or_right (has_id state.bound id) (will_tell asked rest)
             (rebound asked (is_bare id state.wishes) (Classes classes) rest refl (c.covered (sym same ∙ is))).0;
       }
+  noted_covers note state rest c =
+      skips state.phase (Part.Notes note) rest c c.noted (as_bare (is_bare id state.wishes)) (λ fresh. fresh) refl

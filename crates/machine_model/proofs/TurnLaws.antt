@@ -1,7 +1,7 @@
 -- What each move makes of the commands that are pending.
 use Rattle.std.proofs.Common.{◌≡◌, ℕ, ◌<◌, Bool, true, false, cond, not, ◌||◌, List, [], ◌∷◌, ◌++◌, length, Option}
-use Rattle.std.proofs.Common.{Some, None, refl, sym, ap, subst, ◌∙◌, append_assoc, append-nil, option_map}
-use Rattle.std.proofs.Common.{nat_le, arith}
+use Rattle.std.proofs.Common.{Some, None, refl, sym, ap, subst, ◌∙◌, append_assoc, append-nil, option_map, nat_le}
+use Rattle.std.proofs.Common.{arith}
 use Rattle.std.proofs.lemmas.Grind.{flat_map-append}
 use Rattle.std.specs.List.{flat_map}
 use Rattle.machine_model.specs.Due.{asked_now, clear, greeted_by, greets as greets_way, is_full, load_of, queued}
@@ -68,8 +68,7 @@ none_out [] is = refl
 none_out (one ∷ asked) is = grind (arith, is, none_out asked)
 
 pub none_flies : (effect : Option Doing) → is_flying effect ≡ false → unanswered_effect effect ≡ []
-none_flies None is = refl
-none_flies (Some doing) is = rw is refl
+none_flies effect is = grind (arith, is)
 
 silent_none : (hand : Hand) → hand_silent (Some hand) ≡ true → pending_in (Some hand) ≡ []
 silent_none hand is = rw (none_out hand.asked (grind (arith, is)), none_flies hand.effect (grind (arith, is))) refl
@@ -81,8 +80,7 @@ asked_only (one ∷ asked) = first_only (is_none one.reply) (asked_only asked)
   where
     first_only : (none : Bool) → has_change (flat_map unanswered asked) ≡ false
         → has_change (cond none (a_question (question_of one.want) ∷ []) [] ++ flat_map unanswered asked) ≡ false
-    first_only true is = is
-    first_only false is = is
+    first_only none is = grind (arith, is)
 
 -- What a move makes of what is pending --------------------------------------------------------------------------------
 
@@ -116,9 +114,7 @@ none_late m h near = by_late (is_gone m.state.phase) m.late h near
   where
     by_late : (gone : Bool) (late : List TargetCommand) → cond gone true (is_empty late) ≡ true → gone ≡ false
         → late ≡ []
-    by_late gone [] is near = refl
-    by_late true (command ∷ late) is near = cc
-    by_late false (command ∷ late) is near = cc
+    by_late gone late is near = grind (arith, is, near)
 
 pub record Holds (m : Machine) : Type 0 where
   pub quiet : IsQuiet m
@@ -177,8 +173,7 @@ replied_turn m hand effect replied is flies =
     (rw is (sym (append_assoc m.late asked [])))
 
 given_none : (hand : Option Hand) → pending_in (option_map given_up hand) ≡ []
-given_none None = refl
-given_none (Some hand) = refl
+given_none hand = grind arith
 
 -- what is left without a reply stays pending
 given_turn : (m : Machine) (said : Option Message) (late : List TargetCommand)
@@ -214,14 +209,11 @@ pub unsent : (m : Machine) (guard : Guard) → way guard m.state ≡ greets_way 
 unsent m Handshake is = by_flags m.state.greeting_sent m.state.greeting_heard is
   where
     by_flags : (sent heard : Bool) → greeted_by sent heard ≡ greets_way → sent ≡ false
-    by_flags false heard is = refl
-    by_flags true false is = cc
-    by_flags true true is = cc
+    by_flags sent heard is = grind (arith, is)
 unsent m IdSizes is = by_sizes m.state.sizes is
   where
     by_sizes : (sizes : Option SizesRead) → sized_by sizes ≡ greets_way → m.state.greeting_sent ≡ false
-    by_sizes None is = cc
-    by_sizes (Some sizes) is = cc
+    by_sizes sizes is = grind (arith, is)
 
 pub turned : (m next : Machine) (said : Option Message) → Holds m → Moves m said next → TurnsBy m said next
 turned m next said h (Moves.begins picked free none is) = Turns.stays refl (ap (λ
@@ -243,8 +235,6 @@ turned m next said h (Moves.unfolds {hand} free at) = Turns.stays refl (same_han
 turned m next said h (Moves.queues {hand} free is) = Turns.stays refl (same_hand m hand is)
 turned m next said h (Moves.asks {hand} {want} {wants} free room is are) = asked_turn m hand want wants h free room is
     are
-turned m next said h (Moves.hears read is) = Turns.stays refl refl
-turned m next said h (Moves.greeted read is) = Turns.stays refl refl
 turned m next said h (Moves.answers {question} {replied} {hand} is waits reply here) =
     answered_turn m hand question replied is waits
 turned m next said h (Moves.replies {effect} {replied} {hand} is flies reply here) =
@@ -254,7 +244,6 @@ turned m next said h (Moves.late {command} {replied} before after is reply) =
     Turns.answers command replied before (after ++ more)
     (ap (λ (late : List TargetCommand). late ++ more) is ∙ append_assoc before (command ∷ after) more)
     (append_assoc before after more)
-turned m next said h (Moves.ends gone) = Turns.stays refl refl
 turned m next said h (Moves.loses late near Loses.by_end) =
     given_turn m (Some Message.ends) (pending_in m.hand) (Turns.stays refl refl)
 turned m next said h (Moves.loses late near (Loses.by_question {question} {replied} {hand} is waits reply last)) =
@@ -262,6 +251,4 @@ turned m next said h (Moves.loses late near (Loses.by_question {question} {repli
     (answered_turn m hand question replied is waits)
 turned m next said h (Moves.loses late near (Loses.by_effect {effect} {replied} {hand} is flies reply last)) =
     given_turn m (Some (Message.answers (an_effect effect) replied)) late (replied_turn m hand effect replied is flies)
-turned m next said h (Moves.comes read sized taken) = Turns.stays refl refl
-turned m next said h (Moves.keeps is) = Turns.stays refl refl
-turned m next said h (Moves.reads before after read is none taken) = Turns.stays refl refl
+turned m next said h _ = Turns.stays refl refl

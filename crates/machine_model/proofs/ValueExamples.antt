@@ -1,5 +1,5 @@
 -- Worked examples of `evaluate` and `setVariable`, checked by computation.
-use Rattle.std.proofs.Common.{◌≡◌, ℕ, pos, List, [], ◌∷◌, Option, None, Some, refl}
+use Rattle.std.proofs.Common.{◌≡◌, ℕ, pos, List, [], ◌∷◌, None, refl}
 use Rattle.std.specs.Fmt.{digits}
 use Rattle.std.specs.Prelude.{codes}
 use Rattle.std.specs.Str.{chars, is_utf8}
@@ -13,20 +13,19 @@ use Rattle.jdwp_values.specs.Lossy.{lossy, lossy_after}
 use Rattle.jdwp_values.specs.declared.tag.TypeTag.TheVariants as tags
 use Rattle.jdwp_values.specs.declared.value.Value.TheVariants as values
 use Rattle.machine_model.specs.Breakpoints.{key_of}
-use Rattle.machine_model.specs.Children.{chain}
 use Rattle.machine_model.specs.Due.{due, load_of, newly_lacked, wanted}
 use Rattle.machine_model.specs.Expressions.{field_from}
 use Rattle.machine_model.specs.Names.{Does, Evaluate, Request, SetVariable, Writes, a_question, an_answer, an_effect}
-use Rattle.machine_model.specs.Names.{an_error, to_slot}
+use Rattle.machine_model.specs.Names.{to_slot}
 use Rattle.machine_model.specs.Plans.{chained, each, made_with, need}
 use Rattle.machine_model.specs.Replying.{answered}
 use Rattle.machine_model.specs.Runs.{Message, heard}
 use Rattle.machine_model.specs.State.{Machine}
 use Rattle.machine_model.proofs.BreakpointExamples.{at}
-use Rattle.machine_model.proofs.Examples.{asks, changes, drive, request, responds, said_on}
+use Rattle.machine_model.proofs.Examples.{changes, drive, request, responds, said_on}
 use Rattle.machine_model.proofs.FrameExamples.{says}
 use Rattle.machine_model.proofs.StopExamples.{fails, one}
-use Rattle.machine_model.proofs.VariableExamples.{class, field, numbered, object, opened, shown, table, upper}
+use Rattle.machine_model.proofs.VariableExamples.{class, field, object, opened, shown, table, upper}
 use Rattle.value_views.specs.Reads.{write_value}
 use Rattle.wish_sets.specs.Wished.{wished}
 use Rattle.wish_sets.specs.Wishes.{next_change}

@@ -23,8 +23,7 @@ use Rattle.jdwp_values.specs.declared.value.Value.TheVariants as values
 use Rattle.machine_model.specs.Breakpoints.{key_of}
 use Rattle.machine_model.specs.Children.{chain}
 use Rattle.machine_model.specs.Due.{due, load_of, newly_lacked, wanted}
-use Rattle.machine_model.specs.Names.{ClassId, Request, Scopes, Variables, a_question, an_answer}
-use Rattle.machine_model.specs.Names.{an_error}
+use Rattle.machine_model.specs.Names.{ClassId, Request, Scopes, Variables, a_question, an_answer, an_error}
 use Rattle.machine_model.specs.Plans.{chained, each, made_with, need}
 use Rattle.machine_model.specs.Replying.{answered}
 use Rattle.machine_model.specs.Runs.{Message, heard}

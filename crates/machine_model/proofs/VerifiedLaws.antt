@@ -2,7 +2,7 @@
 -- and its list tells it.
 use Rattle.std.proofs.Common.{◌≡◌, ℕ, Bool, true, false, cond, List, [], ◌∷◌, ◌++◌, Some, refl, ap, ◌∙◌, sym, ◌||◌}
 use Rattle.std.proofs.Common.{◌&&◌, ◌==◌, map, arith, filter, nat_lt, None}
-use Rattle.std.proofs.lemmas.Bool.{eqb-true}
+use Rattle.std.proofs.lemmas.Bool.{eqb-true, or_left, or_right}
 use Rattle.std.proofs.lemmas.List.Folds.{list_any-append}
 use Rattle.std.specs.List.{flat_map, list_any}
 use Rattle.std.specs.Ordering.{nat_cmp, on}
@@ -27,6 +27,7 @@ use Rattle.wish_sets.specs.declared.entry.VerifiedEntry.{VerifiedEntry}
 use Rattle.wish_sets.specs.declared.facts.KnownClass.{KnownClass}
 use Rattle.wish_sets.specs.declared.wish.Wish.{Wish}
 use Rattle.wish_sets.specs.declared.wish.Wish.TheVariants as wishes
+use Rattle.machine_model.proofs.Bools.{both_hold}
 
 -- Lists ---------------------------------------------------------------------------------------------------------------
 
@@ -78,17 +79,6 @@ any_kept p keeps each (x ∷ xs) is =
     by_tests true false one each now again = let no = each refl in cc
     by_tests false true one each now again = rw one (again now)
     by_tests false false one each now again = again now
-
-pub both : (a b : Bool) → cond a b false ≡ true → (a ≡ true) × (b ≡ true)
-both true b is = (refl, is)
-both false b is = cc
-
-pub or_left : (a b : Bool) → a ≡ true → (a || b) ≡ true
-or_left a b is = rw is refl
-
-pub or_right : (a b : Bool) → b ≡ true → (a || b) ≡ true
-or_right true b is = refl
-or_right false b is = is
 
 -- Ids -----------------------------------------------------------------------------------------------------------------
 
@@ -151,7 +141,7 @@ module _ (id : ℕ) where
   is_placed w = has_location (places w.wanted) id (is_installed w.installed)
 
   has_id_of : (mark : ℕ × Bool) → is_it mark ≡ true → (mark.0 == id) ≡ true
-  has_id_of mark is = (both (mark.0 == id) mark.1 is).0
+  has_id_of mark is = (both_hold (mark.0 == id) mark.1 is).0
 
   -- what is found of each entry with this id is found of those that are listed
   among_listed : {X : Type 0} (q : X → Bool) (of_line : LineEntry → X) (of_function : FunctionEntry → X)

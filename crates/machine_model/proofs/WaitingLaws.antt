@@ -16,6 +16,8 @@ use Rattle.machine_model.proofs.PendingLaws.{Open, all_open}
 use Rattle.machine_model.proofs.TurnLaws.{none_flies, none_late, none_out, same_hand}
 use Rattle.machine_model.proofs.KeyLaws.{is_same}
 use Rattle.machine_model.proofs.QuietLaws.{load_in, waits_some}
+use Rattle.machine_model.proofs.Bools.{first_holds, or_more}
+use Rattle.std.proofs.lemmas.Bool.{or_left, or_right}
 
 -- What is to be asked -------------------------------------------------------------------------------------------------
 
@@ -26,26 +28,17 @@ are_covered asked queue (want ∷ wants) =
     cond (is_waiting (question_of want) asked || is_listed (question_of want) queue)
     (are_covered asked queue wants) false
 
-or_left : (a b : Bool) → a ≡ true → (a || b) ≡ true
-or_left a b is = rw is refl
-
 listed_more : (question : Question) (queue : List Want) (want : Want) → is_listed question queue ≡ true
     → is_listed question (queue ++ want ∷ []) ≡ true
 listed_more question [] want is = cc
 listed_more question (first ∷ queue) want is =
-    either (same_question (question_of first) question) (is_listed question queue) _ is
+    or_more (same_question (question_of first) question) (is_listed question queue) _ is
     (listed_more question queue want)
-  where
-    either : (a b c : Bool) → (a || b) ≡ true → (b ≡ true → c ≡ true) → (a || c) ≡ true
-    either a b c is rest = grind (arith, is, rest)
 
 listed_last : (queue : List Want) (want : Want) → is_listed (question_of want) (queue ++ want ∷ []) ≡ true
 listed_last [] want = or_left _ false (is_same (question_of want))
 listed_last (first ∷ queue) want = or_right (same_question (question_of first) (question_of want)) _
     (listed_last queue want)
-  where
-    or_right : (a b : Bool) → b ≡ true → (a || b) ≡ true
-    or_right a b is = grind (arith, is)
 
 -- what is to be asked stays so
 listed_one : (asked : List Sent) (question : Question) (queue : List Want) (want : Want)
@@ -133,8 +126,7 @@ waits_full id_pending m hand want wants is are waits =
     (subst (λ (held : Option Hand). (asked_next (is_full id_pending m) m held).act ≡ Act.Waits) is waits))
   where
     by_full : (full : Bool) → (asked_first full m (want ∷ wants)).act ≡ Act.Waits → full ≡ true
-    by_full true waits = refl
-    by_full false waits = cc
+    by_full full waits = grind (arith, waits)
 
 waits_asked : (id_pending : Bool) (m : Machine) (hand : Hand) → WaitsWith id_pending m hand → IsAsked id_pending m hand
 waits_asked id_pending m hand w =
@@ -156,10 +148,7 @@ some_asked : (asked : List Sent) (wants : List Want) → are_asked asked wants �
     → has_waiting asked ≡ true
 some_asked asked [] are some = cc
 some_asked asked (want ∷ wants) are some =
-    waits_some (question_of want) asked (first_waits (is_waiting (question_of want) asked) _ are)
-  where
-    first_waits : (waits rest : Bool) → cond waits rest false ≡ true → waits ≡ true
-    first_waits waits rest is = grind (arith, is)
+    waits_some (question_of want) asked (first_holds (is_waiting (question_of want) asked) _ are)
 
 full_waits : (messages : List Message) (id_pending : Bool) (m : Machine) (hand : Hand) → Open messages m
     → WaitsWith id_pending m hand → is_full id_pending m ≡ true → (has_waiting hand.asked || id_pending) ≡ true
@@ -172,11 +161,10 @@ full_waits messages id_pending m hand o w full = by_two (has_waiting hand.asked)
 
     by_two : (waits id : Bool) → has_waiting hand.asked ≡ waits → (id || nat_le 16 (length (pending_of m))) ≡ true
         → (waits || id) ≡ true
-    by_two true id is full = refl
-    by_two false true is full = refl
     by_two false false is full =
         let none : length (pending_of m) ≡ 0 = rw (pending, none_out hand.asked is) refl in
         let no : false ≡ true = sym (ap (λ (n : ℕ). nat_le 16 n) none) ∙ full in no
+    by_two _ _ is full = refl
 
 pub is_wait : (messages : List Message) (m : Machine) (id_pending : Bool) (hand : Hand) → Run messages m
     → WaitsWith id_pending m hand → IsWait id_pending m hand

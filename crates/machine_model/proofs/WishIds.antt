@@ -1,7 +1,6 @@
 -- The ids and texts that stand in what is wanted: those of an event request that is wished pass, and it has a spelling.
 use Rattle.std.proofs.Common.{◌≡◌, ◌≤◌, ◌<◌, ◌*◌, ◌^◌, ℕ, zero, suc, Bool, true, false, cond, List, [], ◌∷◌, ◌++◌}
-use Rattle.std.proofs.Common.{length, Option, Some, None, refl, arith, option_map, length-append, ◌||◌}
-use Rattle.std.proofs.Common.{◌-◌}
+use Rattle.std.proofs.Common.{length, Option, Some, None, refl, arith, option_map, length-append, ◌||◌, ◌-◌}
 use Rattle.std.specs.Prelude.{ℤ, filter, find, filter_map, fold, map, if◌then◌else◌, not, bytes_eq}
 use Rattle.std.specs.List.{AllByRecursion as All, before_last, flat_map, suffix_len, cons_option}
 use Rattle.std.proofs.lemmas.List.{length-map, length-take}
@@ -34,8 +33,8 @@ use Rattle.wish_sets.specs.Places.{entry_places, is_of_key, key_of, line_locatio
 use Rattle.wish_sets.specs.Places.{code_start, function_locations, function_places, location_at, method_location}
 use Rattle.wish_sets.specs.Places.{places, places_in}
 use Rattle.wish_sets.specs.Requests.{package_pattern}
-use Rattle.wish_sets.specs.Wanted.{Wanted, facts_found, method_found, methods_found, nothing_wanted}
-use Rattle.wish_sets.specs.Wanted.{put_known, with_class, with_functions, with_known, with_lines, with_step}
+use Rattle.wish_sets.specs.Wanted.{Wanted, facts_found, method_found, methods_found, nothing_wanted, put_known}
+use Rattle.wish_sets.specs.Wanted.{with_class, with_functions, with_known, with_lines, with_step}
 use Rattle.wish_sets.specs.Wished.{all_wished, has_entries, stepping, stops, thrown, watched, wished}
 use Rattle.wish_sets.specs.declared.entry.FunctionEntry.{FunctionEntry}
 use Rattle.wish_sets.specs.declared.entry.LineEntry.{LineEntry}
@@ -377,9 +376,8 @@ module _ (P : Id → Type 0) where
     where
       by_name : (named : Bool) (start : Option ℕ) → OnSome (OfLocation P)
           (if named then option_map (location_at known.0 known.1 one.id) start else None)
-      by_name false start = tt
-      by_name true None = tt
       by_name true (Some index) = (h.itself, k)
+      by_name _ _ = tt
 
   named_stand : (known : ClassId × KnownClass) → IsBound P known → (name : List ℕ)
       → All (OfLocation P) (function_locations known.0 known.1 name)

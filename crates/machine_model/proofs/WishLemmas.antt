@@ -24,9 +24,7 @@ pub due_set : (w : Wishes) (wish : Wish) → effect_due w ≡ Some (Set wish) �
 due_set w wish is = by_change (next_change w) is
   where
     by_change : (change : Option WishChange) → option_map effect_of change ≡ Some (Set wish) → change ≡ Some (sets wish)
-    by_change None is = cc
-    by_change (Some (clears one)) is = cc
-    by_change (Some (sets other)) is = cc
+    by_change change is = grind (arith, is)
 
 pub due_clear : (w : Wishes) (wish : Wish) (request : ℕ) → effect_due w ≡ Some (Clear wish request)
     → next_change w ≡ Some (clears (record { wish = wish; request = request }))
@@ -34,12 +32,11 @@ due_clear w wish request is = by_change (next_change w) is
   where
     by_change : (change : Option WishChange) → option_map effect_of change ≡ Some (Clear wish request)
         → change ≡ Some (clears (record { wish = wish; request = request }))
-    by_change None is = cc
     by_change (Some (clears one)) is =
         let a : one.wish ≡ wish = cc in let b : one.request ≡ request = cc in
         ap (λ (wish : Wish). Some (clears (record { wish = wish; request = one.request }))) a
         ∙ ap (λ (request : ℕ). Some (clears (record { wish = wish; request = request }))) b
-    by_change (Some (sets other)) is = cc
+    by_change _ is = cc
 
 pub new_set_due : (w : Wishes) (wish : Wish) → effect_due w ≡ Some (Set wish) → IsNewSet w wish
 new_set_due w wish is = new_set w wish (due_set w wish is)
@@ -188,5 +185,4 @@ pub none_due_change : (w : Wishes) → effect_due w ≡ None → next_change w �
 none_due_change w is = by_change (next_change w) is
   where
     by_change : (change : Option WishChange) → option_map effect_of change ≡ None → change ≡ None
-    by_change None is = refl
-    by_change (Some change) is = cc
+    by_change change is = grind (arith, is)

@@ -6,8 +6,7 @@ use Rattle.machine_model.specs.Facts.{fact_of}
 use Rattle.machine_model.specs.Lookups.{name_plan, named_by, names_plan, plan, sight_of, threads_plan}
 use Rattle.machine_model.specs.Names.{Answer, NamedThread, Question, Replied, ThreadId, Want, an_answer, an_error}
 use Rattle.machine_model.specs.PlanLaws.{Agrees, AreOfWorld, Hears, IsOf, IsRefused, IsUnheard, threads_in_world}
-use Rattle.machine_model.specs.Plans.{Fault, Need, Plan, Sight, answer_in, chained, each, fails, gives, has, lacks}
-use Rattle.machine_model.specs.Plans.{made_with}
+use Rattle.machine_model.specs.Plans.{Fault, Need, Plan, Sight, answer_in, chained, each, gives, lacks, made_with}
 use Rattle.machine_model.specs.Plans.{beside, heard_of, must_say, need, of_world, pairs, said_of, two_of, wants}
 use Rattle.machine_model.specs.State.{State}
 use Rattle.machine_model.proofs.PlanLaws.{Each, IsSo, after_so, beside_so, heard_so}
@@ -16,9 +15,8 @@ use Rattle.machine_model.proofs.PlanLaws.{Each, IsSo, after_so, beside_so, heard
 
 said_alike : (replied there : Replied) → answer_in replied ≡ answer_in there → must_say there ≡ must_say replied
 said_alike (an_answer answer) (an_answer other) is = ap Some (sym is)
-said_alike (an_answer answer) (an_error code) is = cc
-said_alike (an_error code) (an_answer answer) is = cc
 said_alike (an_error code) (an_error other) is = refl
+said_alike _ _ is = cc
 
 -- what was heard the world says
 hears_said : (world : Question → Replied) (sight : Sight) (want : Want) (heard : Option Answer) → IsOf world sight
@@ -36,8 +34,7 @@ refused_said : (world : Question → Replied) (sight : Sight) (fault : Fault) (w
     → IsRefused sight fault want → said_of world want ≡ None
 refused_said world sight fault (Want.Must question) w h = said_alike (an_error fault.code) (world question)
     (w.replies question (an_error fault.code) (record { place = fault.place; stands = h }))
-refused_said world sight fault (Want.May question) w h = absurd h
-refused_said world sight fault (Want.Fact question) w h = absurd h
+refused_said world sight fault _ w h = absurd h
 
 none_beside : {A B : Type 0} (here : Option A) (there : Option B) → there ≡ None → two_of here there ≡ None
 none_beside None there is = refl
@@ -70,9 +67,8 @@ need_there world sight (pairs p q rest) V E w v e =
 
 agrees_of : {A : Type 0} (n : Need A) (there : Option A)
     → IsSo (λ a. there ≡ Some a) (λ fault. there ≡ None) (Each (λ want. Unit {0})) n → Agrees n there
-agrees_of (has value) there so = so
-agrees_of (fails fault) there so = so
 agrees_of (lacks first others) there so = tt
+agrees_of _ there so = so
 
 -- Threads in a world --------------------------------------------------------------------------------------------------
 

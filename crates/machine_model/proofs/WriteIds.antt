@@ -1,13 +1,12 @@
 -- What is written: its ids pass, and its command has a spelling.
-use Rattle.std.proofs.Common.{◌≡◌, ◌≢◌, ◌<◌, ◌≤◌, ◌^◌, ◌∷◌, ◌++◌, ℕ, zero, suc, Bool, true, false, cond, List, [], Option}
-use Rattle.std.proofs.Common.{Some, None, refl, sym, ap, subst, ◌∙◌, arith, length, option_map}
+use Rattle.std.proofs.Common.{◌≡◌, ◌≢◌, ◌<◌, ◌≤◌, ◌^◌, ◌∷◌, ◌++◌, ℕ, zero, suc, Bool, true, false, cond, List, []}
+use Rattle.std.proofs.Common.{Option, Some, None, refl, sym, subst, ◌∙◌, arith, length, option_map}
 use Rattle.std.specs.List.{AllByRecursion as All}
 use Rattle.std.specs.Int.{bytes_high_first, cast_unsigned, w8, w16, w32, w64}
 use Rattle.std.specs.Option.{ok_or}
 use Rattle.std.specs.Prelude.{Result, Ok, Err, bytes_eq, codes, if◌then◌else◌}
 use Rattle.jdwp_commands.specs.Commands.{FitsCommand}
 use Rattle.jdwp_values.proofs.Numbers.{length-bytes_high_first}
-use Rattle.jdwp_values.specs.Sizes.{is_no_size}
 use Rattle.jdwp_values.specs.Spelling.{FitsValue}
 use Rattle.jdwp_values.specs.Tags.{tag_of}
 use Rattle.jdwp_values.specs.declared.id.ObjectId.{ObjectId}
@@ -18,14 +17,15 @@ use Rattle.jdwp_values.specs.declared.value.Value.{Value}
 use Rattle.jdwp_values.specs.declared.value.Value.TheVariants as values
 use Rattle.machine_model.specs.Children.{first_byte}
 use Rattle.machine_model.specs.Ids.{Id, field, frame, ids_asked, ids_of_value, object}
-use Rattle.machine_model.specs.Names.{Deed, Does, Failure, Store, Write, Writes, an_effect, to_element, to_field, to_slot}
+use Rattle.machine_model.specs.Names.{Deed, Does, Failure, Store, Write, Writes, an_effect, to_element, to_field}
+use Rattle.machine_model.specs.Names.{to_slot}
 use Rattle.machine_model.specs.Replying.{wire}
 use Rattle.machine_model.specs.State.{is_empty}
 use Rattle.machine_model.specs.Writing.{good_size, untagged_bytes, value_for, value_or}
 use Rattle.machine_model.proofs.IdRows.{FitsId, all_joined}
 use Rattle.value_views.specs.Reads.{char_in, is_writable, null_in, truth_in, value_by, value_in, whole_in, write_value}
-use Rattle.value_views.specs.declared.fault.WriteFault.{WriteFault}
 use Rattle.value_views.specs.declared.fault.WriteFault.TheVariants.{BadText, NotWritable}
+use Rattle.machine_model.proofs.Bools.{always}
 
 -- What is written has ids that pass -----------------------------------------------------------------------------------
 
@@ -73,13 +73,10 @@ nulls make k text = by_text (bytes_eq text (codes "null"))
 plain_in : (tag : Tag) (text : List ℕ) → OnValue (value_in tag text)
 plain_in tags.Byte text = mapped values.Byte (λ n. record { no_ids = refl; some = refl }) (whole_in (2 ^ 7) text)
 plain_in tags.Char text = mapped values.Char (λ n. record { no_ids = refl; some = refl }) (char_in text)
-plain_in tags.Double text = tt
-plain_in tags.Float text = tt
 plain_in tags.Int text = mapped values.Int (λ n. record { no_ids = refl; some = refl }) (whole_in (2 ^ 31) text)
 plain_in tags.Long text = mapped values.Long (λ n. record { no_ids = refl; some = refl }) (whole_in (2 ^ 63) text)
 plain_in tags.Short text = mapped values.Short (λ n. record { no_ids = refl; some = refl }) (whole_in (2 ^ 15) text)
 plain_in tags.Boolean text = mapped values.Boolean (λ n. record { no_ids = refl; some = refl }) (truth_in text)
-plain_in tags.Void text = tt
 plain_in tags.Object text = nulls values.Object (record { no_ids = refl; some = refl }) text
 plain_in tags.Array text = nulls values.Array (record { no_ids = refl; some = refl }) text
 plain_in tags.String text = nulls values.String (record { no_ids = refl; some = refl }) text
@@ -87,6 +84,7 @@ plain_in tags.Thread text = nulls values.Thread (record { no_ids = refl; some = 
 plain_in tags.ThreadGroup text = nulls values.ThreadGroup (record { no_ids = refl; some = refl }) text
 plain_in tags.ClassLoader text = nulls values.ClassLoader (record { no_ids = refl; some = refl }) text
 plain_in tags.ClassObject text = nulls values.ClassObject (record { no_ids = refl; some = refl }) text
+plain_in _ text = tt
 
 abbrev pub OfValueRead : Result Value Failure → Type 0
 OfValueRead (Ok value) = IsPlain value
@@ -125,13 +123,9 @@ written_ids P write k = by_store write.store k.of_store
     by_store (to_element array index) h = (h, tt)
 
 pub written_sized : (write : Write) → cond (is_empty (ids_asked (wire (an_effect (Does (Writes write)))))) true true ≡ true
-written_sized write = by_empty (is_empty (ids_asked (wire (an_effect (Does (Writes write))))))
-  where
-    by_empty : (empty : Bool) → cond empty true true ≡ true
-    by_empty true = refl
-    by_empty false = refl
+written_sized write = always (is_empty (ids_asked (wire (an_effect (Does (Writes write))))))
 
-power : (n : ℕ) → 0 < 256 ^ n
+pub power : (n : ℕ) → 0 < 256 ^ n
 power zero = omega arith
 power (suc n) = omega (arith, power n)
 
