@@ -1,6 +1,7 @@
 -- The line of bytes is spelled so, and is read as what it says.
 use Rattle.std.proofs.Common.{◌≡◌, ℕ, zero, suc, ◌+◌, ◌-◌, ◌*◌, ◌/◌, ◌%◌, ◌<◌, List, [], ◌∷◌, ◌++◌, length, take, drop}
-use Rattle.std.proofs.Common.{Bool, true, false, Bor, Option, Some, None, Ok, refl, sym, subst, ap, ◌∙◌, append_assoc, length-append, arith, get_or}
+use Rattle.std.proofs.Common.{get_or, Bool, true, false, Bor, Option, Some, None, Ok, refl, sym, subst, ap, ◌∙◌}
+use Rattle.std.proofs.Common.{append_assoc, length-append, arith}
 use Rattle.std.specs.Prelude.{slice_index, codes, nat_eq, IfSome, MatchOption}
 use Rattle.std.specs.Cmp.Lexicographic.{pointwise}
 use Rattle.std.specs.Str.{bytes_eq}

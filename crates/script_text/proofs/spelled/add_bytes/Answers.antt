@@ -9,5 +9,7 @@ returns c =
     (c.in_ok-extend_from_slice.ensures.ok
     ∙ ap (λ (text : List ℕ). c.args.text.now ++ text) (c.as_bytes.ensures.value ∙ c.start_of.ensures))
     (c.in_ok-extend_from_slice-2.ensures.ok
-    ∙ ap (λ (text : List ℕ). c.extend_from_slice.new.self ++ text) (c.as_bytes-2.ensures.value ∙ c.in_ok-digits.ensures))
+    ∙ ap
+    (λ (text : List ℕ). c.extend_from_slice.new.self ++ text)
+    (c.as_bytes-2.ensures.value ∙ c.in_ok-digits.ensures))
     c.in_ok-extend_from_slice-3.ensures.ok

@@ -13,5 +13,6 @@ loop-i-preserved c =
     record {
       are = rw more (IsBytes-append _ _ c.loop-i.invariant.are c.in-Some.ensures.0);
       count = one_more _ _ _ _ more c.loop-i.invariant.count;
-      so_far = pair_more _ _ _ _ _ (omega (arith, c.loop-i-test.true)) c.loop-i.invariant.so_far c.in-Some.ensures.1 more;
+      so_far = pair_more _ _ _ _ _ (omega (arith, c.loop-i-test.true)) c.loop-i.invariant.so_far c.in-Some.ensures.1
+          more;
     }
