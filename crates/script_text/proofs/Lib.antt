@@ -4,3 +4,4 @@ pub mod LineLaws
 pub mod OrderLaws
 pub mod RowLaws
 pub mod ShownLaws
+pub mod SpelledLaws

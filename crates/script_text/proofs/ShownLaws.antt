@@ -63,11 +63,11 @@ IsAscii-shown (x ∷ xs) e =
 
 -- ---- hexadecimal
 
-all_below : (ℕ → Bool) → ℕ → Bool
+unfoldable pub all_below : (ℕ → Bool) → ℕ → Bool
 all_below test zero = true
 all_below test (suc n) = test n && all_below test n
 
-all_below-at : (test : ℕ → Bool) (n k : ℕ) → all_below test n ≡ true → k < n → test k ≡ true
+pub all_below-at : (test : ℕ → Bool) (n k : ℕ) → all_below test n ≡ true → k < n → test k ≡ true
 unfolding all_below
 all_below-at test zero k e lt = absurd (omega arith)
 all_below-at test (suc n) k e lt =
@@ -160,7 +160,7 @@ shown_end bytes are =
     (are_shown-append (escape (encode_lower bytes)) (34 ∷ []) (hexadecimal_is_shown bytes are) refl)
     refl
 
-printed-in : (side : Side) (bytes : List ℕ) → 0 < length bytes → IsBytes bytes →
+pub printed-in : (side : Side) (bytes : List ℕ) → 0 < length bytes → IsBytes bytes →
     IsPrinted (bytes_data (codes "in") side bytes) (Entry (In side bytes))
 unfolding escape_byte
 printed-in Client bytes some are = record {
@@ -174,7 +174,7 @@ printed-in Target bytes some are = record {
   is_row = rw (bytes_of-encode_lower bytes some are) refl;
 }
 
-printed-out : (side : Side) (bytes : List ℕ) → 0 < length bytes → IsBytes bytes →
+pub printed-out : (side : Side) (bytes : List ℕ) → 0 < length bytes → IsBytes bytes →
     IsPrinted (bytes_data (codes "out") side bytes) (Entry (Out side bytes))
 unfolding escape_byte
 printed-out Client bytes some are = record {

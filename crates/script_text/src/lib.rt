@@ -7,6 +7,7 @@ mod order;
 mod print;
 mod read;
 mod rows;
+mod spelled;
 
 pub use laws::{a_log_that_was_read_keeps_the_order, a_printed_log_is_read_again};
 pub use log::{ScriptFault, ScriptTrouble, SessionLog};

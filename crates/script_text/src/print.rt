@@ -2,10 +2,11 @@
 ghost use Rattle.std.specs.Prelude.{◌≡◌, ◌++◌, false, IfOk, OnOk, flat_map};
 ghost use Rattle.serde_json.specs.View.{view};
 ghost use Rattle.serde_json.specs.Written.{has_float};
-ghost use Rattle.script_text.specs.Texts.{side_name, bytes_data, side_data, bare_data, head_data, entry_data};
+ghost use Rattle.script_text.specs.Texts.{side_name, side_data, bare_data, head_data};
 ghost use Rattle.script_text.specs.Texts.{ending_data, line_of, entry_text, ending_text, log_text};
 
 use crate::log::SessionLog;
+use crate::spelled::{Way, add_bytes};
 use serde_json::{Value, json};
 use std::alloc::{AllocError, Global};
 use wire_core::{Blob, Entry, NoMemory, Side};
@@ -20,8 +21,7 @@ pub fn print_log(alloc: Global, log: &SessionLog) -> Result<Blob, NoMemory>
     add_line(alloc, &mut text, &head)?;
     add_entries(alloc, &mut text, log.entries.as_slice())?;
     add_ending(alloc, &mut text, log.ending)?;
-    let end = bare_value(alloc, "end")?;
-    add_line(alloc, &mut text, &end)?;
+    add_bare(alloc, &mut text, "end")?;
     Ok(text)
 }
 
@@ -37,8 +37,13 @@ fn add_entries(alloc: Global, text: &mut Blob, entries: &[Entry]) -> Result<(), 
 fn add_entry(alloc: Global, text: &mut Blob, entry: &Entry) -> Result<(), NoMemory>
     ensures { OnOk result (text.new ≡ text.old ++ entry_text entry.now) }
 {
-    let value = entry_value(alloc, entry)?;
-    add_line(alloc, text, &value)
+    match entry {
+        Entry::In(side, bytes) => add_bytes(alloc, text, Way::Came, *side, bytes.as_slice()),
+        Entry::Out(side, bytes) => add_bytes(alloc, text, Way::Went, *side, bytes.as_slice()),
+        Entry::Shut(side) => add_side(alloc, text, "shut", *side),
+        Entry::Failed(side) => add_side(alloc, text, "failed", *side),
+        Entry::Quiet => add_bare(alloc, text, "quiet"),
+    }
 }
 
 fn add_ending(alloc: Global, text: &mut Blob, ending: Option<u8>) -> Result<(), NoMemory>
@@ -64,6 +69,20 @@ fn add_line(alloc: Global, text: &mut Blob, value: &Value) -> Result<(), NoMemor
     Ok(())
 }
 
+fn add_side(alloc: Global, text: &mut Blob, name: &str, side: Side) -> Result<(), NoMemory>
+    ensures { OnOk result (text.new ≡ text.old ++ line_of (side_data name.now side)) }
+{
+    let value = side_value(alloc, name, side)?;
+    add_line(alloc, text, &value)
+}
+
+fn add_bare(alloc: Global, text: &mut Blob, name: &str) -> Result<(), NoMemory>
+    ensures { OnOk result (text.new ≡ text.old ++ line_of (bare_data name.now)) }
+{
+    let value = bare_value(alloc, name)?;
+    add_line(alloc, text, &value)
+}
+
 fn head_value(alloc: Global) -> Result<Value, AllocError>
     ensures { IfOk result (λ value. view value ≡ head_data) }
 {
@@ -87,27 +106,6 @@ fn side_value(alloc: Global, name: &str, side: Side) -> Result<Value, AllocError
 {
     let side = side_name(side);
     json!(in alloc; [name, side])
-}
-
-fn bytes_value(alloc: Global, name: &str, side: Side, bytes: &[u8]) -> Result<Value, AllocError>
-    ensures { IfOk result (λ value. view value ≡ bytes_data name.now side bytes.now) }
-{
-    let digits = hex::encode(alloc, bytes)?;
-    let side = side_name(side);
-    let digits = digits.as_str();
-    json!(in alloc; [name, side, digits])
-}
-
-fn entry_value(alloc: Global, entry: &Entry) -> Result<Value, AllocError>
-    ensures { IfOk result (λ value. view value ≡ entry_data entry.now) }
-{
-    match entry {
-        Entry::In(side, bytes) => bytes_value(alloc, "in", *side, bytes.as_slice()),
-        Entry::Out(side, bytes) => bytes_value(alloc, "out", *side, bytes.as_slice()),
-        Entry::Shut(side) => side_value(alloc, "shut", *side),
-        Entry::Failed(side) => side_value(alloc, "failed", *side),
-        Entry::Quiet => bare_value(alloc, "quiet"),
-    }
 }
 
 fn side_name(side: Side) -> &'static str

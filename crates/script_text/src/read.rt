@@ -7,6 +7,7 @@ ghost use Rattle.script_text.specs.Reading.{IsRead, IsLine};
 use crate::log::{ScriptFault, ScriptTrouble, SessionLog};
 use crate::order::{Stage, next_stage};
 use crate::rows::{Row, row_of};
+use crate::spelled::spelled_row;
 use serde_json::Value;
 use std::alloc::Global;
 use std::str;
@@ -130,6 +131,15 @@ fn with_row(log: SessionLog, row: Row) -> Result<SessionLog, NoMemory>
 }
 
 fn row_in(alloc: Global, line: &[u8]) -> Result<Row, LineTrouble>
+    ensures { IsLine result (row_in line.now) }
+{
+    match spelled_row(alloc, line)? {
+        Some(row) => Ok(row),
+        None => row_in_json(alloc, line),
+    }
+}
+
+fn row_in_json(alloc: Global, line: &[u8]) -> Result<Row, LineTrouble>
     ensures { IsLine result (row_in line.now) }
 {
     let Ok(text) = str::from_utf8(line) else {

@@ -1,6 +1,6 @@
 use Rattle.std.proofs.Common.{◌≡◌, true, false}
 use Rattle.script_text.proofs.LineLaws.{row_in-not_utf8, row_in-not_json, IsLine-value}
-use Rattle.script_text.proofs.read.row_in.Goals as goal
+use Rattle.script_text.proofs.read.row_in_json.Goals as goal
 
 pub returns-in_default : goal.returns-in_default
 returns-in_default c = row_in-not_utf8 _ c.in_default.ensures.cases.0
