@@ -12,7 +12,7 @@ use Rattle.jdwp_values.specs.Spelling.{spell_part}
 use Rattle.body_faults.specs.Layouts.{Cause, trailing, Layout, ends, begins, refuses}
 use Rattle.body_faults.specs.Wrongs.{Stands, HasNone, cause_of, IsWrongAt, has_none, is_refused, is_behind, is_left}
 use Rattle.body_faults.proofs.CauseLaws.{cause_in, part_cause}
-use Rattle.body_faults.proofs.FollowLaws.{Trouble, wrong, Checked, onto, layout_at}
+use Rattle.body_faults.proofs.FollowLaws.{Trouble, memory, wrong, Checked, onto, layout_at}
 use Rattle.body_faults.proofs.RangeLaws.{part_stands, part_read}
 
 abbrev fails : Trouble → Checked
@@ -158,3 +158,25 @@ fails_there sizes body _ _ _ _ (is_behind {p} {behind} {bytes} {at} {cause} x re
     ∙ fails_there sizes body (behind x) rest at cause later start rest_fits less
     ∙ ap (λ (n : ℕ). fails (wrong cause n)) there
 fails_there sizes body _ _ _ _ (is_left {b} {bytes}) last fits le = left_fails sizes body last b bytes
+
+-- ---- there is one
+
+abbrev place_of : Trouble → ℕ
+place_of memory = 0
+place_of (wrong cause at) = at
+
+abbrev cause_at : Trouble → Cause
+cause_at memory = trailing
+cause_at (wrong cause at) = cause
+
+pub one_wrong : (sizes : IdSizes) (layout : Layout) (body : List ℕ) (at other : ℕ) (cause another : Cause)
+    → IsBytes body → IsWrongAt sizes layout body at cause → IsWrongAt sizes layout body other another
+    → (at ≡ other) × (cause ≡ another)
+one_wrong sizes layout body at other cause another fits w v =
+    let start = from (length body) body in
+    let this = fails_there sizes body layout body at cause w 0 fits (omega arith) in
+    let that = fails_there sizes body layout body other another v 0 fits (omega arith) in
+    let same : wrong cause (start + at) ≡ wrong another (start + other) = fails_alike (wrong cause (start + at))
+    (wrong another (start + other)) (sym this ∙ that) in
+    let places : start + at ≡ start + other = ap place_of same in
+    (omega (arith, places), ap cause_at same)

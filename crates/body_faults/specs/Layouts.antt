@@ -31,8 +31,8 @@ pub data Cause : Type 0 where
   bad_policy : Cause
   trailing : Cause
 
--- Nothing more; a part, and by its value what stands behind it; or nothing can, since the place of the part before has
--- no such value.
+-- What stands from a place on: nothing; or a part, and by its value what stands behind it. Where the place of a part
+-- refuses a value, nothing can stand behind that, for this cause.
 pub data Layout : Type 0 where
   ends : Layout
   begins : (p : Part) → (Of p → Layout) → Layout
@@ -73,7 +73,7 @@ composite_layout = byte_then policy_of_byte bad_policy (λ policy. list_then Any
 abbrev pub modifier_then : Layout → Layout
 modifier_then next = byte_then modifier_of_byte bad_tag (λ kind. row_then (modifier_row kind) next)
 
--- an element of a region: a reference with a tag of its own, or a value without one
+-- an element of a region with this tag: a reference with a tag of its own, or a value without one
 abbrev pub element_part : Bool → Tag → Part
 element_part true tag = reference
 element_part false tag = untagged (byte_of_tag tag)

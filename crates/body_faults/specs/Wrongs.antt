@@ -18,8 +18,8 @@ use Rattle.jdwp_commands.specs.declared.fault.BodyFault.TheVariants as body_faul
 use Rattle.body_faults.specs.Layouts.{Cause, short, bad_count, bad_tag, bad_kind, bad_policy, trailing, Layout, ends}
 use Rattle.body_faults.specs.Layouts.{begins, refuses}
 
--- A value of the part is spelled at the front of the bytes, and the rest stands behind it. What takes all that is left,
--- up to eight bytes, has nothing behind fewer.
+-- A value of the part is spelled at the front of the bytes, and the rest stands behind it. A part that takes all that is
+-- left takes eight bytes at most: behind fewer there is no rest.
 pub record Stands (sizes : IdSizes) (p : Part) (bytes : List ℕ) (x : Of p) (rest : List ℕ) : Type 0 where
   pub fits : FitsPart sizes p x
   pub in_range : InRangePart p x
@@ -30,7 +30,8 @@ pub record Stands (sizes : IdSizes) (p : Part) (bytes : List ℕ) (x : Of p) (re
 abbrev pub HasNone : IdSizes → Part → List ℕ → Type 0
 HasNone sizes p bytes = (x : Of p) (rest : List ℕ) → ¬ Stands sizes p bytes x rest
 
--- how many bytes the number takes by which a part can be bad: a count, or the byte of a tag
+-- How many bytes the number takes that a part begins with and by which it can be bad: a count, or the byte of a tag. A
+-- part with neither may begin with any byte. A value without its tag has that from what stands before.
 abbrev pub lead_size : Part → ℕ
 lead_size (count limit) = 4
 lead_size text = 4
@@ -41,7 +42,7 @@ lead_size p = 1
 abbrev pub lead : Part → List ℕ → ℕ
 lead p bytes = number_from_digits 256 (take (lead_size p) bytes)
 
--- a count isn't negative, and its place allows it
+-- whether a number is a count that isn't negative and that the place allows
 abbrev pub is_count : Limit → ℕ → Bool
 is_count limit n = nat_lt n (2 ^ 31) && allows limit n
 
@@ -62,7 +63,8 @@ bad_lead (count limit) = bad_count
 bad_lead text = bad_count
 bad_lead p = bad_tag
 
--- Why a part has no value at the front of the bytes: too few are left, unless it begins with a number that it may not.
+-- Why no value of a part is spelled at the front of the bytes: it begins with a number that it may not, or too few bytes
+-- are left.
 abbrev pub cause_of : Part → List ℕ → Cause
 cause_of p bytes =
     if nat_lt (length bytes) (lead_size p) || may_lead p (lead p bytes) then short else bad_lead p
