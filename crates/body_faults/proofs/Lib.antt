@@ -1,0 +1,5 @@
+pub mod RangeLaws
+pub mod CauseLaws
+pub mod FollowLaws
+pub mod WrongLaws
+pub mod FaultLaws
