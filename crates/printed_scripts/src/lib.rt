@@ -1,0 +1,2 @@
+//! Texts of scripts.
+#![tactic(auto)]
