@@ -67,7 +67,7 @@ more_empty (suc place) row (part ∷ others) empty = more_empty place row others
 -- ---- a script so far
 
 -- the last row, where it was read
-abbrev end_rows : ℕ → List Row
+abbrev pub end_rows : ℕ → List Row
 end_rows last = if last == 15 then rows.End ∷ [] else []
 
 -- the rows behind the sizes of ids are those of the script, and of no kind behind the last one
