@@ -1,0 +1,4 @@
+pub mod TextLaws
+pub mod TokenLaws
+pub mod SpelledLaws
+pub mod AgainLaws

@@ -1,0 +1,4 @@
+pub mod RowLaws
+pub mod OrderLaws
+pub mod ReadLaws
+pub mod AgainLaws
