@@ -15,12 +15,11 @@ use Rattle.target_scripts.specs.declared.building.Building.{Building}
 use Rattle.target_scripts.specs.Adding.{begun, grown}
 use Rattle.script_files.specs.Sizes.{all_sizes, size_of, sizes_of}
 use Rattle.script_files.specs.Reading.{version_of, numbers_of, headed, sized, with_sizes, next_line, behind_first, behind_row}
-use Rattle.script_files.specs.Reading.{taken_by, row_taken, Stop, end_fault, finished, read_on, beginning, unless_open}
+use Rattle.script_files.specs.Reading.{taken_by, Stop, end_fault, read_on, beginning, unless_open}
 use Rattle.script_files.specs.Reading.{open_line, judged, script_of}
-use Rattle.printed_rows.specs.Texts.{row_text}
-use Rattle.printed_scripts.specs.Texts.{size_numbers, parts, together, rows_of, script_text}
+use Rattle.printed_scripts.specs.Texts.{row_text, size_numbers, parts, together, rows_of, script_text}
 use Rattle.printed_scripts.proofs.OrderLaws.{end_rows, IsOrdered, begun_ordered, grown_ordered}
-use Rattle.printed_scripts.proofs.ReadLaws.{Reading, Takes, HasRows, has_rows, rows_again}
+use Rattle.printed_scripts.proofs.ReadLaws.{Reading, Takes, has_rows, rows_again}
 
 -- ---- the first two rows
 
@@ -133,7 +132,7 @@ has_grown sizes (row ∷ others) so_far reading now b is ordered taken =
     by_grown : (result : Result Building ScriptFault) → grown b row ≡ result →
         behind_row reading result ≡ Ok taken.0 →
         ((next : Building) → taken.0.building ≡ Some next → IsOrdered sizes next (so_far ++ row ∷ []) →
-            HasGrown sizes now ((so_far ++ row ∷ []) ++ others)) → HasGrown sizes now (so_far ++ row ∷ others)
+        HasGrown sizes now ((so_far ++ row ∷ []) ++ others)) → HasGrown sizes now (so_far ++ row ∷ others)
     by_grown (Ok next) grows e again =
         subst (HasGrown sizes now) (append_assoc so_far (row ∷ []) others)
         (again next (ap (λ (r : Reading). r.building) (sym (ap (reading_of taken.0) e)))

@@ -1,21 +1,19 @@
 -- The rows that a script was read of are the rows of the script.
 use Rattle.std.proofs.Common.{◌≡◌, ℕ, zero, suc, ◌-◌, ◌<◌, ◌≤◌, ◌==◌, Bool, true, false, not, ◌&&◌, if◌then◌else◌, nat_lt, nat_le}
-use Rattle.std.proofs.Common.{List, [], ◌∷◌, ◌++◌, map, Option, Some, None, Result, Ok, Err, refl, sym, subst, ap, ◌∙◌, arith}
+use Rattle.std.proofs.Common.{List, [], ◌∷◌, ◌++◌, Option, Some, None, Result, Ok, Err, refl, sym, subst, ap, ◌∙◌, arith}
 use Rattle.std.proofs.Common.{append_assoc, append-nil}
-use Rattle.std.proofs.lemmas.Bool.{and_parts, not-true, leb-true, ltb-true, false≢true}
+use Rattle.std.proofs.lemmas.Bool.{and_parts, not-true, leb-true, ltb-true}
 use Rattle.std.proofs.lemmas.List.{map-append}
 use Rattle.std.proofs.lemmas.Option.{none-some}
 use Rattle.jdwp_values.specs.declared.sizes.IdSizes.{IdSizes}
 use Rattle.script_rows.specs.declared.rows.Row.{Row}
 use Rattle.script_rows.specs.declared.rows.Row.TheVariants as rows
-use Rattle.script_rows.specs.declared.script.Begin.{Begin}
-use Rattle.script_rows.specs.declared.script.Script.{Script}
 use Rattle.script_text.specs.declared.log.ScriptFault.{ScriptFault}
 use Rattle.target_scripts.specs.declared.building.Building.{Building}
-use Rattle.target_scripts.specs.Adding.{with_row, in_world, made, moved_on, added, unless_faulty, grown, begun}
+use Rattle.target_scripts.specs.Adding.{in_world, made, moved_on, added, unless_faulty, grown, begun}
 use Rattle.target_scripts.specs.Judging.{rank, may_follow, row_fits, unless, id_fault, fault_of}
 use Rattle.world_model.specs.declared.world.World.{World}
-use Rattle.printed_scripts.specs.Texts.{size_numbers, begin_rows, parts, together, rows_of}
+use Rattle.printed_scripts.specs.Texts.{parts, together}
 
 -- ---- rows by their kinds
 

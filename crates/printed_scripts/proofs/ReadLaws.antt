@@ -1,21 +1,18 @@
 -- A text is read row by row: which rows, and that their lines are read as them again.
 use Rattle.std.proofs.Common.{◌≡◌, ◌≢◌, ℕ, ◌==◌, Bool, true, false, if◌then◌else◌, List, [], ◌∷◌, ◌++◌, Option, Some, None}
-use Rattle.std.proofs.Common.{Result, Ok, Err, refl, sym, subst, ap, ◌∙◌, append_assoc, append-nil}
+use Rattle.std.proofs.Common.{Result, Ok, Err, refl, sym, ap, ◌∙◌, append_assoc, append-nil}
 use Rattle.std.specs.List.{AllByRecursion, flat_map}
 use Rattle.std.specs.Str.{is_utf8}
 use Rattle.std.proofs.lemmas.Bool.{ne_eqb}
-use Rattle.std.proofs.lemmas.Option.{none-some, same_Some}
+use Rattle.std.proofs.lemmas.Option.{none-some}
 use Rattle.std.proofs.lemmas.Str.{IsUtf8-from_is_utf8}
-use Rattle.jdwp_values.specs.declared.sizes.IdSizes.{IdSizes}
 use Rattle.serde_json.specs.Data.{Data}
 use Rattle.serde_json.specs.Read.{read}
-use Rattle.serde_json.specs.Written.{compact_text, has_float}
+use Rattle.serde_json.specs.Written.{compact_text}
 use Rattle.serde_json.proofs.Nesting.{depth-read}
 use Rattle.json_lines.proofs.AgainLaws.{is_line}
 use Rattle.json_lines.proofs.SpelledLaws.{read_spelled}
 use Rattle.script_rows.specs.declared.rows.Row.{Row}
-use Rattle.script_rows.specs.declared.rows.Row.TheVariants as rows
-use Rattle.script_rows.specs.declared.script.Script.{Script}
 use Rattle.script_rows.specs.Printing.{data_of}
 use Rattle.script_rows.specs.Rows.{row_of}
 use Rattle.script_rows.proofs.KindLaws.{printed_again}
@@ -23,9 +20,9 @@ use Rattle.script_rows.proofs.PlainLaws.{row_has_no_float}
 use Rattle.script_text.specs.declared.log.ScriptFault.{ScriptFault}
 use Rattle.script_text.specs.declared.log.ScriptFault.TheVariants.{NotUtf8, NoEnd}
 use Rattle.script_text.specs.Texts.{line_of}
-use Rattle.script_files.specs.Reading.{unless_shapeless, shaped, row_read, row_in, row_taken, said, line_taken, Stop, after}
+use Rattle.script_files.specs.Reading.{unless_shapeless, row_read, row_in, row_taken, said, line_taken, Stop, after}
 use Rattle.script_files.specs.Reading.{end_fault, finished, read_on}
-use Rattle.printed_rows.specs.Texts.{row_text}
+use Rattle.printed_scripts.specs.Texts.{row_text}
 use Rattle.printed_scripts.proofs.RowLaws.{IsFit, row_told}
 
 -- ---- a line

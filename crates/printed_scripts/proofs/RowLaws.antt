@@ -1,11 +1,11 @@
 -- What is printed of a row that was read is one line, and is read as the row.
-use Rattle.std.proofs.Common.{◌≡◌, ◌≢◌, ℕ, zero, suc, ◌<◌, ◌≤◌, ◌-◌, ◌^◌, max, ℤ, pos, negsuc, Bool, true, false, List, [], ◌∷◌, map}
+use Rattle.std.proofs.Common.{◌≡◌, ℕ, suc, ◌≤◌, ◌-◌, ◌^◌, ℤ, pos, negsuc, Bool, true, false, List, [], ◌∷◌, map}
 use Rattle.std.proofs.Common.{Option, Some, None, option_map, option_and_then, codes, bytes_eq, refl, sym, subst, ap, ◌∙◌, arith}
-use Rattle.std.proofs.Common.{nat_le, nat_lt, int_le, ◌&&◌, not, is_some, cond, FitsSigned, Result, Ok, Err, IsUtf8}
+use Rattle.std.proofs.Common.{nat_le, nat_lt, int_le, ◌&&◌, not, is_some, FitsSigned, IsUtf8}
 use Rattle.std.specs.Int.{w64, cast_signed, cast_unsigned}
-use Rattle.std.specs.List.{AllByRecursion, list_all}
+use Rattle.std.specs.List.{list_all}
 use Rattle.std.specs.Str.{is_utf8, IsAscii}
-use Rattle.std.proofs.lemmas.Bool.{and_parts, leb-true, ltb-true, eqb-true, not-true}
+use Rattle.std.proofs.lemmas.Bool.{and_parts, leb-true, ltb-true, not-true}
 use Rattle.std.proofs.lemmas.Int.{to_z-of_z}
 use Rattle.std.proofs.lemmas.Slice.Eq.{bytes_eq-Decides}
 use Rattle.std.proofs.lemmas.Option.{cond_some, none-some, same_Some, option_and_then_some}
@@ -13,7 +13,6 @@ use Rattle.std.proofs.lemmas.Str.{IsUtf8-from_is_utf8, IsUtf8-from_ascii}
 use Rattle.std.proofs.lemmas.Str.Ascii.{IsAscii-nil, IsAscii-cons}
 use Rattle.jdwp_events.specs.declared.kind.Policy.TheVariants as policies
 use Rattle.jdwp_values.proofs.LossyLaws.{itself}
-use Rattle.jdwp_values.specs.Lossy.{lossy}
 use Rattle.jdwp_values.specs.Parts.{tag_of_value}
 use Rattle.jdwp_values.specs.Tags.{byte_of_tag}
 use Rattle.jdwp_values.specs.declared.class.Line.{Line}
@@ -28,28 +27,28 @@ use Rattle.wire_core.specs.declared.outside.Side.{Side}
 use Rattle.wire_core.specs.declared.outside.Side.TheVariants.{Client, Target}
 use Rattle.world_model.specs.declared.moves.Move.TheVariants as moves
 use Rattle.world_model.specs.declared.rows.SlotValue.{SlotValue}
-use Rattle.serde_json.specs.Data.{Data, null, boolean, number, Num, unsigned, negative, float, string, array, object, depth}
+use Rattle.serde_json.specs.Data.{Data, null, boolean, number, unsigned, negative, float, string, array, object, depth}
 use Rattle.serde_json.specs.Data.{Items, no_items, item, items_depth}
-use Rattle.serde_json.specs.Find.{as_array, as_bool, as_number, as_object, as_str, as_u64, as_integer, of_integer}
+use Rattle.serde_json.specs.Find.{as_number, as_object, as_str, as_integer}
 use Rattle.serde_json.specs.View.{items_of}
 use Rattle.serde_json.specs.Written.{has_float}
 use Rattle.json_lines.specs.Spelled.{IsSpelled, AreSpelled}
 use Rattle.script_rows.specs.declared.rows.Row.{Row}
 use Rattle.script_rows.specs.declared.rows.Row.TheVariants as rows
 use Rattle.script_rows.specs.declared.script.Turn.TheVariants as turns
-use Rattle.script_rows.specs.Numbers.{natural_within, natural_of, natural_data, signed_within, signed_of, signed_data}
+use Rattle.script_rows.specs.Numbers.{natural_of, natural_data, signed_within, signed_of, signed_data}
 use Rattle.script_rows.specs.Numbers.{int_of, long_of, index_of, index_data, utf8_text, text_of, text_data}
 use Rattle.script_rows.specs.Numbers.{text_or_null_of, text_or_null_data, version_data}
-use Rattle.script_rows.specs.Values.{array_of, tag_data, class_tag_data, policy_data, side_data, two_of, pair_of, each_of}
+use Rattle.script_rows.specs.Values.{array_of, tag_data, class_tag_data, policy_data, side_data, pair_of, each_of}
 use Rattle.script_rows.specs.Values.{list_of, list_data, tagged_of, value_in, value_of, value_data, number_data, slot_in}
 use Rattle.script_rows.specs.Values.{slot_of, slot_data, line_in, line_of, line_data, lines_of, lines_data, arguments_of}
-use Rattle.script_rows.specs.Values.{reference_of, tag_in}
+use Rattle.script_rows.specs.Values.{tag_in}
 use Rattle.script_rows.specs.Parts.{Part, natural, int, long, index, text, text_or_null, word, truth, class_tag, object_tag}
 use Rattle.script_rows.specs.Parts.{policy, side, value, values as value_list, slots, lines, arguments, version, Of}
-use Rattle.script_rows.specs.Parts.{part_of, part_data, part_at, first_of, Holds, From, row_at, row_data}
+use Rattle.script_rows.specs.Parts.{part_of, part_data, part_at, Holds, From, row_at, row_data}
 use Rattle.script_rows.specs.Plain.{IsPlain}
 use Rattle.script_rows.specs.Printing.{data_of}
-use Rattle.script_rows.specs.Rows.{kind_of, kind_row, whole, row_in, row_of_items, row_of, as_row}
+use Rattle.script_rows.specs.Rows.{kind_of, whole, row_in, row_of, as_row}
 use Rattle.script_rows.specs.Rows.{id, sizes_parts, class_parts, class_made, method_parts, method_made, variable_parts}
 use Rattle.script_rows.specs.Rows.{variable_made, field_parts, field_made, object_parts, object_made, array_parts}
 use Rattle.script_rows.specs.Rows.{array_made, string_parts, string_made, put_parts, put_made, thread_parts}
