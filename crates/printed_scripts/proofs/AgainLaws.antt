@@ -14,7 +14,8 @@ use Rattle.script_text.specs.declared.log.ScriptTrouble.{ScriptTrouble}
 use Rattle.target_scripts.specs.declared.building.Building.{Building}
 use Rattle.target_scripts.specs.Adding.{begun, grown}
 use Rattle.script_files.specs.Sizes.{all_sizes, size_of, sizes_of}
-use Rattle.script_files.specs.Reading.{version_of, numbers_of, headed, sized, with_sizes, next_line, behind_first, behind_row}
+use Rattle.script_files.specs.Reading.{version_of, numbers_of, headed, sized, with_sizes, next_line, behind_first}
+use Rattle.script_files.specs.Reading.{behind_row}
 use Rattle.script_files.specs.Reading.{taken_by, Stop, end_fault, read_on, beginning, unless_open}
 use Rattle.script_files.specs.Reading.{open_line, judged, script_of}
 use Rattle.printed_scripts.specs.Texts.{row_text, size_numbers, parts, together, rows_of, script_text}
@@ -157,7 +158,8 @@ whole_rows sizes now b read grows is ended =
     let last = ends_with b (ap end_fault (sym is) ∙ ended) in
     ap (λ (others : List Row). rows.Head true ∷ rows.Sizes (size_numbers sizes) ∷ others)
     (ordered.all ∙ ap (λ (rest : List Row). together (parts b.script) ++ rest) last)
-    ∙ ap (λ (given : IdSizes). rows.Head true ∷ rows.Sizes (size_numbers given) ∷ (together (parts b.script) ++ rows.End ∷ []))
+    ∙ ap (λ (given : IdSizes). rows.Head true ∷ rows.Sizes (size_numbers given)
+    ∷ (together (parts b.script) ++ rows.End ∷ []))
     (sym ordered.sizes_are)
 
 pub read_rows : (read : List Row) (now : Reading) (b : Building) → Takes beginning read now → now.building ≡ Some b →
@@ -211,12 +213,14 @@ pub printed_again : (text : List ℕ) (script : Script) → script_of text ≡ O
 unfolding script_of
 printed_again text script e =
     let stop : Stop = read_on beginning [] text in
-    let found = are_parts stop.reading.line stop.reading.building stop.fault (open_line stop.reading.building) script e in
+    let found =
+    are_parts stop.reading.line stop.reading.building stop.fault (open_line stop.reading.building) script e in
     let has = has_rows text beginning [] stop refl found.clear in
     let read_is : has.read ≡ rows_of script =
     read_rows has.read stop.reading found.inside has.taken found.is has.ended ∙ ap rows_of found.script_is in
     let again : read_on beginning [] (script_text script) ≡ stop =
     ap (λ (read : List Row). read_on beginning [] (flat_map row_text read)) (sym read_is)
     ∙ rows_again has.read beginning stop.reading has.shown has.taken
-    ∙ ap (λ (fault : Option ScriptFault). record { reading = stop.reading; fault = fault }) (has.ended ∙ sym found.clear) in
+    ∙ ap (λ (fault : Option ScriptFault). record { reading = stop.reading; fault = fault })
+    (has.ended ∙ sym found.clear) in
     ap judged again ∙ e

@@ -1,5 +1,6 @@
 -- A text is read row by row: which rows, and that their lines are read as them again.
-use Rattle.std.proofs.Common.{◌≡◌, ◌≢◌, ℕ, ◌==◌, Bool, true, false, if◌then◌else◌, List, [], ◌∷◌, ◌++◌, Option, Some, None}
+use Rattle.std.proofs.Common.{◌≡◌, ◌≢◌, ℕ, ◌==◌, Bool, true, false, if◌then◌else◌, List, [], ◌∷◌, ◌++◌, Option, Some}
+use Rattle.std.proofs.Common.{None}
 use Rattle.std.proofs.Common.{Result, Ok, Err, refl, sym, ap, ◌∙◌, append_assoc, append-nil}
 use Rattle.std.specs.List.{AllByRecursion, flat_map}
 use Rattle.std.specs.Str.{is_utf8}
@@ -129,8 +130,8 @@ at_feed reading line follows stop e clear again = by_row (row_in line) refl e
     by_taken row (Ok next) is taken e = one_row reading next row stop (shown_row line row is) taken (again next e)
     by_taken row (Err kind) is taken e = absurd (no_fault reading kind stop e clear)
 
-    by_row : (found : Result Row ScriptFault) → row_in line ≡ found → after reading follows (said reading found) ≡ stop →
-        HasRows reading stop
+    by_row : (found : Result Row ScriptFault) → row_in line ≡ found →
+        after reading follows (said reading found) ≡ stop → HasRows reading stop
     by_row (Ok row) is e = by_taken row (row_taken reading row) is refl e
     by_row (Err kind) is e = absurd (no_fault reading kind stop e clear)
 
@@ -157,7 +158,8 @@ one_line reading line [] more clear =
     ap (λ (whole : List ℕ). after reading (λ next. read_on next [] more) (line_taken reading whole))
     (sym (append-nil line))
 one_line reading line (byte ∷ body) more clear =
-    ap (λ (feed : Bool). if feed then after reading (λ next. read_on next [] (body ++ 10 ∷ more)) (line_taken reading line)
+    ap (λ (feed : Bool).
+    if feed then after reading (λ next. read_on next [] (body ++ 10 ∷ more)) (line_taken reading line)
     else read_on reading (line ++ byte ∷ []) (body ++ 10 ∷ more)) (ne_eqb byte 10 clear.0)
     ∙ one_line reading (line ++ byte ∷ []) body more clear.1
     ∙ ap (λ (whole : List ℕ). after reading (λ next. read_on next [] more) (line_taken reading whole))
