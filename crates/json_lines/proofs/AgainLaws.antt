@@ -1,5 +1,6 @@
 -- The compact text of a value is one line, and is read as the value.
-use Rattle.std.proofs.Common.{◌≡◌, ◌≢◌, ℕ, zero, suc, ◌<◌, ◌≤◌, ◌^◌, pos, negsuc, max, List, [], ◌∷◌, ◌++◌, Bool, true, false}
+use Rattle.std.proofs.Common.{◌≡◌, ◌≢◌, ℕ, zero, suc, ◌<◌, ◌≤◌, ◌^◌, pos, negsuc, max, List, [], ◌∷◌, ◌++◌, Bool}
+use Rattle.std.proofs.Common.{true, false}
 use Rattle.std.proofs.Common.{◌&&◌, Some, option_and_then, option_map, decimal, refl, sym, ap, ap₂, ◌∙◌, subst, arith}
 use Rattle.std.proofs.Common.{append-nil, inl, inr}
 use Rattle.std.specs.Prelude.{nat_le, nat_lt}
@@ -24,7 +25,8 @@ use Rattle.json.proofs.Printed.Strings.{escape_byte_plain}
 use Rattle.json.proofs.Printed.Tokens.{tokens-print}
 use Rattle.json.proofs.Printed.Trees.{value-json_tokens, ArePrintable-json_tokens}
 use Rattle.json.proofs.Printed.Utf8.{IsUtf8-quoted}
-use Rattle.serde_json.specs.Data.{Num, unsigned, negative, float, Data, null, boolean, number, string, array, object, depth}
+use Rattle.serde_json.specs.Data.{Num, unsigned, negative, float, Data, null, boolean, number, string, array, object}
+use Rattle.serde_json.specs.Data.{depth}
 use Rattle.serde_json.specs.Data.{Items, no_items, item, items_depth, Members, no_members, member, members_depth, put}
 use Rattle.serde_json.specs.Find.{is_float}
 use Rattle.serde_json.specs.Read.{number_of, of_json, of_items, of_members, max_depth, read}
@@ -156,7 +158,8 @@ mutual
       clean-append (123 ∷ []) (members_text false ms) (clean_shown (123 ∷ []) refl)
       (clean_members false ms spelled plain)
 
-  clean_items : (later : Bool) (ds : Items) → AreSpelled ds → items_have_float ds ≡ false → IsClean (items_text later ds)
+  clean_items : (later : Bool) (ds : Items) → AreSpelled ds → items_have_float ds ≡ false →
+      IsClean (items_text later ds)
   clean_items later no_items spelled plain = clean_shown (93 ∷ []) refl
   clean_items later (item d ds) spelled plain =
       let p = or_parts (has_float d) (items_have_float ds) plain in

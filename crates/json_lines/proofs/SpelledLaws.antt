@@ -15,7 +15,8 @@ use Rattle.json.specs.Json as json
 use Rattle.json.specs.Lex.{tokens}
 use Rattle.serde_json.specs.Data.{Num, negative, Data, number, array, object, item}
 use Rattle.serde_json.specs.Data.{Members, no_members, member, put}
-use Rattle.serde_json.specs.Read.{is_integer, float_of, number_from, number_of, of_json, of_items, of_members, max_depth, read}
+use Rattle.serde_json.specs.Read.{is_integer, float_of, number_from, number_of, of_json, of_items, of_members}
+use Rattle.serde_json.specs.Read.{max_depth, read}
 use Rattle.json_lines.specs.Spelled.{IsNumber, IsBelow, IsSpelled, AreSpelled, AreMembers}
 use Rattle.json_lines.proofs.TokenLaws.{HasTexts, ItemsHaveTexts, MembersHaveTexts, tree_has_texts}
 
@@ -69,7 +70,8 @@ below_put Less l k d e n ms more first next rest later = (first, (next, rest))
 below_put Equal l k d e n ms more first next rest later = (next, rest)
 below_put Greater l k d e n ms more first next rest later = (next, later)
 
-put_below : (l k : List ℕ) (d : Data) (ms : Members) → slice_cmp nat_cmp l k ≡ Less → IsBelow l ms → IsBelow l (put k d ms)
+put_below : (l k : List ℕ) (d : Data) (ms : Members) → slice_cmp nat_cmp l k ≡ Less → IsBelow l ms →
+    IsBelow l (put k d ms)
 put_below l k d no_members first below = (first, tt)
 put_below l k d (member n e ms) first below =
     below_put (slice_cmp nat_cmp k n) l k d e n ms (put k d ms) first below.0 below.1 (put_below l k d ms first below.1)

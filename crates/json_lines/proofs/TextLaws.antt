@@ -1,6 +1,8 @@
 -- What stands between quotes in a text in UTF-8 is UTF-8.
-use Rattle.std.proofs.Common.{◌≡◌, ℕ, zero, suc, ◌+◌, ◌*◌, ◌<◌, ◌≤◌, Bool, true, false, cond, ◌&&◌, ◌==◌, nat_lt, nat_le}
-use Rattle.std.proofs.Common.{List, [], ◌∷◌, ◌++◌, length, get_or, Option, Some, None, option_and_then, inl, inr, refl, sym, ap, ◌∙◌}
+use Rattle.std.proofs.Common.{◌≡◌, ℕ, zero, suc, ◌+◌, ◌*◌, ◌<◌, ◌≤◌, Bool, true, false, cond, ◌&&◌, ◌==◌, nat_lt}
+use Rattle.std.proofs.Common.{nat_le}
+use Rattle.std.proofs.Common.{List, [], ◌∷◌, ◌++◌, length, get_or, Option, Some, None, option_and_then, inl, inr}
+use Rattle.std.proofs.Common.{refl, sym, ap, ◌∙◌}
 use Rattle.std.proofs.Common.{subst, arith}
 use Rattle.std.specs.Char.{is_digit, digit_value, encode_utf8, IsScalar}
 use Rattle.std.specs.Str.{IsUtf8}
@@ -53,7 +55,8 @@ prepended : (bytes : List ℕ) (o : Option (List ℕ)) → IsUtf8 bytes → IsTe
 prepended bytes None utf8 h = tt
 prepended bytes (Some s) utf8 h = IsUtf8-append bytes s utf8 h
 
-and_then : (o : Option ℕ) (f : ℕ → Option (List ℕ)) → ((n : ℕ) → o ≡ Some n → IsText (f n)) → IsText (option_and_then f o)
+and_then : (o : Option ℕ) (f : ℕ → Option (List ℕ)) → ((n : ℕ) → o ≡ Some n → IsText (f n)) →
+    IsText (option_and_then f o)
 and_then None f h = tt
 and_then (Some n) f h = h n refl
 

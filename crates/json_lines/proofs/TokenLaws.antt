@@ -1,16 +1,22 @@
 -- The texts of a tree that is read of a text in UTF-8 are UTF-8, and its numbers are.
-use Rattle.std.proofs.Common.{◌≡◌, ℕ, zero, suc, Bool, true, false, cond, ◌==◌, List, [], ◌∷◌, length, Option, Some, None}
+use Rattle.std.proofs.Common.{◌≡◌, ℕ, zero, suc, Bool, true, false, cond, ◌==◌, List, [], ◌∷◌, length, Option, Some}
+use Rattle.std.proofs.Common.{None}
 use Rattle.std.proofs.Common.{option_and_then, refl, subst}
 use Rattle.std.specs.Str.{IsUtf8}
 use Rattle.std.proofs.lemmas.Bool.{eqb-true}
-use Rattle.json.specs.Token.{Token, begin_object, end_object, begin_array, end_array, key, string, number, boolean, null, bad}
+use Rattle.json.specs.Token.{Token, begin_object, end_object, begin_array, end_array, key, string, number, boolean}
+use Rattle.json.specs.Token.{null, bad}
 use Rattle.json.specs.Text.{content, plain}
 use Rattle.json.specs.Word.{head, ends_word, number_before, after_number, word, is_operator, is_space}
-use Rattle.json.specs.Lex.{Lexeme, token, comma, colon, Class, quote, backslash, operator, space, other, class, operator_lexeme}
-use Rattle.json.specs.Lex.{string_token, Mode, between, in_word, in_string, in_escape, lex_byte, lex, Place, fresh, after_value}
-use Rattle.json.specs.Lex.{after_comma, after_key, begins_colon, may_begin, may_close, if_allowed, place_token, punctuate, tokens}
+use Rattle.json.specs.Lex.{Lexeme, token, comma, colon, Class, quote, backslash, operator, space, other, class}
+use Rattle.json.specs.Lex.{operator_lexeme}
+use Rattle.json.specs.Lex.{string_token, Mode, between, in_word, in_string, in_escape, lex_byte, lex, Place, fresh}
+use Rattle.json.specs.Lex.{after_value}
+use Rattle.json.specs.Lex.{after_comma, after_key, begins_colon, may_begin, may_close, if_allowed, place_token}
+use Rattle.json.specs.Lex.{punctuate, tokens}
 use Rattle.json.specs.Json.{Json, array, object, Items, no_items, item, Members, no_members, member, Parse, parse_map}
-use Rattle.json.specs.Json.{after_end_array, read_key, items_step, members_step, items, members, value_with, value, if_last}
+use Rattle.json.specs.Json.{after_end_array, read_key, items_step, members_step, items, members, value_with, value}
+use Rattle.json.specs.Json.{if_last}
 use Rattle.json_lines.proofs.TextLaws.{content_is_text, AreQuoted, are_quoted}
 
 -- ---- tokens
@@ -116,7 +122,8 @@ lexemes_said : (xs : List ℕ) (m : Mode) → AreQuoted xs → AreLexemes (lex m
 unfolding lex
 lexemes_said [] m quoted = tt
 lexemes_said (x ∷ xs) m quoted =
-    byte_said m (class x) x xs (λ n. lex n xs) (λ e. quoted.0 (class_quote (x == 34) x refl e)) (λ n. lexemes_said xs n quoted.1)
+    byte_said m (class x) x xs (λ n. lex n xs) (λ e. quoted.0 (class_quote (x == 34) x refl e))
+    (λ n. lexemes_said xs n quoted.1)
 
 allowed : (b : Bool) (t : Token) (k : Place → List Token) (next : Place) → IsSaid t → AreSaid (k next) →
     AreSaid (if_allowed b t k next)

@@ -14,13 +14,13 @@ use Rattle.script_text.specs.declared.log.ScriptTrouble.{ScriptTrouble}
 use Rattle.target_scripts.specs.declared.building.Building.{Building}
 use Rattle.target_scripts.specs.Adding.{begun, grown}
 use Rattle.script_files.specs.Sizes.{all_sizes, size_of, sizes_of}
-use Rattle.script_files.specs.Reading.{version_of, numbers_of, headed, sized, with_sizes, next_line, behind_first, behind_row}
-use Rattle.script_files.specs.Reading.{taken_by, row_taken, Stop, end_fault, finished, read_on, beginning, unless_open}
+use Rattle.script_files.specs.Reading.{version_of, numbers_of, headed, sized, with_sizes, next_line, behind_first}
+use Rattle.script_files.specs.Reading.{behind_row}
+use Rattle.script_files.specs.Reading.{taken_by, Stop, end_fault, read_on, beginning, unless_open}
 use Rattle.script_files.specs.Reading.{open_line, judged, script_of}
-use Rattle.printed_rows.specs.Texts.{row_text}
-use Rattle.printed_scripts.specs.Texts.{size_numbers, parts, together, rows_of, script_text}
+use Rattle.printed_scripts.specs.Texts.{row_text, size_numbers, parts, together, rows_of, script_text}
 use Rattle.printed_scripts.proofs.OrderLaws.{end_rows, IsOrdered, begun_ordered, grown_ordered}
-use Rattle.printed_scripts.proofs.ReadLaws.{Reading, Takes, HasRows, has_rows, rows_again}
+use Rattle.printed_scripts.proofs.ReadLaws.{Reading, Takes, has_rows, rows_again}
 
 -- ---- the first two rows
 
@@ -133,7 +133,7 @@ has_grown sizes (row ∷ others) so_far reading now b is ordered taken =
     by_grown : (result : Result Building ScriptFault) → grown b row ≡ result →
         behind_row reading result ≡ Ok taken.0 →
         ((next : Building) → taken.0.building ≡ Some next → IsOrdered sizes next (so_far ++ row ∷ []) →
-            HasGrown sizes now ((so_far ++ row ∷ []) ++ others)) → HasGrown sizes now (so_far ++ row ∷ others)
+        HasGrown sizes now ((so_far ++ row ∷ []) ++ others)) → HasGrown sizes now (so_far ++ row ∷ others)
     by_grown (Ok next) grows e again =
         subst (HasGrown sizes now) (append_assoc so_far (row ∷ []) others)
         (again next (ap (λ (r : Reading). r.building) (sym (ap (reading_of taken.0) e)))
@@ -158,7 +158,8 @@ whole_rows sizes now b read grows is ended =
     let last = ends_with b (ap end_fault (sym is) ∙ ended) in
     ap (λ (others : List Row). rows.Head true ∷ rows.Sizes (size_numbers sizes) ∷ others)
     (ordered.all ∙ ap (λ (rest : List Row). together (parts b.script) ++ rest) last)
-    ∙ ap (λ (given : IdSizes). rows.Head true ∷ rows.Sizes (size_numbers given) ∷ (together (parts b.script) ++ rows.End ∷ []))
+    ∙ ap (λ (given : IdSizes). rows.Head true ∷ rows.Sizes (size_numbers given)
+    ∷ (together (parts b.script) ++ rows.End ∷ []))
     (sym ordered.sizes_are)
 
 pub read_rows : (read : List Row) (now : Reading) (b : Building) → Takes beginning read now → now.building ≡ Some b →
@@ -212,12 +213,14 @@ pub printed_again : (text : List ℕ) (script : Script) → script_of text ≡ O
 unfolding script_of
 printed_again text script e =
     let stop : Stop = read_on beginning [] text in
-    let found = are_parts stop.reading.line stop.reading.building stop.fault (open_line stop.reading.building) script e in
+    let found =
+    are_parts stop.reading.line stop.reading.building stop.fault (open_line stop.reading.building) script e in
     let has = has_rows text beginning [] stop refl found.clear in
     let read_is : has.read ≡ rows_of script =
     read_rows has.read stop.reading found.inside has.taken found.is has.ended ∙ ap rows_of found.script_is in
     let again : read_on beginning [] (script_text script) ≡ stop =
     ap (λ (read : List Row). read_on beginning [] (flat_map row_text read)) (sym read_is)
     ∙ rows_again has.read beginning stop.reading has.shown has.taken
-    ∙ ap (λ (fault : Option ScriptFault). record { reading = stop.reading; fault = fault }) (has.ended ∙ sym found.clear) in
+    ∙ ap (λ (fault : Option ScriptFault). record { reading = stop.reading; fault = fault })
+    (has.ended ∙ sym found.clear) in
     ap judged again ∙ e

@@ -1,21 +1,21 @@
 -- The rows that a script was read of are the rows of the script.
-use Rattle.std.proofs.Common.{◌≡◌, ℕ, zero, suc, ◌-◌, ◌<◌, ◌≤◌, ◌==◌, Bool, true, false, not, ◌&&◌, if◌then◌else◌, nat_lt, nat_le}
-use Rattle.std.proofs.Common.{List, [], ◌∷◌, ◌++◌, map, Option, Some, None, Result, Ok, Err, refl, sym, subst, ap, ◌∙◌, arith}
+use Rattle.std.proofs.Common.{◌≡◌, ℕ, zero, suc, ◌-◌, ◌<◌, ◌≤◌, ◌==◌, Bool, true, false, not, ◌&&◌, if◌then◌else◌}
+use Rattle.std.proofs.Common.{nat_lt, nat_le}
+use Rattle.std.proofs.Common.{List, [], ◌∷◌, ◌++◌, Option, Some, None, Result, Ok, Err, refl, sym, subst, ap, ◌∙◌}
+use Rattle.std.proofs.Common.{arith}
 use Rattle.std.proofs.Common.{append_assoc, append-nil}
-use Rattle.std.proofs.lemmas.Bool.{and_parts, not-true, leb-true, ltb-true, false≢true}
+use Rattle.std.proofs.lemmas.Bool.{and_parts, not-true, leb-true, ltb-true}
 use Rattle.std.proofs.lemmas.List.{map-append}
 use Rattle.std.proofs.lemmas.Option.{none-some}
 use Rattle.jdwp_values.specs.declared.sizes.IdSizes.{IdSizes}
 use Rattle.script_rows.specs.declared.rows.Row.{Row}
 use Rattle.script_rows.specs.declared.rows.Row.TheVariants as rows
-use Rattle.script_rows.specs.declared.script.Begin.{Begin}
-use Rattle.script_rows.specs.declared.script.Script.{Script}
 use Rattle.script_text.specs.declared.log.ScriptFault.{ScriptFault}
 use Rattle.target_scripts.specs.declared.building.Building.{Building}
-use Rattle.target_scripts.specs.Adding.{with_row, in_world, made, moved_on, added, unless_faulty, grown, begun}
+use Rattle.target_scripts.specs.Adding.{in_world, made, moved_on, added, unless_faulty, grown, begun}
 use Rattle.target_scripts.specs.Judging.{rank, may_follow, row_fits, unless, id_fault, fault_of}
 use Rattle.world_model.specs.declared.world.World.{World}
-use Rattle.printed_scripts.specs.Texts.{size_numbers, begin_rows, parts, together, rows_of}
+use Rattle.printed_scripts.specs.Texts.{parts, together}
 
 -- ---- rows by their kinds
 
@@ -102,7 +102,8 @@ may_stand b row e =
     let p = unless_none (row_fits b.script.world row) _ _ e in
     let q = unless_none (not (b.last == 15)) _ _ p.1 in
     let r = unless_none (may_follow b.last (rank row)) _ (id_fault b.script row) q.1 in
-    let s = and_parts (nat_lt 1 (rank row) && nat_le b.last (rank row)) (not ((b.last == 12) && (rank row == 12))) r.0 in
+    let s =
+    and_parts (nat_lt 1 (rank row) && nat_le b.last (rank row)) (not ((b.last == 12) && (rank row == 12))) r.0 in
     let t = and_parts (nat_lt 1 (rank row)) (nat_le b.last (rank row)) s.0 in
     record {
       open_ = not-true (b.last == 15) q.0;
@@ -213,7 +214,8 @@ one_more sizes b now (rows.Frame row) read ordered add =
     (rw (map-append rows.Frame b.script.world.frames (row ∷ [])) refl) refl refl)
 one_more sizes b now (rows.Begin row) read ordered add =
     let next : Building = record b { last = 12; script = record b.script { begin = Some row } } in
-    let none = later_empty (b.last - 1) 10 (parts b.script) (omega (arith, not_twelve b.last add.may.order add.may.once))
+    let none =
+    later_empty (b.last - 1) 10 (parts b.script) (omega (arith, not_twelve b.last add.may.order add.may.once))
     ordered.behind in
     subst (λ (made : Building). IsOrdered sizes made (read ++ rows.Begin row ∷ [])) (ap (building_of now) add.is)
     (at_place 10 sizes b next (rows.Begin row) read ordered add.may.open_

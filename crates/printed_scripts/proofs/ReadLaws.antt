@@ -1,21 +1,19 @@
 -- A text is read row by row: which rows, and that their lines are read as them again.
-use Rattle.std.proofs.Common.{◌≡◌, ◌≢◌, ℕ, ◌==◌, Bool, true, false, if◌then◌else◌, List, [], ◌∷◌, ◌++◌, Option, Some, None}
-use Rattle.std.proofs.Common.{Result, Ok, Err, refl, sym, subst, ap, ◌∙◌, append_assoc, append-nil}
+use Rattle.std.proofs.Common.{◌≡◌, ◌≢◌, ℕ, ◌==◌, Bool, true, false, if◌then◌else◌, List, [], ◌∷◌, ◌++◌, Option, Some}
+use Rattle.std.proofs.Common.{None}
+use Rattle.std.proofs.Common.{Result, Ok, Err, refl, sym, ap, ◌∙◌, append_assoc, append-nil}
 use Rattle.std.specs.List.{AllByRecursion, flat_map}
 use Rattle.std.specs.Str.{is_utf8}
 use Rattle.std.proofs.lemmas.Bool.{ne_eqb}
-use Rattle.std.proofs.lemmas.Option.{none-some, same_Some}
+use Rattle.std.proofs.lemmas.Option.{none-some}
 use Rattle.std.proofs.lemmas.Str.{IsUtf8-from_is_utf8}
-use Rattle.jdwp_values.specs.declared.sizes.IdSizes.{IdSizes}
 use Rattle.serde_json.specs.Data.{Data}
 use Rattle.serde_json.specs.Read.{read}
-use Rattle.serde_json.specs.Written.{compact_text, has_float}
+use Rattle.serde_json.specs.Written.{compact_text}
 use Rattle.serde_json.proofs.Nesting.{depth-read}
 use Rattle.json_lines.proofs.AgainLaws.{is_line}
 use Rattle.json_lines.proofs.SpelledLaws.{read_spelled}
 use Rattle.script_rows.specs.declared.rows.Row.{Row}
-use Rattle.script_rows.specs.declared.rows.Row.TheVariants as rows
-use Rattle.script_rows.specs.declared.script.Script.{Script}
 use Rattle.script_rows.specs.Printing.{data_of}
 use Rattle.script_rows.specs.Rows.{row_of}
 use Rattle.script_rows.proofs.KindLaws.{printed_again}
@@ -23,9 +21,9 @@ use Rattle.script_rows.proofs.PlainLaws.{row_has_no_float}
 use Rattle.script_text.specs.declared.log.ScriptFault.{ScriptFault}
 use Rattle.script_text.specs.declared.log.ScriptFault.TheVariants.{NotUtf8, NoEnd}
 use Rattle.script_text.specs.Texts.{line_of}
-use Rattle.script_files.specs.Reading.{unless_shapeless, shaped, row_read, row_in, row_taken, said, line_taken, Stop, after}
+use Rattle.script_files.specs.Reading.{unless_shapeless, row_read, row_in, row_taken, said, line_taken, Stop, after}
 use Rattle.script_files.specs.Reading.{end_fault, finished, read_on}
-use Rattle.printed_rows.specs.Texts.{row_text}
+use Rattle.printed_scripts.specs.Texts.{row_text}
 use Rattle.printed_scripts.proofs.RowLaws.{IsFit, row_told}
 
 -- ---- a line
@@ -132,8 +130,8 @@ at_feed reading line follows stop e clear again = by_row (row_in line) refl e
     by_taken row (Ok next) is taken e = one_row reading next row stop (shown_row line row is) taken (again next e)
     by_taken row (Err kind) is taken e = absurd (no_fault reading kind stop e clear)
 
-    by_row : (found : Result Row ScriptFault) → row_in line ≡ found → after reading follows (said reading found) ≡ stop →
-        HasRows reading stop
+    by_row : (found : Result Row ScriptFault) → row_in line ≡ found →
+        after reading follows (said reading found) ≡ stop → HasRows reading stop
     by_row (Ok row) is e = by_taken row (row_taken reading row) is refl e
     by_row (Err kind) is e = absurd (no_fault reading kind stop e clear)
 
@@ -160,7 +158,8 @@ one_line reading line [] more clear =
     ap (λ (whole : List ℕ). after reading (λ next. read_on next [] more) (line_taken reading whole))
     (sym (append-nil line))
 one_line reading line (byte ∷ body) more clear =
-    ap (λ (feed : Bool). if feed then after reading (λ next. read_on next [] (body ++ 10 ∷ more)) (line_taken reading line)
+    ap (λ (feed : Bool).
+    if feed then after reading (λ next. read_on next [] (body ++ 10 ∷ more)) (line_taken reading line)
     else read_on reading (line ++ byte ∷ []) (body ++ 10 ∷ more)) (ne_eqb byte 10 clear.0)
     ∙ one_line reading (line ++ byte ∷ []) body more clear.1
     ∙ ap (λ (whole : List ℕ). after reading (λ next. read_on next [] more) (line_taken reading whole))

@@ -6,7 +6,13 @@ use Rattle.script_rows.specs.declared.rows.Row.{Row}
 use Rattle.script_rows.specs.declared.rows.Row.TheVariants as rows
 use Rattle.script_rows.specs.declared.script.Begin.{Begin}
 use Rattle.script_rows.specs.declared.script.Script.{Script}
-use Rattle.printed_rows.specs.Texts.{row_text}
+use Rattle.script_rows.specs.Printing.{data_of}
+use Rattle.script_text.specs.Texts.{line_of}
+use Rattle.world_model.specs.declared.world.World.{World}
+
+-- a row as a line: the compact text of its value, and a line feed
+abbrev pub row_text : Row → List ℕ
+row_text row = line_of (data_of row)
 
 -- how many bytes ids take: a field's, a method's, an object's, a class's and a frame's
 abbrev pub size_numbers : IdSizes → List ℕ
@@ -17,13 +23,17 @@ abbrev pub begin_rows : Option Begin → List Row
 begin_rows (Some begin) = rows.Begin begin ∷ []
 begin_rows None = []
 
+-- the rows of the world, kind by kind
+abbrev pub world_parts : World → List (List Row)
+world_parts w =
+    map rows.Class w.classes ∷ map rows.Method w.methods ∷ map rows.Variable w.variables ∷ map rows.Field w.fields
+    ∷ map rows.Object w.objects ∷ map rows.Array w.arrays ∷ map rows.Text w.strings ∷ map rows.Put w.puts
+    ∷ map rows.Thread w.threads ∷ map rows.Frame w.frames ∷ []
+
 -- the rows of each kind that stands between the sizes and the end
 abbrev pub parts : Script → List (List Row)
 parts s =
-    map rows.Class s.world.classes ∷ map rows.Method s.world.methods ∷ map rows.Variable s.world.variables
-    ∷ map rows.Field s.world.fields ∷ map rows.Object s.world.objects ∷ map rows.Array s.world.arrays
-    ∷ map rows.Text s.world.strings ∷ map rows.Put s.world.puts ∷ map rows.Thread s.world.threads
-    ∷ map rows.Frame s.world.frames ∷ begin_rows s.begin ∷ map rows.Move s.program ∷ map rows.Turn s.schedule ∷ []
+    world_parts s.world ++ begin_rows s.begin ∷ map rows.Move s.program ∷ map rows.Turn s.schedule ∷ []
 
 -- all of them, one kind behind another
 abbrev pub together : List (List Row) → List Row
