@@ -63,8 +63,8 @@ bad_lead (count limit) = bad_count
 bad_lead text = bad_count
 bad_lead p = bad_tag
 
--- Why no value of a part is spelled at the front of the bytes: it begins with a number that it may not, or too few bytes
--- are left.
+-- Why no value of a part is spelled at the front of the bytes: that number is whole and may not stand there; else too
+-- few bytes are left.
 abbrev pub cause_of : Part → List ℕ → Cause
 cause_of p bytes =
     if nat_lt (length bytes) (lead_size p) || may_lead p (lead p bytes) then short else bad_lead p
