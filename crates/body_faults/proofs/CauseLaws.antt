@@ -41,18 +41,18 @@ abbrev failed : {A : Type 0} → ValueFault → Result A ValueFault
 failed d = Err d
 
 -- which of two steps failed
-bind_err : {A B : Type 0} (r : Result A ValueFault) (f : A → Result B ValueFault) (d : ValueFault)
+pub bind_err : {A B : Type 0} (r : Result A ValueFault) (f : A → Result B ValueFault) (d : ValueFault)
     → (r >>= f) ≡ Err d → (r ≡ Err d) ⊎ ((x : A) × (r ≡ Ok x) × (f x ≡ Err d))
 bind_err (Ok x) f d e = inr (x, refl, e)
 bind_err {A} (Err c) f d e = let is : c ≡ d = cc in inl (ap (λ (q : ValueFault). failed {A = A} q) is)
 
 -- a step that only makes something of what was read doesn't fail
-made_err : {A B : Type 0} (r : Result A ValueFault) (make : A → B) (d : ValueFault)
+pub made_err : {A B : Type 0} (r : Result A ValueFault) (make : A → B) (d : ValueFault)
     → (r >>= λ x. Ok (make x)) ≡ Err d → r ≡ Err d
 made_err (Ok x) make d e = absurd cc
 made_err {A} (Err c) make d e = let is : c ≡ d = cc in ap (λ (q : ValueFault). failed {A = A} q) is
 
-as_value_err : {A : Type 0} (make : A → Value) (r : Result (A × List ℕ) ValueFault) (d : ValueFault)
+pub as_value_err : {A : Type 0} (make : A → Value) (r : Result (A × List ℕ) ValueFault) (d : ValueFault)
     → as_value make r ≡ Err d → r ≡ Err d
 as_value_err make (Ok x) d e = absurd cc
 as_value_err {A} make (Err c) d e = let is : c ≡ d = cc in ap (λ (q : ValueFault). failed {A = A × List ℕ} q) is
@@ -61,11 +61,12 @@ guard_err : {A : Type 0} (b : Bool) (c d : ValueFault) (y : A) → cond b (Err c
 guard_err true c d y e = (refl, cc)
 guard_err false c d y e = absurd cc
 
-passed_err : {A : Type 0} (b : Bool) (c d : ValueFault) (y : A) → cond b (Ok y) (Err c) ≡ Err d → (b ≡ false) × (c ≡ d)
+pub passed_err : {A : Type 0} (b : Bool) (c d : ValueFault) (y : A) → cond b (Ok y) (Err c) ≡ Err d
+    → (b ≡ false) × (c ≡ d)
 passed_err true c d y e = absurd cc
 passed_err false c d y e = (refl, cc)
 
-tagged_err : {A : Type 0} (o : Option A) (rest : List ℕ) (d : ValueFault) → tagged o rest ≡ Err d
+pub tagged_err : {A : Type 0} (o : Option A) (rest : List ℕ) (d : ValueFault) → tagged o rest ≡ Err d
     → (is_some o ≡ false) × (BadTag ≡ d)
 tagged_err (Some x) rest d e = absurd cc
 tagged_err None rest d e = (refl, cc)
@@ -76,18 +77,18 @@ tagged_some None rest x e = absurd cc
 
 -- ---- numbers
 
-bytes_err : (size : ℕ) (bytes : List ℕ) (d : ValueFault) → bytes_at size bytes ≡ Err d
+pub bytes_err : (size : ℕ) (bytes : List ℕ) (d : ValueFault) → bytes_at size bytes ≡ Err d
     → (ltb (length bytes) size ≡ true) × (Short ≡ d)
 bytes_err size bytes d e = guard_err (ltb (length bytes) size) Short d (take size bytes, drop size bytes) e
 
-unsigned_err : (size : ℕ) (bytes : List ℕ) (d : ValueFault) → unsigned_at size bytes ≡ Err d
+pub unsigned_err : (size : ℕ) (bytes : List ℕ) (d : ValueFault) → unsigned_at size bytes ≡ Err d
     → (ltb (length bytes) size ≡ true) × (Short ≡ d)
 unfolding unsigned_at
 unsigned_err size bytes d e =
     bytes_err size bytes d
     (made_err (bytes_at size bytes) (λ front. (number_from_digits 256 front.0, front.1)) d e)
 
-unsigned_ok : (size : ℕ) (bytes : List ℕ) (x : ℕ × List ℕ) → unsigned_at size bytes ≡ Ok x
+pub unsigned_ok : (size : ℕ) (bytes : List ℕ) (x : ℕ × List ℕ) → unsigned_at size bytes ≡ Ok x
     → (ltb (length bytes) size ≡ false) × (number_from_digits 256 (take size bytes) ≡ x.0)
 unfolding unsigned_at
 unsigned_ok size bytes x e =
@@ -100,9 +101,10 @@ unsigned_ok size bytes x e =
 signed_err : (w : Width) (bytes : List ℕ) (d : ValueFault) → signed_at w bytes ≡ Err d → Short ≡ d
 unfolding signed_at
 signed_err w bytes d e =
-    (unsigned_err (byte_len w) bytes d (made_err (unsigned_at (byte_len w) bytes) (λ n. (cast_signed w n.0, n.1)) d e)).1
+    (unsigned_err (byte_len w) bytes d
+    (made_err (unsigned_at (byte_len w) bytes) (λ n. (cast_signed w n.0, n.1)) d e)).1
 
-abbrev made_by : {A : Type 0} → (ℕ → A) → ℕ × List ℕ → A × List ℕ
+abbrev pub made_by : {A : Type 0} → (ℕ → A) → ℕ × List ℕ → A × List ℕ
 made_by make n = (make n.0, n.1)
 
 id_err : {A : Type 0} (make : ℕ → A) (size : ℕ) (bytes : List ℕ) (d : ValueFault)
@@ -231,7 +233,7 @@ text_cause bytes d e =
     ]
 
 -- the rest of a location
-abbrev located : IdSizes → TypeTag × List ℕ → Result (Location × List ℕ) ValueFault
+abbrev pub located : IdSizes → TypeTag × List ℕ → Result (Location × List ℕ) ValueFault
 located sizes tag = do
   class ← simple_at sizes class_id tag.1
   method ← simple_at sizes method_id class.1

@@ -1,5 +1,6 @@
 -- What is read of a body is what its layout says: both fail alike.
-use Rattle.std.proofs.Common.{◌≡◌, ℕ, zero, suc, Bool, true, false, cond, eqb, List, [], ◌∷◌, length, Option, Some, None}
+use Rattle.std.proofs.Common.{◌≡◌, ℕ, zero, suc, Bool, true, false, cond, eqb, List, [], ◌∷◌, length, Option}
+use Rattle.std.proofs.Common.{Some, None}
 use Rattle.std.proofs.Common.{Result, Ok, Err, refl, sym, ◌∙◌}
 use Rattle.jdwp_values.specs.declared.fault.RowFault.{RowFault}
 use Rattle.jdwp_values.specs.declared.fault.RowFault.TheVariants as faults
@@ -28,7 +29,8 @@ use Rattle.jdwp_commands.specs.declared.kind.QuestionKind.{QuestionKind}
 use Rattle.jdwp_commands.specs.declared.kind.QuestionKind.TheVariants as question_kinds
 use Rattle.jdwp_commands.specs.Answers.{question_answer_row, effect_answer_row, line_table, question_answer_at}
 use Rattle.jdwp_commands.specs.Answers.{effect_answer_at, answered_at}
-use Rattle.jdwp_commands.specs.Items.{Listed, threads, field_ids, values, modifiers as a_modifier, methods, fields, lines}
+use Rattle.jdwp_commands.specs.Items.{Listed, threads, field_ids, values, modifiers as a_modifier, methods}
+use Rattle.jdwp_commands.specs.Items.{fields, lines}
 use Rattle.jdwp_commands.specs.Items.{variables, class_statuses, loaded_classes, frames, slots, listed_at, Item, part}
 use Rattle.jdwp_commands.specs.Items.{many, region, policy, event_kind, item_at, FromItems, items_at}
 use Rattle.jdwp_commands.specs.Listed.{class_status_row, loaded_class_row, frame_row, slot_row}

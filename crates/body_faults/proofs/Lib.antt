@@ -3,3 +3,4 @@ pub mod CauseLaws
 pub mod FollowLaws
 pub mod WrongLaws
 pub mod FaultLaws
+pub mod ShortLaws

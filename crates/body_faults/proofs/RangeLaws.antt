@@ -1,5 +1,6 @@
 -- A part that is read stands at the front of the bytes, with numbers of its types, and what stands there is read.
-use Rattle.std.proofs.Common.{◌≡◌, ℕ, ℤ, ◌<◌, ◌≤◌, ◌^◌, List, [], ◌∷◌, ◌++◌, length, take, drop, min, Option, Some, None}
+use Rattle.std.proofs.Common.{◌≡◌, ℕ, ℤ, ◌<◌, ◌≤◌, ◌^◌, List, [], ◌∷◌, ◌++◌, length, take, drop, min, Option}
+use Rattle.std.proofs.Common.{Some, None}
 use Rattle.std.proofs.Common.{Result, Ok, Err, refl, sym, ap, subst, ◌∙◌, arith, Bool, true, false, ltb}
 use Rattle.std.specs.Prelude.{FitsSigned}
 use Rattle.std.specs.Int.{Width, w8, w16, w32, w64, byte_len, cast_signed}
@@ -127,7 +128,7 @@ location_in sizes bytes x fits e =
     let t3 = unsigned_takes 8 c.0.1 d.0 t2.0.rest_fits d.1 in
     let here : Location × List ℕ = (record { tag = a.0.0; class = b.0.0; method = c.0.0; index = d.0.0 }, d.0.1) in
     let is : here ≡ x = cc in
-    subst (λ (y : Location × List ℕ). y.0.index < 256 ^ 8) is t3.1
+    subst (λ (y : Location × List ℕ). y.0.index < 256 ^ 8) {x = here} is t3.1
 
 value_in : (sizes : IdSizes) (bytes : List ℕ) (x : Value × List ℕ) → IsBytes bytes → value_at sizes bytes ≡ Ok x
     → InRangeValue x.0
@@ -212,7 +213,8 @@ tail_read sizes x rest false is fits ends =
     tail_again x rest fits.0 (omega (arith, full, fits.1))
 
 read_again : (sizes : IdSizes) (p : Part) (x : Of p) (rest : List ℕ) → FitsPart sizes p x → InRangePart p x
-    → (length (spell_part sizes p x) < 8 → Ends p rest) → read_part sizes p (spell_part sizes p x ++ rest) ≡ Ok (x, rest)
+    → (length (spell_part sizes p x) < 8 → Ends p rest)
+    → read_part sizes p (spell_part sizes p x ++ rest) ≡ Ok (x, rest)
 read_again sizes (simple s) x rest fits range ends = part_again sizes (simple s) x rest fits range tt
 read_again sizes (count limit) x rest fits range ends = part_again sizes (count limit) x rest fits range tt
 read_again sizes text x rest fits range ends = part_again sizes text x rest fits range tt

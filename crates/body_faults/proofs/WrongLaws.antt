@@ -28,7 +28,7 @@ from size bytes = size - length bytes
 abbrev standing : IdSizes → List ℕ → List ℕ → Place
 standing sizes body bytes = record { sizes = sizes; body = body; rest = bytes }
 
-stands_long : (sizes : IdSizes) (p : Part) (bytes : List ℕ) (x : Of p) (rest : List ℕ) → Stands sizes p bytes x rest
+pub stands_long : (sizes : IdSizes) (p : Part) (bytes : List ℕ) (x : Of p) (rest : List ℕ) → Stands sizes p bytes x rest
     → length bytes ≡ length (spell_part sizes p x) + length rest
 stands_long sizes p bytes x rest s = ap length s.spelled ∙ length-append (spell_part sizes p x) rest
 

@@ -1,5 +1,5 @@
--- The first wrong part of a body, from the left: what stands before it is spelled, and no value that its place allows is
--- spelled where it begins.
+-- The first wrong part of a body, from the left: what stands before it is spelled, and no value that its place allows
+-- is spelled where it begins.
 use Rattle.std.specs.Prelude.{◌≡◌, ℕ, ◌+◌, ◌<◌, ◌^◌, Bool, true, ◌&&◌, ◌||◌, List, ◌∷◌, ◌++◌, length, take, nat_lt}
 use Rattle.std.specs.Prelude.{is_some, if◌then◌else◌}
 use Rattle.std.specs.Int.Digits.{number_from_digits}
@@ -18,8 +18,8 @@ use Rattle.jdwp_commands.specs.declared.fault.BodyFault.TheVariants as body_faul
 use Rattle.body_faults.specs.Layouts.{Cause, short, bad_count, bad_tag, bad_kind, bad_policy, trailing, Layout, ends}
 use Rattle.body_faults.specs.Layouts.{begins, refuses}
 
--- A value of the part is spelled at the front of the bytes, and the rest stands behind it. A part that takes all that is
--- left takes eight bytes at most: behind fewer there is no rest.
+-- A value of the part is spelled at the front of the bytes, and the rest stands behind it. A part that takes all that
+-- is left takes eight bytes at most: behind fewer there is no rest.
 pub record Stands (sizes : IdSizes) (p : Part) (bytes : List ℕ) (x : Of p) (rest : List ℕ) : Type 0 where
   pub fits : FitsPart sizes p x
   pub in_range : InRangePart p x
@@ -38,7 +38,7 @@ lead_size text = 4
 lead_size (untagged byte) = 0
 lead_size p = 1
 
--- that number, if the bytes have all of it
+-- that number, where the bytes have all of it
 abbrev pub lead : Part → List ℕ → ℕ
 lead p bytes = number_from_digits 256 (take (lead_size p) bytes)
 
@@ -63,8 +63,8 @@ bad_lead (count limit) = bad_count
 bad_lead text = bad_count
 bad_lead p = bad_tag
 
--- Why no value of a part is spelled at the front of the bytes: it begins with a number that it may not, or too few bytes
--- are left.
+-- Why no value of a part is spelled at the front of the bytes: that number is whole and may not stand there; else too
+-- few bytes are left.
 abbrev pub cause_of : Part → List ℕ → Cause
 cause_of p bytes =
     if nat_lt (length bytes) (lead_size p) || may_lead p (lead p bytes) then short else bad_lead p
