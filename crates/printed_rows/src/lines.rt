@@ -73,8 +73,8 @@ pub fn add_head(alloc: Global, text: &mut Blob) -> Result<(), NoMemory>
 
 /// Adds the line that says how many bytes ids take. `NoMemory` comes where memory is refused.
 pub fn add_sizes(alloc: Global, text: &mut Blob, sizes: IdSizes) -> Result<(), NoMemory>
-    ensures { OnOk result (text.new ≡ text.old
-        ++ line_of (data_of (rows.Sizes (sizes.field ∷ sizes.method ∷ sizes.object ∷ sizes.class ∷ sizes.frame ∷ [])))) }
+    ensures { OnOk result (text.new ≡ text.old ++ line_of (data_of
+        (rows.Sizes (sizes.field ∷ sizes.method ∷ sizes.object ∷ sizes.class ∷ sizes.frame ∷ [])))) }
 {
     let mut line = Elements::new(alloc);
     say_sizes(&mut line, sizes)?;

@@ -8,8 +8,8 @@ use std::alloc::Global;
 use wire_core::{Blob, NoMemory};
 use world_model::World;
 
-/// The text of a script: compact JSON, a line for each thing that it says, in the order of their kinds. `NoMemory` comes
-/// where memory is refused.
+/// The text of a script: compact JSON, a line for each thing that it says, in the order of their kinds. `NoMemory`
+/// comes where memory is refused.
 pub fn print_script(alloc: Global, script: &Script) -> Result<Blob, NoMemory>
     ensures { IfOk result (λ text. text ≡ script_text script.now) }
 {
