@@ -2,3 +2,4 @@ pub mod RowLaws
 pub mod OrderLaws
 pub mod ReadLaws
 pub mod AgainLaws
+pub mod TextLaws

@@ -2,5 +2,7 @@
 #![tactic(auto)]
 
 mod laws;
+mod print;
 
 pub use laws::a_printed_script_is_read_again;
+pub use print::print_script;

@@ -1,0 +1,63 @@
+//! Texts, tags and sides of a line.
+ghost use Rattle.std.specs.Prelude.{◌≡◌, ◌∷◌, [], IfOk};
+ghost use Rattle.serde_json.specs.View.{view};
+ghost use Rattle.jdwp_values.specs.Tags.{byte_of_tag};
+ghost use Rattle.script_rows.specs.Numbers.{text_data, text_or_null_data};
+ghost use Rattle.script_rows.specs.Values.{side_name};
+
+use jdwp_values::{Tag, lossy};
+use serde_json::{Value as Json, json};
+use std::alloc::Global;
+use wire_core::{Blob, NoMemory, Side};
+
+/// Bytes as a text.
+pub(crate) fn text_value(alloc: Global, bytes: &[u8]) -> Result<Json, NoMemory>
+    ensures { IfOk result (λ value. view value ≡ text_data bytes.now) }
+{
+    let text = lossy(alloc, bytes)?;
+    Ok(json!(in alloc; text.as_str())?)
+}
+
+/// Bytes as a text, or null where there are none.
+pub(crate) fn text_or_null_value(alloc: Global, bytes: &Option<Blob>) -> Result<Json, NoMemory>
+    ensures { IfOk result (λ value. view value ≡ text_or_null_data bytes.now) }
+{
+    match bytes {
+        Some(bytes) => text_value(alloc, bytes.as_slice()),
+        None => Ok(Json::Null),
+    }
+}
+
+/// A tag's character.
+pub(crate) fn tag_name(tag: Tag) -> &'static str
+    ensures { result.now ≡ byte_of_tag tag ∷ [] }
+{
+    match tag {
+        Tag::Byte => "B",
+        Tag::Char => "C",
+        Tag::Double => "D",
+        Tag::Float => "F",
+        Tag::Int => "I",
+        Tag::Long => "J",
+        Tag::Short => "S",
+        Tag::Boolean => "Z",
+        Tag::Void => "V",
+        Tag::Object => "L",
+        Tag::Array => "[",
+        Tag::String => "s",
+        Tag::Thread => "t",
+        Tag::ThreadGroup => "g",
+        Tag::ClassLoader => "l",
+        Tag::ClassObject => "c",
+    }
+}
+
+/// A side's name.
+pub(crate) fn side_name(side: Side) -> &'static str
+    ensures { result.now ≡ side_name side }
+{
+    match side {
+        Side::Client => "client",
+        Side::Target => "target",
+    }
+}
