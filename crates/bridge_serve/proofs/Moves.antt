@@ -163,7 +163,7 @@ sends_on old new core core' side bytes may ready out sent =
       leads = λ limits unheard turns limit.
           leads_by limits old new _ turns turns _ _ sent.log
           (sends_one limits core core' side bytes out old unheard turns may limit);
-      keeps = keeps_open sent.counts (no_wait _ _ sent.waits) sent.asked sent.stays;
+      keeps = keeps_open sent.counts (no_wait old new sent.waits) sent.asked sent.stays;
       may_tell = record {
         ready = ready;
         unspoken = ap (λ (c : CoreState). c.words) out.same ∙ may.unspoken;
@@ -242,7 +242,7 @@ breaks old new core core' side bytes may out failed = record {
       (stopped_by limits old new _ turns 0 turns _ (unsent_from core core') (link_ending side) failed.log (omega arith)
       (Cause.broken (on_before limits core core' side bytes out old unheard may limit) out.allows (out.speaks unheard)
       failed.proper) (has_broken old new core core' side bytes unheard may out failed));
-  keeps = keeps_other side failed.counts (no_wait _ _ failed.waits) failed.asked failed.closes;
+  keeps = keeps_other side failed.counts (no_wait old new failed.waits) failed.asked failed.closes;
   blames = blames_broken old new side bytes failed;
   awake = link_awake side;
 }

@@ -108,7 +108,7 @@ module _ {ending : Ending} {core core' : CoreState} {side : Side} {bytes : List 
       → sends old new side bytes → SaysOne old new core core' ending
   says_one old new caused speakable sent = record {
     leads = λ limits begin turns h. said_at limits begin old new turns ending refl caused sent h;
-    keeps = keeps_open sent.counts (no_wait _ _ sent.waits) sent.asked sent.stays;
+    keeps = keeps_open sent.counts (no_wait old new sent.waits) sent.asked sent.stays;
     speakable = speakable_on old new sent.stays speakable;
   }
 
@@ -148,7 +148,7 @@ module _ {ending : Ending} {core core' : CoreState} {side : Side} {bytes : List 
       → FallsSilent old new core ending ending
   falls_silent old new caused failed = record {
     leads = λ limits begin turns h. broken_at limits begin old new turns ending refl caused failed h;
-    keeps = keeps_other side failed.counts (no_wait _ _ failed.waits) failed.asked failed.closes;
+    keeps = keeps_other side failed.counts (no_wait old new failed.waits) failed.asked failed.closes;
   }
 
 -- all were said
