@@ -27,7 +27,7 @@ pub record Serves (addresses : Addresses) (old new : Outside) (ending : Ending) 
   pub opened : Outside
   pub connects : Connects old opened addresses.listen addresses.target
   pub session : IsSession opened new usual_limits ending
-  pub keeps : Keeps opened new
+  pub keeps : Keeps usual_limits.turns opened new
   pub blames : Blames opened new ending
   pub idles : Idles usual_limits opened new ending
 

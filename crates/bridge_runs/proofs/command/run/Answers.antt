@@ -6,7 +6,7 @@ returns-in-Ok g c = Does.serves (rw c.in-Ok-Serve.field-0-is at c.in-Ok-Serve.en
   opened = _;
   connects = c.in-Ok.ensures.ok;
   session = rw c.standard.ensures.values at c.serve.ensures.session;
-  keeps = c.serve.ensures.keeps;
+  keeps = rw c.standard.ensures.values at c.serve.ensures.keeps;
   blames = c.serve.ensures.blames;
   idles = rw c.standard.ensures.values at c.serve.ensures.idles;
 })
