@@ -12,6 +12,7 @@ if sys.version_info < (3, 8):
 import shutil
 import signal
 import subprocess
+import tempfile
 import time
 from concurrent.futures import FIRST_COMPLETED, ThreadPoolExecutor, wait
 
@@ -99,9 +100,13 @@ def prove_all(uses, lanes, log):
     left, proved, running = sorted(uses, key=work_behind(uses), reverse=True), set(), {}
     with ThreadPoolExecutor(lanes) as pool:
         while left or running:
-            for name in [it for it in left if proved.issuperset(uses[it])][:lanes - len(running)]:
+            ready = [it for it in left if proved.issuperset(uses[it])][:lanes - len(running)]
+            spare = lanes - len(running) - len(ready)
+            for name in ready:
                 left.remove(name)
-                running[pool.submit(proof_of, name)] = name
+                # Most work waits for the first, so it gets a second process, and what is left.
+                jobs = max(min(2, lanes), 1 + spare) if name == ready[0] else 1
+                running[pool.submit(proof_of, name, jobs)] = name
             for ended in wait(running, return_when=FIRST_COMPLETED).done:
                 name = running.pop(ended)
                 is_proved, said, took = ended.result()
@@ -117,15 +122,36 @@ def prove_all(uses, lanes, log):
         stop("%s wasn't proved; %s says why" % (missing[0], LOG))
 
 
-def proof_of(name):
-    """Runs rt in a crate's folder, and gives whether it is proved, what was said, and how long it took."""
+def proof_of(name, jobs):
+    """Runs rt for a crate, by so many processes. Gives whether it is proved, what was said, and how long it took.
+
+    While it runs, rt keeps others out of the folders of the crate and of all below it. So each crate is proved in a folder
+    of its own, with links to those below."""
+    start = time.monotonic()
     # The program itself is run by this, without words, and ends with status 2.
     command, due = ("run", 2) if name == "bridge_cmd" else ("lib", 0)
-    start = time.monotonic()
-    ran = subprocess.run(["rt", command, "--jobs", "1"], cwd=os.path.join(CRATES, name), stdin=subprocess.DEVNULL,
-                         stdout=subprocess.PIPE, stderr=subprocess.STDOUT, check=False)
+    with tempfile.TemporaryDirectory(prefix=".proving-", dir=TOP) as top:
+        with open(os.path.join(top, "crates.txt"), "w", encoding="utf-8") as file:
+            file.writelines("%s: %s\n" % (it, " ".join(rows()[it])) for it in uses_below(name))
+        for it in uses_below(name):
+            copy = shutil.copy2 if it == name else linked
+            shutil.copytree(os.path.join(CRATES, it), os.path.join(top, "crates", it), copy_function=copy)
+        home, out = os.path.join(top, "crates", name), os.path.join(CRATES, name, "out")
+        os.makedirs(os.path.join(home, "out"), exist_ok=True)
+        ran = subprocess.run(["rt", command, "--jobs", str(jobs)], cwd=home, stdin=subprocess.DEVNULL,
+                             stdout=subprocess.PIPE, stderr=subprocess.STDOUT, check=False)
+        shutil.rmtree(out, ignore_errors=True)
+        os.rename(os.path.join(home, "out"), out)
     said = b"== rt %s in crates/%s\n" % (command.encode(), name.encode()) + ran.stdout
     return ran.returncode == due, said, minutes(time.monotonic() - start)
+
+
+def linked(file, to):
+    """Links a file, or copies it where there are no links."""
+    try:
+        os.link(file, to)
+    except OSError:
+        shutil.copy2(file, to)
 
 
 def at_once():
@@ -149,12 +175,16 @@ def minutes(seconds):
     return "%d:%02d min" % divmod(round(seconds), 60)
 
 
+def rows():
+    """What each crate of this checkout uses, in the order of crates.txt."""
+    with open(os.path.join(TOP, "crates.txt"), encoding="utf-8") as file:
+        parts = (line.partition("#")[0].partition(":") for line in file)
+        return {crate.strip(): used.split() for crate, colon, used in parts if colon}
+
+
 def uses_below(name):
     """The crates that a crate stands on and the crate itself, each with those that it uses, which come before it."""
-    with open(os.path.join(TOP, "crates.txt"), encoding="utf-8") as file:
-        rows = (line.partition("#")[0].partition(":") for line in file)
-        uses = {crate.strip(): below.split() for crate, colon, below in rows if colon}
-    found = {}
+    uses, found = rows(), {}
 
     def add(crate):
         if crate in uses and crate not in found:

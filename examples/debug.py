@@ -6,7 +6,8 @@ runs with its own standard streams, and its words are those behind MAIN. One ses
 script, Ctrl-C too, the Java program and the bridge end with it. Its status is that of the bridge; 2 where nothing was
 started, 130 after Ctrl-C.
 
-usage: examples/debug.py [--suspend] [--port N] [--class-path PATH] [--sources FOLDER] [--program PROGRAM] MAIN [WORD..]
+usage: examples/debug.py [--suspend] [--port N] [--class-path PATH] [--sources FOLDER] [--program PROGRAM | --unproved]
+                         MAIN [WORD..]
 
   --suspend           the Java program waits before its first line, until the editor has set its breakpoints
   --port N            the port for the editor; without it a free one
@@ -14,18 +15,21 @@ usage: examples/debug.py [--suspend] [--port N] [--class-path PATH] [--sources F
                       file has its own
   --sources FOLDER    a root of sources, once or more; without it the current folder, or the root of a .java file
   --program PROGRAM   a built bridge; without it the one of this repository, which is built where it isn't yet
+  --unproved          the bridge of this repository as it stands, with no proof of it: it is compiled each time, in two
+                      to three minutes, and runs slower, with each access to memory checked
 """
 import argparse
 import contextlib
 import json
 import os
 import re
+import shutil
 import socket
 import subprocess
 import tempfile
 import time
 
-from building import PATIENCE, PROGRAM, plainly, program_of, stop
+from building import CRATES, PATIENCE, PROGRAM, plainly, program_of, stop
 from java_machine import AGENT, tool
 from over_tcp import free_port
 
@@ -35,6 +39,10 @@ LEAVE = 5
 # status of a bridge that didn't reach its target.
 SETTLE = 3
 NOT_OPENED = 7
+# What runs the bridge unproved, for a day, in the folder of its crate; and how long it may take to compile it.
+UNPROVED = ["rt", "try", "--seconds", "86400", "--"]
+HOME = os.path.join(CRATES, "bridge_cmd")
+COMPILED = 900
 PACKAGE = re.compile(r"^\s*package\s+([\w.]+)\s*;", re.MULTILINE)
 
 
@@ -45,7 +53,9 @@ def options():
     words.add_argument("--port", type=port_number)
     words.add_argument("--class-path")
     words.add_argument("--sources", action="append")
-    words.add_argument("--program")
+    bridge = words.add_mutually_exclusive_group()
+    bridge.add_argument("--program")
+    bridge.add_argument("--unproved", action="store_true")
     words.add_argument("main", metavar="MAIN")
     words.add_argument("words", nargs=argparse.REMAINDER).required = False
     return words.parse_args()
@@ -110,9 +120,20 @@ def started(main, words, class_path, suspend, port):
     return subprocess.Popen([*java, main, *words])
 
 
-def is_opened(bridge, port):
+def bridge_command(chosen):
+    """What runs the bridge, and how long it may take to listen."""
+    if chosen.unproved:
+        if not shutil.which("rt"):
+            stop("there is no command rt in the path: README.md says under Set up what the Rattle kit is")
+        print("The bridge is compiled, unproved: this takes two to three minutes", flush=True)
+        return UNPROVED, COMPILED
+    named = chosen.program or (PROGRAM if os.path.isfile(PROGRAM) else None)
+    return [program_of([named] if named else [])], SETTLE
+
+
+def is_opened(bridge, port, patience):
     """Whether the bridge reached its target, which it dials before it listens; where it didn't, it ends at once."""
-    until = time.monotonic() + SETTLE
+    until = time.monotonic() + patience
     while bridge.poll() is None and time.monotonic() < until:
         try:
             socket.create_connection(("127.0.0.1", port), PATIENCE).close()
@@ -123,13 +144,13 @@ def is_opened(bridge, port):
     return bridge.poll() != NOT_OPENED
 
 
-def bridged(program, port, target, java):
+def bridged(command, patience, port, target, java):
     """The bridge, once it listens at the port. It is started again until the Java machine listens, too."""
-    words = [program, "serve", "--listen", "127.0.0.1:%d" % port, "--target", "127.0.0.1:%d" % target]
+    words = [*command, "serve", "--listen", "127.0.0.1:%d" % port, "--target", "127.0.0.1:%d" % target]
     until = time.monotonic() + PATIENCE
     while True:
-        bridge = subprocess.Popen(words, stdout=subprocess.PIPE, text=True)
-        if is_opened(bridge, port):
+        bridge = subprocess.Popen(words, stdout=subprocess.PIPE, text=True, cwd=HOME)
+        if is_opened(bridge, port, patience):
             return bridge
         said = bridge.communicate()[0].strip()
         if java.poll() is not None:
@@ -170,8 +191,7 @@ def run(chosen, folder, running):
     """Starts all that is asked for, and gives the bridge's status at its end."""
     main, roots, class_path = chosen.main, chosen.sources, chosen.class_path
     port = checked_port(chosen.port)
-    named = chosen.program or (PROGRAM if os.path.isfile(PROGRAM) else None)
-    program = program_of([named] if named else [])
+    command, patience = bridge_command(chosen)
     if main.endswith(".java"):
         name, root = read_source(main)
         compiled(main, root, folder, class_path)
@@ -180,7 +200,7 @@ def run(chosen, folder, running):
     target = free_port()
     java = started(main, chosen.words, class_path or ".", chosen.suspend, target)
     running.callback(end, java)
-    bridge = bridged(program, port, target, java)
+    bridge = bridged(command, patience, port, target, java)
     running.callback(end, bridge)
     print("Java program: %s, process %d%s" % (main, java.pid, ", waits for its debugger" if chosen.suspend else ""))
     print("Editor: attach to the debug adapter at 127.0.0.1, port %d, with the arguments" % port)

@@ -15,7 +15,7 @@ use Rattle.machine_model.specs.Plans.{Found, asks_for, found_at, found_from, que
 use Rattle.machine_model.specs.Replying.{fails_by, filled, is_failed, is_waiting, waits_for}
 use Rattle.machine_model.specs.State.{has_waiting, is_none, is_some}
 use Rattle.machine_model.proofs.KeyLaws.{is_one, same_back}
-use Rattle.look_ups.specs.Asking.{sent_of, waiting_in, want_of}
+use Rattle.look_ups.specs.Asking.{reply_in, sent_of, waiting_in, want_of}
 use Rattle.look_ups.specs.declared.asked.Reason.{Reason}
 use Rattle.look_ups.specs.declared.asked.Reason.TheVariants as reasons
 use Rattle.look_ups.specs.declared.asked.Tried.{Tried}
@@ -88,6 +88,32 @@ pub found_none : (entries : Entries) (question : Question) → lookup (same_ques
 found_none entries question is =
     found_is 0 entries question
     ∙ ap (found_by (0 + position_or_len (same_question question) (keys_of entries))) is
+
+-- the reply that is found is that of the question's entry
+reply_at : (place : ℕ) (reply : Option Replied) → reply_in (found_at place reply) ≡ reply
+reply_at place None = refl
+reply_at place (Some replied) = refl
+
+pub replied_there : (entries : Entries) (question : Question) (tried : Tried)
+    → lookup (same_question question) entries ≡ Some tried
+    → reply_in (found_from 0 (map sent_of entries) question) ≡ tried.reply
+replied_there entries question tried is =
+    ap reply_in (found_is 0 entries question ∙ ap (found_by there) is) ∙ reply_at there tried.reply
+  where
+    there : ℕ
+    there = 0 + position_or_len (same_question question) (keys_of entries)
+
+pub replied_none : (entries : Entries) (question : Question) → lookup (same_question question) entries ≡ None
+    → reply_in (found_from 0 (map sent_of entries) question) ≡ None
+replied_none entries question is = ap reply_in (found_none entries question is)
+
+-- an entry that asks this is its entry
+pub replied_here : (entries : Entries) (question key : Question) (tried : Tried)
+    → same_question question key ≡ true → lookup (same_question key) entries ≡ Some tried
+    → reply_in (found_from 0 (map sent_of entries) question) ≡ tried.reply
+replied_here entries question key tried same is =
+    replied_there entries question tried
+    (subst (λ q. lookup (same_question q) entries ≡ Some tried) (sym (is_one question key same)) is)
 
 -- a question that isn't in the list isn't in the map
 pub not_asked : (entries : Entries) (question : Question) → was_asked question (map sent_of entries) ≡ false

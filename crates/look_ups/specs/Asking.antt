@@ -20,6 +20,11 @@ want_of reasons.Fact question = Want.Fact question
 abbrev pub found_of : ℕ → Replied → Found
 found_of place replied = record { place = place; replied = replied }
 
+-- the reply that was found
+abbrev pub reply_in : Option Found → Option Replied
+reply_in None = None
+reply_in (Some found) = Some found.replied
+
 -- the first want of a question that has no reply
 abbrev pub waiting_in : Question → List Sent → Option Want
 waiting_in question [] = None

@@ -1,17 +1,20 @@
 //! What was asked for an item, found by its question.
-ghost use Rattle.std.specs.Prelude.{◌≡◌, ◌∷◌, ◌++◌, [], None, false, IfOk, OnErr, OnOk, option_map};
+ghost use Rattle.std.specs.Prelude.{◌≡◌, ◌∷◌, ◌++◌, [], None, false, IfOk, OnErr, OnOk, option_copied, option_map};
 ghost use Rattle.std.specs.List.{flat_map};
 ghost use Rattle.jdwp_commands.specs.declared.question.Question.{Question as AQuestion};
+ghost use Rattle.jdwp_commands.specs.declared.question.Question.TheVariants as questions;
 ghost use Rattle.machine_model.specs.Asking.{was_asked};
+ghost use Rattle.machine_model.specs.Keys.{same_question};
 ghost use Rattle.machine_model.specs.Plans.{found_from};
 ghost use Rattle.machine_model.specs.Replying.{fails_by, filled, is_failed, is_waiting, unanswered};
 ghost use Rattle.machine_model.specs.State.{has_waiting};
-ghost use Rattle.look_ups.specs.Asking.{found_of, sent_of, waiting_in, want_of};
+ghost use Rattle.look_ups.specs.Asking.{found_of, reply_in, sent_of, waiting_in, want_of};
 
 use crate::copies::question_copy;
 use crate::question_key::QuestionKey;
 use indexmap::IndexMap;
-use jdwp_commands::Replied;
+use jdwp_commands::{Question, Replied};
+use jdwp_values::ThreadId;
 use machine_model::TargetCommand;
 use std::alloc::Global;
 use std::collections::VecDeque;
@@ -97,6 +100,39 @@ impl Asked {
         }
     }
 
+    /// The reply to the question for a thread's name. The question is looked for at this place in the order of sending,
+    /// and elsewhere only where it isn't there; the result is the same for any place. `NoMemory` comes where memory is
+    /// refused (JDWP, ThreadReference command set, Name).
+    #[tactic(auto, using(crate::proofs::AskedLemmas::replied_none, crate::proofs::AskedLemmas::replied_here))]
+    pub fn name_reply(
+        &self,
+        alloc: Global,
+        thread: ThreadId,
+        place: usize,
+    ) -> Result<Option<&Replied>, NoMemory>
+        ensures { IfOk result (λ reply. option_copied reply
+            ≡ reply_in (found_from 0 self.now (questions.ThreadName thread))) }
+    {
+        if let Some((key, tried)) = self.entries.get_index(place) {
+            if asks_name(key.question(), thread) {
+                return Ok(tried.reply.as_ref());
+            }
+        }
+        let key = QuestionKey::new(alloc, Question::ThreadName(thread))?;
+        Ok(self.reply(&key))
+    }
+
+    // The reply to a question.
+    #[tactic(auto, using(crate::proofs::AskedLemmas::replied_none, crate::proofs::AskedLemmas::replied_there))]
+    fn reply(&self, key: &QuestionKey) -> Option<&Replied>
+        ensures { option_copied result ≡ reply_in (found_from 0 self.now key.now) }
+    {
+        match self.entries.get(key) {
+            None => None,
+            Some(tried) => tried.reply.as_ref(),
+        }
+    }
+
     // Why a question was asked that has no reply.
     #[tactic(auto, using(crate::proofs::AskedLemmas::waiting_none))]
     fn waiting(&self, key: &QuestionKey) -> Option<Reason>
@@ -173,6 +209,16 @@ impl Asked {
                 Ok(())
             }
         }
+    }
+}
+
+// Whether a question asks for the name of this thread.
+fn asks_name(question: &Question, thread: ThreadId) -> bool
+    ensures { result ≡ same_question (questions.ThreadName thread) question.now }
+{
+    match question {
+        Question::ThreadName(other) => thread == *other,
+        _ => false,
     }
 }
 

@@ -11,8 +11,9 @@ use Rattle.machine_model.specs.declared.acts.Sent.{Sent}
 use Rattle.machine_model.specs.declared.acts.Want.{Want}
 use Rattle.machine_model.specs.declared.parts.Finding.TheVariants.{Threads as threads_found}
 use Rattle.machine_model.proofs.PlanIds.{need_made}
-use Rattle.talk_look_ups.specs.Planning.{lacking_name, lacks_or, name_known, name_question, named_thread, reply_in}
-use Rattle.talk_look_ups.specs.Planning.{sight_in, unless_found}
+use Rattle.look_ups.specs.Asking.{reply_in}
+use Rattle.talk_look_ups.specs.Planning.{lacking_name, lacks_or, name_known, name_question, named_thread, sight_in}
+use Rattle.talk_look_ups.specs.Planning.{unless_replied}
 
 -- Plans side by side --------------------------------------------------------------------------------------------------
 
@@ -70,7 +71,8 @@ name_need sight thread = by_found (found_from 0 sight.asked (name_question threa
   where
     by_found : (found : Option Found)
         → after (may_hear (name_question thread) found) (λ heard. has (named_by thread heard))
-        ≡ lacks_or (unless_found found (Want.May (name_question thread))) (named_thread thread (reply_in found))
+        ≡ lacks_or (unless_replied (reply_in found) (Want.May (name_question thread)))
+        (named_thread thread (reply_in found))
     by_found None = refl
     by_found (Some found) = refl
 

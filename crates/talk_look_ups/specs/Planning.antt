@@ -11,7 +11,8 @@ use Rattle.machine_model.specs.declared.acts.Sent.{Sent}
 use Rattle.jdwp_values.specs.declared.id.ThreadId.{ThreadId}
 use Rattle.machine_model.specs.declared.acts.Want.{Want}
 use Rattle.machine_model.specs.Plans as needs
-use Rattle.machine_model.specs.Plans.{Found, Sight, answer_in, found_from}
+use Rattle.look_ups.specs.Asking.{reply_in}
+use Rattle.machine_model.specs.Plans.{Sight, answer_in, found_from}
 use Rattle.machine_model.specs.State.{State}
 use Rattle.talk_look_ups.specs.declared.need.Need.{Need}
 use Rattle.talk_look_ups.specs.declared.need.Need.TheVariants.{Has, Fails, Lacks}
@@ -34,22 +35,21 @@ abbrev pub named_thread : ThreadId → Option Replied → List NamedThread
 named_thread thread None = []
 named_thread thread (Some replied) = named_by thread (answer_in replied)
 
-abbrev pub reply_in : Option Found → Option Replied
-reply_in None = None
-reply_in (Some found) = Some found.replied
+abbrev pub unless_replied : Option Replied → Want → List Want
+unless_replied None want = want ∷ []
+unless_replied (Some replied) want = []
 
-abbrev pub unless_found : Option Found → Want → List Want
-unless_found None want = want ∷ []
-unless_found (Some found) want = []
+-- the reply to the question for a thread's name
+abbrev pub name_reply : List Sent → ThreadId → Option Replied
+name_reply asked thread = reply_in (found_from 0 asked (name_question thread))
 
 -- the name of a thread, where it has no reply
 abbrev pub lacking_name : List Sent → ThreadId → List Want
-lacking_name asked thread =
-    unless_found (found_from 0 asked (name_question thread)) (Want.May (name_question thread))
+lacking_name asked thread = unless_replied (name_reply asked thread) (Want.May (name_question thread))
 
 -- the thread with its name, where it has one
 abbrev pub name_known : List Sent → ThreadId → List NamedThread
-name_known asked thread = named_thread thread (reply_in (found_from 0 asked (name_question thread)))
+name_known asked thread = named_thread thread (name_reply asked thread)
 
 -- what is found, or these are lacking
 abbrev pub lacks_or : {A : Type 0} → List Want → A → needs.Need A

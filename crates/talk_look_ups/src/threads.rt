@@ -1,9 +1,9 @@
 //! What the look-up of threads comes to.
-ghost use Rattle.std.specs.Prelude.{◌≡◌, ◌++◌, IfOk, OnOk, option_map};
+ghost use Rattle.std.specs.Prelude.{◌≡◌, ◌++◌, IfOk, OnOk, option_copied};
 ghost use Rattle.std.specs.List.{flat_map};
 ghost use Rattle.machine_model.specs.Lookups.{names_plan, threads_plan};
 ghost use Rattle.machine_model.specs.Plans.{need};
-ghost use Rattle.talk_look_ups.specs.Planning.{lacking_name, name_known, name_question, named_thread, need_of, sight_in};
+ghost use Rattle.talk_look_ups.specs.Planning.{lacking_name, name_known, named_thread, need_of, sight_in};
 
 use crate::need::{Need, lacks};
 use jdwp_commands::{Answer, Question, Replied};
@@ -15,25 +15,21 @@ use std::collections::VecDeque;
 use talk_state::State;
 use wire_core::{Blob, List, NoMemory};
 
-fn name_key(alloc: Global, thread: ThreadId) -> Result<QuestionKey, NoMemory>
-    ensures { IfOk result (λ key. key ≡ name_question thread) }
-{
-    QuestionKey::new(alloc, Question::ThreadName(thread))
-}
-
-// The names that have no reply.
+// The names that have no reply. They are asked for in order, behind the list of threads, which was at this place.
 fn lacking_names(
     alloc: Global,
     asked: &Asked,
+    list: usize,
     threads: &[ThreadId],
 ) -> Result<VecDeque<Want>, NoMemory>
     ensures { IfOk result (λ wants. wants.items ≡ flat_map (lacking_name asked.now) threads.now) }
 {
     let mut wants = VecDeque::new(alloc);
+    let mut place = list;
     for thread in threads {
-        let key = name_key(alloc, *thread)?;
-        if asked.find(&key).is_none() {
-            wants.push_back(Want::May(key.into_question()))?;
+        place = place.wrapping_add(1);
+        if asked.name_reply(alloc, *thread, place)?.is_none() {
+            wants.push_back(Want::May(Question::ThreadName(*thread)))?;
         }
     }
     Ok(wants)
@@ -44,12 +40,12 @@ fn add_named(
     alloc: Global,
     named: &mut List<NamedThread>,
     thread: ThreadId,
-    found: Option<(usize, &Replied)>,
+    reply: Option<&Replied>,
 ) -> Result<(), NoMemory>
-    ensures { OnOk result (named.new ≡ named.old ++ named_thread thread (option_map (λ p. p.1.now) found.entry)) }
+    ensures { OnOk result (named.new ≡ named.old ++ named_thread thread (option_copied reply.entry)) }
 {
-    match found {
-        Some((_, Replied::Answer(Answer::ThreadName(name)))) => named.push(NamedThread {
+    match reply {
+        Some(Replied::Answer(Answer::ThreadName(name))) => named.push(NamedThread {
             thread,
             name: Blob::from_slice(alloc, name.as_slice())?,
         }),
@@ -60,14 +56,17 @@ fn add_named(
 fn names_known(
     alloc: Global,
     asked: &Asked,
+    list: usize,
     threads: &[ThreadId],
 ) -> Result<List<NamedThread>, NoMemory>
     ensures { IfOk result (λ named. named ≡ flat_map (name_known asked.now) threads.now) }
 {
     let mut named = List::new(alloc);
+    let mut place = list;
     for thread in threads {
-        let key = name_key(alloc, *thread)?;
-        add_named(alloc, &mut named, *thread, asked.find(&key))?;
+        place = place.wrapping_add(1);
+        let reply = asked.name_reply(alloc, *thread, place)?;
+        add_named(alloc, &mut named, *thread, reply)?;
     }
     Ok(named)
 }
@@ -77,13 +76,14 @@ fn names_need(
     alloc: Global,
     state: &State,
     asked: &Asked,
+    list: usize,
     threads: &[ThreadId],
 ) -> Result<Need, NoMemory>
     ensures { IfOk result (λ found. need_of found ≡ need (sight_in state.now asked.now) (names_plan threads.now)) }
 {
-    match lacks(lacking_names(alloc, asked, threads)?) {
+    match lacks(lacking_names(alloc, asked, list, threads)?) {
         Some(found) => Ok(found),
-        None => Ok(Need::Has(Finding::Threads(names_known(alloc, asked, threads)?))),
+        None => Ok(Need::Has(Finding::Threads(names_known(alloc, asked, list, threads)?))),
     }
 }
 
@@ -100,9 +100,9 @@ pub fn threads_need(alloc: Global, state: &State, asked: &Asked) -> Result<Need,
             others: VecDeque::new(alloc),
         }),
         Some((place, Replied::Error(code))) => Ok(Need::Fails { place, code: *code }),
-        Some((_, Replied::Answer(Answer::AllThreads(threads)))) => {
-            names_need(alloc, state, asked, threads.as_slice())
+        Some((place, Replied::Answer(Answer::AllThreads(threads)))) => {
+            names_need(alloc, state, asked, place, threads.as_slice())
         }
-        Some((_, Replied::Answer(_))) => names_need(alloc, state, asked, &[]),
+        Some((place, Replied::Answer(_))) => names_need(alloc, state, asked, place, &[]),
     }
 }
