@@ -140,8 +140,8 @@ def proof_of(name, jobs):
         os.makedirs(os.path.join(home, "out"), exist_ok=True)
         ran = subprocess.run(["rt", command, "--jobs", str(jobs)], cwd=home, stdin=subprocess.DEVNULL,
                              stdout=subprocess.PIPE, stderr=subprocess.STDOUT, check=False)
-        if command == "lib":
-            # What is kept there for the next check of the crate takes more disk than its library.
+        if command == "lib" and not os.path.isdir(os.path.join(out, "incremental")):
+            # What is kept for the next check of a crate takes more disk than its library: it stays where it was before.
             shutil.rmtree(os.path.join(home, "out", "incremental"), ignore_errors=True)
         shutil.rmtree(out, ignore_errors=True)
         os.rename(os.path.join(home, "out"), out)

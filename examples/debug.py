@@ -16,7 +16,7 @@ usage: examples/debug.py [--suspend] [--port N] [--class-path PATH] [--sources F
   --sources FOLDER    a root of sources, once or more; without it the current folder, or the root of a .java file
   --program PROGRAM   a built bridge; without it the one of this repository, which is built where it isn't yet
   --unproved          the bridge of this repository as it stands, with no proof of it: it is compiled each time, in two
-                      to three minutes, and runs slower, with each access to memory checked
+                      to three minutes, and each access to memory is checked
 """
 import argparse
 import contextlib
