@@ -86,7 +86,7 @@ def built():
         stop("there is no command rt in the path: README.md says under Set up what the Rattle kit is")
     uses, lanes = uses_below("bridge_cmd"), at_once()
     print("Proving and building the program: %d crates, one line each, up to %d at once." % (len(uses), lanes))
-    print("From nothing this takes an hour or more on four processors; later only what changed is proved again.")
+    print("From nothing this takes an hour and a half on four processors; later only what changed is proved again.")
     print("What the prover says goes to %s" % LOG, flush=True)
     start = time.monotonic()
     with open(LOG, "wb") as log:
