@@ -4,7 +4,8 @@
 Emacs stops examples/shop/Orders.java at a line, shows its variables, sets one, steps, goes on to a second breakpoint,
 sets a field there, and lets the program end (editors/batch-session.el). The status is 0 where it shows what is due and
 the Java program prints what is due. dap-mode closes its link where the end is told, and sends no `disconnect`: the
-bridge says `ended 1 left`. Where there is no JDK, or no Emacs with dap-mode, it says `skipped`.
+bridge says `ended 1 left`, or `ended 5 client link` where Emacs hadn't read all by then. Where there is no JDK, or no
+Emacs with dap-mode, it says `skipped`.
 
 usage: examples/emacs.py [PROGRAM]
 """
@@ -23,7 +24,8 @@ SESSION = os.path.join(TOP, "editors", "batch-session.el")
 LONGEST = 120
 # What the Java program prints: its door is closed before it naps.
 SAID = [line.replace("some naps", "no nap") for line in PRINTED]
-ENDED = ["Java program: ended with status 0", "Session: ended 1 left"]
+# How both end: the session ends as a link does that is closed, with all that was sent read or not.
+ENDED = [["Java program: ended with status 0", "Session: ended %s" % how] for how in ("1 left", "5 client link")]
 
 
 def has_dap_mode():
@@ -79,7 +81,7 @@ def main():
     print("\n".join(lines + rows))
     compared = [line for line in lines if not line.startswith(("Locals: ", "threads: ", "evaluated: this "))]
     names = [name for line in lines if line.startswith("threads: ") for name in line[len("threads: "):].split(", ")]
-    kept = compared == due() and "main" in names and rows[:-2] == SAID and sorted(rows[-2:]) == ENDED
+    kept = compared == due() and "main" in names and rows[:-2] == SAID and sorted(rows[-2:]) in ENDED
     print("emacs", "kept" if kept else "BROKEN")
     return 0 if kept else 1
 
