@@ -12,7 +12,8 @@ use session_model::Ending;
 use std::alloc::Global;
 use std::collections::VecDeque;
 use std::marker::Model;
-use talk_plans::{Talk, response_to};
+use talk_bodies::response_to;
+use talk_plans::Talk;
 use talk_state::State;
 use wire_core::NoMemory;
 

@@ -1,8 +1,6 @@
 //! What a session does for one item: the talk about the item in hand.
 #![tactic(auto)]
 
-mod bodies;
-mod choices;
 mod laws;
 mod next;
 mod plans;
@@ -10,7 +8,6 @@ mod replies;
 mod talk;
 mod values;
 
-pub use bodies::response_to;
 pub use laws::{a_composite_is_read_first, the_next_item_is_due, what_a_talk_has_next_is_due};
 pub use next::Next;
 pub use talk::Talk;

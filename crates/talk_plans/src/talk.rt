@@ -10,8 +10,6 @@ ghost use Rattle.machine_model.specs.declared.parts.Part.TheVariants as parts;
 ghost use Rattle.machine_model.specs.declared.parts.Guard.TheVariants.{Handshake as handshake, IdSizes as id_sizes};
 ghost use Rattle.talk_plans.specs.declared.next.Next.{Next as ANext};
 
-use crate::bodies::{event_told, outcome_told, response_to};
-use crate::choices::chosen;
 use crate::next::Next;
 use crate::plans::found_for;
 use dap_messages::Told;
@@ -21,6 +19,7 @@ use session_facts::{effect_copy, effect_due};
 use std::alloc::Global;
 use std::collections::VecDeque;
 use std::marker::Model;
+use talk_bodies::{chosen, event_told, outcome_told, response_to};
 use talk_look_ups::{Asking, Need};
 use talk_rows::{found_parts, parts_of, refused_parts};
 use talk_state::State;
