@@ -1,8 +1,8 @@
 -- The bodies of responses that succeed. (DAP specification, Base Protocol, Response, `body`)
-use Rattle.std.specs.Prelude.{ℕ, List, [], ◌∷◌, ◌++◌, map, true, false, codes, Option, Some, None, option_map}
+use Rattle.std.specs.Prelude.{ℕ, List, [], ◌∷◌, ◌++◌, map, true, false, codes, Option, Some, None, is_none, option_map}
 use Rattle.serde_json.specs.Data.{Data, string, boolean, array}
 use Rattle.serde_json.specs.View.{items_of}
-use Rattle.dap_messages.specs.Objects.{count, integer, object_of}
+use Rattle.dap_messages.specs.Objects.{count, integer, maybe_member, object_of}
 use Rattle.dap_messages.specs.declared.told.Shape.{Shape}
 use Rattle.dap_messages.specs.declared.told.Shape.TheVariants.{Nothing, Capabilities, Breakpoints, Threads, Continued}
 use Rattle.dap_messages.specs.declared.told.Shape.TheVariants.{StackFrames, Scopes, Variables, ExceptionInfo}
@@ -52,13 +52,13 @@ reason_of NotBoundYet = Some (codes "not bound yet")
 
 -- the members that say how a breakpoint stands (DAP specification, Types, Breakpoint, `message` and `verified`)
 abbrev pub standing_members : Option (List ℕ) → List (List ℕ × Data)
-standing_members None = (codes "verified", boolean true) ∷ []
-standing_members (Some reason) = (codes "message", string reason) ∷ (codes "verified", boolean false) ∷ []
+standing_members reason =
+    maybe_member (codes "message") (option_map string reason)
+    ++ (codes "verified", boolean (is_none reason)) ∷ []
 
 -- the member `line`, which only a breakpoint of a source has (DAP specification, Types, Breakpoint, `line`)
 abbrev pub line_member : Option ℕ → List (List ℕ × Data)
-line_member None = []
-line_member (Some line) = (codes "line", count line) ∷ []
+line_member line = maybe_member (codes "line") (option_map count line)
 
 -- a breakpoint of this number and line, verified where nothing is said against it
 abbrev pub standing_data : ℕ → Option ℕ → Option (List ℕ) → Data
@@ -89,8 +89,7 @@ source_data source = object_of ((codes "name", string source.name) ∷ (codes "p
 
 -- the member `source`, which is left out where no source is known (DAP specification, Types, StackFrame, `source`)
 abbrev pub source_member : Option Data → List (List ℕ × Data)
-source_member None = []
-source_member (Some source) = (codes "source", source) ∷ []
+source_member source = maybe_member (codes "source") source
 
 -- a frame with this source (DAP specification, Types, StackFrame)
 abbrev pub located_data : StackFrame → Option Data → Data
@@ -124,13 +123,11 @@ scopes_data reference = object_of ((codes "scopes", array (items_of (scope_data 
 
 -- the member `indexedVariables`, where there are such ones (DAP specification, Types, Variable, `indexedVariables`)
 abbrev pub indexed_member : Option ℕ → List (List ℕ × Data)
-indexed_member None = []
-indexed_member (Some indexed) = (codes "indexedVariables", count indexed) ∷ []
+indexed_member indexed = maybe_member (codes "indexedVariables") (option_map count indexed)
 
 -- the member `type`, where the type is shown (DAP specification, Types, Variable, `type`)
 abbrev pub type_member : Option (List ℕ) → List (List ℕ × Data)
-type_member None = []
-type_member (Some kind) = (codes "type", string kind) ∷ []
+type_member kind = maybe_member (codes "type") (option_map string kind)
 
 -- a variable with this many children that have an index, and with this type (DAP specification, Types, Variable)
 abbrev pub child_data : Variable → Option ℕ → Option (List ℕ) → Data

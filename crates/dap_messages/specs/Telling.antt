@@ -1,8 +1,8 @@
 -- The JSON of a told message. (DAP specification, Base Protocol, Response, ErrorResponse and Event)
-use Rattle.std.specs.Prelude.{ℕ, List, [], ◌∷◌, ◌++◌, true, false, codes, Option, Some, None}
+use Rattle.std.specs.Prelude.{ℕ, List, [], ◌∷◌, ◌++◌, true, false, codes, Option}
 use Rattle.serde_json.specs.Data.{Data, string, boolean}
 use Rattle.serde_json.specs.Written.{compact_text}
-use Rattle.dap_messages.specs.Objects.{count, object_of}
+use Rattle.dap_messages.specs.Objects.{body_member, count, object_of}
 use Rattle.dap_messages.specs.Bodies.{shape_data}
 use Rattle.dap_messages.specs.Events.{event_data}
 use Rattle.dap_messages.specs.Failures.{error_data, message_of}
@@ -16,11 +16,6 @@ use Rattle.dap_messages.specs.declared.told.Response.{Response}
 use Rattle.dap_messages.specs.declared.told.Outcome.{Outcome}
 use Rattle.dap_messages.specs.declared.told.Outcome.TheVariants.{Success, Failure as Failed}
 use Rattle.dap_messages.specs.declared.told.Failure.{Failure}
-
--- the member `body`, which stands before all others of a message
-abbrev pub body_member : Option Data → List (List ℕ × Data)
-body_member None = []
-body_member (Some body) = (codes "body", body) ∷ []
 
 -- a response that succeeds (DAP specification, Base Protocol, Response)
 abbrev pub answer_data : ℕ → ℕ → List ℕ → Option Data → Data

@@ -1,14 +1,16 @@
-ghost use Rattle.std.specs.Prelude.{◌≡◌, Some, None, IfOk, option_map};
-ghost use Rattle.serde_json.specs.View.{view};
+ghost use Rattle.std.specs.Prelude.{◌≡◌, IfOk, option_map};
+ghost use Rattle.serde_json.specs.Data.{array};
+ghost use Rattle.serde_json.specs.View.{items_view, view};
 ghost use Rattle.dap_messages.specs.Bodies.{breakpoint_data, breakpoints_data, capabilities_data, continued_data};
-ghost use Rattle.dap_messages.specs.Bodies.{exception_info_data, filters_data, mode_name, reason_of, shape_data};
-ghost use Rattle.dap_messages.specs.Bodies.{standing_data, thread_data, threads_data};
+ghost use Rattle.dap_messages.specs.Bodies.{exception_info_data, filter_data, filters_data, mode_name, reason_of, shape_data};
+ghost use Rattle.dap_messages.specs.Bodies.{thread_data, threads_data};
 
 use crate::frame_bodies::{scopes_value, stack_frames_value};
+use crate::objects::{Member, object};
 use crate::told::{BreakMode, Breakpoint, BreakpointStatus, Shape, Thread};
 use crate::value_bodies::{evaluated_value, written_value};
 use crate::variable_bodies::variables_value;
-use serde_json::{Value, json};
+use serde_json::Value;
 use std::alloc::{AllocError, Global};
 
 /// The body of a response, where there is one.
@@ -40,24 +42,34 @@ fn capabilities_value(alloc: Global) -> Result<Value, AllocError>
     ensures { IfOk result (λ value. view value ≡ capabilities_data) }
 {
     let filters = filters_value(alloc)?;
-    json!(in alloc; {
-        "exceptionBreakpointFilters": filters,
-        "supportTerminateDebuggee": true,
-        "supportsConfigurationDoneRequest": true,
-        "supportsEvaluateForHovers": true,
-        "supportsExceptionInfoRequest": true,
-        "supportsFunctionBreakpoints": true,
-        "supportsSetVariable": true
-    })
+    let members = vec![in alloc;
+        ("exceptionBreakpointFilters", Member::Items(filters)),
+        ("supportTerminateDebuggee", Member::Flag(true)),
+        ("supportsConfigurationDoneRequest", Member::Flag(true)),
+        ("supportsEvaluateForHovers", Member::Flag(true)),
+        ("supportsExceptionInfoRequest", Member::Flag(true)),
+        ("supportsFunctionBreakpoints", Member::Flag(true)),
+        ("supportsSetVariable", Member::Flag(true)),
+    ]?;
+    object(alloc, members)
 }
 
-fn filters_value(alloc: Global) -> Result<Value, AllocError>
-    ensures { IfOk result (λ value. view value ≡ filters_data) }
+fn filters_value(alloc: Global) -> Result<Vec<Value>, AllocError>
+    ensures { IfOk result (λ filters. array (items_view filters.items) ≡ filters_data) }
 {
-    json!(in alloc; [
-        {"filter": "caught", "label": "Caught exceptions"},
-        {"filter": "uncaught", "label": "Uncaught exceptions"}
-    ])
+    let caught = filter_value(alloc, "caught", "Caught exceptions")?;
+    let uncaught = filter_value(alloc, "uncaught", "Uncaught exceptions")?;
+    Ok(vec![in alloc; caught, uncaught]?)
+}
+
+fn filter_value(alloc: Global, filter: &str, label: &str) -> Result<Value, AllocError>
+    ensures { IfOk result (λ value. view value ≡ filter_data filter.now label.now) }
+{
+    let members = vec![in alloc;
+        ("filter", Member::Words(filter)),
+        ("label", Member::Words(label)),
+    ]?;
+    object(alloc, members)
 }
 
 fn breakpoints_value(alloc: Global, breakpoints: &[Breakpoint]) -> Result<Value, AllocError>
@@ -67,7 +79,8 @@ fn breakpoints_value(alloc: Global, breakpoints: &[Breakpoint]) -> Result<Value,
     for breakpoint in breakpoints {
         items.push(breakpoint_value(alloc, *breakpoint)?)?;
     }
-    json!(in alloc; {"breakpoints": Value::Array(items)})
+    let members = vec![in alloc; ("breakpoints", Member::Items(items))]?;
+    object(alloc, members)
 }
 
 /// A breakpoint, with the line of one of a source.
@@ -75,31 +88,13 @@ pub(crate) fn breakpoint_value(alloc: Global, breakpoint: Breakpoint) -> Result<
     ensures { IfOk result (λ value. view value ≡ breakpoint_data breakpoint) }
 {
     let reason = reason_of(breakpoint.status);
-    match breakpoint.line {
-        Some(line) => line_value(alloc, breakpoint.id, line, reason),
-        None => function_value(alloc, breakpoint.id, reason),
-    }
-}
-
-fn line_value(alloc: Global, id: u64, line: u32, reason: Option<&str>) -> Result<Value, AllocError>
-    ensures { IfOk result (λ value. view value
-        ≡ standing_data id (Some line) (option_map (λ words. words.now) reason.entry)) }
-{
-    match reason {
-        Some(reason) =>
-            json!(in alloc; {"id": id, "line": line, "message": reason, "verified": false}),
-        None => json!(in alloc; {"id": id, "line": line, "verified": true}),
-    }
-}
-
-fn function_value(alloc: Global, id: u64, reason: Option<&str>) -> Result<Value, AllocError>
-    ensures { IfOk result (λ value. view value
-        ≡ standing_data id None (option_map (λ words. words.now) reason.entry)) }
-{
-    match reason {
-        Some(reason) => json!(in alloc; {"id": id, "message": reason, "verified": false}),
-        None => json!(in alloc; {"id": id, "verified": true}),
-    }
+    let members = vec![in alloc;
+        ("id", Member::Count(breakpoint.id)),
+        ("line", Member::MaybeCount(breakpoint.line)),
+        ("message", Member::MaybeWords(reason)),
+        ("verified", Member::Flag(reason.is_none())),
+    ]?;
+    object(alloc, members)
 }
 
 fn reason_of(status: BreakpointStatus) -> Option<&'static str>
@@ -121,25 +116,35 @@ fn threads_value(alloc: Global, threads: &[Thread]) -> Result<Value, AllocError>
     for thread in threads {
         items.push(thread_value(alloc, thread)?)?;
     }
-    json!(in alloc; {"threads": Value::Array(items)})
+    let members = vec![in alloc; ("threads", Member::Items(items))]?;
+    object(alloc, members)
 }
 
 fn thread_value(alloc: Global, thread: &Thread) -> Result<Value, AllocError>
     ensures { IfOk result (λ value. view value ≡ thread_data thread.now) }
 {
-    json!(in alloc; {"id": thread.id, "name": thread.name.as_str()})
+    let members = vec![in alloc;
+        ("id", Member::Count(thread.id)),
+        ("name", Member::Words(thread.name.as_str())),
+    ]?;
+    object(alloc, members)
 }
 
 fn continued_value(alloc: Global) -> Result<Value, AllocError>
     ensures { IfOk result (λ value. view value ≡ continued_data) }
 {
-    json!(in alloc; {"allThreadsContinued": true})
+    let members = vec![in alloc; ("allThreadsContinued", Member::Flag(true))]?;
+    object(alloc, members)
 }
 
 fn exception_info_value(alloc: Global, id: &str, mode: BreakMode) -> Result<Value, AllocError>
     ensures { IfOk result (λ value. view value ≡ exception_info_data id.now mode) }
 {
-    json!(in alloc; {"breakMode": mode_name(mode), "exceptionId": id})
+    let members = vec![in alloc;
+        ("breakMode", Member::Words(mode_name(mode))),
+        ("exceptionId", Member::Words(id)),
+    ]?;
+    object(alloc, members)
 }
 
 fn mode_name(mode: BreakMode) -> &'static str

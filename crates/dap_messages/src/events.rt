@@ -1,42 +1,56 @@
-ghost use Rattle.std.specs.Prelude.{◌≡◌, Some, None, IfOk};
+ghost use Rattle.std.specs.Prelude.{◌≡◌, IfOk, option_map};
 ghost use Rattle.serde_json.specs.View.{view};
 ghost use Rattle.dap_messages.specs.Events.{change_reason, changed_data, event_data, halt_data, hit_data};
-ghost use Rattle.dap_messages.specs.Events.{plain_data, stop_data, stopped_data, thread_changed_data};
+ghost use Rattle.dap_messages.specs.Events.{named_data, stop_data, stopped_data, thread_changed_data};
 
 use crate::bodies::breakpoint_value;
+use crate::objects::{Member, object};
 use crate::told::{Breakpoint, Event, StopReason, Stopped, ThreadChange};
-use serde_json::{Value, json};
+use serde_json::Value;
 use std::alloc::{AllocError, Global};
+use wire_core::Text;
 
 /// An event, under its number.
 pub(crate) fn event_value(alloc: Global, seq: u64, event: &Event) -> Result<Value, AllocError>
     ensures { IfOk result (λ value. view value ≡ event_data seq event.now) }
 {
     match event {
-        Event::Initialized => plain_value(alloc, seq, "initialized"),
+        Event::Initialized => named_value(alloc, seq, "initialized", None),
         Event::Breakpoint(breakpoint) => changed_value(alloc, seq, *breakpoint),
         Event::Thread(change) => thread_changed_value(alloc, seq, *change),
         Event::Stopped(stopped) => stopped_value(alloc, seq, stopped),
-        Event::Terminated => plain_value(alloc, seq, "terminated"),
+        Event::Terminated => named_value(alloc, seq, "terminated", None),
     }
 }
 
-fn plain_value(alloc: Global, seq: u64, name: &str) -> Result<Value, AllocError>
-    ensures { IfOk result (λ value. view value ≡ plain_data seq name.now) }
+/// An event of this name, and its body where it has one.
+fn named_value(
+    alloc: Global,
+    seq: u64,
+    name: &str,
+    body: Option<Value>,
+) -> Result<Value, AllocError>
+    ensures { IfOk result (λ value. view value ≡ named_data seq name.now (option_map view body)) }
 {
-    json!(in alloc; {"event": name, "seq": seq, "type": "event"})
+    let members = vec![in alloc;
+        ("body", Member::MaybeInner(body)),
+        ("event", Member::Words(name)),
+        ("seq", Member::Count(seq)),
+        ("type", Member::Words("event")),
+    ]?;
+    object(alloc, members)
 }
 
 fn changed_value(alloc: Global, seq: u64, breakpoint: Breakpoint) -> Result<Value, AllocError>
     ensures { IfOk result (λ value. view value ≡ changed_data seq breakpoint) }
 {
     let shown = breakpoint_value(alloc, breakpoint)?;
-    json!(in alloc; {
-        "body": {"breakpoint": shown, "reason": "changed"},
-        "event": "breakpoint",
-        "seq": seq,
-        "type": "event"
-    })
+    let members = vec![in alloc;
+        ("breakpoint", Member::Inner(shown)),
+        ("reason", Member::Words("changed")),
+    ]?;
+    let body = object(alloc, members)?;
+    named_value(alloc, seq, "breakpoint", Some(body))
 }
 
 fn change_reason(started: bool) -> &'static str
@@ -48,19 +62,19 @@ fn change_reason(started: bool) -> &'static str
 fn thread_changed_value(alloc: Global, seq: u64, change: ThreadChange) -> Result<Value, AllocError>
     ensures { IfOk result (λ value. view value ≡ thread_changed_data seq change) }
 {
-    json!(in alloc; {
-        "body": {"reason": change_reason(change.started), "threadId": change.id},
-        "event": "thread",
-        "seq": seq,
-        "type": "event"
-    })
+    let members = vec![in alloc;
+        ("reason", Member::Words(change_reason(change.started))),
+        ("threadId", Member::Count(change.id)),
+    ]?;
+    let body = object(alloc, members)?;
+    named_value(alloc, seq, "thread", Some(body))
 }
 
 fn stopped_value(alloc: Global, seq: u64, stopped: &Stopped) -> Result<Value, AllocError>
     ensures { IfOk result (λ value. view value ≡ stopped_data seq stopped.now) }
 {
     let body = stop_value(alloc, &stopped.reason, stopped.thread)?;
-    json!(in alloc; {"body": body, "event": "stopped", "seq": seq, "type": "event"})
+    named_value(alloc, seq, "stopped", Some(body))
 }
 
 fn stop_value(alloc: Global, reason: &StopReason, thread: u64) -> Result<Value, AllocError>
@@ -71,12 +85,9 @@ fn stop_value(alloc: Global, reason: &StopReason, thread: u64) -> Result<Value, 
         StopReason::FunctionBreakpoint(ids) => {
             hit_value(alloc, "function breakpoint", ids.as_slice(), thread)
         }
-        StopReason::Exception(Some(text)) => {
-            halt_with(alloc, "exception", text.as_str(), thread)
-        }
-        StopReason::Exception(None) => halt_value(alloc, "exception", thread),
-        StopReason::Step => halt_value(alloc, "step", thread),
-        StopReason::Pause => halt_value(alloc, "pause", thread),
+        StopReason::Exception(text) => halt_value(alloc, "exception", text, thread),
+        StopReason::Step => halt_value(alloc, "step", &None, thread),
+        StopReason::Pause => halt_value(alloc, "pause", &None, thread),
     }
 }
 
@@ -87,27 +98,28 @@ fn hit_value(alloc: Global, reason: &str, ids: &[u64], thread: u64) -> Result<Va
     for id in ids {
         items.push(Value::from(*id))?;
     }
-    json!(in alloc; {
-        "allThreadsStopped": true,
-        "hitBreakpointIds": Value::Array(items),
-        "reason": reason,
-        "threadId": thread
-    })
+    let members = vec![in alloc;
+        ("allThreadsStopped", Member::Flag(true)),
+        ("hitBreakpointIds", Member::Items(items)),
+        ("reason", Member::Words(reason)),
+        ("threadId", Member::Count(thread)),
+    ]?;
+    object(alloc, members)
 }
 
-fn halt_value(alloc: Global, reason: &str, thread: u64) -> Result<Value, AllocError>
-    ensures { IfOk result (λ value. view value ≡ halt_data reason.now None thread) }
+fn halt_value(
+    alloc: Global,
+    reason: &'static str,
+    text: &Option<Text>,
+    thread: u64,
+) -> Result<Value, AllocError>
+    ensures { IfOk result (λ value. view value ≡ halt_data reason.now text.now thread) }
 {
-    json!(in alloc; {"allThreadsStopped": true, "reason": reason, "threadId": thread})
-}
-
-fn halt_with(alloc: Global, reason: &str, text: &str, thread: u64) -> Result<Value, AllocError>
-    ensures { IfOk result (λ value. view value ≡ halt_data reason.now (Some text.now) thread) }
-{
-    json!(in alloc; {
-        "allThreadsStopped": true,
-        "reason": reason,
-        "text": text,
-        "threadId": thread
-    })
+    let members = vec![in alloc;
+        ("allThreadsStopped", Member::Flag(true)),
+        ("reason", Member::Words(reason)),
+        ("text", Member::MaybeText(text)),
+        ("threadId", Member::Count(thread)),
+    ]?;
+    object(alloc, members)
 }

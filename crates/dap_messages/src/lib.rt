@@ -8,6 +8,7 @@ mod events;
 mod exceptions;
 mod failures;
 mod frame_bodies;
+mod objects;
 mod read;
 mod requests;
 mod rows;

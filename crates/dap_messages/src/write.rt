@@ -1,4 +1,4 @@
-ghost use Rattle.std.specs.Prelude.{◌≡◌, Some, None, IfOk, string_bytes};
+ghost use Rattle.std.specs.Prelude.{◌≡◌, IfOk, option_map, string_bytes};
 ghost use Rattle.serde_json.specs.View.{view};
 ghost use Rattle.dap_messages.specs.Failures.{detail_text, error_data, format_of, message_of};
 ghost use Rattle.dap_messages.specs.Telling.{told_data, told_text};
@@ -6,8 +6,9 @@ ghost use Rattle.dap_messages.specs.Telling.{answer_data, failure_data, response
 
 use crate::bodies::shape_value;
 use crate::events::event_value;
+use crate::objects::{Member, object};
 use crate::told::{Detail, Failure, Outcome, Response, Told};
-use serde_json::{Value, json};
+use serde_json::Value;
 use std::alloc::{AllocError, Global};
 use wire_core::{Blob, List, NoMemory};
 
@@ -36,10 +37,10 @@ fn response_value(alloc: Global, seq: u64, response: &Response) -> Result<Value,
 {
     let command = response.command.as_str();
     match &response.outcome {
-        Outcome::Success(shape) => match shape_value(alloc, shape)? {
-            Some(body) => answer_with(alloc, seq, response.request_seq, command, body),
-            None => answer_value(alloc, seq, response.request_seq, command),
-        },
+        Outcome::Success(shape) => {
+            let body = shape_value(alloc, shape)?;
+            answer_value(alloc, seq, response.request_seq, command, body)
+        }
         Outcome::Failure(failure) => failure_value(
             alloc,
             seq,
@@ -55,36 +56,20 @@ fn answer_value(
     seq: u64,
     request_seq: u64,
     command: &str,
-) -> Result<Value, AllocError>
-    ensures { IfOk result (λ value. view value ≡ answer_data seq request_seq command.now None) }
-{
-    json!(in alloc; {
-        "command": command,
-        "request_seq": request_seq,
-        "seq": seq,
-        "success": true,
-        "type": "response"
-    })
-}
-
-fn answer_with(
-    alloc: Global,
-    seq: u64,
-    request_seq: u64,
-    command: &str,
-    body: Value,
+    body: Option<Value>,
 ) -> Result<Value, AllocError>
     ensures { IfOk result (λ value. view value
-        ≡ answer_data seq request_seq command.now (Some (view body))) }
+        ≡ answer_data seq request_seq command.now (option_map view body)) }
 {
-    json!(in alloc; {
-        "body": body,
-        "command": command,
-        "request_seq": request_seq,
-        "seq": seq,
-        "success": true,
-        "type": "response"
-    })
+    let members = vec![in alloc;
+        ("body", Member::MaybeInner(body)),
+        ("command", Member::Words(command)),
+        ("request_seq", Member::Count(request_seq)),
+        ("seq", Member::Count(seq)),
+        ("success", Member::Flag(true)),
+        ("type", Member::Words("response")),
+    ]?;
+    object(alloc, members)
 }
 
 fn failure_value(
@@ -98,22 +83,29 @@ fn failure_value(
         ≡ failure_data seq request_seq command.now failure.now) }
 {
     let body = error_value(alloc, failure)?;
-    json!(in alloc; {
-        "body": body,
-        "command": command,
-        "message": message_of(failure.code),
-        "request_seq": request_seq,
-        "seq": seq,
-        "success": false,
-        "type": "response"
-    })
+    let members = vec![in alloc;
+        ("body", Member::Inner(body)),
+        ("command", Member::Words(command)),
+        ("message", Member::Words(message_of(failure.code))),
+        ("request_seq", Member::Count(request_seq)),
+        ("seq", Member::Count(seq)),
+        ("success", Member::Flag(false)),
+        ("type", Member::Words("response")),
+    ]?;
+    object(alloc, members)
 }
 
 fn error_value(alloc: Global, failure: &Failure) -> Result<Value, AllocError>
     ensures { IfOk result (λ value. view value ≡ error_data failure.now) }
 {
     let format = format_of(alloc, failure)?;
-    json!(in alloc; {"error": {"format": format, "id": failure.code}})
+    let members = vec![in alloc;
+        ("format", Member::Words(format.as_str())),
+        ("id", Member::Count(u64::from(failure.code))),
+    ]?;
+    let error = object(alloc, members)?;
+    let members = vec![in alloc; ("error", Member::Inner(error))]?;
+    object(alloc, members)
 }
 
 fn format_of(alloc: Global, failure: &Failure) -> Result<String, AllocError>
