@@ -1,5 +1,3 @@
-pub mod WordLaws
-pub mod OptionLaws
 pub mod ToldLaws
 pub mod CourseLaws
 pub mod FollowLaws

@@ -8,7 +8,6 @@ mod played_wires;
 mod printing;
 mod replay;
 mod script;
-mod words;
 
 pub use command::bridge_main;
 pub use printing::{Outcome, tell};

@@ -1,6 +1,6 @@
 use Rattle.std.proofs.Common.{◌∙◌, ap, rules, true}
 use Rattle.clap.specs.Simple.{app_of_fields, on_top}
-use Rattle.bridge_runs.proofs.words.bare_command.Goals as goal
+use Rattle.command_words.proofs.words.bare_command.Goals as goal
 
 pub returns : goal.returns
 returns c = record {

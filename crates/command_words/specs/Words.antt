@@ -6,11 +6,11 @@ use Rattle.clap.specs.Simple.{on_top}
 use Rattle.clap.specs.declared.builder.action.ArgAction.TheVariants.{Set}
 use Rattle.clap.specs.declared.builder.command.Command.{Command}
 use Rattle.clap.specs.declared.builder.command.Command.TheViews.{out-Command}
-use Rattle.bridge_runs.specs.declared.words.Addresses.{Addresses}
-use Rattle.bridge_runs.specs.declared.words.Task.{Task}
-use Rattle.bridge_runs.specs.declared.words.Task.TheVariants.{Serve, Script, Replay}
-use Rattle.bridge_runs.specs.declared.words.WordsFault.{WordsFault}
-use Rattle.bridge_runs.specs.declared.words.WordsFault.TheVariants.{Refused, NoMemory}
+use Rattle.command_words.specs.declared.words.Addresses.{Addresses}
+use Rattle.command_words.specs.declared.words.Task.{Task}
+use Rattle.command_words.specs.declared.words.Task.TheVariants.{Serve, Script, Replay}
+use Rattle.command_words.specs.declared.words.WordsFault.{WordsFault}
+use Rattle.command_words.specs.declared.words.WordsFault.TheVariants.{Refused, NoMemory}
 
 -- an option with one value, which has to be there
 abbrev pub required_option : List ℕ → Rule

@@ -1,9 +1,9 @@
 -- What `clap` makes of the words in the forms of the usage.
 use Rattle.std.proofs.Common.{◌≡◌, ℕ, false, List, [], ◌∷◌, codes, refl, Some, nat_eq, ne_eqb}
 use Rattle.clap.proofs.OnLiterals.{clap_on_literals}
-use Rattle.bridge_runs.specs.Words.{IsFile, IsValue, Names, file_fault, file_value, replay_words, script_words}
-use Rattle.bridge_runs.specs.Words.{serve_fault, serve_value, serve_words}
-use Rattle.bridge_runs.specs.declared.words.Task.TheVariants.{Serve, Script, Replay}
+use Rattle.command_words.specs.Words.{IsFile, IsValue, Names, file_fault, file_value, replay_words, script_words}
+use Rattle.command_words.specs.Words.{serve_fault, serve_value, serve_words}
+use Rattle.command_words.specs.declared.words.Task.TheVariants.{Serve, Script, Replay}
 
 -- the words of the usage behind the command's name, with values of these bytes
 abbrev options : ℕ → List ℕ → ℕ → List ℕ → List (List ℕ)

@@ -1,14 +1,14 @@
 use Rattle.std.proofs.Common.{◌≡◌, ◌∙◌, ◌<◌, ◌-◌, ℕ, List, [], ◌∷◌, codes, length, get_or, take, drop, arith}
 use Rattle.std.proofs.Common.{rules, refl, sym, Result, Ok, Err}
 use Rattle.std.proofs.lemmas.Grind.{common_steps}
-use Rattle.bridge_runs.specs.Words.{Reads, ReadsFile, ReadsServe}
-use Rattle.bridge_runs.specs.declared.words.Addresses.{Addresses}
-use Rattle.bridge_runs.specs.declared.words.Task.{Task}
-use Rattle.bridge_runs.specs.declared.words.Task.TheVariants.{Serve, Script, Replay}
-use Rattle.bridge_runs.specs.declared.words.WordsFault.{WordsFault}
-use Rattle.bridge_runs.specs.declared.words.WordsFault.TheVariants.{Refused, NoMemory}
-use Rattle.bridge_runs.proofs.OptionLaws.{unlike}
-use Rattle.bridge_runs.proofs.words.read_words.Goals as goal
+use Rattle.command_words.specs.Words.{Reads, ReadsFile, ReadsServe}
+use Rattle.command_words.specs.declared.words.Addresses.{Addresses}
+use Rattle.command_words.specs.declared.words.Task.{Task}
+use Rattle.command_words.specs.declared.words.Task.TheVariants.{Serve, Script, Replay}
+use Rattle.command_words.specs.declared.words.WordsFault.{WordsFault}
+use Rattle.command_words.specs.declared.words.WordsFault.TheVariants.{Refused, NoMemory}
+use Rattle.command_words.proofs.OptionLaws.{unlike}
+use Rattle.command_words.proofs.words.read_words.Goals as goal
 
 -- what a command gives, as a task
 abbrev as_task : {A : Type 0} → (A → Task) → Result A WordsFault → Result Task WordsFault

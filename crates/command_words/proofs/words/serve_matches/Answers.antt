@@ -7,9 +7,9 @@ use Rattle.clap.specs.Built.{IsParsedFrom}
 use Rattle.clap.specs.declared.parser.matches.ArgMatches.{ArgMatches}
 use Rattle.clap.proofs.OnLiterals.{clap_on_literals}
 use Rattle.clap.proofs.WalkLemmas.{first_value-rows}
-use Rattle.bridge_runs.specs.Words.{bare_command, required_option, serve_app, serve_fault, serve_value}
-use Rattle.bridge_runs.proofs.OptionLaws.{fits_beside, two_values}
-use Rattle.bridge_runs.proofs.words.serve_matches.Goals as goal
+use Rattle.command_words.specs.Words.{bare_command, required_option, serve_app, serve_fault, serve_value}
+use Rattle.command_words.proofs.OptionLaws.{fits_beside, two_values}
+use Rattle.command_words.proofs.words.serve_matches.Goals as goal
 
 simple_and_free : is_simple_and_free serve_app ≡ true
 unfolding clap_on_literals

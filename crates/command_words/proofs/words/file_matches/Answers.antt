@@ -7,9 +7,9 @@ use Rattle.clap.specs.declared.parser.matches.ArgMatches.{ArgMatches}
 use Rattle.clap.proofs.CallerLemmas.{one_required_value}
 use Rattle.clap.proofs.OnLiterals.{clap_on_literals}
 use Rattle.clap.proofs.WalkLemmas.{first_value-rows}
-use Rattle.bridge_runs.specs.Words.{file_app, file_fault, file_value, required_value}
-use Rattle.bridge_runs.proofs.OptionLaws.{fits_beside}
-use Rattle.bridge_runs.proofs.words.file_matches.Goals as goal
+use Rattle.command_words.specs.Words.{file_app, file_fault, file_value, required_value}
+use Rattle.command_words.proofs.OptionLaws.{fits_beside}
+use Rattle.command_words.proofs.words.file_matches.Goals as goal
 
 simple_and_free : (name : List ℕ) → is_simple_and_free (file_app name) ≡ true
 unfolding clap_on_literals

@@ -2,9 +2,9 @@
 ghost use Rattle.std.specs.Prelude.{◌≡◌, ℕ, List, true, is_some, map, codes, IfOk, Some};
 ghost use Rattle.clap.specs.Words.{FailsBy, first_value, found_of, kind_of};
 ghost use Rattle.clap.specs.declared.error.kind.ErrorKind.TheVariants.{OutOfMemory};
-ghost use Rattle.bridge_runs.specs.Words.{IsBare, Reads, ReadsFile, ReadsServe, file_fault, file_value};
-ghost use Rattle.bridge_runs.specs.Words.{serve_fault, serve_value};
-ghost use Rattle.bridge_runs.specs.declared.words.WordsFault.TheVariants.{NoMemory as out_of_memory, Refused};
+ghost use Rattle.command_words.specs.Words.{IsBare, Reads, ReadsFile, ReadsServe, file_fault, file_value};
+ghost use Rattle.command_words.specs.Words.{serve_fault, serve_value};
+ghost use Rattle.command_words.specs.declared.words.WordsFault.TheVariants.{NoMemory as out_of_memory, Refused};
 
 use clap::error::ErrorKind;
 use clap::{Arg, ArgAction, ArgMatches, Command, Error};
@@ -36,7 +36,7 @@ pub enum WordsFault {
 
 impl From<NoMemory> for WordsFault {
     ghost use Rattle.std.specs.Prelude.{◌≡◌};
-    ghost use Rattle.bridge_runs.specs.declared.words.WordsFault.TheVariants.{NoMemory as out_of_memory};
+    ghost use Rattle.command_words.specs.declared.words.WordsFault.TheVariants.{NoMemory as out_of_memory};
 
     ghost from_gives = { λ _ fault. fault ≡ out_of_memory };
 
@@ -47,7 +47,7 @@ impl From<NoMemory> for WordsFault {
 
 impl From<AllocError> for WordsFault {
     ghost use Rattle.std.specs.Prelude.{◌≡◌};
-    ghost use Rattle.bridge_runs.specs.declared.words.WordsFault.TheVariants.{NoMemory as out_of_memory};
+    ghost use Rattle.command_words.specs.declared.words.WordsFault.TheVariants.{NoMemory as out_of_memory};
 
     ghost from_gives = { λ _ fault. fault ≡ out_of_memory };
 
@@ -57,7 +57,8 @@ impl From<AllocError> for WordsFault {
 }
 
 /// Reads the words of the program: the command's name, and what that command is given. `Refused` comes exactly where
-/// there is no name, the name is unknown, or `clap` refuses the rest for another cause than memory.
+/// there is no name, the name is unknown, or `clap` refuses the rest for another cause than memory; `NoMemory` comes where
+/// memory is refused.
 pub fn read_words(alloc: Global, words: &[Word]) -> Result<Task, WordsFault>
     ensures { Reads words.now result }
 {
