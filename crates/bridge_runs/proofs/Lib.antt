@@ -2,4 +2,3 @@ pub mod ToldLaws
 pub mod CourseLaws
 pub mod FollowLaws
 pub mod PlayedLaws
-pub mod FileLaws

@@ -1,5 +1,3 @@
-pub mod Lines
-pub mod FileRuns
 pub mod Told
 pub mod Course
 pub mod LogWires

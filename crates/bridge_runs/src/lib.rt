@@ -2,12 +2,9 @@
 #![tactic(auto)]
 
 mod command;
-mod file_runs;
 mod log_wires;
 mod played_wires;
-mod printing;
 mod replay;
 mod script;
 
 pub use command::bridge_main;
-pub use printing::{Outcome, tell};

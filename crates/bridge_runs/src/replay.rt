@@ -3,10 +3,9 @@ ghost use Rattle.std.specs.Prelude.{◌≡◌, [], IfOk, Ok};
 ghost use Rattle.script_text.specs.Reading.{reading_of};
 ghost use Rattle.bridge_runs.specs.Command.{IsServedAgain, Replays};
 
-use crate::file_runs::{log_of, read_text, show, troubled};
 use crate::log_wires::LogWires;
-use crate::printing::Outcome;
 use bridge_serve::serve;
+use run_outcomes::{Outcome, log_of, read_text, show, troubled};
 use script_text::{SessionLog, read_log};
 use session_model::Limits;
 use std::alloc::Global;

@@ -1,8 +1,8 @@
 -- Runs that read a file, serve a session of what it says, and print the log of that session.
 use Rattle.std.specs.Prelude.{ℕ, ◌≡◌, List, [], Some, Result, Ok, Err}
-use Rattle.bridge_runs.specs.Lines.{status_of_ending}
-use Rattle.bridge_runs.specs.declared.printing.Outcome.{Outcome}
-use Rattle.bridge_runs.specs.declared.printing.Outcome.TheVariants.{NotRead, TooLong, BadLine, Logged, Ended}
+use Rattle.run_outcomes.specs.Lines.{status_of_ending}
+use Rattle.run_outcomes.specs.declared.printing.Outcome.{Outcome}
+use Rattle.run_outcomes.specs.declared.printing.Outcome.TheVariants.{NotRead, TooLong, BadLine, Logged, Ended}
 use Rattle.script_text.specs.Texts.{log_text}
 use Rattle.script_text.specs.declared.log.ScriptFault.{ScriptFault}
 use Rattle.script_text.specs.declared.log.ScriptTrouble.{ScriptTrouble}

@@ -1,6 +1,6 @@
 use Rattle.std.proofs.Common.{◌∙◌, ap, Some}
-use Rattle.bridge_runs.specs.Lines.{status_of_ending}
-use Rattle.bridge_runs.proofs.file_runs.log_of.Goals as goal
+use Rattle.run_outcomes.specs.Lines.{status_of_ending}
+use Rattle.run_outcomes.proofs.file_runs.log_of.Goals as goal
 
 pub returns : goal.returns
 returns c = record {

@@ -1,8 +1,8 @@
 -- What the program prints and the status that it ends with, for each outcome of a run.
 use Rattle.std.specs.Prelude.{ℕ, ◌≡◌, Bool, true, false, if◌then◌else◌, nat_eq, List, ◌++◌, codes, decimal}
-use Rattle.bridge_runs.specs.declared.printing.Outcome.{Outcome}
-use Rattle.bridge_runs.specs.declared.printing.Outcome.TheVariants.{Misused, NotOpened, NotRead, BadLine, Logged, Ended}
-use Rattle.bridge_runs.specs.declared.printing.Outcome.TheVariants.{TooLong as too_long}
+use Rattle.run_outcomes.specs.declared.printing.Outcome.{Outcome}
+use Rattle.run_outcomes.specs.declared.printing.Outcome.TheVariants.{Misused, NotOpened, NotRead, BadLine, Logged, Ended}
+use Rattle.run_outcomes.specs.declared.printing.Outcome.TheVariants.{TooLong as too_long}
 use Rattle.dap_frames.specs.declared.fault.FrameFault.{FrameFault}
 use Rattle.dap_frames.specs.declared.fault.FrameFault.TheVariants.{NoLength, TwoLengths, BadLength, TooLong}
 use Rattle.dap_frames.specs.declared.fault.FrameFault.TheVariants.{HeaderTooLong, BadHeader}

@@ -1,5 +1,5 @@
-use Rattle.bridge_runs.specs.Lines.{line_of_ending}
-use Rattle.bridge_runs.proofs.printing.tell_ending.Goals as goal
+use Rattle.run_outcomes.specs.Lines.{line_of_ending}
+use Rattle.run_outcomes.proofs.printing.tell_ending.Goals as goal
 
 pub returns-in-Done : goal.returns-in-Done
 unfolding line_of_ending

@@ -1,6 +1,6 @@
 //! Runs that read a file, serve a session of what it says, and print the log of that session.
 ghost use Rattle.std.specs.Prelude.{◌≡◌, [], IfOk};
-ghost use Rattle.bridge_runs.specs.FileRuns.{KeepsLog, ReadsText, ShowsLog, troubled};
+ghost use Rattle.run_outcomes.specs.FileRuns.{KeepsLog, ReadsText, ShowsLog, troubled};
 
 use crate::printing::{OUT_OF_MEMORY, Outcome, status_of_ending};
 use script_text::{ScriptTrouble, SessionLog, print_log};
@@ -11,8 +11,9 @@ use wire_core::{Blob, Entry, FileRefusal, Files, List, NoMemory, Word};
 // The bytes that are read of a file at most.
 const MOST_BYTES: usize = 67_108_864;
 
-/// The text of a file; or the outcome of a run that has none.
-pub(crate) fn read_text<F: Files>(alloc: Global, name: Word, files: &mut F) -> Result<Blob, Outcome>
+/// All bytes of the file of this name, which may be 67,108,864 at most. Or the outcome of a run that has none: `NotRead`
+/// where the file fails, `TooLong` where it has more, and the ending `NoMemory` where memory is refused.
+pub fn read_text<F: Files>(alloc: Global, name: Word, files: &mut F) -> Result<Blob, Outcome>
     requires { (F.store files.old).asked ≡ [] }
     ensures { ReadsText name (F.store files.old) (F.store files.new) result }
 {
@@ -25,7 +26,7 @@ pub(crate) fn read_text<F: Files>(alloc: Global, name: Word, files: &mut F) -> R
 }
 
 /// The outcome of a run whose text has a faulty line, or that found no memory to read it.
-pub(crate) fn troubled(trouble: ScriptTrouble) -> Outcome
+pub fn troubled(trouble: ScriptTrouble) -> Outcome
     ensures { result ≡ troubled trouble }
 {
     match trouble {
@@ -34,12 +35,9 @@ pub(crate) fn troubled(trouble: ScriptTrouble) -> Outcome
     }
 }
 
-/// The log of a session that ended so, with these entries; `NoMemory` comes where it ended for that, or memory is refused.
-pub(crate) fn log_of(
-    alloc: Global,
-    ending: Ending,
-    entries: &[Entry],
-) -> Result<SessionLog, NoMemory>
+/// The log of a session that ended so: copies of these entries, in order, and the status of its ending. `NoMemory` comes
+/// where it ended for that, or memory is refused.
+pub fn log_of(alloc: Global, ending: Ending, entries: &[Entry]) -> Result<SessionLog, NoMemory>
     ensures { IfOk result (KeepsLog ending entries.now) }
 {
     let status = status_of_ending(ending);
@@ -53,8 +51,9 @@ pub(crate) fn log_of(
     })
 }
 
-/// The outcome of a run that made this log.
-pub(crate) fn show(alloc: Global, made: Result<SessionLog, NoMemory>) -> Outcome
+/// The outcome of a run that made this log: its text, as `print_log` writes it; or the ending `NoMemory`, where there is no
+/// log, or memory is refused to its text.
+pub fn show(alloc: Global, made: Result<SessionLog, NoMemory>) -> Outcome
     ensures { ShowsLog made result }
 {
     match made {

@@ -1,5 +1,5 @@
-use Rattle.bridge_runs.specs.Lines.{text_of}
-use Rattle.bridge_runs.proofs.printing.tell.Goals as goal
+use Rattle.run_outcomes.specs.Lines.{text_of}
+use Rattle.run_outcomes.proofs.printing.tell.Goals as goal
 
 pub returns-in-Misused : goal.returns-in-Misused
 unfolding text_of

@@ -1,7 +1,7 @@
 use Rattle.std.proofs.Common.{Ok, sym, subst}
-use Rattle.bridge_runs.specs.FileRuns.{ShowsLog}
-use Rattle.bridge_runs.specs.declared.printing.Outcome.TheVariants.{Logged}
-use Rattle.bridge_runs.proofs.file_runs.show.Goals as goal
+use Rattle.run_outcomes.specs.FileRuns.{ShowsLog}
+use Rattle.run_outcomes.specs.declared.printing.Outcome.TheVariants.{Logged}
+use Rattle.run_outcomes.proofs.file_runs.show.Goals as goal
 
 pub returns-in-Ok-print_log : goal.returns-in-Ok-print_log
 returns-in-Ok-print_log c =

@@ -1,9 +1,9 @@
 //! Prints the text of an outcome, and gives the status of it.
 ghost use Rattle.std.specs.Prelude.{◌≡◌, ℕ, List, IfOk, string_bytes};
-ghost use Rattle.bridge_runs.specs.Lines.{Prints, line_of_ending, status_of, status_of_ending, text_of};
-ghost use Rattle.bridge_runs.specs.Lines.{client_fault_line, client_fault_name, frame_fault_name, target_fault_line};
-ghost use Rattle.bridge_runs.specs.Lines.{target_fault_name, packet_fault_name, is_unknown_reply, refused_line};
-ghost use Rattle.bridge_runs.specs.Lines.{faulty_line, line_fault_name};
+ghost use Rattle.run_outcomes.specs.Lines.{Prints, line_of_ending, status_of, status_of_ending, text_of};
+ghost use Rattle.run_outcomes.specs.Lines.{client_fault_line, client_fault_name, frame_fault_name, target_fault_line};
+ghost use Rattle.run_outcomes.specs.Lines.{target_fault_name, packet_fault_name, is_unknown_reply, refused_line};
+ghost use Rattle.run_outcomes.specs.Lines.{faulty_line, line_fault_name};
 
 use dap_frames::FrameFault;
 use jdwp_packets::PacketFault;
@@ -31,7 +31,8 @@ pub enum Outcome {
     Ended(Ending),
 }
 
-/// Prints the text of an outcome, in one write, and gives the status that the program ends with.
+/// Prints the text of an outcome, in one write, and gives the status that the program ends with: that of the outcome; 70
+/// where memory is refused; else 9 where the output fails.
 pub fn tell<O: Output>(alloc: Global, outcome: Outcome, out: &mut O) -> u8
     ensures { Prints (O.printed out.old) (O.printed out.new) (text_of outcome) (status_of outcome) result }
 {

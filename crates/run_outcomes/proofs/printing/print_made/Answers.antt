@@ -1,7 +1,7 @@
 use Rattle.std.proofs.Common.{◌≡◌, ◌∙◌, refl}
 use Rattle.std.specs.String.{string_bytes}
-use Rattle.bridge_runs.specs.Lines.{Prints}
-use Rattle.bridge_runs.proofs.printing.print_made.Goals as goal
+use Rattle.run_outcomes.specs.Lines.{Prints}
+use Rattle.run_outcomes.proofs.printing.print_made.Goals as goal
 
 pub returns-in-Ok : goal.returns-in-Ok
 returns-in-Ok g c = λ wanted is.

@@ -1,6 +1,6 @@
 use Rattle.std.proofs.Common.{Err}
-use Rattle.bridge_runs.specs.FileRuns.{ReadsText}
-use Rattle.bridge_runs.proofs.file_runs.read_text.Goals as goal
+use Rattle.run_outcomes.specs.FileRuns.{ReadsText}
+use Rattle.run_outcomes.proofs.file_runs.read_text.Goals as goal
 
 pub returns-in-Ok : goal.returns-in-Ok
 returns-in-Ok g c = ReadsText.is_read (record {

@@ -1,7 +1,7 @@
 use Rattle.std.proofs.Common.{◌≡◌, ℕ, List, refl, subst, ne_eqb}
-use Rattle.bridge_runs.specs.Lines.{Prints, unprinted_status}
+use Rattle.run_outcomes.specs.Lines.{Prints, unprinted_status}
 use Rattle.wire_core.specs.Output.{Printed, FailsToWrite}
-use Rattle.bridge_runs.proofs.printing.print.Goals as goal
+use Rattle.run_outcomes.proofs.printing.print.Goals as goal
 
 memory_stays : (old new : Printed) (text : List ℕ) (status : ℕ) → FailsToWrite old new text → status ≡ 70
     → Prints old new text status status
