@@ -1,9 +1,9 @@
 -- A run of the program: what its words make it do, what it prints, and the status that it ends with.
 use Rattle.std.specs.Prelude.{ℕ, ◌≡◌, List, length, take}
-use Rattle.bridge_runs.specs.Course.{both_open, came, course}
+use Rattle.file_wires.specs.Course.{both_open, came, course}
 use Rattle.run_outcomes.specs.FileRuns.{IsLogged, OfFile, usual_limits}
 use Rattle.run_outcomes.specs.Lines.{Prints, status_of, text_of}
-use Rattle.bridge_runs.specs.PlayedWires.{IsLogOf}
+use Rattle.file_wires.specs.PlayedWires.{IsLogOf}
 use Rattle.command_words.specs.Words.{AreRefused, Names}
 use Rattle.run_outcomes.specs.declared.printing.Outcome.{Outcome}
 use Rattle.run_outcomes.specs.declared.printing.Outcome.TheVariants.{Misused, NotOpened, Ended}

@@ -1,5 +1,1 @@
-pub mod Told
-pub mod Course
-pub mod LogWires
-pub mod PlayedWires
 pub mod Command

@@ -2,8 +2,6 @@
 #![tactic(auto)]
 
 mod command;
-mod log_wires;
-mod played_wires;
 mod replay;
 mod script;
 

@@ -3,8 +3,8 @@ ghost use Rattle.std.specs.Prelude.{◌≡◌, [], IfOk, Ok};
 ghost use Rattle.script_files.specs.Reading.{script_of};
 ghost use Rattle.bridge_runs.specs.Command.{IsServedOf, Plays};
 
-use crate::played_wires::PlayedWires;
 use bridge_serve::serve;
+use file_wires::PlayedWires;
 use run_outcomes::{Outcome, log_of, read_text, show, troubled};
 use script_files::read_script;
 use script_rows::Script;
