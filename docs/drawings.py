@@ -18,9 +18,10 @@ PROVED, MODEL, EDGE, OUTSIDE = "#dceafa", "#e3f1dc", "#fbe3c8", "#ffffff"
 # on crates in the rows below its own.
 ROWS = [
     [(1, PROVED, "bridge_cmd", "the program, over what the edge gives")],
-    [(0.5, PROVED, "bridge_runs", "a run: words in, a line and a status out"),
-     (0.2, PROVED, "printed_scripts", "scripts as text"),
-     (0.3, MODEL, "scripted_joints", "a scripted target obeys JDWP")],
+    [(1, PROVED, "bridge_runs", "a run: words in, a line and a status out")],
+    [(1, PROVED, "command_words", "what words ask for"), (1, PROVED, "run_outcomes", "lines and statuses"),
+     (1, PROVED, "file_wires", "wires over a file"), (1, PROVED, "printed_scripts", "scripts as text"),
+     (1.4, MODEL, "scripted_joints", "a scripted target obeys JDWP")],
     [(0.5, PROVED, "bridge_serve", "a session over wires"), (0.25, PROVED, "script_files", "texts of scripts"),
      (0.25, PROVED, "script_wires", "wires over a script")],
     [(0.4, PROVED, "bridge_core", "a session over whole messages"), (0.2, PROVED, "printed_rows", "lines, as text"),

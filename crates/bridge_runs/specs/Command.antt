@@ -1,14 +1,14 @@
 -- A run of the program: what its words make it do, what it prints, and the status that it ends with.
 use Rattle.std.specs.Prelude.{ℕ, ◌≡◌, List, length, take}
-use Rattle.bridge_runs.specs.Course.{both_open, came, course}
-use Rattle.bridge_runs.specs.FileRuns.{IsLogged, OfFile, usual_limits}
-use Rattle.bridge_runs.specs.Lines.{Prints, status_of, text_of}
-use Rattle.bridge_runs.specs.PlayedWires.{IsLogOf}
-use Rattle.bridge_runs.specs.Words.{AreRefused, Names}
-use Rattle.bridge_runs.specs.declared.printing.Outcome.{Outcome}
-use Rattle.bridge_runs.specs.declared.printing.Outcome.TheVariants.{Misused, NotOpened, Ended}
-use Rattle.bridge_runs.specs.declared.words.Addresses.{Addresses}
-use Rattle.bridge_runs.specs.declared.words.Task.TheVariants.{Serve, Script, Replay}
+use Rattle.file_wires.specs.Course.{both_open, came, course}
+use Rattle.run_outcomes.specs.FileRuns.{IsLogged, OfFile, usual_limits}
+use Rattle.run_outcomes.specs.Lines.{Prints, status_of, text_of}
+use Rattle.file_wires.specs.PlayedWires.{IsLogOf}
+use Rattle.command_words.specs.Words.{AreRefused, Names}
+use Rattle.run_outcomes.specs.declared.printing.Outcome.{Outcome}
+use Rattle.run_outcomes.specs.declared.printing.Outcome.TheVariants.{Misused, NotOpened, Ended}
+use Rattle.command_words.specs.declared.words.Addresses.{Addresses}
+use Rattle.command_words.specs.declared.words.Task.TheVariants.{Serve, Script, Replay}
 use Rattle.bridge_serve.specs.Serving.{Blames, Idles, Keeps}
 use Rattle.script_files.specs.Reading.{script_of}
 use Rattle.script_rows.specs.declared.script.Script.{Script as TheScript}

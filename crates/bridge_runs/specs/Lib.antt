@@ -1,8 +1,1 @@
-pub mod Words
-pub mod Lines
-pub mod FileRuns
-pub mod Told
-pub mod Course
-pub mod LogWires
-pub mod PlayedWires
 pub mod Command

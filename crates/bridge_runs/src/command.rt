@@ -1,14 +1,14 @@
 //! Runs the program on its words.
 ghost use Rattle.std.specs.Prelude.{◌≡◌, ℕ, List, []};
 ghost use Rattle.bridge_runs.specs.Command.{Does, Runs};
-ghost use Rattle.bridge_runs.specs.Words.{IsValue, Names, replay_words, script_words, serve_words};
-ghost use Rattle.bridge_runs.specs.declared.words.Task.TheVariants.{Serve, Script, Replay};
+ghost use Rattle.command_words.specs.Words.{IsValue, Names, replay_words, script_words, serve_words};
+ghost use Rattle.command_words.specs.declared.words.Task.TheVariants.{Serve, Script, Replay};
 
-use crate::printing::{Outcome, tell};
 use crate::replay::replay;
 use crate::script::play;
-use crate::words::{Addresses, Task, WordsFault, read_words};
 use bridge_serve::serve;
+use command_words::{Addresses, Task, WordsFault, read_words};
+use run_outcomes::{Outcome, tell};
 use session_model::{Ending, Limits};
 use std::alloc::Global;
 use wire_core::{Files, Output, Wires, Word};

@@ -2,13 +2,7 @@
 #![tactic(auto)]
 
 mod command;
-mod file_runs;
-mod log_wires;
-mod played_wires;
-mod printing;
 mod replay;
 mod script;
-mod words;
 
 pub use command::bridge_main;
-pub use printing::{Outcome, tell};

@@ -3,10 +3,9 @@ ghost use Rattle.std.specs.Prelude.{◌≡◌, [], IfOk, Ok};
 ghost use Rattle.script_text.specs.Reading.{reading_of};
 ghost use Rattle.bridge_runs.specs.Command.{IsServedAgain, Replays};
 
-use crate::file_runs::{log_of, read_text, show, troubled};
-use crate::log_wires::LogWires;
-use crate::printing::Outcome;
 use bridge_serve::serve;
+use file_wires::LogWires;
+use run_outcomes::{Outcome, log_of, read_text, show, troubled};
 use script_text::{SessionLog, read_log};
 use session_model::Limits;
 use std::alloc::Global;
@@ -34,8 +33,5 @@ fn served_again(alloc: Global, text: Blob, log: &SessionLog) -> Result<SessionLo
 {
     let mut wires = LogWires::new(alloc, text, log)?;
     let ending = serve(alloc, &Limits::standard(), &mut wires);
-    if wires.refused() {
-        return Err(NoMemory);
-    }
-    log_of(alloc, ending, wires.entries())
+    log_of(alloc, ending, wires.entries()?)
 }

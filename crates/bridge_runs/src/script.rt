@@ -3,10 +3,9 @@ ghost use Rattle.std.specs.Prelude.{◌≡◌, [], IfOk, Ok};
 ghost use Rattle.script_files.specs.Reading.{script_of};
 ghost use Rattle.bridge_runs.specs.Command.{IsServedOf, Plays};
 
-use crate::file_runs::{log_of, read_text, show, troubled};
-use crate::played_wires::PlayedWires;
-use crate::printing::Outcome;
 use bridge_serve::serve;
+use file_wires::PlayedWires;
+use run_outcomes::{Outcome, log_of, read_text, show, troubled};
 use script_files::read_script;
 use script_rows::Script;
 use script_text::SessionLog;

@@ -1,7 +1,7 @@
 //! The lines and the statuses of endings and faults.
 use crate::runs::output_of;
-use bridge_runs::{Outcome, tell};
 use dap_frames::FrameFault;
+use run_outcomes::{Outcome, tell};
 use session_model::{ClientFault, Ending, TargetFault};
 use std::alloc::Global;
 use std::test::Fail;

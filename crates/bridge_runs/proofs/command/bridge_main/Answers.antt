@@ -1,4 +1,4 @@
-use Rattle.bridge_runs.proofs.WordLaws.{replay_taken, script_taken, serve_taken}
+use Rattle.command_words.proofs.WordLaws.{replay_taken, script_taken, serve_taken}
 use Rattle.bridge_runs.proofs.command.bridge_main.Goals as goal
 
 pub returns-clause-serve_usage : goal.returns-clause-serve_usage

@@ -1,5 +1,5 @@
-use Rattle.bridge_runs.specs.FileRuns.{OfFile}
-use Rattle.bridge_runs.proofs.FileLaws.{printed_of, text_read, troubled_file}
+use Rattle.run_outcomes.specs.FileRuns.{OfFile}
+use Rattle.run_outcomes.proofs.FileLaws.{printed_of, text_read, troubled_file}
 use Rattle.bridge_runs.proofs.script.play.Goals as goal
 
 pub returns-in-Ok-read_script : goal.returns-in-Ok-read_script

@@ -1,7 +1,0 @@
-pub mod WordLaws
-pub mod OptionLaws
-pub mod ToldLaws
-pub mod CourseLaws
-pub mod FollowLaws
-pub mod PlayedLaws
-pub mod FileLaws

@@ -1,4 +1,0 @@
-use Rattle.bridge_runs.proofs.printing.print_line.Goals as goal
-
-pub returns : goal.returns
-returns g c = rw c.as_bytes.ensures.value at c.print.ensures

@@ -1,0 +1,4 @@
+pub mod ToldLaws
+pub mod CourseLaws
+pub mod FollowLaws
+pub mod PlayedLaws

@@ -1,0 +1,4 @@
+pub mod Told
+pub mod Course
+pub mod LogWires
+pub mod PlayedWires

@@ -1,0 +1,47 @@
+-- What becomes of a file that is read.
+use Rattle.std.proofs.Common.{◌≡◌, ◌∙◌, ℕ, List, [], Some, Result, Ok, Err, IfOk, ap, sym}
+use Rattle.script_text.specs.Reading.{IsRead as IsTextRead}
+use Rattle.script_text.specs.declared.log.ScriptTrouble.{ScriptTrouble}
+use Rattle.script_text.specs.declared.log.ScriptTrouble.TheVariants.{At, NoMemory}
+use Rattle.script_text.specs.declared.log.SessionLog.{SessionLog}
+use Rattle.session_model.specs.Session.{IsSession}
+use Rattle.session_model.specs.declared.ending.Ending.{Ending}
+use Rattle.wire_core.specs.Files.{Store}
+use Rattle.wire_core.specs.Outside.{Outside}
+use Rattle.wire_core.specs.declared.memory.NoMemory.{NoMemory as Refused}
+use Rattle.wire_core.specs.declared.outside.Entry.{Entry}
+use Rattle.run_outcomes.specs.FileRuns.{IsLogged, IsPrinted, IsRead, KeepsLog, OfFile, ReadsText, ShowsLog, troubled}
+use Rattle.run_outcomes.specs.FileRuns.{usual_limits}
+use Rattle.run_outcomes.specs.declared.printing.Outcome.{Outcome}
+
+-- a file that has a text was read
+pub text_read : (name text : List ℕ) (old new : Store) → ReadsText name old new (Ok text) → IsRead old new name (Ok text)
+text_read name text old new (ReadsText.is_read read) = read
+
+-- the log that was made is printed, or memory ran out
+pub printed_of : (IsSuch : SessionLog → Type 0) (made : Result SessionLog Refused) (outcome : Outcome)
+    → IfOk made IsSuch → ShowsLog made outcome → IsPrinted IsSuch outcome
+printed_of IsSuch (Ok log) outcome such ShowsLog.shows = IsPrinted.printed such
+printed_of IsSuch made outcome such ShowsLog.forgets = IsPrinted.forgotten
+
+-- the text is not read as what it should be
+pub troubled_file : {A : Type 0} (reading : List ℕ → Result A ScriptTrouble) (IsSuch : A → SessionLog → Type 0)
+    (name text : List ℕ) (old new : Store) (trouble : ScriptTrouble) → IsRead old new name (Ok text)
+    → IsTextRead (Err trouble) (reading text) → OfFile reading IsSuch name old new (troubled trouble)
+troubled_file reading IsSuch name text old new (At line kind) read is = OfFile.is_bad read is
+troubled_file reading IsSuch name text old new NoMemory read is = OfFile.forgets_text read
+
+-- the log that is kept of a session is one of it
+pub logged_of : (old new : Outside) (ending : Ending) (entries : List Entry) (log : SessionLog)
+    → IsSession old new usual_limits ending → old.log ≡ Some [] → new.log ≡ Some entries → KeepsLog ending entries log
+    → IsLogged log
+logged_of old new ending entries log session before whole kept = record {
+  old = old;
+  new = new;
+  ending = ending;
+  session = session;
+  nothing_before = before;
+  whole_log = whole ∙ ap Some (sym kept.entries_are);
+  ending_told = kept.ending_told;
+  remembers = kept.remembers;
+}

@@ -1,0 +1,30 @@
+use Rattle.run_outcomes.specs.Lines.{text_of}
+use Rattle.run_outcomes.proofs.printing.tell.Goals as goal
+
+pub returns-in-Misused : goal.returns-in-Misused
+unfolding text_of
+returns-in-Misused g c = rw c.in-Misused.is c.print_line.ensures
+
+pub returns-in-NotOpened : goal.returns-in-NotOpened
+unfolding text_of
+returns-in-NotOpened g c = rw c.in-NotOpened.is c.print_line-in-NotOpened.ensures
+
+pub returns-in-NotRead : goal.returns-in-NotRead
+unfolding text_of
+returns-in-NotRead g c = rw c.in-NotRead.is c.print_line-in-NotRead.ensures
+
+pub returns-in-TooLong : goal.returns-in-TooLong
+unfolding text_of
+returns-in-TooLong g c = rw c.in-TooLong.is c.print_line-in-TooLong.ensures
+
+pub returns-in-BadLine : goal.returns-in-BadLine
+unfolding text_of
+returns-in-BadLine g c = rw c.in-BadLine.is (c.print_made.ensures _ c.faulty_line.ensures)
+
+pub returns-in-Logged : goal.returns-in-Logged
+unfolding text_of
+returns-in-Logged g c = rw c.in-Logged.is (rw c.as_slice.ensures at c.print.ensures)
+
+pub returns-in-Ended : goal.returns-in-Ended
+unfolding text_of
+returns-in-Ended g c = rw c.in-Ended.is c.tell_ending.ensures

@@ -1,0 +1,88 @@
+//! Runs that read a file, serve a session of what it says, and print the log of that session.
+ghost use Rattle.std.specs.Prelude.{◌≡◌, [], IfOk};
+ghost use Rattle.run_outcomes.specs.FileRuns.{KeepsLog, ReadsText, ShowsLog, troubled};
+
+use crate::printing::{OUT_OF_MEMORY, Outcome, status_of_ending};
+use script_text::{ScriptTrouble, SessionLog, print_log};
+use session_model::Ending;
+use std::alloc::Global;
+use wire_core::{Blob, Entry, FileRefusal, Files, List, NoMemory, Word};
+
+// The bytes that are read of a file at most.
+const MOST_BYTES: usize = 67_108_864;
+
+/// All bytes of the file of this name, which may be 67,108,864 at most. Or the outcome of a run that has none: `NotRead`
+/// where the file fails, `TooLong` where it has more, and the ending `NoMemory` where memory is refused.
+pub fn read_text<F: Files>(alloc: Global, name: Word, files: &mut F) -> Result<Blob, Outcome>
+    requires { (F.store files.old).asked ≡ [] }
+    ensures { ReadsText name (F.store files.old) (F.store files.new) result }
+{
+    match files.read(alloc, name, MOST_BYTES) {
+        Ok(text) => Ok(text),
+        Err(FileRefusal::Failed) => Err(Outcome::NotRead),
+        Err(FileRefusal::TooLong) => Err(Outcome::TooLong),
+        Err(FileRefusal::NoMemory) => Err(Outcome::Ended(Ending::NoMemory)),
+    }
+}
+
+/// The outcome of a run whose text has a faulty line, or that found no memory to read it.
+pub fn troubled(trouble: ScriptTrouble) -> Outcome
+    ensures { result ≡ troubled trouble }
+{
+    match trouble {
+        ScriptTrouble::At { line, kind } => Outcome::BadLine { line, kind },
+        ScriptTrouble::NoMemory => Outcome::Ended(Ending::NoMemory),
+    }
+}
+
+/// The log of a session that ended so: copies of these entries, in order, and the status of its ending. `NoMemory` comes
+/// where it ended for that, or memory is refused.
+pub fn log_of(alloc: Global, ending: Ending, entries: &[Entry]) -> Result<SessionLog, NoMemory>
+    ensures { IfOk result (KeepsLog ending entries.now) }
+{
+    let status = status_of_ending(ending);
+    if status == OUT_OF_MEMORY {
+        return Err(NoMemory);
+    }
+    let entries = copy_all(alloc, entries)?;
+    Ok(SessionLog {
+        entries,
+        ending: Some(status),
+    })
+}
+
+/// The outcome of a run that made this log: its text, as `print_log` writes it; or the ending `NoMemory`, where there is no
+/// log, or memory is refused to its text.
+pub fn show(alloc: Global, made: Result<SessionLog, NoMemory>) -> Outcome
+    ensures { ShowsLog made result }
+{
+    match made {
+        Ok(log) => match print_log(alloc, &log) {
+            Ok(text) => Outcome::Logged(text),
+            Err(NoMemory) => Outcome::Ended(Ending::NoMemory),
+        },
+        Err(NoMemory) => Outcome::Ended(Ending::NoMemory),
+    }
+}
+
+fn copy_all(alloc: Global, entries: &[Entry]) -> Result<List<Entry>, NoMemory>
+    ensures { IfOk result (λ copies. copies ≡ entries.now) }
+{
+    let mut copies = List::new(alloc);
+    for entry in entries {
+        copies.push(copy(alloc, entry)?)?;
+    }
+    Ok(copies)
+}
+
+fn copy(alloc: Global, entry: &Entry) -> Result<Entry, NoMemory>
+    ensures { IfOk result (λ copy. copy ≡ entry.now) }
+{
+    Ok(match entry {
+        Entry::In(side, bytes) => Entry::In(*side, Blob::from_slice(alloc, bytes.as_slice())?),
+        Entry::Out(side, bytes) => Entry::Out(*side, Blob::from_slice(alloc, bytes.as_slice())?),
+        Entry::Shut(side) => Entry::Shut(*side),
+        Entry::Failed(side) => Entry::Failed(*side),
+        Entry::Quiet => Entry::Quiet,
+    })
+}
