@@ -17,6 +17,7 @@ pub mod BindingWatches
 pub mod Bools
 pub mod BreakpointExamples
 pub mod CommandLemmas
+pub mod DueWants
 pub mod EarlyItems
 pub mod EventLaws
 pub mod FrameLaws
