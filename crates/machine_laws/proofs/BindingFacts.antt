@@ -14,12 +14,12 @@ use Rattle.machine_model.specs.Binding.{HasPlaces, IsBound}
 use Rattle.machine_model.specs.Classes.{bound_plan, class_plan, is_keyed, keyed_plan, known_plan, package_plan}
 use Rattle.machine_model.specs.Classes.{prepared_plan, source_plan, watched_plan}
 use Rattle.machine_model.specs.Facts.{source_in}
-use Rattle.machine_model.specs.Names.{Answer, Question, Want}
 use Rattle.machine_model.specs.Plans.{Sight, after, asking, beside, each, has, joined, need}
 use Rattle.machine_model.specs.Replying.{knows_fact, learnt, with_heard}
 use Rattle.machine_model.specs.State.{is_some}
-use Rattle.machine_model.proofs.BindingPlans.{is_fact}
 use Rattle.machine_model.proofs.PlanIds.{after_like, need_chained, need_made}
+use Rattle.machine_laws.specs.Names.{Answer, Question, Want}
+use Rattle.machine_laws.proofs.BindingPlans.{is_fact}
 use Rattle.wish_sets.specs.Places.{key_by}
 use Rattle.wish_sets.specs.Wanted.{Wanted, class_found, put_known, with_class, with_known}
 use Rattle.wish_sets.specs.Wished.{is_named, is_watched}

@@ -6,21 +6,21 @@ use Rattle.class_tables.specs.Facts.{Known}
 use Rattle.class_tables.specs.Lookups.{found_in}
 use Rattle.jdwp_values.specs.declared.id.ClassId.{ClassId}
 use Rattle.machine_model.specs.Facts.{fact_known}
-use Rattle.machine_model.specs.Names.{Attached, Choice, Classes, Command, Decides, Failure, Item, Lines, News, Part}
-use Rattle.machine_model.specs.Names.{Phase, Question, Replied, Sent, TellsNews, Want, a_raw, a_request, class_facts}
-use Rattle.machine_model.specs.Names.{Functions, Stepped, Steps, Throws}
 use Rattle.machine_model.specs.Plans.{asks_for, question_of}
 use Rattle.machine_model.specs.Replying.{filled, waits_for, is_waiting}
 use Rattle.machine_model.specs.Rows.{chosen, failure_of, news_of, parts_by, parts_of, refused_with, row_of, stepped_by}
 use Rattle.machine_model.specs.Rows.{told_in, wanting}
 use Rattle.machine_model.specs.State.{Hand, State, has_waiting, is_empty, is_none, is_some}
 use Rattle.machine_model.specs.Stops.{surplus}
-use Rattle.machine_model.proofs.BindingGrows.{Grows, one_learnt, still_learnt}
-use Rattle.machine_model.proofs.BindingPlans.{IsLearnt, is_fact, is_listing}
 use Rattle.machine_model.proofs.KeyLaws.{is_one}
-use Rattle.machine_model.proofs.Tables.{is_updates, of_decided, of_told, told_alike}
-use Rattle.machine_model.proofs.Testing.{IsTest}
 use Rattle.machine_model.proofs.Bools.{never, or_more}
+use Rattle.machine_laws.specs.Names.{Attached, Choice, Classes, Command, Decides, Failure, Item, Lines, News, Part}
+use Rattle.machine_laws.specs.Names.{Phase, Question, Replied, Sent, TellsNews, Want, a_raw, a_request, class_facts}
+use Rattle.machine_laws.specs.Names.{Functions, Stepped, Steps, Throws}
+use Rattle.machine_laws.proofs.BindingGrows.{Grows, one_learnt, still_learnt}
+use Rattle.machine_laws.proofs.BindingPlans.{IsLearnt, is_fact, is_listing}
+use Rattle.machine_laws.proofs.Tables.{is_updates, of_decided, of_told, told_alike}
+use Rattle.machine_laws.proofs.Testing.{IsTest}
 use Rattle.std.proofs.lemmas.Bool.{or_right}
 
 -- Parts ---------------------------------------------------------------------------------------------------------------

@@ -5,7 +5,6 @@ use Rattle.std.proofs.Common.{◌≡◌, true, false, List, [], ◌∷◌, ◌++
 use Rattle.std.proofs.Common.{option_map, Bool}
 use Rattle.machine_model.specs.Binding.{AreAllBound}
 use Rattle.machine_model.specs.Due.{after_deed, asked_hand, behind_first, clear, load_of}
-use Rattle.machine_model.specs.Names.{Attached, Item, Part, Phase, Sent, Want, a_composite, a_question, an_effect}
 use Rattle.machine_model.specs.Plans.{made_with, need, after, each}
 use Rattle.machine_model.specs.Replying.{hand_replied, is_failed}
 use Rattle.machine_model.specs.Rest.{IsAtRest}
@@ -13,20 +12,21 @@ use Rattle.machine_model.specs.Rows.{chosen, parts_of, taken}
 use Rattle.machine_model.specs.Runs.{Message, Run}
 use Rattle.machine_model.specs.State.{Hand, Machine, State, is_gone, fresh}
 use Rattle.machine_model.specs.Telling.{after_event, numbered_by}
-use Rattle.machine_model.proofs.BindingHands.{begun_noted, binds_ahead, placed, placed_rest, placed_test}
-use Rattle.machine_model.proofs.RequestLaws.{IsDue, Settling, settles, settling, was_due}
-use Rattle.machine_model.proofs.RequestSteps.{flying_in, flying_of, near_before, numbered_wishes, parts_left}
-use Rattle.machine_model.proofs.RequestSteps.{told_wishes}
-use Rattle.machine_model.proofs.Standing.{asked_in, queue_in}
-use Rattle.machine_model.proofs.Stepping.{IsAt, Moves, Skips, by_runs}
-use Rattle.machine_model.proofs.Tables.{is_updates}
-use Rattle.machine_model.proofs.Testing.{Passed, whole, tested}
-use Rattle.machine_model.proofs.BindingWatches.{none_wished, due_set}
-use Rattle.machine_model.proofs.BindingParts.{AreLike, Binding, IsBinding, Same, are_same, as_before, asks_on}
-use Rattle.machine_model.proofs.BindingParts.{clear_now, event_same, goes_by, is_other, itself, leaves_watches}
-use Rattle.machine_model.proofs.BindingParts.{queues_on, still_binding, still_bound, told_same}
-use Rattle.machine_model.proofs.BindingReplies.{answers_on, replies_on, chosen_like, notes_on, finds_on}
 use Rattle.machine_model.specs.Composites.{composite_parts, has_death, learnt_in}
+use Rattle.machine_laws.specs.Names.{Attached, Item, Part, Phase, Sent, Want, a_composite, a_question, an_effect}
+use Rattle.machine_laws.proofs.BindingHands.{begun_noted, binds_ahead, placed, placed_rest, placed_test}
+use Rattle.machine_laws.proofs.RequestLaws.{IsDue, Settling, settles, settling, was_due}
+use Rattle.machine_laws.proofs.RequestSteps.{flying_in, flying_of, near_before, numbered_wishes, parts_left}
+use Rattle.machine_laws.proofs.RequestSteps.{told_wishes}
+use Rattle.machine_laws.proofs.Standing.{asked_in, queue_in}
+use Rattle.machine_laws.proofs.Stepping.{IsAt, Moves, Skips, by_runs}
+use Rattle.machine_laws.proofs.Tables.{is_updates}
+use Rattle.machine_laws.proofs.Testing.{Passed, whole, tested}
+use Rattle.machine_laws.proofs.BindingWatches.{none_wished, due_set}
+use Rattle.machine_laws.proofs.BindingParts.{AreLike, Binding, IsBinding, Same, are_same, as_before, asks_on}
+use Rattle.machine_laws.proofs.BindingParts.{clear_now, event_same, goes_by, is_other, itself, leaves_watches}
+use Rattle.machine_laws.proofs.BindingParts.{queues_on, still_binding, still_bound, told_same}
+use Rattle.machine_laws.proofs.BindingReplies.{answers_on, replies_on, chosen_like, notes_on, finds_on}
 
 -- Moves ---------------------------------------------------------------------------------------------------------------
 

@@ -11,17 +11,11 @@ use Rattle.machine_model.specs.Classes.{classes_plan, known_plan}
 use Rattle.machine_model.specs.Due.{lacked_by, newly_lacked, with_want, with_wants, is_listed, clear, load_of, asked_by}
 use Rattle.machine_model.specs.Due.{greeted_by, sized_by, way}
 use Rattle.machine_model.specs.Lookups.{classes_of, found_for, sight_of, threads_plan}
-use Rattle.machine_model.specs.Names.{Event, Finding, Outcome, Part, Replied, Sent, Want, all_threads, class_facts}
-use Rattle.machine_model.specs.Names.{classes_found, Guard, Handshake, IdSizes, container_children, exception_info}
-use Rattle.machine_model.specs.Names.{exception_text, expression_value, thread_frames, variable_write}
 use Rattle.machine_model.specs.Exceptions.{exception_plan, text_plan}
 use Rattle.machine_model.specs.Harmless.{is_harmless}
 use Rattle.machine_model.specs.Expressions.{value_plan}
 use Rattle.machine_model.specs.Variables.{children_plan}
 use Rattle.machine_model.proofs.IdRows.{all_weak}
-use Rattle.machine_model.proofs.Frameless.{asks_frames}
-use Rattle.machine_model.proofs.SafePlans.{children_safe, exception_safe, frames_meek, is_meek, is_safe, threads_safe}
-use Rattle.machine_model.proofs.SafePlans.{thrown_safe, value_safe, write_safe}
 use Rattle.machine_model.specs.Writing.{object_size, write_plan}
 use Rattle.machine_model.specs.Outcomes.{result_of}
 use Rattle.machine_model.specs.Plans.{Need, fails, has, lacks, made_with, need, question_of, after, asking, asks_for}
@@ -30,23 +24,29 @@ use Rattle.machine_model.specs.Replying.{is_waiting, learnt}
 use Rattle.machine_model.specs.Requests.{Wishes}
 use Rattle.machine_model.specs.State.{Hand, Machine, SizesRead, State, is_gone, is_some}
 use Rattle.machine_model.specs.Telling.{after_event, numbered_by}
-use Rattle.machine_model.proofs.BindingGrows.{Grows, found_still, grows_itself, still_learnt}
-use Rattle.machine_model.proofs.BindingHands.{asks_listing, awaits_listing, binds_ahead, first_note, has_note}
-use Rattle.machine_model.proofs.BindingHands.{is_placed, looks_ahead, looks_classes, looks_first, needs_watches}
-use Rattle.machine_model.proofs.BindingHands.{none_awaits, none_queued, notes_classes, notes_list, placed}
-use Rattle.machine_model.proofs.BindingHands.{queues_listing, was_listed}
-use Rattle.machine_model.proofs.BindingFacts.{bound_alike, same_known}
-use Rattle.machine_model.proofs.BindingPlans.{IsLearnt, does_fail, known_wants, need_alone, need_holds, is_listing}
-use Rattle.machine_model.proofs.BindingPlans.{plan_lacks, wants_other}
 use Rattle.machine_model.specs.Frames.{frames_plan}
-use Rattle.machine_model.proofs.BindingSeen.{bound_still}
 use Rattle.machine_model.proofs.PlanIds.{need_made}
-use Rattle.machine_model.proofs.RequestSteps.{parts_left}
-use Rattle.machine_model.proofs.RestLaws.{is_free}
-use Rattle.machine_model.proofs.Standing.{asked_in, queue_in}
-use Rattle.machine_model.proofs.Tables.{is_updates}
 use Rattle.machine_model.proofs.KeyLaws.{is_one}
-use Rattle.machine_model.proofs.BindingWatches.{WatchesSet, or_false}
+use Rattle.machine_laws.specs.Names.{Event, Finding, Outcome, Part, Replied, Sent, Want, all_threads, class_facts}
+use Rattle.machine_laws.specs.Names.{classes_found, Guard, Handshake, IdSizes, container_children, exception_info}
+use Rattle.machine_laws.specs.Names.{exception_text, expression_value, thread_frames, variable_write}
+use Rattle.machine_laws.proofs.Frameless.{asks_frames}
+use Rattle.machine_laws.proofs.SafePlans.{children_safe, exception_safe, frames_meek, is_meek, is_safe, threads_safe}
+use Rattle.machine_laws.proofs.SafePlans.{thrown_safe, value_safe, write_safe}
+use Rattle.machine_laws.proofs.BindingGrows.{Grows, found_still, grows_itself, still_learnt}
+use Rattle.machine_laws.proofs.BindingHands.{asks_listing, awaits_listing, binds_ahead, first_note, has_note}
+use Rattle.machine_laws.proofs.BindingHands.{is_placed, looks_ahead, looks_classes, looks_first, needs_watches}
+use Rattle.machine_laws.proofs.BindingHands.{none_awaits, none_queued, notes_classes, notes_list, placed}
+use Rattle.machine_laws.proofs.BindingHands.{queues_listing, was_listed}
+use Rattle.machine_laws.proofs.BindingFacts.{bound_alike, same_known}
+use Rattle.machine_laws.proofs.BindingPlans.{IsLearnt, does_fail, known_wants, need_alone, need_holds, is_listing}
+use Rattle.machine_laws.proofs.BindingPlans.{plan_lacks, wants_other}
+use Rattle.machine_laws.proofs.BindingSeen.{bound_still}
+use Rattle.machine_laws.proofs.RequestSteps.{parts_left}
+use Rattle.machine_laws.proofs.RestLaws.{is_free}
+use Rattle.machine_laws.proofs.Standing.{asked_in, queue_in}
+use Rattle.machine_laws.proofs.Tables.{is_updates}
+use Rattle.machine_laws.proofs.BindingWatches.{WatchesSet, or_false}
 use Rattle.wish_sets.specs.Wanted.{Wanted}
 use Rattle.machine_model.proofs.Bools.{and_first}
 use Rattle.std.proofs.lemmas.Bool.{not-true, or_left, or_right}

@@ -16,8 +16,8 @@ use Rattle.jdwp_values.specs.declared.id.ClassId.{ClassId}
 use Rattle.jdwp_values.specs.declared.location.Location.{Location}
 use Rattle.machine_model.specs.Classes.{counts, is_keyed}
 use Rattle.machine_model.specs.State.{is_some}
-use Rattle.machine_model.proofs.BindingGrows.{Grows}
 use Rattle.machine_model.proofs.IdRows.{all_weak}
+use Rattle.machine_laws.proofs.BindingGrows.{Grows}
 use Rattle.wish_sets.specs.Names.{key_parts, method_named, names_class, same_key}
 use Rattle.wish_sets.specs.Places.{entry_places, function_locations, function_places, key_by, key_of, list_places}
 use Rattle.wish_sets.specs.Places.{method_location, places_in}

@@ -13,13 +13,13 @@ use Rattle.machine_model.specs.Binding.{sight_alone}
 use Rattle.machine_model.specs.Classes.{bound_plan, class_plan, counts, is_keyed, keyed_plan, known_plan, lines_plan}
 use Rattle.machine_model.specs.Classes.{methods_plan, package_plan, prepared_plan, watched_plan}
 use Rattle.machine_model.specs.Facts.{fact_known, methods_in, source_in}
-use Rattle.machine_model.specs.Names.{Answer, Question, Replied, Sent, Want, an_answer, an_error}
 use Rattle.machine_model.specs.Plans.{Found, Need, Plan, Sight, after, asking, asks_for, beside, chained, each}
 use Rattle.machine_model.specs.Plans.{fact_heard, fails, found_at, found_from, gives, has, heard_of, joined, lacking}
 use Rattle.machine_model.specs.Plans.{lacks, made_with, need, pairs, question_of, wants, must_by, must_hear, may_hear}
 use Rattle.machine_model.specs.State.{is_some}
 use Rattle.machine_model.proofs.IdRows.{all_joined}
 use Rattle.machine_model.proofs.KeyLaws.{is_one}
+use Rattle.machine_laws.specs.Names.{Answer, Question, Replied, Sent, Want, an_answer, an_error}
 use Rattle.wish_sets.specs.Places.{key_by}
 use Rattle.wish_sets.specs.Wanted.{Wanted}
 use Rattle.wish_sets.specs.Wished.{is_named, is_watched}

@@ -8,10 +8,6 @@ use Rattle.jdwp_values.specs.declared.id.ClassId.{ClassId}
 use Rattle.machine_model.specs.Binding.{AreAllBound, sight_alone}
 use Rattle.machine_model.specs.Classes.{known_plan}
 use Rattle.machine_model.specs.Lookups.{classes_of, finished, found_for, written_parts}
-use Rattle.machine_model.specs.Names.{Finding, Outcome, Written, variable_write, write_found, Choice, Classes, Decides}
-use Rattle.machine_model.specs.Names.{Effect, Leaves, Lines, Lookup, Note, Part, Question, Replied, Sent, Set}
-use Rattle.machine_model.specs.Names.{TellsNews, Want, an_effect, class_facts, Attached, Functions, Halt, Phase}
-use Rattle.machine_model.specs.Names.{Stepped, Steps, StopsAt, Thrown}
 use Rattle.machine_model.specs.Outcomes.{result_of}
 use Rattle.machine_model.specs.Plans.{Need, answer_in, need, Result, gave, is_done}
 use Rattle.machine_model.specs.Replying.{IsReply, done_by, filled, is_waiting, told_by, unless_failed}
@@ -19,26 +15,30 @@ use Rattle.machine_model.specs.Requests.{Wishes, wishes_after}
 use Rattle.machine_model.specs.Rows.{written_by, chosen, leaves, news_of, noted, refused_with, stepped_by}
 use Rattle.machine_model.specs.State.{Hand, State, is_some}
 use Rattle.machine_model.specs.Stops.{hit_parts, surplus, told_part}
-use Rattle.machine_model.proofs.BindingFacts.{all_bound, fact_learnt, only_classes, same_known}
-use Rattle.machine_model.proofs.BindingGrows.{Grows, grows_itself, learnt_grows, learnt_loaded}
-use Rattle.machine_model.proofs.BindingHands.{asks_listing, asks_filled, awaited_is, awaits_listing, awaits_filled}
-use Rattle.machine_model.proofs.BindingHands.{binds_ahead, first_note, has_note, is_placed, learnt_filled, listed_asks}
-use Rattle.machine_model.proofs.BindingHands.{listed_filled, looks_ahead, looks_first, needs_none, needs_watches}
-use Rattle.machine_model.proofs.BindingHands.{notes_list, queues_listing, was_listed}
-use Rattle.machine_model.proofs.BindingPlans.{IsLearnt, is_fact, is_listing}
-use Rattle.machine_model.proofs.RequestLaws.{IsDue}
-use Rattle.machine_model.proofs.RequestSteps.{is_deed, learnt_wishes}
-use Rattle.machine_model.proofs.Tables.{decided_alike, of_decided, of_told, starts_updates, told_alike}
+use Rattle.machine_laws.specs.Names.{Finding, Outcome, Written, variable_write, write_found, Choice, Classes, Decides}
+use Rattle.machine_laws.specs.Names.{Effect, Leaves, Lines, Lookup, Note, Part, Question, Replied, Sent, Set}
+use Rattle.machine_laws.specs.Names.{TellsNews, Want, an_effect, class_facts, Attached, Functions, Halt, Phase}
+use Rattle.machine_laws.specs.Names.{Stepped, Steps, StopsAt, Thrown}
+use Rattle.machine_laws.proofs.BindingFacts.{all_bound, fact_learnt, only_classes, same_known}
+use Rattle.machine_laws.proofs.BindingGrows.{Grows, grows_itself, learnt_grows, learnt_loaded}
+use Rattle.machine_laws.proofs.BindingHands.{asks_listing, asks_filled, awaited_is, awaits_listing, awaits_filled}
+use Rattle.machine_laws.proofs.BindingHands.{binds_ahead, first_note, has_note, is_placed, learnt_filled, listed_asks}
+use Rattle.machine_laws.proofs.BindingHands.{listed_filled, looks_ahead, looks_first, needs_none, needs_watches}
+use Rattle.machine_laws.proofs.BindingHands.{notes_list, queues_listing, was_listed}
+use Rattle.machine_laws.proofs.BindingPlans.{IsLearnt, is_fact, is_listing}
+use Rattle.machine_laws.proofs.RequestLaws.{IsDue}
+use Rattle.machine_laws.proofs.RequestSteps.{is_deed, learnt_wishes}
+use Rattle.machine_laws.proofs.Tables.{decided_alike, of_decided, of_told, starts_updates, told_alike}
 use Rattle.wish_sets.specs.Wanted.{Wanted, with_exceptions, with_known, with_step}
 use Rattle.wish_sets.specs.declared.wish.Wish.TheVariants as wishes
 use Rattle.machine_model.specs.Facts.{fact_known}
-use Rattle.machine_model.proofs.BindingWatches.{WatchesSet, due_unset, replied_set, known_set, classes_alike}
-use Rattle.machine_model.proofs.BindingWatches.{watch_alike}
-use Rattle.machine_model.proofs.BindingParts.{IsComplete, Binding, Same, as_before, still_bound, still_complete}
-use Rattle.machine_model.proofs.BindingParts.{still_binding, IsClear, quiet, none_ahead, note_had, placed_note, AreLike}
-use Rattle.machine_model.proofs.BindingParts.{are_same, goes_by, wanted_same, itself, found_complete, unlisted_waits}
+use Rattle.machine_laws.proofs.BindingWatches.{WatchesSet, due_unset, replied_set, known_set, classes_alike}
+use Rattle.machine_laws.proofs.BindingWatches.{watch_alike}
+use Rattle.machine_laws.proofs.BindingParts.{IsComplete, Binding, Same, as_before, still_bound, still_complete}
+use Rattle.machine_laws.proofs.BindingParts.{still_binding, IsClear, quiet, none_ahead, note_had, placed_note, AreLike}
+use Rattle.machine_laws.proofs.BindingParts.{are_same, goes_by, wanted_same, itself, found_complete, unlisted_waits}
 use Rattle.std.proofs.lemmas.Bool.{not-true, or_left}
-use Rattle.machine_model.proofs.ReplyLaws.{wanted_replied}
+use Rattle.machine_laws.proofs.ReplyLaws.{wanted_replied}
 
 -- Replies -------------------------------------------------------------------------------------------------------------
 

@@ -17,15 +17,15 @@ use Rattle.machine_model.specs.Binding.{IsBound, sight_alone}
 use Rattle.machine_model.specs.Classes.{bound_plan, class_plan, counts, is_keyed, keyed_plan, known_plan, lines_plan}
 use Rattle.machine_model.specs.Classes.{methods_plan, package_plan, prepared_plan, source_plan, watched_plan}
 use Rattle.machine_model.specs.Facts.{fact_known, methods_in, source_in}
-use Rattle.machine_model.specs.Names.{Answer, Question, Want}
 use Rattle.machine_model.specs.Plans.{Need, Plan, after, asking, beside, chained, each, fact_heard, fails, has, joined}
 use Rattle.machine_model.specs.Plans.{lacks, made_with, need}
 use Rattle.machine_model.specs.State.{is_some}
-use Rattle.machine_model.proofs.BindingFacts.{is_mapped}
-use Rattle.machine_model.proofs.BindingGrows.{Grows}
-use Rattle.machine_model.proofs.BindingPlaces.{HasLines, as_found, same_places}
 use Rattle.machine_model.proofs.IdRows.{all_joined}
 use Rattle.machine_model.proofs.PlanIds.{need_chained, need_made}
+use Rattle.machine_laws.specs.Names.{Answer, Question, Want}
+use Rattle.machine_laws.proofs.BindingFacts.{is_mapped}
+use Rattle.machine_laws.proofs.BindingGrows.{Grows}
+use Rattle.machine_laws.proofs.BindingPlaces.{HasLines, as_found, same_places}
 use Rattle.wish_sets.specs.Places.{key_by, places_in}
 use Rattle.wish_sets.specs.Wanted.{Wanted, class_found, facts_found, method_found, methods_found}
 use Rattle.wish_sets.specs.Wished.{is_named, is_watched}

@@ -9,28 +9,28 @@ use Rattle.class_tables.specs.declared.loaded.Loaded.{Loaded}
 use Rattle.jdwp_values.specs.declared.class.Field.{Field}
 use Rattle.jdwp_values.specs.declared.class.Method.{Method}
 use Rattle.jdwp_values.specs.declared.id.ClassId.{ClassId}
-use Rattle.machine_model.specs.Names.{Writes, Classes, Item, Lines, Part, Sent, Success, ThreadId, Want, a_composite}
-use Rattle.machine_model.specs.Names.{of_stop, Functions, Thrown, Throws, Dispose, Exit, Resume, Suspend, a_written}
-use Rattle.machine_model.specs.Names.{Capabilities, Continued, Failed, Nothing, a_stop, breakpoint_list, Steps}
-use Rattle.machine_model.specs.Names.{exception_text, some_news, thread_changed}
 use Rattle.machine_model.specs.Due.{sent}
 use Rattle.machine_model.specs.Ids.{AreOfStop, Id, WasReadInStop, begins_stop, class, frame, ids_given, ids_read}
 use Rattle.machine_model.specs.ReferenceNumbers.{ends_stop}
 use Rattle.machine_model.specs.Runs.{Message}
 use Rattle.machine_model.specs.State.{Hand, Machine, State, is_some}
-use Rattle.machine_model.proofs.Frameless.{composite_free, every_one, fields_free, is_frame, methods_free}
 use Rattle.machine_model.proofs.IdRows.{all_joined}
-use Rattle.machine_model.proofs.ItemIds.{AreItems, HandStands}
 use Rattle.machine_model.proofs.PlanIds.{AreKnown, IsAsked, IsWanted, OfClass, OfObject, OfThrown}
-use Rattle.machine_model.proofs.Standing.{Near, PartStands}
-use Rattle.machine_model.proofs.Stepping.{with_said}
-use Rattle.machine_model.proofs.StopParts.{are_bare, is_bare}
-use Rattle.machine_model.proofs.StopTurns.{says_end}
-use Rattle.machine_model.proofs.ThingIds.{AreThings}
-use Rattle.machine_model.proofs.HitIds.{ItemStands}
-use Rattle.machine_model.proofs.ThreadIds.{TellStands}
-use Rattle.machine_model.proofs.WishIds.{weak_wished}
 use Rattle.machine_model.proofs.Bools.{both_hold}
+use Rattle.machine_laws.specs.Names.{Writes, Classes, Item, Lines, Part, Sent, Success, ThreadId, Want, a_composite}
+use Rattle.machine_laws.specs.Names.{of_stop, Functions, Thrown, Throws, Dispose, Exit, Resume, Suspend, a_written}
+use Rattle.machine_laws.specs.Names.{Capabilities, Continued, Failed, Nothing, a_stop, breakpoint_list, Steps}
+use Rattle.machine_laws.specs.Names.{exception_text, some_news, thread_changed}
+use Rattle.machine_laws.proofs.Frameless.{composite_free, every_one, fields_free, is_frame, methods_free}
+use Rattle.machine_laws.proofs.ItemIds.{AreItems, HandStands}
+use Rattle.machine_laws.proofs.Standing.{Near, PartStands}
+use Rattle.machine_laws.proofs.Stepping.{with_said}
+use Rattle.machine_laws.proofs.StopParts.{are_bare, is_bare}
+use Rattle.machine_laws.proofs.StopTurns.{says_end}
+use Rattle.machine_laws.proofs.ThingIds.{AreThings}
+use Rattle.machine_laws.proofs.HitIds.{ItemStands}
+use Rattle.machine_laws.proofs.ThreadIds.{TellStands}
+use Rattle.machine_laws.proofs.WishIds.{weak_wished}
 
 -- The test ------------------------------------------------------------------------------------------------------------
 

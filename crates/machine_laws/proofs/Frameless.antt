@@ -29,10 +29,10 @@ use Rattle.jdwp_values.specs.declared.value.Value.TheVariants as values
 use Rattle.machine_model.specs.Ids.{id_of_object, Id, class, frame, ids_answered, ids_of, ids_of_composite}
 use Rattle.machine_model.specs.Ids.{ids_of_event, ids_of_item, ids_of_listed, ids_of_part, ids_of_row, ids_of_said}
 use Rattle.machine_model.specs.Ids.{ids_of_saying, ids_of_simple, ids_of_value, ids_replied, method, no_thread}
-use Rattle.machine_model.specs.Names.{Answer, Composite, Effect, Question, Replied, a_question, an_effect}
 use Rattle.machine_model.specs.Replying.{IsReply, wire}
 use Rattle.machine_model.specs.State.{SizesRead}
 use Rattle.machine_model.proofs.IdRows.{all_flat, all_joined}
+use Rattle.machine_laws.specs.Names.{Answer, Composite, Effect, Question, Replied, a_question, an_effect}
 
 abbrev pub is_frame : Id → Bool
 is_frame (frame thread id) = true

@@ -2,17 +2,17 @@
 use Rattle.std.proofs.Common.{◌≡◌, Bool, true, false, cond, ◌||◌, List, [], ◌∷◌, ◌++◌, Option, Some, None, refl, sym}
 use Rattle.std.proofs.Common.{ap, ◌∙◌, option_map, arith}
 use Rattle.machine_model.specs.Due.{asked_by, greeted_by, lacked_by, newly_lacked, passes, with_wants}
-use Rattle.machine_model.specs.Names.{Choice, Handshake, IdSizes, Initialized, Item, Part, Replied, TargetCommand, Want}
-use Rattle.machine_model.specs.Names.{a_question, an_effect, Stepped}
 use Rattle.machine_model.specs.Pending.{has_such, have_handshake, is_greeted, is_greets}
 use Rattle.machine_model.specs.Replying.{given_up, hand_replied, is_failed, replied_machine, replied_to, unless_failed}
 use Rattle.machine_model.specs.Rows.{chosen, gone_parts, has_response, parts_of}
 use Rattle.machine_model.specs.Runs.{Message}
 use Rattle.machine_model.specs.State.{Hand, Machine, State, is_attached, is_empty, left}
-use Rattle.machine_model.proofs.QuietLaws.{lacking_hand}
-use Rattle.machine_model.proofs.Testing.{same_replied}
-use Rattle.machine_model.proofs.Stepping.{IsAt, Moves, Skips, with_said, Loses}
 use Rattle.machine_model.proofs.Bools.{second_more}
+use Rattle.machine_laws.specs.Names.{Choice, Handshake, IdSizes, Initialized, Item, Part, Replied, TargetCommand, Want}
+use Rattle.machine_laws.specs.Names.{a_question, an_effect, Stepped}
+use Rattle.machine_laws.proofs.QuietLaws.{lacking_hand}
+use Rattle.machine_laws.proofs.Testing.{same_replied}
+use Rattle.machine_laws.proofs.Stepping.{IsAt, Moves, Skips, with_said, Loses}
 
 -- Lists of parts ------------------------------------------------------------------------------------------------------
 

@@ -5,22 +5,22 @@ use Rattle.std.specs.List.{AllByRecursion as All}
 use Rattle.std.specs.Prelude.{map, option_and_then}
 use Rattle.class_tables.specs.Lookups.{found_in}
 use Rattle.machine_model.specs.Harmless.{is_harmless_effect, is_harmless_wish, is_there}
-use Rattle.machine_model.specs.Names.{Choice, Classes, Command, Decides, Effect, Failure, Item, Next, Note, Part, Set}
-use Rattle.machine_model.specs.Names.{StepIn, StepOut, Stepped, Steps, TargetCommand, TellsNews, ThreadId, a_raw, Lines}
-use Rattle.machine_model.specs.Names.{a_request, an_effect}
 use Rattle.machine_model.specs.Requests.{Wishes, effect_due}
 use Rattle.machine_model.specs.Rows.{chosen, failure_of, news_of, noted, parts_by, parts_of, refused_with, row_of}
 use Rattle.machine_model.specs.Rows.{step_parts, stepped_by, thread_there, thread_with, wanting}
 use Rattle.machine_model.specs.Runs.{Message, Run}
 use Rattle.machine_model.specs.State.{Hand, Machine, State}
-use Rattle.machine_model.proofs.BindingFacts.{only_classes}
-use Rattle.machine_model.proofs.BindingWatches.{or_false, without_mid}
 use Rattle.machine_model.proofs.IdRows.{all_joined}
-use Rattle.machine_model.proofs.RequestSteps.{learnt_wishes, numbered_wishes, told_wishes}
-use Rattle.machine_model.proofs.Stepping.{Loses, Moves, by_moves, with_said}
-use Rattle.machine_model.proofs.Tables.{decided_alike, told_alike}
-use Rattle.machine_model.proofs.Testing.{IsTest, Passed, passed_on, whole}
-use Rattle.machine_model.proofs.WishLemmas.{new_set_due}
+use Rattle.machine_laws.specs.Names.{Choice, Classes, Command, Decides, Effect, Failure, Item, Next, Note, Part, Set}
+use Rattle.machine_laws.specs.Names.{StepIn, StepOut, Stepped, Steps, TargetCommand, TellsNews, ThreadId, a_raw, Lines}
+use Rattle.machine_laws.specs.Names.{a_request, an_effect}
+use Rattle.machine_laws.proofs.BindingFacts.{only_classes}
+use Rattle.machine_laws.proofs.BindingWatches.{or_false, without_mid}
+use Rattle.machine_laws.proofs.RequestSteps.{learnt_wishes, numbered_wishes, told_wishes}
+use Rattle.machine_laws.proofs.Stepping.{Loses, Moves, by_moves, with_said}
+use Rattle.machine_laws.proofs.Tables.{decided_alike, told_alike}
+use Rattle.machine_laws.proofs.Testing.{IsTest, Passed, passed_on, whole}
+use Rattle.machine_laws.proofs.WishLemmas.{new_set_due}
 use Rattle.wish_sets.proofs.WishLaws.{equal_is, wished_has}
 use Rattle.wish_sets.specs.Order.{has_wish}
 use Rattle.wish_sets.specs.Places.{places}
@@ -32,7 +32,7 @@ use Rattle.wish_sets.specs.declared.wish.Depth.TheVariants.{Into, Out, Over}
 use Rattle.wish_sets.specs.declared.wish.StepWish.{StepWish}
 use Rattle.wish_sets.specs.declared.wish.Wish.{Wish}
 use Rattle.wish_sets.specs.declared.wish.Wish.TheVariants as wishes
-use Rattle.machine_model.proofs.ReplyLaws.{wanted_replied}
+use Rattle.machine_laws.proofs.ReplyLaws.{wanted_replied}
 
 -- Parts ---------------------------------------------------------------------------------------------------------------
 

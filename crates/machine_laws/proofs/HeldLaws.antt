@@ -8,11 +8,6 @@ use Rattle.machine_model.specs.Due.{after_deed, asked_hand, entry_by, sent, stop
 use Rattle.machine_model.specs.Knowing.{View, begins, dies, dying_by, held_in, held_with, has_last, may_send, owed_by}
 use Rattle.machine_model.specs.Knowing.{owed_in, sent_view, stopped_behind, view_of}
 use Rattle.machine_model.specs.Lookups.{finished}
-use Rattle.machine_model.specs.Names.{Written, variable_write, Attached, Choice, Clear, Command, Decides, Deed, Does}
-use Rattle.machine_model.specs.Names.{Effect, EntryHeld, Finding, Item, Leaves, Lookup, Part, Phase, Replied, Resume}
-use Rattle.machine_model.specs.Names.{Set, StopCause, Stopping, Suspend, TargetCommand, TellsNews, Want, a_stop}
-use Rattle.machine_model.specs.Names.{an_effect, by_client, of_composite, of_entry, of_stop, Halt, Stepped, ThreadId}
-use Rattle.machine_model.specs.Names.{Thrown, HaltCause, exception_text, Hit, by_step, by_exception}
 use Rattle.machine_model.specs.Plans.{Result}
 use Rattle.machine_model.specs.Replying.{given_up, hand_replied}
 use Rattle.machine_model.specs.Requests.{Wishes, effect_due, effect_of}
@@ -21,13 +16,18 @@ use Rattle.machine_model.specs.Rows.{request_parts, refused_with, stepped_by}
 use Rattle.machine_model.specs.State.{Hand, Machine, State, is_attached, is_empty, is_gone, knowing}
 use Rattle.machine_model.specs.Stops.{decided, decided_by, events_in, has_start, hits_in, stop_among, surplus}
 use Rattle.machine_model.specs.Stops.{thrown_in, told_part}
+use Rattle.machine_laws.specs.Names.{Written, variable_write, Attached, Choice, Clear, Command, Decides, Deed, Does}
+use Rattle.machine_laws.specs.Names.{Effect, EntryHeld, Finding, Item, Leaves, Lookup, Part, Phase, Replied, Resume}
+use Rattle.machine_laws.specs.Names.{Set, StopCause, Stopping, Suspend, TargetCommand, TellsNews, Want, a_stop}
+use Rattle.machine_laws.specs.Names.{an_effect, by_client, of_composite, of_entry, of_stop, Halt, Stepped, ThreadId}
+use Rattle.machine_laws.specs.Names.{Thrown, HaltCause, exception_text, Hit, by_step, by_exception}
 use Rattle.suspend_ledger.specs.Suspensions.{suspensions_by}
 use Rattle.wish_sets.specs.Wishes.{WishChange, clears, next_change, sets}
-use Rattle.machine_model.proofs.HoldingParts.{IsHolding, may_all, may_do_so, may_front, may_stop}
-use Rattle.machine_model.proofs.Stepping.{IsAt, Skips}
-use Rattle.machine_model.proofs.Tables.{free_once, told_alike}
-use Rattle.machine_model.proofs.Testing.{passed}
 use Rattle.machine_model.proofs.Bools.{first_holds}
+use Rattle.machine_laws.proofs.HoldingParts.{IsHolding, may_all, may_do_so, may_front, may_stop}
+use Rattle.machine_laws.proofs.Stepping.{IsAt, Skips}
+use Rattle.machine_laws.proofs.Tables.{free_once, told_alike}
+use Rattle.machine_laws.proofs.Testing.{passed}
 
 pub held_front : {m : Machine} {hand : Hand} {part : Part} {rest : List Part} → IsAt m hand part rest
     → held_in m.state m.hand ≡ held_with m.state.stopped m.state.entry (owed_in m.state.stopped (part ∷ rest))

@@ -11,11 +11,11 @@ use Rattle.jdwp_values.specs.declared.value.Value.{Value}
 use Rattle.jdwp_values.specs.declared.value.Value.TheVariants as values
 use Rattle.machine_model.specs.Ids.{id_of_object, Id, ids_of_composite, ids_of_event, ids_of_value, object}
 use Rattle.machine_model.specs.Children.{object_named}
-use Rattle.machine_model.specs.Names.{Halt, HaltCause, Item, ThreadId, a_composite, came_to, has_stepped, threw}
 use Rattle.machine_model.specs.Stops.{events_in, first_of, first_with, hit_by, hits_in, is_at_line, is_breakpoint}
 use Rattle.machine_model.specs.Stops.{is_live, is_thrown, stop_among, thrown_by, thrown_in}
 use Rattle.machine_model.proofs.IdRows.{all_back, all_front, all_joined}
 use Rattle.machine_model.proofs.PlanIds.{OfObject, OfThread, OfThrown, OnSome}
+use Rattle.machine_laws.specs.Names.{Halt, HaltCause, Item, ThreadId, a_composite, came_to, has_stepped, threw}
 use Rattle.wish_sets.specs.Wishes.{Wishes}
 
 -- The item in hand ----------------------------------------------------------------------------------------------------

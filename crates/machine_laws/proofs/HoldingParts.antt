@@ -7,13 +7,6 @@ use Rattle.machine_model.specs.Composites.{composite_parts, has_death}
 use Rattle.machine_model.specs.Due.{asked_hand, entry_by}
 use Rattle.machine_model.specs.Knowing.{stopped_behind, stopped_told}
 use Rattle.machine_model.specs.Lookups.{finished}
-use Rattle.machine_model.specs.Names.{Writes, Written, variable_write, Choice, Command, Decides, Deed, Dispose}
-use Rattle.machine_model.specs.Names.{EntryHeld, Event, Exit, Finding, Gone, Hit, Initialized, Item, Leaves, Lookup}
-use Rattle.machine_model.specs.Names.{Note, Outcome, Part, Phase, Replied, Resume, StopCause, Suspend, Suspension}
-use Rattle.machine_model.specs.Names.{TargetCommand, TellsNews, Terminated, ThreadId, Want, a_composite, a_question}
-use Rattle.machine_model.specs.Names.{a_raw, a_request, a_stop, an_effect, by_client, of_composite, of_entry, of_stop}
-use Rattle.machine_model.specs.Names.{some_news, target_end, Halt, Thrown, by_step, HaltCause, Stepped, by_exception}
-use Rattle.machine_model.specs.Names.{exception_text}
 use Rattle.machine_model.specs.Outcomes.{result_of}
 use Rattle.machine_model.specs.Plans.{Result}
 use Rattle.machine_model.specs.Replying.{given_up, hand_replied, replied_to}
@@ -24,10 +17,17 @@ use Rattle.machine_model.specs.State.{Hand, Machine, State, is_attached, is_empt
 use Rattle.machine_model.specs.Stops.{decided, decided_by, events_in, has_start, hits_in, stop_among, surplus}
 use Rattle.machine_model.specs.Stops.{thrown_in, told_part}
 use Rattle.machine_model.specs.Telling.{after_event, attached_from, numbered_by}
-use Rattle.machine_model.proofs.Stepping.{IsAt, Moves, Skips, by_moves, by_runs}
-use Rattle.machine_model.proofs.Tables.{free, free_once, told_alike}
-use Rattle.machine_model.proofs.Testing.{Passed, same_numbered, same_replied, tested, whole}
 use Rattle.machine_model.proofs.Bools.{first_fails, second_holds}
+use Rattle.machine_laws.specs.Names.{Writes, Written, variable_write, Choice, Command, Decides, Deed, Dispose}
+use Rattle.machine_laws.specs.Names.{EntryHeld, Event, Exit, Finding, Gone, Hit, Initialized, Item, Leaves, Lookup}
+use Rattle.machine_laws.specs.Names.{Note, Outcome, Part, Phase, Replied, Resume, StopCause, Suspend, Suspension}
+use Rattle.machine_laws.specs.Names.{TargetCommand, TellsNews, Terminated, ThreadId, Want, a_composite, a_question}
+use Rattle.machine_laws.specs.Names.{a_raw, a_request, a_stop, an_effect, by_client, of_composite, of_entry, of_stop}
+use Rattle.machine_laws.specs.Names.{some_news, target_end, Halt, Thrown, by_step, HaltCause, Stepped, by_exception}
+use Rattle.machine_laws.specs.Names.{exception_text}
+use Rattle.machine_laws.proofs.Stepping.{IsAt, Moves, Skips, by_moves, by_runs}
+use Rattle.machine_laws.proofs.Tables.{free, free_once, told_alike}
+use Rattle.machine_laws.proofs.Testing.{Passed, same_numbered, same_replied, tested, whole}
 
 -- What a part needs, and what it leaves -------------------------------------------------------------------------------
 

@@ -8,14 +8,6 @@ use Rattle.std.proofs.lemmas.List.Elements.{Contains-append_left, Contains-appen
 use Rattle.std.proofs.lemmas.List.Elements.{recursion_from_All}
 use Rattle.jdwp_commands.specs.Commands.{told_question}
 use Rattle.jdwp_commands.specs.declared.asked.Asked.TheVariants as commands
-use Rattle.machine_model.specs.Names.{Store, Write, Writes, to_element, to_field, to_slot, variable_write, Classes}
-use Rattle.machine_model.specs.Names.{Clear, Deed, Does, Effect, Exit, Item, Lines, Part, Question, Sent, Set, Success}
-use Rattle.machine_model.specs.Names.{TargetCommand, Want, a_composite, a_question, an_effect, thread_list, a_stop}
-use Rattle.machine_model.specs.Names.{some_news, thread_changed, thread_frames, Functions, Steps, Throws, Thrown, Seen}
-use Rattle.machine_model.specs.Names.{exception_info, exception_text, Body, ShownVariable, a_value, container_children}
-use Rattle.machine_model.specs.Names.{expression_value, frame_list, scope_list, variable_list}
-use Rattle.machine_model.proofs.Standing.{needs_sizes, IsKept, Near, OfBody, PartStands, asked_in, at_front, ids_said}
-use Rattle.machine_model.proofs.Standing.{queue_in}
 use Rattle.machine_model.proofs.WriteIds.{IsWrite, OfDeed, OfStore, written_fits, written_ids, written_sized}
 use Rattle.machine_model.specs.Ids.{Id, IsNull, class, ids_asked, ids_given, ids_of_composite, ids_read, thread_in}
 use Rattle.machine_model.specs.Ids.{frame, object}
@@ -24,13 +16,21 @@ use Rattle.machine_model.specs.Replying.{wire}
 use Rattle.machine_model.specs.Requests.{Wishes, effect_due, effect_of}
 use Rattle.machine_model.specs.Runs.{Message, Run}
 use Rattle.machine_model.specs.State.{Hand, State, Machine, is_empty, is_gone, is_some, fresh, is_attached}
+use Rattle.machine_laws.specs.Names.{Store, Write, Writes, to_element, to_field, to_slot, variable_write, Classes}
+use Rattle.machine_laws.specs.Names.{Clear, Deed, Does, Effect, Exit, Item, Lines, Part, Question, Sent, Set, Success}
+use Rattle.machine_laws.specs.Names.{TargetCommand, Want, a_composite, a_question, an_effect, thread_list, a_stop}
+use Rattle.machine_laws.specs.Names.{some_news, thread_changed, thread_frames, Functions, Steps, Throws, Thrown, Seen}
+use Rattle.machine_laws.specs.Names.{exception_info, exception_text, Body, ShownVariable, a_value, container_children}
+use Rattle.machine_laws.specs.Names.{expression_value, frame_list, scope_list, variable_list}
+use Rattle.machine_laws.proofs.Standing.{needs_sizes, IsKept, Near, OfBody, PartStands, asked_in, at_front, ids_said}
+use Rattle.machine_laws.proofs.Standing.{queue_in}
 use Rattle.wish_sets.specs.Wished.{wished}
 use Rattle.wish_sets.specs.Wishes.{EventRequest, clears, is_missing, is_surplus, next_change, sets}
 use Rattle.wish_sets.specs.declared.wish.Wish.{Wish}
 use Rattle.machine_model.proofs.IdRows.{all_weak, plain_fits}
-use Rattle.machine_model.proofs.ItemIds.{HandStands, Waits, waiting_on}
-use Rattle.machine_model.proofs.HitIds.{ItemStands}
-use Rattle.machine_model.proofs.ThreadIds.{TellStands}
+use Rattle.machine_laws.proofs.ItemIds.{HandStands, Waits, waiting_on}
+use Rattle.machine_laws.proofs.HitIds.{ItemStands}
+use Rattle.machine_laws.proofs.ThreadIds.{TellStands}
 use Rattle.stop_refs.specs.declared.thing.FrameThing.{FrameThing}
 use Rattle.stop_refs.specs.declared.thing.Thing.{Thing}
 use Rattle.stop_refs.specs.declared.thing.Thing.TheVariants as things
@@ -38,13 +38,13 @@ use Rattle.machine_model.proofs.PlanIds.{IsAskable, IsAsked, IsReplied, IsWanted
 use Rattle.machine_model.proofs.PlanIds.{OfClass, OfFrameThing, OfObject, OfShownFrame, OfSeen, OfShownVariable}
 use Rattle.machine_model.proofs.PlanIds.{OfThing, OfThrown}
 use Rattle.std.specs.Prelude.{zero, suc}
-use Rattle.machine_model.proofs.StandingReplies.{queued_near, sizes_is}
-use Rattle.machine_model.proofs.StandingWalk.{kept_on}
-use Rattle.machine_model.proofs.Stepping.{Moves, by_moves, with_said, Loses}
-use Rattle.machine_model.proofs.WishIds.{AreWished, MaySend, SetMay, find_some, nothing_wished, weak_wished, wished_may}
-use Rattle.machine_model.proofs.StandingMoves.{sized_by}
 use Rattle.machine_model.proofs.Bools.{always}
-use Rattle.machine_model.proofs.RequestSteps.{parts_left}
+use Rattle.machine_laws.proofs.StandingReplies.{queued_near, sizes_is}
+use Rattle.machine_laws.proofs.StandingWalk.{kept_on}
+use Rattle.machine_laws.proofs.Stepping.{Moves, by_moves, with_said, Loses}
+use Rattle.machine_laws.proofs.WishIds.{AreWished, MaySend, SetMay, find_some, nothing_wished, weak_wished, wished_may}
+use Rattle.machine_laws.proofs.StandingMoves.{sized_by}
+use Rattle.machine_laws.proofs.RequestSteps.{parts_left}
 
 -- A weaker test -------------------------------------------------------------------------------------------------------
 

@@ -11,9 +11,6 @@ use Rattle.jdwp_events.specs.declared.kind.Policy.TheVariants.{EventThread}
 use Rattle.machine_model.specs.Composites.{has_death, learnt_by, learnt_in, prepared_by, prepared_in, prepared_under}
 use Rattle.machine_model.specs.Due.{Picked, after_deed, asked_hand, passed_by, pick}
 use Rattle.machine_model.specs.Ids.{Id, class, ids_of_event}
-use Rattle.machine_model.specs.Names.{Attached, Item, Phase, a_composite, a_raw, a_request, Part, Replied}
-use Rattle.machine_model.specs.Names.{TargetCommand, ThreadId, Want, a_question, an_effect, Deed, Event, Note, Outcome}
-use Rattle.machine_model.specs.Names.{Resume, Terminated, Throws, of_stop}
 use Rattle.machine_model.specs.Runs.{Message}
 use Rattle.machine_model.specs.Outcomes.{result_of}
 use Rattle.machine_model.specs.Replying.{hand_replied, replied_to}
@@ -22,14 +19,17 @@ use Rattle.machine_model.specs.State.{Hand, Machine, State, is_gone, is_raw}
 use Rattle.machine_model.specs.Telling.{after_event, numbered_by}
 use Rattle.machine_model.proofs.IdRows.{all_back, all_front, all_joined}
 use Rattle.machine_model.proofs.PlanIds.{AreKnown, OfThread, OfThrown}
-use Rattle.machine_model.proofs.RequestSteps.{near_before}
-use Rattle.machine_model.proofs.Standing.{IsKept, at_front, ids_said}
-use Rattle.machine_model.proofs.StandingReplies.{loaded_known}
-use Rattle.machine_model.proofs.Stepping.{IsAt, Moves}
-use Rattle.machine_model.proofs.ThingIds.{AreThings, things_on}
-use Rattle.machine_model.proofs.HitIds.{ItemStands}
-use Rattle.machine_model.proofs.ThreadIds.{NoteTells, TellStands, begun_tells, chosen_tells, event_threads, found_tells}
-use Rattle.machine_model.proofs.ThreadIds.{noted_threads, replied_threads, responded_threads, taken_threads}
+use Rattle.machine_laws.specs.Names.{Attached, Item, Phase, a_composite, a_raw, a_request, Part, Replied}
+use Rattle.machine_laws.specs.Names.{TargetCommand, ThreadId, Want, a_question, an_effect, Deed, Event, Note, Outcome}
+use Rattle.machine_laws.specs.Names.{Resume, Terminated, Throws, of_stop}
+use Rattle.machine_laws.proofs.RequestSteps.{near_before}
+use Rattle.machine_laws.proofs.Standing.{IsKept, at_front, ids_said}
+use Rattle.machine_laws.proofs.StandingReplies.{loaded_known}
+use Rattle.machine_laws.proofs.Stepping.{IsAt, Moves}
+use Rattle.machine_laws.proofs.ThingIds.{AreThings, things_on}
+use Rattle.machine_laws.proofs.HitIds.{ItemStands}
+use Rattle.machine_laws.proofs.ThreadIds.{NoteTells, TellStands, begun_tells, chosen_tells, event_threads, found_tells}
+use Rattle.machine_laws.proofs.ThreadIds.{noted_threads, replied_threads, responded_threads, taken_threads}
 
 -- the ids of the item in hand pass, and of the threads that it tells
 abbrev pub HandStands : (Id → Type 0) → Option Hand → Type 0

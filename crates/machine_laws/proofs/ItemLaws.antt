@@ -5,12 +5,12 @@ use Rattle.std.specs.List.{flat_map}
 use Rattle.std.proofs.lemmas.Grind.{flat_map-append}
 use Rattle.machine_model.specs.Due.{Picked, can_read, passed_by, pick}
 use Rattle.machine_model.specs.Knowing.{composite_in}
-use Rattle.machine_model.specs.Names.{Composite, Item, a_composite, a_raw, a_request, target_end}
 use Rattle.machine_model.specs.Runs.{Message}
 use Rattle.machine_model.specs.State.{Machine, has_raw, is_gone, is_raw, is_some}
-use Rattle.machine_model.proofs.RequestSteps.{near_before}
-use Rattle.machine_model.proofs.ServedLaws.{picked_all}
-use Rattle.machine_model.proofs.Stepping.{Moves}
+use Rattle.machine_laws.specs.Names.{Composite, Item, a_composite, a_raw, a_request, target_end}
+use Rattle.machine_laws.proofs.RequestSteps.{near_before}
+use Rattle.machine_laws.proofs.ServedLaws.{picked_all}
+use Rattle.machine_laws.proofs.Stepping.{Moves}
 
 abbrev pub is_composite : Item → Bool
 is_composite (a_composite at composite) = true

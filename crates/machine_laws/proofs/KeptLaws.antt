@@ -5,7 +5,6 @@ use Rattle.jdwp_commands.specs.declared.question.Question.TheVariants as questio
 use Rattle.machine_model.specs.Asking.{is_new, was_asked}
 use Rattle.machine_model.specs.Due.{asked_hand, lacked_by, newly_lacked}
 use Rattle.machine_model.specs.Keys.{same_question}
-use Rattle.machine_model.specs.Names.{Event, Gone, Note, Outcome, Question, Replied, Sent, Want, a_question, an_effect}
 use Rattle.machine_model.specs.Replying.{IsReply, filled, given_up, hand_replied, is_end, is_failed, is_waiting}
 use Rattle.machine_model.specs.Replying.{replied_to, shows_end, unless_failed}
 use Rattle.machine_model.specs.Rows.{noted}
@@ -15,11 +14,12 @@ use Rattle.machine_model.specs.Telling.{after_event, numbered_by}
 use Rattle.machine_model.proofs.AskedLaws.{apart_asked, apart_filled, are_apart, was_filled, with_apart}
 use Rattle.machine_model.proofs.DueWants.{asked_kept, lacked_due, sizes_kept, waits_other}
 use Rattle.machine_model.proofs.KeyLaws.{is_one}
-use Rattle.machine_model.proofs.SizeLaws.{question_sizes, sizes_replied}
-use Rattle.machine_model.proofs.RestLaws.{near_queue}
-use Rattle.machine_model.proofs.Stepping.{Moves, by_moves}
-use Rattle.machine_model.proofs.Testing.{same_noted, same_numbered, same_replied}
 use Rattle.machine_model.proofs.Bools.{both_hold, other_fails}
+use Rattle.machine_laws.specs.Names.{Event, Gone, Note, Outcome, Question, Replied, Sent, Want, a_question, an_effect}
+use Rattle.machine_laws.proofs.SizeLaws.{question_sizes, sizes_replied}
+use Rattle.machine_laws.proofs.RestLaws.{near_queue}
+use Rattle.machine_laws.proofs.Stepping.{Moves, by_moves}
+use Rattle.machine_laws.proofs.Testing.{same_noted, same_numbered, same_replied}
 
 abbrev hand_kept : State → Option Hand → Bool
 hand_kept state None = true

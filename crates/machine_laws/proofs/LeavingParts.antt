@@ -3,15 +3,15 @@ use Rattle.std.proofs.Common.{◌≡◌, Bool, true, false, cond, not, ◌||◌,
 use Rattle.std.proofs.Common.{arith}
 use Rattle.machine_model.specs.Knowing.{is_farewell}
 use Rattle.machine_model.specs.Lookups.{finished}
-use Rattle.machine_model.specs.Names.{Attach, Attached, Choice, Command, Decides, Deed, Disconnect, Dispose, Doing}
-use Rattle.machine_model.specs.Names.{Exit, Finding, Handshake, Item, Leaves, Lookup, News, Part, Phase, TellsNews}
-use Rattle.machine_model.specs.Names.{a_request, an_effect}
 use Rattle.machine_model.specs.Plans.{Result}
 use Rattle.machine_model.specs.Rows.{chosen, gone_parts, gone_row, gone_tail, has_response, news_of, parts_of, told_in}
 use Rattle.machine_model.specs.Rows.{request_parts}
 use Rattle.machine_model.specs.State.{Hand, State, is_attached, is_none}
-use Rattle.machine_model.proofs.Tables.{of_decided, same}
 use Rattle.machine_model.proofs.Bools.{both_hold, first_holds, second_more}
+use Rattle.machine_laws.specs.Names.{Attach, Attached, Choice, Command, Decides, Deed, Disconnect, Dispose, Doing}
+use Rattle.machine_laws.specs.Names.{Exit, Finding, Handshake, Item, Leaves, Lookup, News, Part, Phase, TellsNews}
+use Rattle.machine_laws.specs.Names.{a_request, an_effect}
+use Rattle.machine_laws.proofs.Tables.{of_decided, same}
 
 -- What an item is for -------------------------------------------------------------------------------------------------
 

@@ -20,16 +20,16 @@ use Rattle.machine_model.specs.Frames.{shown_plan, signature_plan as signature_o
 use Rattle.machine_model.specs.Ids.{Id, class, ids_answered, ids_replied, method, object, thread_of, field, frame}
 use Rattle.machine_model.specs.Ids.{id_of_object, ids_of_value}
 use Rattle.machine_model.specs.Lookups.{name_plan, named_by, names_plan, plan, threads_in, threads_plan}
-use Rattle.machine_model.specs.Names.{Answer, Lookup, NamedThread, Replied, ThreadId, Want, all_threads, an_answer}
-use Rattle.machine_model.specs.Names.{an_error, classes_found, class_facts, frames_found, thread_frames, Thrown}
-use Rattle.machine_model.specs.Names.{exception_found, exception_info, exception_text, text_found, Failure, Seen, Store}
-use Rattle.machine_model.specs.Names.{container_children, expression_value, no_value, value_found, variable_write}
-use Rattle.machine_model.specs.Names.{variables_found}
 use Rattle.machine_model.specs.Plans.{Found, Plan, Sight, answer_in, asking, beside, chained, both, each, fact_heard}
 use Rattle.machine_model.specs.Plans.{found_from, gives, heard_of, made_with, may_hear, must_hear, need, pairs, joined}
 use Rattle.machine_model.specs.Plans.{question_of}
 use Rattle.machine_model.specs.State.{State}
 use Rattle.machine_model.proofs.IdRows.{all_back, all_front, all_joined, is_short, none_in}
+use Rattle.machine_laws.specs.Names.{Answer, Lookup, NamedThread, Replied, ThreadId, Want, all_threads, an_answer}
+use Rattle.machine_laws.specs.Names.{an_error, classes_found, class_facts, frames_found, thread_frames, Thrown}
+use Rattle.machine_laws.specs.Names.{exception_found, exception_info, exception_text, text_found, Failure, Seen, Store}
+use Rattle.machine_laws.specs.Names.{container_children, expression_value, no_value, value_found, variable_write}
+use Rattle.machine_laws.specs.Names.{variables_found}
 use Rattle.class_tables.specs.declared.loaded.Loaded.{Loaded}
 use Rattle.machine_model.specs.Classes.{bound_plan, class_plan, classes_plan, counts, is_keyed, keyed_plan, lines_plan}
 use Rattle.machine_model.specs.Classes.{methods_plan, package_plan, prepared_plan, source_plan, watched_plan}

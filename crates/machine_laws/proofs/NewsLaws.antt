@@ -19,10 +19,6 @@ use Rattle.machine_model.specs.Breakpoints.{has_id, is_news, with_id}
 use Rattle.machine_model.specs.Composites.{change_told, changes_in}
 use Rattle.machine_model.specs.Due.{due}
 use Rattle.machine_model.specs.Lookups.{finished}
-use Rattle.machine_model.specs.Names.{Act, Attached, Choice, Command, Decides, Does, Effect, Failure, Finding}
-use Rattle.machine_model.specs.Names.{Initialized, Item, Lookup, News, Part, Phase, Question, Replied, TellsNews}
-use Rattle.machine_model.specs.Names.{Terminated, a_composite, a_question, a_raw, a_request, a_stop, an_effect}
-use Rattle.machine_model.specs.Names.{an_event, entry_verified, some_news, thread_changed, Stepped}
 use Rattle.machine_model.specs.Outcomes.{result_of}
 use Rattle.machine_model.specs.Plans.{Result}
 use Rattle.machine_model.specs.Replying.{given_up, told_by}
@@ -32,11 +28,15 @@ use Rattle.machine_model.specs.Rows.{parts_of, refused_with, row_of, stepped_by,
 use Rattle.machine_model.specs.Runs.{Allows, Message, Run, said}
 use Rattle.machine_model.specs.State.{Hand, Machine, State}
 use Rattle.machine_model.specs.Telling.{numbered_by}
-use Rattle.machine_model.proofs.QuietLaws.{IsQuiet, near_flies, quiet_on}
-use Rattle.machine_model.proofs.RequestLaws.{IsDue, settling, was_due}
-use Rattle.machine_model.proofs.RequestSteps.{asked_left, flying_in, flying_of, learnt_wishes, parts_left, replied_left}
-use Rattle.machine_model.proofs.Stepping.{IsAt, Moves, Skips, by_moves, by_runs, moved, Loses}
-use Rattle.machine_model.proofs.Tables.{decided_alike, starts_updates}
+use Rattle.machine_laws.specs.Names.{Act, Attached, Choice, Command, Decides, Does, Effect, Failure, Finding}
+use Rattle.machine_laws.specs.Names.{Initialized, Item, Lookup, News, Part, Phase, Question, Replied, TellsNews}
+use Rattle.machine_laws.specs.Names.{Terminated, a_composite, a_question, a_raw, a_request, a_stop, an_effect}
+use Rattle.machine_laws.specs.Names.{an_event, entry_verified, some_news, thread_changed, Stepped}
+use Rattle.machine_laws.proofs.QuietLaws.{IsQuiet, near_flies, quiet_on}
+use Rattle.machine_laws.proofs.RequestLaws.{IsDue, settling, was_due}
+use Rattle.machine_laws.proofs.RequestSteps.{asked_left, flying_in, flying_of, learnt_wishes, parts_left, replied_left}
+use Rattle.machine_laws.proofs.Stepping.{IsAt, Moves, Skips, by_moves, by_runs, moved, Loses}
+use Rattle.machine_laws.proofs.Tables.{decided_alike, starts_updates}
 use Rattle.wish_sets.proofs.OrderLaws.{sorted-fold}
 use Rattle.wish_sets.specs.Entries.{all_entries, is_verified, verified}
 use Rattle.wish_sets.specs.declared.entry.VerifiedEntry.{VerifiedEntry}

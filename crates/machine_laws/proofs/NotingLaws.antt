@@ -2,10 +2,6 @@
 use Rattle.std.proofs.Common.{◌≡◌, Bool, true, false, cond, not, ◌||◌, List, [], ◌∷◌, ◌++◌, Option, Some, None, refl}
 use Rattle.std.proofs.Common.{sym, ap, subst, ◌∙◌, append-nil, option_map, arith}
 use Rattle.machine_model.specs.Lookups.{finished}
-use Rattle.machine_model.specs.Names.{Attached, Choice, ClientOptions, Command, Decides, Event, Failure, Finding}
-use Rattle.machine_model.specs.Names.{Initialized, Item, Lookup, News, Note, Options, Outcome, Part, Phase, Replied}
-use Rattle.machine_model.specs.Names.{Request, TargetCommand, TellsNews, Terminated, Want, a_composite, a_question}
-use Rattle.machine_model.specs.Names.{a_raw, a_request, a_response, an_effect, target_end}
 use Rattle.machine_model.specs.Due.{asked_hand}
 use Rattle.machine_model.specs.Noting.{AreOptions, asked_options, options_in, options_noted, part_options}
 use Rattle.machine_model.specs.Outcomes.{result_of}
@@ -17,12 +13,16 @@ use Rattle.machine_model.specs.Rows.{parts_by, news_of, parts_of, request_parts,
 use Rattle.machine_model.specs.Runs.{Message, Run}
 use Rattle.machine_model.specs.State.{Hand, Machine, State, is_gone, knowing, left}
 use Rattle.machine_model.specs.Telling.{after_event, numbered_by, outcome_told, response_to}
-use Rattle.machine_model.proofs.QuietLaws.{attached_gone}
-use Rattle.machine_model.proofs.ServedLaws.{IsLeft, left_on}
-use Rattle.machine_model.proofs.Stepping.{IsAt, Loses, Moves, Skips, by_runs, with_said}
-use Rattle.machine_model.proofs.Tables.{chosen_is, finished_is, has_joined, of_decided, once, once_in, responds_once}
-use Rattle.machine_model.proofs.Tables.{row_is}
-use Rattle.machine_model.proofs.Testing.{IsTest, Passed, same_noted, same_numbered, same_replied, tested, whole}
+use Rattle.machine_laws.specs.Names.{Attached, Choice, ClientOptions, Command, Decides, Event, Failure, Finding}
+use Rattle.machine_laws.specs.Names.{Initialized, Item, Lookup, News, Note, Options, Outcome, Part, Phase, Replied}
+use Rattle.machine_laws.specs.Names.{Request, TargetCommand, TellsNews, Terminated, Want, a_composite, a_question}
+use Rattle.machine_laws.specs.Names.{a_raw, a_request, a_response, an_effect, target_end}
+use Rattle.machine_laws.proofs.QuietLaws.{attached_gone}
+use Rattle.machine_laws.proofs.ServedLaws.{IsLeft, left_on}
+use Rattle.machine_laws.proofs.Stepping.{IsAt, Loses, Moves, Skips, by_runs, with_said}
+use Rattle.machine_laws.proofs.Tables.{chosen_is, finished_is, has_joined, of_decided, once, once_in, responds_once}
+use Rattle.machine_laws.proofs.Tables.{row_is}
+use Rattle.machine_laws.proofs.Testing.{IsTest, Passed, same_noted, same_numbered, same_replied, tested, whole}
 use Rattle.std.proofs.lemmas.Bool.{not-true}
 
 -- Lists of parts ------------------------------------------------------------------------------------------------------

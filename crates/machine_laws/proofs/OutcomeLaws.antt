@@ -7,9 +7,6 @@ use Rattle.dap_messages.specs.declared.told.Response.{Response}
 use Rattle.machine_model.specs.Asking.{AreAsked, is_aside}
 use Rattle.machine_model.specs.Due.{Picked, asked_hand, asked_now, begun, pick}
 use Rattle.machine_model.specs.Lookups.{finished, found_for, lookup_responds}
-use Rattle.machine_model.specs.Names.{Choice, Does, Doing, Event, Finding, Initialized, Item, Lookup, Outcome, Part}
-use Rattle.machine_model.specs.Names.{Phase, Request, TargetCommand, Terminated, a_question, a_request, an_effect}
-use Rattle.machine_model.specs.Names.{an_event}
 use Rattle.machine_model.specs.Outcomes.{AreExplained, IsExplained, IsInHand, Leads, Reason, answer_part, responds}
 use Rattle.machine_model.specs.Outcomes.{result_of}
 use Rattle.machine_model.specs.Plans.{Need, is_done, question_of}
@@ -20,13 +17,16 @@ use Rattle.machine_model.specs.Rows.{taken}
 use Rattle.machine_model.specs.Runs.{Message, Run}
 use Rattle.machine_model.specs.State.{Hand, Machine, State, in_hand, is_gone, knowing, left}
 use Rattle.machine_model.specs.Telling.{after_event, attached_from, event_told, outcome_told, response_to}
-use Rattle.machine_model.proofs.KeptLaws.{always_kept, next_new}
-use Rattle.machine_model.proofs.RestLaws.{is_free as is_free_hand, late_gone, near_asks, no_late}
-use Rattle.machine_model.proofs.ServedLaws.{loss_silent, owing, picked_requests}
-use Rattle.machine_model.proofs.Stepping.{IsAt, Loses, Moves, Skips, by_runs, with_said}
-use Rattle.machine_model.proofs.Tables.{choice_near, chosen_is, finished_is, free, free_once, has_joined, is_free}
-use Rattle.machine_model.proofs.Tables.{last_silent, once, responds_once, silent_last, silent_test}
-use Rattle.machine_model.proofs.Testing.{same_noted, same_numbered, same_replied, tested, whole}
+use Rattle.machine_laws.specs.Names.{Choice, Does, Doing, Event, Finding, Initialized, Item, Lookup, Outcome, Part}
+use Rattle.machine_laws.specs.Names.{Phase, Request, TargetCommand, Terminated, a_question, a_request, an_effect}
+use Rattle.machine_laws.specs.Names.{an_event}
+use Rattle.machine_laws.proofs.KeptLaws.{always_kept, next_new}
+use Rattle.machine_laws.proofs.RestLaws.{is_free as is_free_hand, late_gone, near_asks, no_late}
+use Rattle.machine_laws.proofs.ServedLaws.{loss_silent, owing, picked_requests}
+use Rattle.machine_laws.proofs.Stepping.{IsAt, Loses, Moves, Skips, by_runs, with_said}
+use Rattle.machine_laws.proofs.Tables.{choice_near, chosen_is, finished_is, free, free_once, has_joined, is_free}
+use Rattle.machine_laws.proofs.Tables.{last_silent, once, responds_once, silent_last, silent_test}
+use Rattle.machine_laws.proofs.Testing.{same_noted, same_numbered, same_replied, tested, whole}
 
 -- The part that brings the response -----------------------------------------------------------------------------------
 

@@ -3,11 +3,11 @@ use Rattle.std.proofs.Common.{◌≡◌, Bool, true, false, cond, List, [], ◌�
 use Rattle.std.proofs.Common.{append-nil}
 use Rattle.std.specs.List.{AllByRecursion as All}
 use Rattle.machine_model.specs.Lookups.{finished}
-use Rattle.machine_model.specs.Names.{Choice, Command, Decides, Failed, Failure, Finding, Item, Lookup, Part, Pause}
-use Rattle.machine_model.specs.Names.{TellsNews, Throws, a_request, a_stop, exception_text, some_news, thread_changed}
 use Rattle.machine_model.specs.Plans.{Result}
 use Rattle.machine_model.specs.Rows.{chosen, gone_parts, parts_by, parts_of, row_of}
 use Rattle.machine_model.specs.State.{Hand, State}
+use Rattle.machine_laws.specs.Names.{Choice, Command, Decides, Failed, Failure, Finding, Item, Lookup, Part, Pause}
+use Rattle.machine_laws.specs.Names.{TellsNews, Throws, a_request, a_stop, exception_text, some_news, thread_changed}
 
 abbrev pub passes : (Part → Bool) → List Part → Bool
 passes test [] = true

@@ -2,17 +2,17 @@
 use Rattle.std.proofs.Common.{◌≡◌, ℕ, ◌+◌, ◌≤◌, ◌<◌, Bool, true, false, List, [], ◌∷◌, ◌++◌, length, Option, Some, None}
 use Rattle.std.proofs.Common.{refl, sym, ap, subst, ◌∙◌, length-append, arith}
 use Rattle.std.proofs.lemmas.Grind.{flat_map-append}
-use Rattle.machine_model.specs.Names.{TargetCommand, a_question, an_effect}
 use Rattle.machine_model.specs.Pending.{ArePending, IsInWindow, IsPending, commands_replied, commands_sent, count}
 use Rattle.machine_model.specs.Pending.{goes_out, has_such, have_handshake, is_aside, is_greets, replied_by, sent_by}
 use Rattle.machine_model.specs.Replying.{pending_of}
 use Rattle.machine_model.specs.Runs.{Message, Run}
 use Rattle.machine_model.specs.State.{Machine, is_gone}
-use Rattle.machine_model.proofs.HandshakeLaws.{IsGreeted, behind_on, greeted_on, handshake_said, has_handshake}
-use Rattle.machine_model.proofs.QuietLaws.{quiet_on}
-use Rattle.machine_model.proofs.RestLaws.{near_asks, no_late}
-use Rattle.machine_model.proofs.Stepping.{Moves, by_runs, moved, with_said}
-use Rattle.machine_model.proofs.TurnLaws.{Holds, NoneLate, Turns, is_beside, none_late, turned}
+use Rattle.machine_laws.specs.Names.{TargetCommand, a_question, an_effect}
+use Rattle.machine_laws.proofs.HandshakeLaws.{IsGreeted, behind_on, greeted_on, handshake_said, has_handshake}
+use Rattle.machine_laws.proofs.QuietLaws.{quiet_on}
+use Rattle.machine_laws.proofs.RestLaws.{near_asks, no_late}
+use Rattle.machine_laws.proofs.Stepping.{Moves, by_runs, moved, with_said}
+use Rattle.machine_laws.proofs.TurnLaws.{Holds, NoneLate, Turns, is_beside, none_late, turned}
 
 -- The laws ------------------------------------------------------------------------------------------------------------
 

@@ -2,15 +2,15 @@
 use Rattle.std.proofs.Common.{◌≡◌, Bool, true, false, cond, ◌||◌, List, [], ◌∷◌, ◌++◌, Option, Some, None, refl, sym}
 use Rattle.std.proofs.Common.{ap, subst, ◌∙◌, append_assoc, append-nil, option_map}
 use Rattle.machine_model.specs.Due.{asked_hand, behind_first, is_listed, lacked_by, newly_lacked, with_want, with_wants}
-use Rattle.machine_model.specs.Names.{Replied, Sent, TargetCommand, Want, a_question, an_effect}
 use Rattle.machine_model.specs.Plans.{question_of}
 use Rattle.machine_model.specs.Questions.{AreLacked, IsLacked, is_question}
 use Rattle.machine_model.specs.Replying.{given_up, hand_replied, is_failed, is_waiting, unless_failed}
 use Rattle.machine_model.specs.Runs.{Message, Run}
 use Rattle.machine_model.specs.State.{Hand, Machine, is_gone}
-use Rattle.machine_model.proofs.RestLaws.{near_queue}
-use Rattle.machine_model.proofs.Stepping.{Loses, Moves, by_runs, with_said}
-use Rattle.machine_model.proofs.Standing.{queue_in}
+use Rattle.machine_laws.specs.Names.{Replied, Sent, TargetCommand, Want, a_question, an_effect}
+use Rattle.machine_laws.proofs.RestLaws.{near_queue}
+use Rattle.machine_laws.proofs.Stepping.{Loses, Moves, by_runs, with_said}
+use Rattle.machine_laws.proofs.Standing.{queue_in}
 
 -- each of these has the property
 abbrev All : (Want → Type 0) → List Want → Type 0

@@ -3,17 +3,17 @@ use Rattle.std.proofs.Common.{◌≡◌, Bool, true, false, cond, not, ◌||◌,
 use Rattle.std.proofs.Common.{sym, ap, subst, ◌∙◌, option_map, arith}
 use Rattle.machine_model.specs.Due.{Load, Picked, busy, can_read, clear, hand_load, lacking_more, load_of, newly_lacked}
 use Rattle.machine_model.specs.Due.{passed_by, pick, queued, waiting}
-use Rattle.machine_model.specs.Names.{Effect, Event, Initialized, Item, Phase, Question, Sent, Terminated, a_composite}
-use Rattle.machine_model.specs.Names.{a_question, a_raw, a_request, an_effect, target_end}
 use Rattle.machine_model.specs.Replying.{given_up, is_waiting, replied_to}
 use Rattle.machine_model.specs.Rest.{hand_silent}
 use Rattle.machine_model.specs.Runs.{Message}
 use Rattle.machine_model.specs.State.{Hand, Machine, has_waiting, is_empty, is_flying, is_gone, is_none, is_raw}
 use Rattle.machine_model.specs.Rows.{noted}
 use Rattle.machine_model.specs.Telling.{after_event, attached_from, numbered_by}
-use Rattle.machine_model.proofs.RestLaws.{is_free, near_asks, near_queue}
-use Rattle.machine_model.proofs.Stepping.{Moves}
-use Rattle.machine_model.proofs.Testing.{same_noted, same_numbered, same_replied}
+use Rattle.machine_laws.specs.Names.{Effect, Event, Initialized, Item, Phase, Question, Sent, Terminated, a_composite}
+use Rattle.machine_laws.specs.Names.{a_question, a_raw, a_request, an_effect, target_end}
+use Rattle.machine_laws.proofs.RestLaws.{is_free, near_asks, near_queue}
+use Rattle.machine_laws.proofs.Stepping.{Moves}
+use Rattle.machine_laws.proofs.Testing.{same_noted, same_numbered, same_replied}
 
 -- The gate ------------------------------------------------------------------------------------------------------------
 

@@ -8,10 +8,6 @@ use Rattle.std.proofs.lemmas.List.{append_assoc, length-append}
 use Rattle.machine_model.specs.Due.{after_deed}
 use Rattle.machine_model.specs.Frames.{frame_by, frame_told}
 use Rattle.machine_model.specs.Knowing.{may_send, view_of}
-use Rattle.machine_model.specs.Names.{Clear, ClientOptions, Deed, Does, Effect, Event, Item, Note, Outcome, Part}
-use Rattle.machine_model.specs.Names.{Replied, Request, Resume, Set, ShownFrame, ShownVariable, Spot, Success}
-use Rattle.machine_model.specs.Names.{TargetCommand, Terminated, a_question, an_effect, an_event, frame_list, of_stop}
-use Rattle.machine_model.specs.Names.{scope_list, variable_list, a_value}
 use Rattle.machine_model.specs.ReferenceNumbers.{AreNumbered, HaveReferences, ReferencesAre, ends_stop, frame_number}
 use Rattle.machine_model.specs.ReferenceNumbers.{not_zero, references_by, variable_number}
 use Rattle.machine_model.specs.References.{things_of, with_things}
@@ -22,10 +18,14 @@ use Rattle.machine_model.specs.Runs.{Message, Run}
 use Rattle.machine_model.specs.State.{Hand, Machine, State, numbers_over}
 use Rattle.machine_model.specs.Telling.{after_event, event_told, numbered_by, outcome_told, response_to}
 use Rattle.machine_model.specs.Variables.{reference_of, variable_told}
-use Rattle.machine_model.proofs.HeldLaws.{deed_may}
-use Rattle.machine_model.proofs.HoldingParts.{IsHolding, holding}
-use Rattle.machine_model.proofs.RequestSteps.{is_deed}
-use Rattle.machine_model.proofs.Stepping.{IsAt, Loses, Moves, by_runs, with_said}
+use Rattle.machine_laws.specs.Names.{Clear, ClientOptions, Deed, Does, Effect, Event, Item, Note, Outcome, Part}
+use Rattle.machine_laws.specs.Names.{Replied, Request, Resume, Set, ShownFrame, ShownVariable, Spot, Success}
+use Rattle.machine_laws.specs.Names.{TargetCommand, Terminated, a_question, an_effect, an_event, frame_list, of_stop}
+use Rattle.machine_laws.specs.Names.{scope_list, variable_list, a_value}
+use Rattle.machine_laws.proofs.HeldLaws.{deed_may}
+use Rattle.machine_laws.proofs.HoldingParts.{IsHolding, holding}
+use Rattle.machine_laws.proofs.RequestSteps.{is_deed}
+use Rattle.machine_laws.proofs.Stepping.{IsAt, Loses, Moves, by_runs, with_said}
 use Rattle.stop_refs.proofs.PlaceLaws.{same_self}
 use Rattle.stop_refs.specs.Numbers.{InHand, Past, next_in, number_of, with_thing}
 use Rattle.stop_refs.specs.Things.{same_thing}

@@ -8,18 +8,18 @@ use Rattle.jdwp_commands.specs.declared.kind.CommandKind.TheVariants as kinds
 use Rattle.jdwp_commands.specs.declared.kind.EffectKind.TheVariants as effect_kinds
 use Rattle.machine_model.specs.EventRequests.{IsAsReplied, StandsAsReplied, is_set_of, refused_by_effect, requests_of}
 use Rattle.machine_model.specs.EventRequests.{about_set, set_since}
-use Rattle.machine_model.specs.Names.{Answer, Attached, Clear, Effect, Part, Replied, Set, an_answer, an_effect}
 use Rattle.machine_model.specs.Replying.{IsReply}
 use Rattle.machine_model.specs.Requests.{Wishes, request_in, set_to, wishes_after, effect_due}
 use Rattle.machine_model.specs.Rest.{IsAtRest}
 use Rattle.machine_model.specs.Runs.{Message, Run}
 use Rattle.machine_model.specs.State.{Machine, SizesRead, is_gone}
-use Rattle.machine_model.proofs.RequestLaws.{IsDue, Settling, settles, settling, step_of, was_due}
-use Rattle.machine_model.proofs.RequestSteps.{Step, flying_in, is_deed, near_before, parts_left, says_aside}
-use Rattle.machine_model.proofs.StandLaws.{refused_replied}
-use Rattle.machine_model.proofs.Stepping.{Moves, moved, gone_on}
-use Rattle.machine_model.proofs.WishLemmas.{due_clear, left_inserted, left_same, new_set_due, none_left}
-use Rattle.machine_model.proofs.WishLemmas.{none_due_change}
+use Rattle.machine_laws.specs.Names.{Answer, Attached, Clear, Effect, Part, Replied, Set, an_answer, an_effect}
+use Rattle.machine_laws.proofs.RequestLaws.{IsDue, Settling, settles, settling, step_of, was_due}
+use Rattle.machine_laws.proofs.RequestSteps.{Step, flying_in, is_deed, near_before, parts_left, says_aside}
+use Rattle.machine_laws.proofs.StandLaws.{refused_replied}
+use Rattle.machine_laws.proofs.Stepping.{Moves, moved, gone_on}
+use Rattle.machine_laws.proofs.WishLemmas.{due_clear, left_inserted, left_same, new_set_due, none_left}
+use Rattle.machine_laws.proofs.WishLemmas.{none_due_change}
 use Rattle.wish_sets.proofs.NextLaws.{surplus_clear}
 use Rattle.wish_sets.proofs.OrderLaws.{any-insert}
 use Rattle.wish_sets.proofs.WishLaws.{alike, alike_requests, equal_is, filter-insert, is_itself}

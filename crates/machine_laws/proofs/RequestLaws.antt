@@ -3,9 +3,6 @@ use Rattle.std.proofs.Common.{◌≡◌, ℕ, Bool, true, false, List, [], ◌�
 use Rattle.std.proofs.Common.{◌∙◌, inl, inr, arith}
 use Rattle.machine_model.specs.EventRequests.{IsSettled}
 use Rattle.machine_model.specs.Lookups.{finished}
-use Rattle.machine_model.specs.Names.{Written, Attached, Choice, Clear, Command, Does, Effect, Finding, Fresh}
-use Rattle.machine_model.specs.Names.{Initialized, Item, Leaves, Lookup, Note, Part, Phase, Replied, Set, TellsNews}
-use Rattle.machine_model.specs.Names.{Terminated, a_question, a_raw, a_request, a_stop, an_answer, an_effect, some_news}
 use Rattle.machine_model.specs.Outcomes.{result_of}
 use Rattle.machine_model.specs.Replying.{replied_to}
 use Rattle.machine_model.specs.Requests.{Wishes, effect_due, request_in, set_to, wishes_after}
@@ -13,20 +10,23 @@ use Rattle.machine_model.specs.Rest.{IsAtRest}
 use Rattle.machine_model.specs.Rows.{chosen, news_of, noted, parts_of, request_parts}
 use Rattle.machine_model.specs.Runs.{Message, Run}
 use Rattle.machine_model.specs.State.{Hand, Machine, State, is_attached, is_gone}
-use Rattle.machine_model.proofs.RestLaws.{no_late}
-use Rattle.machine_model.proofs.SizeLaws.{is_idle}
-use Rattle.machine_model.proofs.Stepping.{IsAt, Moves, Skips, by_runs}
-use Rattle.machine_model.proofs.Tables.{are_followed, followed, followed_test, rewants, starts_updates, told_alike}
-use Rattle.machine_model.proofs.Testing.{same_noted, same_numbered, same_replied, Passed, passed_on, whole}
-use Rattle.machine_model.proofs.WishLemmas.{new_set_due, none_due_change}
+use Rattle.machine_laws.specs.Names.{Written, Attached, Choice, Clear, Command, Does, Effect, Finding, Fresh}
+use Rattle.machine_laws.specs.Names.{Initialized, Item, Leaves, Lookup, Note, Part, Phase, Replied, Set, TellsNews}
+use Rattle.machine_laws.specs.Names.{Terminated, a_question, a_raw, a_request, a_stop, an_answer, an_effect, some_news}
+use Rattle.machine_laws.proofs.RestLaws.{no_late}
+use Rattle.machine_laws.proofs.SizeLaws.{is_idle}
+use Rattle.machine_laws.proofs.Stepping.{IsAt, Moves, Skips, by_runs}
+use Rattle.machine_laws.proofs.Tables.{are_followed, followed, followed_test, rewants, starts_updates, told_alike}
+use Rattle.machine_laws.proofs.Testing.{same_noted, same_numbered, same_replied, Passed, passed_on, whole}
+use Rattle.machine_laws.proofs.WishLemmas.{new_set_due, none_due_change}
 use Rattle.wish_sets.proofs.LeftLaws.{at_rest}
 use Rattle.wish_sets.proofs.TidyLaws.{cleared_is_tidy, installed_is_tidy, new_is_tidy, refused_is_tidy}
 use Rattle.wish_sets.proofs.TidyLaws.{rewished_is_tidy}
 use Rattle.wish_sets.specs.Tidy.{IsNewSet, IsTidy}
-use Rattle.machine_model.proofs.RequestSteps.{Step, asked_left, flying_in, flying_of, is_deed, learnt_wishes}
-use Rattle.machine_model.proofs.RequestSteps.{near_before, noted_wishes, numbered_wishes, parts_left, replied_left}
-use Rattle.machine_model.proofs.RequestSteps.{steps, needs_set}
 use Rattle.machine_model.specs.Plans.{Result}
+use Rattle.machine_laws.proofs.RequestSteps.{Step, asked_left, flying_in, flying_of, is_deed, learnt_wishes}
+use Rattle.machine_laws.proofs.RequestSteps.{near_before, noted_wishes, numbered_wishes, parts_left, replied_left}
+use Rattle.machine_laws.proofs.RequestSteps.{steps, needs_set}
 
 -- What is in flight is still due --------------------------------------------------------------------------------------
 

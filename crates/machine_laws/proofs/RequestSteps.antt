@@ -3,9 +3,6 @@ use Rattle.std.proofs.Common.{◌≡◌, Bool, true, false, cond, List, [], ◌�
 use Rattle.std.proofs.Common.{◌⊎◌, inl, inr, option_map, arith, ◌||◌}
 use Rattle.machine_model.specs.Due.{asked_hand, clear, load_of}
 use Rattle.machine_model.specs.Lookups.{finished}
-use Rattle.machine_model.specs.Names.{Written, Classes, Clear, Does, Doing, Effect, Event, Lines, Note, Outcome, Part}
-use Rattle.machine_model.specs.Names.{Phase, Question, Replied, Set, TargetCommand, Want, a_question, an_effect, Choice}
-use Rattle.machine_model.specs.Names.{Decides, Functions, Leaves, Stepped, Steps, StopsAt, TellsNews}
 use Rattle.machine_model.specs.Outcomes.{result_of}
 use Rattle.machine_model.specs.Replying.{IsReply, hand_replied, told_by}
 use Rattle.machine_model.specs.Requests.{effect_due, wishes_after}
@@ -13,10 +10,13 @@ use Rattle.machine_model.specs.Rows.{chosen, noted}
 use Rattle.machine_model.specs.Runs.{Message}
 use Rattle.machine_model.specs.State.{Hand, Machine, State, is_empty, is_flying, is_gone, is_none, is_attached}
 use Rattle.machine_model.specs.Telling.{after_event, numbered_by}
-use Rattle.machine_model.proofs.RestLaws.{is_free}
-use Rattle.machine_model.proofs.Stepping.{Moves}
-use Rattle.machine_model.proofs.Tables.{is_updates, attaches, rewants, starts_updates}
-use Rattle.machine_model.proofs.Testing.{same_noted, same_numbered, same_replied}
+use Rattle.machine_laws.specs.Names.{Written, Classes, Clear, Does, Doing, Effect, Event, Lines, Note, Outcome, Part}
+use Rattle.machine_laws.specs.Names.{Phase, Question, Replied, Set, TargetCommand, Want, a_question, an_effect, Choice}
+use Rattle.machine_laws.specs.Names.{Decides, Functions, Leaves, Stepped, Steps, StopsAt, TellsNews}
+use Rattle.machine_laws.proofs.RestLaws.{is_free}
+use Rattle.machine_laws.proofs.Stepping.{Moves}
+use Rattle.machine_laws.proofs.Tables.{is_updates, attaches, rewants, starts_updates}
+use Rattle.machine_laws.proofs.Testing.{same_noted, same_numbered, same_replied}
 use Rattle.wish_sets.specs.Wanted.{Wanted, with_exceptions, with_functions, with_known, with_lines, with_step}
 use Rattle.wish_sets.specs.Wishes.{rewished}
 use Rattle.class_tables.specs.Lookups.{found_in}

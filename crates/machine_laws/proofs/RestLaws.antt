@@ -6,7 +6,6 @@ use Rattle.machine_model.specs.Due.{Due, Load, Picked, asked_first, asked_next, 
 use Rattle.machine_model.specs.Due.{gated, hand_due, hand_load, is_full, lacked_by, lacking_more, lets, load_of}
 use Rattle.machine_model.specs.Due.{newly_lacked, next_item, part_due, pick, queued, queued_next, waiting, wanted}
 use Rattle.machine_model.specs.Due.{wanted_in, is_listed, with_wants}
-use Rattle.machine_model.specs.Names.{Act, Event, Item, Part, Phase, Sent, TargetCommand, Want, a_question, an_effect}
 use Rattle.machine_model.specs.Plans.{question_of}
 use Rattle.machine_model.specs.Replying.{is_waiting, replied_to, unanswered}
 use Rattle.machine_model.specs.Rest.{IsAtRest, awaits_greeting, hand_silent, request_in}
@@ -14,9 +13,10 @@ use Rattle.machine_model.specs.Rows.{noted}
 use Rattle.machine_model.specs.Runs.{Message, Run}
 use Rattle.machine_model.specs.State.{Hand, Machine, State, has_raw, has_waiting, is_empty, is_flying, is_gone}
 use Rattle.machine_model.specs.Telling.{after_event, numbered_by}
-use Rattle.machine_model.proofs.Stepping.{Moves, by_moves}
-use Rattle.machine_model.proofs.Tables.{free, free_once}
-use Rattle.machine_model.proofs.Testing.{passed, same_noted, same_numbered, same_replied, tested}
+use Rattle.machine_laws.specs.Names.{Act, Event, Item, Part, Phase, Sent, TargetCommand, Want, a_question, an_effect}
+use Rattle.machine_laws.proofs.Stepping.{Moves, by_moves}
+use Rattle.machine_laws.proofs.Tables.{free, free_once}
+use Rattle.machine_laws.proofs.Testing.{passed, same_noted, same_numbered, same_replied, tested}
 
 -- Nothing is late while there is a target -----------------------------------------------------------------------------
 

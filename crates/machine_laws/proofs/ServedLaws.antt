@@ -8,8 +8,6 @@ use Rattle.dap_messages.specs.declared.told.Outcome.{Outcome as OutcomeTold}
 use Rattle.dap_messages.specs.declared.told.Response.{Response}
 use Rattle.machine_model.specs.Due.{Picked, asked_hand, passed_by, pick}
 use Rattle.machine_model.specs.Lookups.{finished}
-use Rattle.machine_model.specs.Names.{Item, Outcome, Part, Replied, Request, TargetCommand, Want, a_composite}
-use Rattle.machine_model.specs.Names.{a_question, a_raw, a_request, an_effect, target_end}
 use Rattle.machine_model.specs.Replying.{given_up, hand_replied}
 use Rattle.machine_model.specs.Responses.{AreServed}
 use Rattle.machine_model.specs.Rest.{AreAnswered, request_by, request_in, requests_of, response_by, responses_of}
@@ -18,11 +16,13 @@ use Rattle.machine_model.specs.Rows.{chosen, failure_of, gone_parts, has_respons
 use Rattle.machine_model.specs.Runs.{Message, Run}
 use Rattle.machine_model.specs.State.{Hand, Machine, State, is_gone, is_raw, knowing, left}
 use Rattle.machine_model.specs.Telling.{numbered_by, outcome_told, response_to}
-use Rattle.machine_model.proofs.RestLaws.{at_rest, no_request_waits}
-use Rattle.machine_model.proofs.Stepping.{IsAt, Loses, Moves, Skips, by_runs, with_said}
 use Rattle.machine_model.specs.Outcomes.{result_of}
-use Rattle.machine_model.proofs.Tables.{chosen_is, finished_is, has_joined, once, responds_once, row_is}
-use Rattle.machine_model.proofs.Testing.{Passed, tested, whole}
+use Rattle.machine_laws.specs.Names.{Item, Outcome, Part, Replied, Request, TargetCommand, Want, a_composite}
+use Rattle.machine_laws.specs.Names.{a_question, a_raw, a_request, an_effect, target_end}
+use Rattle.machine_laws.proofs.RestLaws.{at_rest, no_request_waits}
+use Rattle.machine_laws.proofs.Stepping.{IsAt, Loses, Moves, Skips, by_runs, with_said}
+use Rattle.machine_laws.proofs.Tables.{chosen_is, finished_is, has_joined, once, responds_once, row_is}
+use Rattle.machine_laws.proofs.Testing.{Passed, tested, whole}
 
 no_item : (item : Item) (b : Bool) → request_in item ≡ [] → unanswered_item b item ≡ []
 no_item item b is = grind (arith, is)

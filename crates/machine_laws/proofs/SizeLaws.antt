@@ -6,9 +6,6 @@ use Rattle.jdwp_commands.specs.Commands.{kind_of}
 use Rattle.jdwp_commands.specs.declared.question.Question.TheVariants as questions
 use Rattle.machine_model.specs.Due.{asked_hand, pick}
 use Rattle.machine_model.specs.Lookups.{finished}
-use Rattle.machine_model.specs.Names.{Answer, Attached, Event, Failure, Fresh, Gone, IdSizes, Item, Outcome, Part}
-use Rattle.machine_model.specs.Names.{Phase, Question, Replied, TargetCommand, Want, a_question, a_raw, a_request}
-use Rattle.machine_model.specs.Names.{an_answer, an_effect, Command, Note}
 use Rattle.machine_model.specs.Replying.{IsReply, hand_replied, is_end, replied_to, shows_end, sizes_in, wire}
 use Rattle.machine_model.specs.Responses.{IsIdle, are_raw}
 use Rattle.machine_model.specs.Rest.{IsAtRest}
@@ -16,13 +13,16 @@ use Rattle.machine_model.specs.Rows.{chosen, failure_of, noted, parts_by, parts_
 use Rattle.machine_model.specs.Runs.{Message, Run}
 use Rattle.machine_model.specs.State.{Hand, Machine, SizesRead, State, is_attached, is_gone, is_some}
 use Rattle.machine_model.specs.Telling.{after_event, numbered_by}
-use Rattle.machine_model.proofs.RestLaws.{at_rest, none_waiting}
-use Rattle.machine_model.proofs.Stepping.{IsAt, Moves, Skips, by_moves}
 use Rattle.machine_model.specs.Outcomes.{result_of}
-use Rattle.machine_model.proofs.Tables.{are_plain, chosen_is, finished_is, has_attach, plain_attach}
 use Rattle.machine_model.proofs.Bools.{other_fails}
-use Rattle.machine_model.proofs.Testing.{same_replied}
-use Rattle.machine_model.proofs.RequestSteps.{parts_left}
+use Rattle.machine_laws.specs.Names.{Answer, Attached, Event, Failure, Fresh, Gone, IdSizes, Item, Outcome, Part}
+use Rattle.machine_laws.specs.Names.{Phase, Question, Replied, TargetCommand, Want, a_question, a_raw, a_request}
+use Rattle.machine_laws.specs.Names.{an_answer, an_effect, Command, Note}
+use Rattle.machine_laws.proofs.RestLaws.{at_rest, none_waiting}
+use Rattle.machine_laws.proofs.Stepping.{IsAt, Moves, Skips, by_moves}
+use Rattle.machine_laws.proofs.Tables.{are_plain, chosen_is, finished_is, has_attach, plain_attach}
+use Rattle.machine_laws.proofs.Testing.{same_replied}
+use Rattle.machine_laws.proofs.RequestSteps.{parts_left}
 
 -- it waits for the sizes of ids
 abbrev pub sizes_first : Part → Bool

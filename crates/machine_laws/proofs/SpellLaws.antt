@@ -11,21 +11,21 @@ use Rattle.jdwp_values.specs.declared.sizes.IdSizes.{IdSizes}
 use Rattle.machine_model.specs.Due.{Load, asked_first, asked_next, can_read, due, due_by, is_full, load_of, queued}
 use Rattle.machine_model.specs.Ids.{Id, class, field, frame, ids_answered, ids_given, ids_replied, method, ids_asked}
 use Rattle.machine_model.specs.Ids.{ids_of_composite, no_thread, object, thread_of}
-use Rattle.machine_model.specs.Names.{Answer, Composite, Effect, Question, Replied, TargetCommand, Want, a_question}
-use Rattle.machine_model.specs.Names.{an_effect}
 use Rattle.machine_model.specs.Replying.{IsReply, SizesFor, any_sizes, is_waiting, sizes_of, sizes_read, wire}
 use Rattle.machine_model.specs.Runs.{Allows, Message, Run, Takes, said}
 use Rattle.machine_model.specs.Spelling.{AreSpelled, IsSpelled, all_sizes, first_sizes, sizes_replied}
 use Rattle.machine_model.specs.State.{Hand, Machine, SizesRead, is_empty, is_gone, is_some}
-use Rattle.machine_model.proofs.IdLaws.{IsIdTest, Sends, all_sent, sends_may}
 use Rattle.machine_model.proofs.IdRows.{FitsId, all_weak, composite_ids, fitting_ids, same_ids}
 use Rattle.machine_model.proofs.PlanIds.{IsAsked}
-use Rattle.machine_model.proofs.Standing.{IsKept, asked_in, sizes_more}
-use Rattle.machine_model.proofs.StandingReplies.{not_empty, only_sizes, sizes_is}
-use Rattle.machine_model.proofs.Stepping.{Moves, moved}
-use Rattle.machine_model.proofs.Testing.{same_replied}
-use Rattle.machine_model.proofs.WishIds.{MaySend}
 use Rattle.machine_model.proofs.WriteIds.{power}
+use Rattle.machine_laws.specs.Names.{Answer, Composite, Effect, Question, Replied, TargetCommand, Want, a_question}
+use Rattle.machine_laws.specs.Names.{an_effect}
+use Rattle.machine_laws.proofs.IdLaws.{IsIdTest, Sends, all_sent, sends_may}
+use Rattle.machine_laws.proofs.Standing.{IsKept, asked_in, sizes_more}
+use Rattle.machine_laws.proofs.StandingReplies.{not_empty, only_sizes, sizes_is}
+use Rattle.machine_laws.proofs.Stepping.{Moves, moved}
+use Rattle.machine_laws.proofs.Testing.{same_replied}
+use Rattle.machine_laws.proofs.WishIds.{MaySend}
 
 -- The ids that an answer brings ---------------------------------------------------------------------------------------
 

@@ -6,9 +6,6 @@ use Rattle.std.specs.List.{AllByRecursion as All}
 use Rattle.std.proofs.lemmas.List.Concat.{flat_map-append}
 use Rattle.jdwp_commands.specs.declared.question.Question.TheVariants as questions
 use Rattle.machine_model.proofs.WriteIds.{OfDeed}
-use Rattle.machine_model.specs.Names.{Writes, Body, Classes, Failed, IdSizes, Initialized, Lines, Outcome, Part, Sent}
-use Rattle.machine_model.specs.Names.{Success, TargetCommand, Want, a_question, an_effect, frame_list, scope_list}
-use Rattle.machine_model.specs.Names.{thread_list, a_value, variable_list, Functions, Steps}
 use Rattle.machine_model.specs.Ids.{Id, ids_given}
 use Rattle.machine_model.specs.Plans.{question_of}
 use Rattle.machine_model.specs.Replying.{waits_for}
@@ -17,9 +14,12 @@ use Rattle.machine_model.specs.Spelling.{all_sizes, first_sizes, sizes_by, sizes
 use Rattle.machine_model.specs.State.{State, Hand, Machine, SizesRead, is_attached, is_gone, is_some}
 use Rattle.machine_model.proofs.PlanIds.{AreKnown, IsAsked, IsWanted, OfClass, OfFrameThing, OfLookup, OfNamed}
 use Rattle.machine_model.proofs.PlanIds.{OfShownFrame, OfSeen, OfShownVariable, OnSome, is_sizes}
-use Rattle.machine_model.proofs.RequestSteps.{is_choice, parts_left}
-use Rattle.machine_model.proofs.Stepping.{IsAt, with_said}
-use Rattle.machine_model.proofs.WishIds.{AreWished, IsShortFunction, IsShortKey, OfStep}
+use Rattle.machine_laws.specs.Names.{Writes, Body, Classes, Failed, IdSizes, Initialized, Lines, Outcome, Part, Sent}
+use Rattle.machine_laws.specs.Names.{Success, TargetCommand, Want, a_question, an_effect, frame_list, scope_list}
+use Rattle.machine_laws.specs.Names.{thread_list, a_value, variable_list, Functions, Steps}
+use Rattle.machine_laws.proofs.RequestSteps.{is_choice, parts_left}
+use Rattle.machine_laws.proofs.Stepping.{IsAt, with_said}
+use Rattle.machine_laws.proofs.WishIds.{AreWished, IsShortFunction, IsShortKey, OfStep}
 
 -- The item in hand ----------------------------------------------------------------------------------------------------
 

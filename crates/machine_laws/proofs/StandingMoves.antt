@@ -4,24 +4,24 @@ use Rattle.jdwp_events.specs.declared.kind.Policy.{Policy}
 use Rattle.std.proofs.Common.{◌≡◌, Bool, true, false, cond, List, [], ◌∷◌, ◌++◌, Option, Some, None, refl, sym, ap}
 use Rattle.std.proofs.Common.{subst, ◌∙◌, arith}
 use Rattle.std.specs.List.{AllByRecursion as All}
-use Rattle.machine_model.specs.Names.{Deed, Writes, Written, variable_write, write_found, Attach, Attached, Choice}
-use Rattle.machine_model.specs.Names.{Classes, Command, ConfigurationDone, Continue, Decides, Disconnect, Effect, Event}
-use Rattle.machine_model.specs.Names.{Failed, Finding, Initialize, Initialized, Item, Leaves, Lines, Lookup, News, Note}
-use Rattle.machine_model.specs.Names.{Outcome, Part, Pause, Phase, Replied, Sent, SetBreakpoints, Success, Fresh, Gone}
-use Rattle.machine_model.specs.Names.{TargetCommand, TellsNews, Terminated, ThreadId, Want, a_composite, a_raw}
-use Rattle.machine_model.specs.Names.{a_request, all_threads, class_facts, classes_found, target_end, threads_found}
-use Rattle.machine_model.specs.Names.{Body, Scopes, StackTrace, Variables, container_children, frames_found, scope_list}
-use Rattle.machine_model.specs.Names.{Evaluate, SetVariable, expression_value, no_value, thread_frames, value_found}
-use Rattle.machine_model.specs.Names.{variables_found, ExceptionInfo, Functions, Halt, HaltCause, Next}
-use Rattle.machine_model.specs.Names.{SetExceptionBreakpoints, SetFunctionBreakpoints, StepIn, StepOut, Stepped, Steps}
-use Rattle.machine_model.specs.Names.{StopsAt, Thrown, exception_info, threw}
 use Rattle.machine_model.specs.Ids.{Id, class}
 use Rattle.machine_model.specs.Lookups.{finished, found_for, sight_of, body_of, outcome_by, shown_by, value_outcome}
 use Rattle.machine_model.specs.References.{has_room, things_of}
+use Rattle.machine_laws.specs.Names.{Deed, Writes, Written, variable_write, write_found, Attach, Attached, Choice}
+use Rattle.machine_laws.specs.Names.{Classes, Command, ConfigurationDone, Continue, Decides, Disconnect, Effect, Event}
+use Rattle.machine_laws.specs.Names.{Failed, Finding, Initialize, Initialized, Item, Leaves, Lines, Lookup, News, Note}
+use Rattle.machine_laws.specs.Names.{Outcome, Part, Pause, Phase, Replied, Sent, SetBreakpoints, Success, Fresh, Gone}
+use Rattle.machine_laws.specs.Names.{TargetCommand, TellsNews, Terminated, ThreadId, Want, a_composite, a_raw}
+use Rattle.machine_laws.specs.Names.{a_request, all_threads, class_facts, classes_found, target_end, threads_found}
+use Rattle.machine_laws.specs.Names.{Body, Scopes, StackTrace, Variables, container_children, frames_found, scope_list}
+use Rattle.machine_laws.specs.Names.{Evaluate, SetVariable, expression_value, no_value, thread_frames, value_found}
+use Rattle.machine_laws.specs.Names.{variables_found, ExceptionInfo, Functions, Halt, HaltCause, Next}
+use Rattle.machine_laws.specs.Names.{SetExceptionBreakpoints, SetFunctionBreakpoints, StepIn, StepOut, Stepped, Steps}
+use Rattle.machine_laws.specs.Names.{StopsAt, Thrown, exception_info, threw}
 use Rattle.dap_messages.specs.Telling.{references_spent}
 use Rattle.machine_model.specs.Plans.{Need, fails, has, lacks}
 use Rattle.machine_model.specs.Replying.{done_by}
-use Rattle.machine_model.proofs.Testing.{same_numbered}
+use Rattle.machine_laws.proofs.Testing.{same_numbered}
 use Rattle.field_exprs.specs.Parsing.{parsed}
 use Rattle.field_exprs.specs.declared.expr.Expr.{Expr}
 use Rattle.machine_model.specs.Rows.{write_by, written_by, evaluate_by, chosen, configured_parts, continue_parts}
@@ -32,17 +32,17 @@ use Rattle.machine_model.specs.Runs.{Message}
 use Rattle.machine_model.specs.State.{Hand, Machine, State, is_attached, is_gone, is_some, left}
 use Rattle.machine_model.specs.Telling.{after_event, numbered_by}
 use Rattle.machine_model.proofs.IdRows.{all_joined}
-use Rattle.machine_model.proofs.LookupIds.{rows_stand}
 use Rattle.machine_model.proofs.PlanIds.{AreKnown, IsAsked, IsGood, NeedStands, OfFrameThing, OfLookup, OfThing}
 use Rattle.machine_model.proofs.PlanIds.{OfThread, OfThrown, OnSome}
-use Rattle.machine_model.proofs.Stepping.{IsAt, Skips}
 use Rattle.machine_model.specs.Outcomes.{result_of}
-use Rattle.machine_model.proofs.Standing.{IsKept, Kept, Near, OfBody, OfOutcome, PartStands, Same, at_front, in_order}
-use Rattle.machine_model.proofs.Standing.{same_state, awaits_sizes, needs_sizes, stays}
-use Rattle.machine_model.proofs.HitIds.{ItemStands, OfCause, OfHalt, found_one, halt_stands}
-use Rattle.machine_model.proofs.Tables.{told_alike}
 use Rattle.machine_model.specs.Stops.{decided, decided_by, events_in, hits_in, holds_entry, stop_among, surplus}
 use Rattle.machine_model.specs.Stops.{thrown_in, told_part}
+use Rattle.machine_laws.proofs.LookupIds.{rows_stand}
+use Rattle.machine_laws.proofs.Stepping.{IsAt, Skips}
+use Rattle.machine_laws.proofs.Standing.{IsKept, Kept, Near, OfBody, OfOutcome, PartStands, Same, at_front, in_order}
+use Rattle.machine_laws.proofs.Standing.{same_state, awaits_sizes, needs_sizes, stays}
+use Rattle.machine_laws.proofs.HitIds.{ItemStands, OfCause, OfHalt, found_one, halt_stands}
+use Rattle.machine_laws.proofs.Tables.{told_alike}
 use Rattle.dap_messages.specs.declared.requests.FunctionBreakpoint.{FunctionBreakpoint}
 use Rattle.machine_model.specs.Breakpoints.{functions_from, behind_roots, key_of, longest_key, short_key, slashed}
 use Rattle.wish_sets.specs.declared.wish.Depth.{Depth}
@@ -56,10 +56,10 @@ use Rattle.stop_refs.specs.declared.fault.RefFault.{RefFault}
 use Rattle.stop_refs.specs.declared.thing.FrameThing.{FrameThing}
 use Rattle.stop_refs.specs.declared.thing.Thing.{Thing}
 use Rattle.stop_refs.specs.declared.thing.Thing.TheVariants as things
-use Rattle.machine_model.proofs.WishIds.{AreWished, IsShortFunction, IsShortKey, classes_stand, functions_stand}
-use Rattle.machine_model.proofs.WishIds.{lines_stand, step_stands}
 use Rattle.machine_model.specs.Composites.{composite_parts, has_death}
-use Rattle.machine_model.proofs.PartTests.{of_failure}
+use Rattle.machine_laws.proofs.WishIds.{AreWished, IsShortFunction, IsShortKey, classes_stand, functions_stand}
+use Rattle.machine_laws.proofs.WishIds.{lines_stand, step_stands}
+use Rattle.machine_laws.proofs.PartTests.{of_failure}
 
 -- Tables --------------------------------------------------------------------------------------------------------------
 

@@ -15,8 +15,6 @@ use Rattle.machine_model.specs.Due.{greeted_by, queueing, sized_by as due_sized}
 use Rattle.machine_model.specs.Facts.{above_in, fields_in, methods_in}
 use Rattle.machine_model.specs.Ids.{Id, class, ids_of, ids_replied, thread_of}
 use Rattle.machine_model.specs.Lookups.{found_for}
-use Rattle.machine_model.specs.Names.{Answer, Guard, Handshake, IdSizes, Part, Phase, Question, Replied, Sent}
-use Rattle.machine_model.specs.Names.{TargetCommand, Want, a_question, an_effect}
 use Rattle.machine_model.specs.Plans.{Need, answer_in, asks_for, lacking, lacks, question_of}
 use Rattle.machine_model.specs.Replying.{replied_machine, is_failed, IsReply, ended_with, filled, given_up}
 use Rattle.machine_model.specs.Replying.{hand_replied, is_waiting, knows_fact, learnt, pending_in, shows_end, sizes_in}
@@ -29,19 +27,21 @@ use Rattle.machine_model.proofs.IdRows.{all_front, all_joined, all_weak}
 use Rattle.machine_model.proofs.KeyLaws.{is_one}
 use Rattle.machine_model.proofs.PlanIds.{AreKnown, IsAsked, IsGood, IsHeard, IsHeardOf, IsWanted, NeedStands, is_sizes}
 use Rattle.machine_model.proofs.PlanIds.{put_all, put_key, reply_heard}
-use Rattle.machine_model.proofs.Stepping.{Loses}
-use Rattle.machine_model.proofs.Testing.{same_replied}
 use Rattle.machine_model.specs.Keys.{same_question}
-use Rattle.machine_model.proofs.StandingMoves.{in_any_order, looks_stand, sized_by}
-use Rattle.machine_model.proofs.Standing.{IsKept, Kept, KeptHand, Near, asked_in, by_command, by_sent, by_want, one_if}
-use Rattle.machine_model.proofs.Standing.{put_back, queue_in, same_sizes, sizes_more, taken_out, total}
+use Rattle.machine_laws.specs.Names.{Answer, Guard, Handshake, IdSizes, Part, Phase, Question, Replied, Sent}
+use Rattle.machine_laws.specs.Names.{TargetCommand, Want, a_question, an_effect}
+use Rattle.machine_laws.proofs.Stepping.{Loses}
+use Rattle.machine_laws.proofs.Testing.{same_replied}
+use Rattle.machine_laws.proofs.StandingMoves.{in_any_order, looks_stand, sized_by}
+use Rattle.machine_laws.proofs.Standing.{IsKept, Kept, KeptHand, Near, asked_in, by_command, by_sent, by_want, one_if}
+use Rattle.machine_laws.proofs.Standing.{put_back, queue_in, same_sizes, sizes_more, taken_out, total}
 use Rattle.class_tables.specs.declared.loaded.Loaded.{Loaded}
 use Rattle.jdwp_commands.specs.declared.listed.LoadedClass.{LoadedClass}
 use Rattle.machine_model.specs.Classes.{classes_in, with_listed}
 use Rattle.std.specs.Prelude.{fold}
 use Rattle.machine_model.proofs.Bools.{second_holds}
-use Rattle.machine_model.proofs.RestLaws.{near_queue}
-use Rattle.machine_model.proofs.SizeLaws.{good_answer}
+use Rattle.machine_laws.proofs.RestLaws.{near_queue}
+use Rattle.machine_laws.proofs.SizeLaws.{good_answer}
 
 -- Numbers -------------------------------------------------------------------------------------------------------------
 

@@ -1,24 +1,24 @@
 -- What each move keeps of the ids that stand in the machine: all moves.
-use Rattle.machine_model.proofs.ItemIds.{Waits, in_front, picked_stand, taken_stand}
+use Rattle.machine_laws.proofs.ItemIds.{Waits, in_front, picked_stand, taken_stand}
 use Rattle.std.proofs.Common.{◌≡◌, ◌++◌, false, List, Option, refl, ap, ◌∙◌}
 use Rattle.std.specs.List.{AllByRecursion as All}
 use Rattle.machine_model.specs.Ids.{Id, class}
-use Rattle.machine_model.specs.Names.{a_question, an_effect}
 use Rattle.machine_model.specs.Runs.{Message}
 use Rattle.machine_model.specs.State.{Machine, is_attached, is_gone, is_some}
-use Rattle.machine_model.proofs.Stepping.{Moves, with_said}
-use Rattle.machine_model.proofs.Testing.{same_noted, same_numbered, same_replied}
-use Rattle.machine_model.proofs.Standing.{IsKept, at_front, ids_said, put_back, quiet_kept, same_state, stays}
-use Rattle.machine_model.proofs.Standing.{taken_out}
-use Rattle.machine_model.proofs.StandingMoves.{begun_order, begun_parts, chosen_order, chosen_parts, dropped_kept}
-use Rattle.machine_model.proofs.StandingMoves.{sent_order, effect_same, event_order, event_same, found_kept, note_same}
-use Rattle.machine_model.proofs.StandingMoves.{skipped_order, told_same, effect_wanted, event_wanted, told_wanted}
-use Rattle.machine_model.proofs.StandingMoves.{note_wished}
-use Rattle.machine_model.proofs.StandingReplies.{answered_kept, asked_kept, late_kept, lost_kept, queued_kept}
 use Rattle.machine_model.specs.Rows.{chosen, noted}
 use Rattle.machine_model.specs.Replying.{done_by, hand_replied}
 use Rattle.machine_model.specs.Telling.{after_event, numbered_by}
 use Rattle.machine_model.specs.Due.{after_deed}
+use Rattle.machine_laws.specs.Names.{a_question, an_effect}
+use Rattle.machine_laws.proofs.Stepping.{Moves, with_said}
+use Rattle.machine_laws.proofs.Testing.{same_noted, same_numbered, same_replied}
+use Rattle.machine_laws.proofs.Standing.{IsKept, at_front, ids_said, put_back, quiet_kept, same_state, stays}
+use Rattle.machine_laws.proofs.Standing.{taken_out}
+use Rattle.machine_laws.proofs.StandingMoves.{begun_order, begun_parts, chosen_order, chosen_parts, dropped_kept}
+use Rattle.machine_laws.proofs.StandingMoves.{sent_order, effect_same, event_order, event_same, found_kept, note_same}
+use Rattle.machine_laws.proofs.StandingMoves.{skipped_order, told_same, effect_wanted, event_wanted, told_wanted}
+use Rattle.machine_laws.proofs.StandingMoves.{note_wished}
+use Rattle.machine_laws.proofs.StandingReplies.{answered_kept, asked_kept, late_kept, lost_kept, queued_kept}
 
 pub kept_on : {P : Id → Type 0} (messages : List Message) (m next : Machine) (said : Option Message) → P (class 0)
     → Waits P m → IsKept P messages m → Moves m said next → (is_gone next.state.phase ≡ false → All P (ids_said said))

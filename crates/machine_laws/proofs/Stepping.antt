@@ -8,9 +8,6 @@ use Rattle.machine_model.specs.Due.{responded, sent, updated, waiting, wanted, w
 use Rattle.machine_model.specs.Due.Way.{passes, greets as greets_way}
 use Rattle.machine_model.specs.Lookups.{finished, found_for}
 use Rattle.machine_model.specs.Outcomes.{result_of}
-use Rattle.machine_model.specs.Names.{Act, Composite, Deed, Does, Effect, Event, Finding, Guard, Item, Lookup, Note}
-use Rattle.machine_model.specs.Names.{Choice, Outcome, Part, Question, Replied, Request, TargetCommand, Want}
-use Rattle.machine_model.specs.Names.{a_composite, a_question, a_raw, a_request, an_effect, an_event}
 use Rattle.machine_model.specs.Plans.{Need, is_done, lacks, question_of}
 use Rattle.machine_model.specs.Replying.{IsReply, answered_by, ended, ended_with, hand_replied, is_end, is_waiting}
 use Rattle.machine_model.specs.Replying.{pending_in, replied_machine, shows_end}
@@ -20,6 +17,9 @@ use Rattle.machine_model.specs.Rows.{chosen, noted}
 use Rattle.machine_model.specs.Runs.{Allows, Message, Run, Takes, greeting_heard, heard, said, with_item}
 use Rattle.machine_model.specs.State.{Hand, Machine, fresh, has_raw, is_gone, is_some, knowing, left}
 use Rattle.machine_model.specs.Telling.{after_event, event_told, numbered_by, outcome_told, response_to}
+use Rattle.machine_laws.specs.Names.{Act, Composite, Deed, Does, Effect, Event, Finding, Guard, Item, Lookup, Note}
+use Rattle.machine_laws.specs.Names.{Choice, Outcome, Part, Question, Replied, Request, TargetCommand, Want}
+use Rattle.machine_laws.specs.Names.{a_composite, a_question, a_raw, a_request, an_effect, an_event}
 use Rattle.std.proofs.lemmas.Bool.{not-true}
 
 -- Moves --------------------------------------------------------------------------------------------------------------

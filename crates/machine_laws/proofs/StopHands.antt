@@ -5,9 +5,6 @@ use Rattle.std.proofs.Common.{ap, subst, ◌∙◌, arith, option_map, ℕ}
 use Rattle.std.specs.List.{AllByRecursion as All}
 use Rattle.machine_model.specs.Due.{asked_hand, behind_first, lacked_by, newly_lacked, stopped_by, with_wants}
 use Rattle.machine_model.specs.Lookups.{finished}
-use Rattle.machine_model.specs.Names.{Choice, Decides, Deed, Event, Finding, Initialized, Item, Lookup, Part, Phase}
-use Rattle.machine_model.specs.Names.{Question, Replied, Resume, Sent, Suspend, TellsNews, Want, a_question, an_effect}
-use Rattle.machine_model.specs.Names.{of_stop, Stepped, some_news}
 use Rattle.machine_model.specs.Outcomes.{result_of}
 use Rattle.machine_model.specs.Plans.{Result, asks_for, question_of}
 use Rattle.machine_model.specs.Replying.{filled, given_up, hand_replied, is_failed, is_waiting, unless_failed}
@@ -16,19 +13,22 @@ use Rattle.machine_model.specs.Rows.{chosen, news_of, noted, parts_of, refused_w
 use Rattle.machine_model.specs.Runs.{Message, Run}
 use Rattle.machine_model.specs.State.{Hand, Machine, State, is_gone, is_none}
 use Rattle.machine_model.specs.Telling.{after_event, numbered_by}
-use Rattle.machine_model.proofs.BindingPlans.{asks}
-use Rattle.machine_model.proofs.Frameless.{asks_frames}
-use Rattle.machine_model.proofs.HoldingParts.{numbered_stop, same_stop}
 use Rattle.machine_model.proofs.IdRows.{all_joined}
 use Rattle.machine_model.proofs.KeyLaws.{is_one}
-use Rattle.machine_model.proofs.Standing.{asked_in, queue_in}
-use Rattle.machine_model.proofs.Stepping.{IsAt, Moves, by_runs}
-use Rattle.machine_model.proofs.Tables.{decided_alike, told_alike}
-use Rattle.machine_model.proofs.Testing.{Passed, passed, same_noted, same_numbered, same_replied, tested}
-use Rattle.machine_model.proofs.StopParts.{IsCalm, IsCalmSent, are_bare, bare_ends, bare_parts, bare_test, ends_ahead}
-use Rattle.machine_model.proofs.StopParts.{ends_one, frames_ahead, lacked_calm, lacked_none, looks_frames, taken_calm}
-use Rattle.machine_model.proofs.StepLaws.{noted_stop}
-use Rattle.machine_model.proofs.RequestSteps.{parts_left}
+use Rattle.machine_laws.specs.Names.{Choice, Decides, Deed, Event, Finding, Initialized, Item, Lookup, Part, Phase}
+use Rattle.machine_laws.specs.Names.{Question, Replied, Resume, Sent, Suspend, TellsNews, Want, a_question, an_effect}
+use Rattle.machine_laws.specs.Names.{of_stop, Stepped, some_news}
+use Rattle.machine_laws.proofs.BindingPlans.{asks}
+use Rattle.machine_laws.proofs.Frameless.{asks_frames}
+use Rattle.machine_laws.proofs.HoldingParts.{numbered_stop, same_stop}
+use Rattle.machine_laws.proofs.Standing.{asked_in, queue_in}
+use Rattle.machine_laws.proofs.Stepping.{IsAt, Moves, by_runs}
+use Rattle.machine_laws.proofs.Tables.{decided_alike, told_alike}
+use Rattle.machine_laws.proofs.Testing.{Passed, passed, same_noted, same_numbered, same_replied, tested}
+use Rattle.machine_laws.proofs.StopParts.{IsCalm, IsCalmSent, are_bare, bare_ends, bare_parts, bare_test, ends_ahead}
+use Rattle.machine_laws.proofs.StopParts.{ends_one, frames_ahead, lacked_calm, lacked_none, looks_frames, taken_calm}
+use Rattle.machine_laws.proofs.StepLaws.{noted_stop}
+use Rattle.machine_laws.proofs.RequestSteps.{parts_left}
 
 -- The invariant -------------------------------------------------------------------------------------------------------
 

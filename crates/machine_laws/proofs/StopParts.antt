@@ -5,10 +5,6 @@ use Rattle.std.proofs.Common.{ℕ, Option}
 use Rattle.std.specs.List.{AllByRecursion as All}
 use Rattle.class_tables.specs.Lookups.{found_in}
 use Rattle.jdwp_commands.specs.declared.question.Question.TheVariants as questions
-use Rattle.machine_model.specs.Names.{Writes, a_written, variable_write, Body, Capabilities, Choice, Continued, Decides}
-use Rattle.machine_model.specs.Names.{Failed, Finding, Item, Lookup, Nothing, Outcome, Part, Question, Resume, Sent}
-use Rattle.machine_model.specs.Names.{Success, TellsNews, Want, breakpoint_list, class_facts, classes_found, Stepped}
-use Rattle.machine_model.specs.Names.{of_stop, thread_frames}
 use Rattle.machine_model.specs.Classes.{classes_plan}
 use Rattle.machine_model.specs.Due.{is_listed, lacked_by, with_want, with_wants}
 use Rattle.machine_model.specs.Lookups.{finished, sight_of}
@@ -17,14 +13,18 @@ use Rattle.machine_model.specs.Replying.{is_waiting}
 use Rattle.machine_model.specs.Rows.{chosen, news_of, parts_of, refused_with, stepped_by}
 use Rattle.machine_model.specs.Runs.{Message, Run}
 use Rattle.machine_model.specs.State.{Hand, Machine, State}
-use Rattle.machine_model.proofs.BindingParts.{lacked_safe, looks_apart}
-use Rattle.machine_model.proofs.BindingPlans.{asks, is_fact, known_wants, makes, plan_lacks, wants_fact}
-use Rattle.machine_model.proofs.Frameless.{asks_frames}
 use Rattle.machine_model.proofs.IdRows.{all_joined, all_weak}
-use Rattle.machine_model.proofs.SafePlans.{is_meek, is_safe}
-use Rattle.machine_model.proofs.Stepping.{IsAt}
-use Rattle.machine_model.proofs.Tables.{decided_alike, told_alike}
-use Rattle.machine_model.proofs.Testing.{IsTest, tested, whole}
+use Rattle.machine_laws.specs.Names.{Writes, a_written, variable_write, Body, Capabilities, Choice, Continued, Decides}
+use Rattle.machine_laws.specs.Names.{Failed, Finding, Item, Lookup, Nothing, Outcome, Part, Question, Resume, Sent}
+use Rattle.machine_laws.specs.Names.{Success, TellsNews, Want, breakpoint_list, class_facts, classes_found, Stepped}
+use Rattle.machine_laws.specs.Names.{of_stop, thread_frames}
+use Rattle.machine_laws.proofs.BindingParts.{lacked_safe, looks_apart}
+use Rattle.machine_laws.proofs.BindingPlans.{asks, is_fact, known_wants, makes, plan_lacks, wants_fact}
+use Rattle.machine_laws.proofs.Frameless.{asks_frames}
+use Rattle.machine_laws.proofs.SafePlans.{is_meek, is_safe}
+use Rattle.machine_laws.proofs.Stepping.{IsAt}
+use Rattle.machine_laws.proofs.Tables.{decided_alike, told_alike}
+use Rattle.machine_laws.proofs.Testing.{IsTest, tested, whole}
 use Rattle.wish_sets.specs.Wanted.{Wanted}
 use Rattle.machine_model.proofs.Bools.{and_second}
 use Rattle.std.proofs.lemmas.Bool.{not-true}

@@ -2,16 +2,16 @@
 use Rattle.std.proofs.Common.{◌≡◌, Bool, true, false, List, [], ◌∷◌, Option, Some, None, refl}
 use Rattle.machine_model.specs.Due.{after_deed, sent}
 use Rattle.machine_model.specs.Ids.{begins_stop, ids_given}
-use Rattle.machine_model.specs.Names.{Does, Effect, Part, Resume, Suspend, Terminated, a_question, a_stop, an_effect}
-use Rattle.machine_model.specs.Names.{of_stop}
 use Rattle.machine_model.specs.ReferenceNumbers.{ends_stop}
 use Rattle.machine_model.specs.Runs.{Message}
 use Rattle.machine_model.specs.State.{Hand, Machine, is_gone, knowing}
-use Rattle.machine_model.proofs.HoldingParts.{numbered_stop, same_stop}
-use Rattle.machine_model.proofs.ReferenceLaws.{due_request}
-use Rattle.machine_model.proofs.RequestSteps.{is_deed}
-use Rattle.machine_model.proofs.Stepping.{IsAt, Moves}
-use Rattle.machine_model.proofs.StepLaws.{noted_stop}
+use Rattle.machine_laws.specs.Names.{Does, Effect, Part, Resume, Suspend, Terminated, a_question, a_stop, an_effect}
+use Rattle.machine_laws.specs.Names.{of_stop}
+use Rattle.machine_laws.proofs.HoldingParts.{numbered_stop, same_stop}
+use Rattle.machine_laws.proofs.ReferenceLaws.{due_request}
+use Rattle.machine_laws.proofs.RequestSteps.{is_deed}
+use Rattle.machine_laws.proofs.Stepping.{IsAt, Moves}
+use Rattle.machine_laws.proofs.StepLaws.{noted_stop}
 
 abbrev pub says_end : Option Message → Bool
 says_end None = false

@@ -2,21 +2,21 @@
 use Rattle.std.proofs.Common.{◌≡◌, Bool, true, false, cond, not, ◌||◌, List, [], ◌∷◌, ◌++◌, Option, refl, arith, ◌∙◌}
 use Rattle.std.proofs.Common.{Some, None}
 use Rattle.machine_model.specs.Lookups.{finished, lookup_responds}
-use Rattle.machine_model.specs.Names.{Attached, Choice, Classes, Command, Decides, EntryHeld, Failure, Finding}
-use Rattle.machine_model.specs.Names.{Initialized, Item, Leaves, Lines, Lookup, News, Note, Part, Phase, Resume}
-use Rattle.machine_model.specs.Names.{Stopping, TellsNews, Terminated, a_raw, a_request, a_stop, by_step, came_to}
-use Rattle.machine_model.specs.Names.{class_facts, exception_text, has_stepped, of_composite, some_news, threw}
-use Rattle.machine_model.specs.Names.{Functions, Halt, HaltCause, Hit, Steps, StopsAt, ThreadId, Throws, Thrown}
+use Rattle.machine_laws.specs.Names.{Attached, Choice, Classes, Command, Decides, EntryHeld, Failure, Finding}
+use Rattle.machine_laws.specs.Names.{Initialized, Item, Leaves, Lines, Lookup, News, Note, Part, Phase, Resume}
+use Rattle.machine_laws.specs.Names.{Stopping, TellsNews, Terminated, a_raw, a_request, a_stop, by_step, came_to}
+use Rattle.machine_laws.specs.Names.{class_facts, exception_text, has_stepped, of_composite, some_news, threw}
+use Rattle.machine_laws.specs.Names.{Functions, Halt, HaltCause, Hit, Steps, StopsAt, ThreadId, Throws, Thrown}
 use Rattle.jdwp_values.specs.declared.id.ObjectId.{ObjectId}
 use Rattle.machine_model.specs.Plans.{Result}
 use Rattle.machine_model.specs.Rows.{choice_responds, chosen, each_told, failure_of, gone_parts, has_response, news_of}
 use Rattle.machine_model.specs.Rows.{is_response, told_in, parts_by, parts_of, request_parts, row_of, wanting}
 use Rattle.machine_model.specs.State.{Hand, State, is_attached, is_gone}
-use Rattle.machine_model.proofs.Testing.{IsTest, gone_behind}
 use Rattle.machine_model.specs.Stops.{decided, decided_by, events_in, hit_parts, hits_in, holds_entry, stop_among}
 use Rattle.machine_model.specs.Stops.{surplus, thrown_in, told_part}
 use Rattle.machine_model.specs.Knowing.{is_last}
 use Rattle.machine_model.proofs.Bools.{first_holds}
+use Rattle.machine_laws.proofs.Testing.{IsTest, gone_behind}
 
 -- Tests of parts ------------------------------------------------------------------------------------------------------
 

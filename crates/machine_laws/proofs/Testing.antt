@@ -3,16 +3,16 @@ use Rattle.std.proofs.Common.{◌≡◌, Bool, true, List, [], ◌∷◌, ◌++�
 use Rattle.std.proofs.Common.{option_map, arith}
 use Rattle.machine_model.specs.Due.{asked_hand}
 use Rattle.machine_model.specs.Lookups.{finished}
-use Rattle.machine_model.specs.Names.{Choice, Event, Finding, Item, Lookup, Note, Outcome, Part, Phase, Replied}
-use Rattle.machine_model.specs.Names.{TargetCommand, Terminated, Want, a_question, an_effect}
 use Rattle.machine_model.specs.Plans.{Result}
 use Rattle.machine_model.specs.Replying.{given_up, hand_replied, replied_to}
 use Rattle.machine_model.specs.Rows.{chosen, gone_parts, has_response, noted, parts_of}
 use Rattle.machine_model.specs.Runs.{Message, Run}
 use Rattle.machine_model.specs.State.{Hand, Machine, State, is_gone}
 use Rattle.machine_model.specs.Telling.{after_event, numbered_by}
-use Rattle.machine_model.proofs.Stepping.{IsAt, Moves, Skips, by_moves}
 use Rattle.machine_model.specs.Outcomes.{result_of}
+use Rattle.machine_laws.specs.Names.{Choice, Event, Finding, Item, Lookup, Note, Outcome, Part, Phase, Replied}
+use Rattle.machine_laws.specs.Names.{TargetCommand, Terminated, Want, a_question, an_effect}
+use Rattle.machine_laws.proofs.Stepping.{IsAt, Moves, Skips, by_moves}
 
 -- the target is gone behind this part
 abbrev pub gone_behind : Part → Bool → Bool

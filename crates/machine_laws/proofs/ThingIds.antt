@@ -5,18 +5,18 @@ use Rattle.std.specs.Prelude.{if◌then◌else◌, option_to_list}
 use Rattle.std.specs.List.{AllByRecursion as All, cons_option, list_any}
 use Rattle.machine_model.specs.Due.{after_deed}
 use Rattle.machine_model.specs.Ids.{Id}
-use Rattle.machine_model.specs.Names.{Deed, Event, Outcome, Resume, ShownFrame, ShownVariable, Success, Terminated}
-use Rattle.machine_model.specs.Names.{a_question, frame_list, of_stop, scope_list, a_value, variable_list}
 use Rattle.machine_model.specs.References.{things_of, with_things}
 use Rattle.machine_model.specs.Runs.{Message}
 use Rattle.machine_model.specs.State.{Machine, State, is_gone, numbers_over}
 use Rattle.machine_model.specs.Telling.{after_event, numbered_by}
 use Rattle.machine_model.proofs.IdRows.{all_joined}
 use Rattle.machine_model.proofs.PlanIds.{OfShownFrame, OfShownVariable, OfThing, OnSome}
-use Rattle.machine_model.proofs.ReferenceLaws.{noted_numbers, replied_numbers, taken_numbers}
-use Rattle.machine_model.proofs.RequestSteps.{near_before}
-use Rattle.machine_model.proofs.Standing.{IsKept, OfOutcome, at_front}
-use Rattle.machine_model.proofs.Stepping.{Moves}
+use Rattle.machine_laws.specs.Names.{Deed, Event, Outcome, Resume, ShownFrame, ShownVariable, Success, Terminated}
+use Rattle.machine_laws.specs.Names.{a_question, frame_list, of_stop, scope_list, a_value, variable_list}
+use Rattle.machine_laws.proofs.ReferenceLaws.{noted_numbers, replied_numbers, taken_numbers}
+use Rattle.machine_laws.proofs.RequestSteps.{near_before}
+use Rattle.machine_laws.proofs.Standing.{IsKept, OfOutcome, at_front}
+use Rattle.machine_laws.proofs.Stepping.{Moves}
 use Rattle.stop_refs.specs.Numbers.{InHand, with_thing}
 use Rattle.stop_refs.specs.Things.{same_thing}
 use Rattle.stop_refs.specs.declared.thing.Thing.{Thing}

@@ -7,11 +7,6 @@ use Rattle.jdwp_events.specs.declared.event.Event.TheVariants as happened
 use Rattle.machine_model.specs.Breakpoints.{newly_verified}
 use Rattle.machine_model.specs.Composites.{change_told, changes_in}
 use Rattle.machine_model.specs.Ids.{Id, ids_of_event}
-use Rattle.machine_model.specs.Names.{Attached, Choice, Command, Decides, Event, Initialized, Item, Lookup, NamedThread}
-use Rattle.machine_model.specs.Names.{News, Outcome, Part, Pause, Phase, Replied, Success, TargetCommand, TellsNews}
-use Rattle.machine_model.specs.Names.{Terminated, ThreadId, a_composite, a_request, a_stop, Note, entry_verified}
-use Rattle.machine_model.specs.Names.{some_news, thread_changed, thread_list, Finding, Halt, HaltCause, Throws, Thrown}
-use Rattle.machine_model.specs.Names.{came_to, exception_text}
 use Rattle.machine_model.specs.Lookups.{finished}
 use Rattle.machine_model.specs.Plans.{Result}
 use Rattle.machine_model.specs.Replying.{replied_to}
@@ -20,14 +15,19 @@ use Rattle.machine_model.specs.Rows.{thread_with, told_in, wanting}
 use Rattle.machine_model.specs.State.{Hand, State, is_attached}
 use Rattle.machine_model.specs.Stops.{decided_by, events_in, holds_entry, hits_in, stop_among, surplus, thrown_in}
 use Rattle.machine_model.specs.Stops.{told_part}
-use Rattle.machine_model.proofs.HitIds.{ItemStands, OfHalt, all_thrown, each_event, halt_stands}
 use Rattle.machine_model.specs.Telling.{after_event, is_among, numbered_by, with_thread, with_threads}
 use Rattle.machine_model.proofs.IdRows.{all_joined}
 use Rattle.machine_model.proofs.PlanIds.{OfNamed, OfThread, OfThrown, OnSome}
-use Rattle.machine_model.proofs.Standing.{PartStands}
-use Rattle.machine_model.proofs.StandingMoves.{told_thread}
-use Rattle.machine_model.proofs.PartTests.{all_pass, all_passing, begun_mute, chosen_mute, found_mute, is_mute}
-use Rattle.machine_model.proofs.PartTests.{of_failure, row_mute}
+use Rattle.machine_laws.specs.Names.{Attached, Choice, Command, Decides, Event, Initialized, Item, Lookup, NamedThread}
+use Rattle.machine_laws.specs.Names.{News, Outcome, Part, Pause, Phase, Replied, Success, TargetCommand, TellsNews}
+use Rattle.machine_laws.specs.Names.{Terminated, ThreadId, a_composite, a_request, a_stop, Note, entry_verified}
+use Rattle.machine_laws.specs.Names.{some_news, thread_changed, thread_list, Finding, Halt, HaltCause, Throws, Thrown}
+use Rattle.machine_laws.specs.Names.{came_to, exception_text}
+use Rattle.machine_laws.proofs.HitIds.{ItemStands, OfHalt, all_thrown, each_event, halt_stands}
+use Rattle.machine_laws.proofs.Standing.{PartStands}
+use Rattle.machine_laws.proofs.StandingMoves.{told_thread}
+use Rattle.machine_laws.proofs.PartTests.{all_pass, all_passing, begun_mute, chosen_mute, found_mute, is_mute}
+use Rattle.machine_laws.proofs.PartTests.{of_failure, row_mute}
 
 -- What a part tells ---------------------------------------------------------------------------------------------------
 

@@ -7,15 +7,15 @@ use Rattle.dap_messages.specs.declared.requests.SourceBreakpoint.{SourceBreakpoi
 use Rattle.jdwp_values.specs.declared.id.ClassId.{ClassId}
 use Rattle.dap_messages.specs.declared.requests.FunctionBreakpoint.{FunctionBreakpoint}
 use Rattle.machine_model.specs.Breakpoints.{entry_of, function_listed, functions_from, has_id, key_of, numbered_from}
-use Rattle.machine_model.specs.Names.{Classes, Command, Failure, Item, Lines, ListedBreakpoint, Note, Part, Phase}
-use Rattle.machine_model.specs.Names.{SetBreakpoints, Success, TellsNews, a_composite, a_raw, a_request}
-use Rattle.machine_model.specs.Names.{breakpoint_list, class_facts, entry_verified, some_news, target_end, Functions}
-use Rattle.machine_model.specs.Names.{SetFunctionBreakpoints, Steps, StopsAt}
 use Rattle.machine_model.specs.Knowing.{is_fresh}
 use Rattle.machine_model.specs.Requests.{Wishes}
 use Rattle.machine_model.specs.Rows.{breakpoint_parts, end_parts, failure_of, noted, parts_by, parts_of, row_of}
 use Rattle.machine_model.specs.Rows.{wanting, if_attached}
 use Rattle.machine_model.specs.State.{State}
+use Rattle.machine_laws.specs.Names.{Classes, Command, Failure, Item, Lines, ListedBreakpoint, Note, Part, Phase}
+use Rattle.machine_laws.specs.Names.{SetBreakpoints, Success, TellsNews, a_composite, a_raw, a_request}
+use Rattle.machine_laws.specs.Names.{breakpoint_list, class_facts, entry_verified, some_news, target_end, Functions}
+use Rattle.machine_laws.specs.Names.{SetFunctionBreakpoints, Steps, StopsAt}
 use Rattle.class_tables.specs.Lookups.{Lookups, found_in}
 use Rattle.class_tables.specs.Tables.{put}
 use Rattle.wish_sets.specs.Wanted.{Wanted, with_class, with_exceptions, with_functions, with_known, with_lines}
@@ -25,12 +25,12 @@ use Rattle.wish_sets.specs.Places.{places}
 use Rattle.wish_sets.specs.Wishes.{is_installed, is_missing, rewished}
 use Rattle.wish_sets.specs.declared.entry.FunctionEntry.{FunctionEntry}
 use Rattle.wish_sets.specs.declared.entry.LineEntry.{LineEntry}
-use Rattle.machine_model.proofs.BareLaws.{bare_rewished, is_bare}
-use Rattle.machine_model.proofs.VerifiedLaws.{function_mark, is_it, is_listed, is_placed, is_shown, line_mark}
-use Rattle.machine_model.proofs.VerifiedLaws.{line_marks, marks}
+use Rattle.machine_laws.proofs.BareLaws.{bare_rewished, is_bare}
+use Rattle.machine_laws.proofs.VerifiedLaws.{function_mark, is_it, is_listed, is_placed, is_shown, line_mark}
+use Rattle.machine_laws.proofs.VerifiedLaws.{line_marks, marks}
 use Rattle.std.proofs.lemmas.Bool.{or_right}
 use Rattle.machine_model.proofs.Bools.{both_hold}
-use Rattle.machine_model.proofs.BindingHands.{notes_list}
+use Rattle.machine_laws.proofs.BindingHands.{notes_list}
 
 -- Parts ---------------------------------------------------------------------------------------------------------------
 

@@ -6,8 +6,6 @@ use Rattle.std.proofs.lemmas.Grind.{flat_map-append}
 use Rattle.std.specs.List.{flat_map}
 use Rattle.machine_model.specs.Due.{asked_now, clear, greeted_by, greets as greets_way, is_full, load_of, queued}
 use Rattle.machine_model.specs.Due.{sized_by, way}
-use Rattle.machine_model.specs.Names.{Doing, Does, Effect, Guard, Handshake, IdSizes, Part, Question, Replied, Sent}
-use Rattle.machine_model.specs.Names.{TargetCommand, Want, a_question, an_effect}
 use Rattle.machine_model.specs.Pending.{has_change, is_aside}
 use Rattle.machine_model.specs.Plans.{asks_for, question_of}
 use Rattle.machine_model.specs.Replying.{ended_with, filled, given_up, hand_replied, is_waiting, pending_in, pending_of}
@@ -15,11 +13,13 @@ use Rattle.machine_model.specs.Replying.{unanswered, unanswered_effect, waits_fo
 use Rattle.machine_model.specs.Rest.{hand_silent}
 use Rattle.machine_model.specs.Runs.{Message}
 use Rattle.machine_model.specs.State.{Hand, Machine, SizesRead, has_waiting, is_empty, is_flying, is_gone, is_none}
-use Rattle.machine_model.proofs.HandshakeLaws.{IsBehind, both_queued, both_there, has_handshake}
 use Rattle.machine_model.proofs.KeyLaws.{is_one}
-use Rattle.machine_model.proofs.QuietLaws.{IsQuiet, quiet_now}
-use Rattle.machine_model.proofs.RestLaws.{near_asks}
-use Rattle.machine_model.proofs.Stepping.{IsAt, Loses, Moves}
+use Rattle.machine_laws.specs.Names.{Doing, Does, Effect, Guard, Handshake, IdSizes, Part, Question, Replied, Sent}
+use Rattle.machine_laws.specs.Names.{TargetCommand, Want, a_question, an_effect}
+use Rattle.machine_laws.proofs.HandshakeLaws.{IsBehind, both_queued, both_there, has_handshake}
+use Rattle.machine_laws.proofs.QuietLaws.{IsQuiet, quiet_now}
+use Rattle.machine_laws.proofs.RestLaws.{near_asks}
+use Rattle.machine_laws.proofs.Stepping.{IsAt, Loses, Moves}
 
 -- What waits in hand --------------------------------------------------------------------------------------------------
 

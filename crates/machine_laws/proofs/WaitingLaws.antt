@@ -6,17 +6,17 @@ use Rattle.machine_model.specs.Due.{Load, asked_first, asked_next, clear, due, d
 use Rattle.machine_model.specs.Due.{lacking_more, load_of, newly_lacked, queued, queued_next, waiting, with_want}
 use Rattle.machine_model.specs.Due.{with_wants}
 use Rattle.machine_model.specs.Keys.{same_question}
-use Rattle.machine_model.specs.Names.{Act, Question, Sent, Want}
 use Rattle.machine_model.specs.Plans.{question_of}
 use Rattle.machine_model.specs.Replying.{is_waiting, pending_of, unanswered}
 use Rattle.machine_model.specs.Runs.{Message, Run}
 use Rattle.machine_model.specs.State.{Hand, Machine, has_waiting, is_empty}
 use Rattle.machine_model.specs.Waiting.{IsAsked, IsWait, WaitsWith, are_asked}
-use Rattle.machine_model.proofs.PendingLaws.{Open, all_open}
-use Rattle.machine_model.proofs.TurnLaws.{none_flies, none_late, none_out, same_hand}
 use Rattle.machine_model.proofs.KeyLaws.{is_same}
-use Rattle.machine_model.proofs.QuietLaws.{load_in, waits_some}
 use Rattle.machine_model.proofs.Bools.{first_holds, or_more}
+use Rattle.machine_laws.specs.Names.{Act, Question, Sent, Want}
+use Rattle.machine_laws.proofs.PendingLaws.{Open, all_open}
+use Rattle.machine_laws.proofs.TurnLaws.{none_flies, none_late, none_out, same_hand}
+use Rattle.machine_laws.proofs.QuietLaws.{load_in, waits_some}
 use Rattle.std.proofs.lemmas.Bool.{or_left, or_right}
 
 -- What is to be asked -------------------------------------------------------------------------------------------------

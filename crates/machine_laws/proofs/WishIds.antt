@@ -18,12 +18,12 @@ use Rattle.jdwp_values.specs.declared.sizes.IdSizes.{IdSizes}
 use Rattle.machine_model.specs.Breakpoints.{longest_key}
 use Rattle.jdwp_values.specs.declared.id.ThreadId.{ThreadId}
 use Rattle.machine_model.specs.Ids.{Id, class, ids_asked, ids_of, method, object}
-use Rattle.machine_model.specs.Names.{Set, TargetCommand, an_effect}
 use Rattle.machine_model.specs.Replying.{wire}
 use Rattle.machine_model.specs.State.{is_empty}
 use Rattle.machine_model.proofs.IdRows.{FitsId, all_flat, all_joined, all_weak}
-use Rattle.machine_model.proofs.Frameless.{is_frame}
 use Rattle.machine_model.proofs.PlanIds.{AreKnown, OfClass, OnSome, put_key, under_some}
+use Rattle.machine_laws.specs.Names.{Set, TargetCommand, an_effect}
+use Rattle.machine_laws.proofs.Frameless.{is_frame}
 use Rattle.wish_sets.proofs.OrderLaws.{each-insert}
 use Rattle.wish_sets.specs.Names.{dotted, is_dot, is_slash, key_parts, method_named, names_class, package_name}
 use Rattle.wish_sets.specs.Names.{has_class, package_named}

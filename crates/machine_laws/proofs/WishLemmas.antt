@@ -9,8 +9,8 @@ use Rattle.std.specs.Ordering.{is_eq, match_ordering, on, ordering_reverse}
 use Rattle.std.specs.declared.cmp.Ordering.{Ordering}
 use Rattle.std.specs.declared.cmp.Ordering.TheVariants.{Less, Equal, Greater}
 use Rattle.machine_model.specs.EventRequests.{is_request}
-use Rattle.machine_model.specs.Names.{Clear, Set}
 use Rattle.machine_model.specs.Requests.{Wishes, effect_due, effect_of}
+use Rattle.machine_laws.specs.Names.{Clear, Set}
 use Rattle.wish_sets.proofs.NextLaws.{new_set}
 use Rattle.wish_sets.proofs.WishLaws.{filter-same, is_itself}
 use Rattle.wish_sets.specs.Order.{is_wish, wish_cmp, wish_total}

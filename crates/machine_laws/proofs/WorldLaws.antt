@@ -4,12 +4,12 @@ use Rattle.jdwp_commands.specs.declared.answer.Answer.TheVariants as answers
 use Rattle.jdwp_commands.specs.declared.question.Question.TheVariants as questions
 use Rattle.machine_model.specs.Facts.{fact_of}
 use Rattle.machine_model.specs.Lookups.{name_plan, named_by, names_plan, plan, sight_of, threads_plan}
-use Rattle.machine_model.specs.Names.{Answer, NamedThread, Question, Replied, ThreadId, Want, an_answer, an_error}
 use Rattle.machine_model.specs.PlanLaws.{Agrees, AreOfWorld, Hears, IsOf, IsRefused, IsUnheard, threads_in_world}
 use Rattle.machine_model.specs.Plans.{Fault, Need, Plan, Sight, answer_in, chained, each, gives, lacks, made_with}
 use Rattle.machine_model.specs.Plans.{beside, heard_of, must_say, need, of_world, pairs, said_of, two_of, wants}
 use Rattle.machine_model.specs.State.{State}
-use Rattle.machine_model.proofs.PlanLaws.{Each, IsSo, after_so, beside_so, heard_so}
+use Rattle.machine_laws.specs.Names.{Answer, NamedThread, Question, Replied, ThreadId, Want, an_answer, an_error}
+use Rattle.machine_laws.proofs.PlanLaws.{Each, IsSo, after_so, beside_so, heard_so}
 
 -- By a world's replies ------------------------------------------------------------------------------------------------
 

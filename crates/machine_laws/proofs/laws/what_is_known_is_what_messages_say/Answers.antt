@@ -1,5 +1,5 @@
-use Rattle.machine_model.proofs.KnowingLaws.{is_known}
-use Rattle.machine_model.proofs.laws.what_is_known_is_what_messages_say.Goals as goal
+use Rattle.machine_laws.proofs.KnowingLaws.{is_known}
+use Rattle.machine_laws.proofs.laws.what_is_known_is_what_messages_say.Goals as goal
 
 pub returns : goal.returns
 returns c = is_known
