@@ -43,13 +43,13 @@ use Rattle.machine_model.specs.Rows.{variables_parts, wanting}
 use Rattle.machine_model.specs.Runs.{Message}
 use Rattle.machine_model.specs.State.{Hand, Machine, State, is_gone, is_raw, knowing, left}
 use Rattle.machine_model.specs.Telling.{after_event, numbered_by}
-use Rattle.machine_model.proofs.Stepping.{IsAt, Moves}
-use Rattle.machine_model.proofs.Tables.{of_decided, of_told}
 use Rattle.machine_model.specs.Rows.{exception_parts, refused_with, step_parts, stepped_by, stepped_thread, thrown_first}
 use Rattle.machine_model.specs.Stops.{hit_parts}
 use Rattle.machine_model.specs.declared.parts.Halt.{Halt}
 use Rattle.machine_model.specs.declared.parts.Suspension.TheVariants.{Composite as of_composite}
 use Rattle.machine_model.specs.declared.parts.Thrown.{Thrown}
+use Rattle.machine_laws.proofs.Stepping.{IsAt, Moves}
+use Rattle.machine_laws.proofs.Tables.{of_decided, of_told}
 use Rattle.wish_sets.specs.declared.wish.Depth.{Depth}
 use Rattle.wish_sets.specs.declared.wish.Depth.TheVariants.{Into, Out, Over}
 use Rattle.jdwp_values.specs.declared.id.ThreadId.{ThreadId}

@@ -39,20 +39,20 @@ use Rattle.machine_model.specs.Runs.{Allows, Message, Run, said}
 use Rattle.machine_model.specs.State.{Hand, Machine, State, has_waiting, is_empty, is_flying, is_gone, is_raw, knowing}
 use Rattle.machine_model.specs.State.{left}
 use Rattle.machine_model.specs.Telling.{after_event, numbered_by}
-use Rattle.machine_model.proofs.HandshakeLaws.{has_handshake}
-use Rattle.machine_model.proofs.PendingLaws.{all_open}
-use Rattle.machine_model.proofs.QuietLaws.{lacking_hand, load_in}
-use Rattle.machine_model.proofs.RestLaws.{is_free, near_queue}
-use Rattle.machine_model.proofs.Stepping.{IsAt, Moves, moved, walks_due}
-use Rattle.machine_model.proofs.Tables.{of_decided, of_told}
 use Rattle.machine_model.specs.Rows.{exception_parts, refused_with, step_parts, stepped_by, stepped_thread, thrown_first}
 use Rattle.machine_model.specs.Stops.{hit_parts}
 use Rattle.machine_model.specs.declared.parts.Halt.{Halt}
 use Rattle.machine_model.specs.declared.parts.Suspension.TheVariants.{Composite as of_composite}
 use Rattle.machine_model.specs.declared.parts.Thrown.{Thrown}
+use Rattle.machine_laws.proofs.HandshakeLaws.{has_handshake}
+use Rattle.machine_laws.proofs.PendingLaws.{all_open}
+use Rattle.machine_laws.proofs.QuietLaws.{lacking_hand, load_in}
+use Rattle.machine_laws.proofs.RestLaws.{is_free, near_queue}
+use Rattle.machine_laws.proofs.Stepping.{IsAt, Moves, moved, walks_due}
+use Rattle.machine_laws.proofs.Tables.{of_decided, of_told}
 use Rattle.wish_sets.specs.declared.wish.Depth.{Depth}
 use Rattle.wish_sets.specs.declared.wish.Depth.TheVariants.{Into, Out, Over}
-use Rattle.machine_model.proofs.TurnLaws.{Turns, turned, unsent}
+use Rattle.machine_laws.proofs.TurnLaws.{Turns, turned, unsent}
 use Rattle.bridge_core.specs.Working.{choice_weight, hand_work, is_wait, is_work, lines_in, news_in_hand, news_left}
 use Rattle.bridge_core.specs.Working.{one_if, one_unless, waiting_work, weight, weights, work, work_of}
 use Rattle.dap_messages.specs.declared.requests.StackTraceArguments.{StackTraceArguments}

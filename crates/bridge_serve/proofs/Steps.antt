@@ -10,17 +10,17 @@ use Rattle.bridge_core.specs.Names.{Act, Note}
 use Rattle.bridge_core.specs.Working.{is_work, work}
 use Rattle.bridge_serve.specs.Following.{nothing_heard}
 use Rattle.bridge_serve.specs.Names.{Client, Side, Target}
-use Rattle.machine_model.proofs.PendingLaws.{pending_is}
-use Rattle.machine_model.proofs.ServedLaws.{aside_left, left_on}
-use Rattle.machine_model.proofs.Stepping.{Moves, moved}
-use Rattle.machine_model.proofs.Tables.{once}
-use Rattle.machine_model.proofs.Testing.{tested}
 use Rattle.machine_model.specs.Due.{due}
 use Rattle.machine_model.specs.Pending.{goes_out}
 use Rattle.machine_model.specs.Rest.{request_by, response_by}
 use Rattle.machine_model.specs.Rows.{noted}
 use Rattle.machine_model.specs.Runs.{Allows, Message, Run, said}
 use Rattle.machine_model.specs.State.{Machine, State, is_gone}
+use Rattle.machine_laws.proofs.PendingLaws.{pending_is}
+use Rattle.machine_laws.proofs.ServedLaws.{aside_left, left_on}
+use Rattle.machine_laws.proofs.Stepping.{Moves, moved}
+use Rattle.machine_laws.proofs.Tables.{once}
+use Rattle.machine_laws.proofs.Testing.{tested}
 use Rattle.session_model.specs.LastWords.{client_words}
 use Rattle.session_model.specs.Saying.{Speaks}
 use Rattle.session_model.specs.States.{SessionState, StreamState}

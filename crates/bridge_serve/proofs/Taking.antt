@@ -23,13 +23,13 @@ use Rattle.jdwp_packets.specs.declared.cutter.Packet.{Packet as Shown}
 use Rattle.jdwp_packets.specs.declared.cutter.Packet.TheVariants.{Command, Reply}
 use Rattle.jdwp_packets.specs.declared.fault.PacketFault.{PacketFault}
 use Rattle.jdwp_packets.specs.declared.fault.PacketTrouble.{PacketTrouble}
-use Rattle.machine_model.proofs.Stepping.{Moves, moved}
 use Rattle.machine_model.specs.Due.{Load, can_read, due, due_by, hand_load, is_full, load_of}
 use Rattle.machine_model.specs.Replying.{ended, told_by}
 use Rattle.machine_model.specs.Runs.{Allows, Message, greeting_heard}
 use Rattle.machine_model.specs.State.{Machine, State, has_raw, is_gone, is_some}
 use Rattle.machine_model.specs.declared.items.Item.{Item}
 use Rattle.machine_model.specs.declared.acts.Act.{Act}
+use Rattle.machine_laws.proofs.Stepping.{Moves, moved}
 use Rattle.session_model.specs.Causes.{Cause, ReadsOn, ReadsTarget}
 use Rattle.session_model.specs.Faults.{IsKeptFault, IsTargetFault}
 use Rattle.session_model.specs.LastWords.{last_words}

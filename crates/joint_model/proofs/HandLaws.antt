@@ -28,12 +28,12 @@ use Rattle.dap_messages.specs.declared.told.Stopped.{Stopped}
 use Rattle.machine_model.specs.declared.parts.Stopping.{Stopping}
 use Rattle.machine_model.specs.declared.parts.Lookup.{Lookup}
 use Rattle.machine_model.specs.declared.parts.Part.{Part}
-use Rattle.machine_model.proofs.HoldingParts.{lost_flags, lost_held, numbered_stop, same_stop}
 use Rattle.machine_model.proofs.KeyLaws.{is_one}
-use Rattle.machine_model.proofs.PendingLaws.{all_open}
-use Rattle.machine_model.proofs.Stepping.{IsAt, Moves, moved}
-use Rattle.machine_model.proofs.StopLaws.{tells_stops}
-use Rattle.machine_model.proofs.TurnLaws.{Turns, none_late, same_hand, turned}
+use Rattle.machine_laws.proofs.HoldingParts.{lost_flags, lost_held, numbered_stop, same_stop}
+use Rattle.machine_laws.proofs.PendingLaws.{all_open}
+use Rattle.machine_laws.proofs.Stepping.{IsAt, Moves, moved}
+use Rattle.machine_laws.proofs.StopLaws.{tells_stops}
+use Rattle.machine_laws.proofs.TurnLaws.{Turns, none_late, same_hand, turned}
 use Rattle.world_model.specs.declared.world.World.{World}
 use Rattle.world_model.specs.Replies.{reply_of}
 use Rattle.world_model.proofs.HoldLaws.{all_push}

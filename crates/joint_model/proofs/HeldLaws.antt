@@ -17,10 +17,10 @@ use Rattle.machine_model.specs.Pending.{bit, commands_replied, commands_sent, co
 use Rattle.machine_model.specs.Replying.{pending_of}
 use Rattle.machine_model.specs.Runs.{Allows, Message, Run}
 use Rattle.machine_model.specs.State.{Machine, is_gone}
-use Rattle.machine_model.proofs.KnowingLaws.{is_known}
-use Rattle.machine_model.proofs.PendingLaws.{all_open, pending_is}
-use Rattle.machine_model.proofs.Stepping.{moved}
-use Rattle.machine_model.proofs.TurnLaws.{Turns, is_beside, turned}
+use Rattle.machine_laws.proofs.KnowingLaws.{is_known}
+use Rattle.machine_laws.proofs.PendingLaws.{all_open, pending_is}
+use Rattle.machine_laws.proofs.Stepping.{moved}
+use Rattle.machine_laws.proofs.TurnLaws.{Turns, is_beside, turned}
 use Rattle.suspend_ledger.specs.Suspensions.{suspensions_by}
 
 -- Sums ----------------------------------------------------------------------------------------------------------------

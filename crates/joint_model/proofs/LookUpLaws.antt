@@ -8,8 +8,8 @@ use Rattle.machine_model.specs.declared.acts.Want.{Want}
 use Rattle.machine_model.specs.PlanLaws.{FailsFirst, IsOf, IsRefused, Reaches}
 use Rattle.machine_model.specs.Plans.{Fault, Need, Plan, Sight, answer_in, fails, gives, has, lacks, pairs, wants}
 use Rattle.machine_model.specs.State.{State}
-use Rattle.machine_model.proofs.PlanLaws.{both}
-use Rattle.machine_model.proofs.WorldLaws.{worlds}
+use Rattle.machine_laws.proofs.PlanLaws.{both}
+use Rattle.machine_laws.proofs.WorldLaws.{worlds}
 use Rattle.world_model.specs.declared.world.World.{World}
 use Rattle.world_model.specs.Replies.{reply_of}
 

@@ -1,32 +1,14 @@
-//! The translation machine: what a session does between its client and its target, message by message, and what holds
-//! of every run of it. It knows no bytes of messages, no log and no ids of commands.
+//! The translation machine: what a session does between its client and its target, message by message. It knows no
+//! bytes of messages, no log and no ids of commands.
 #![tactic(auto)]
 
 mod acts;
 mod items;
-mod laws;
 mod options;
 mod parts;
 
 pub use acts::{Act, Doing, Effect, Sent, TargetCommand, Want};
 pub use items::{Item, Phase};
-pub use laws::{
-    a_disconnect_is_answered_once_the_target_is_left, all_that_is_lacking_was_asked,
-    at_most_sixteen_commands_are_pending, breakpoints_are_bound_before_the_target_runs_on,
-    breakpoints_are_bound_by_all_that_is_known, breakpoints_are_told_once_they_are_verified,
-    client_options_are_those_of_the_last_initialize,
-    commands_are_pending_until_they_are_replied_to, commands_have_a_spelling,
-    commands_use_ids_that_were_read, each_event_request_is_set_once, event_requests_are_as_replied,
-    event_requests_are_settled, event_requests_stand_as_the_messages_say,
-    events_tell_where_a_session_stands, look_ups_lack_what_they_have_come_to,
-    look_ups_show_the_world, nothing_is_asked_but_what_is_lacking, nothing_is_asked_of_null,
-    nothing_waits_at_rest, outcomes_are_what_rows_lead_to,
-    references_are_numbered_as_they_are_told, requests_are_answered_in_order,
-    steps_are_over_where_a_stop_is_told, stops_are_told_of_what_stops_the_target,
-    the_first_error_decides, the_handshake_goes_out_for_an_attach,
-    the_target_is_left_once_for_a_disconnect, the_target_runs_on_at_rest,
-    what_is_known_is_what_messages_say,
-};
 pub use options::ClientOptions;
 pub use parts::{
     Body, Choice, Deed, Event, Finding, Finish, Guard, Halt, HaltCause, ListedBreakpoint, Lookup,

@@ -19,7 +19,7 @@ use Rattle.jdwp_values.specs.declared.sizes.IdSizes.{IdSizes}
 use Rattle.machine_model.specs.Replying.{SizesFor, pending_of, wire}
 use Rattle.machine_model.specs.Runs.{Message}
 use Rattle.machine_model.specs.State.{is_some}
-use Rattle.machine_model.proofs.StandingReplies.{sizes_is}
+use Rattle.machine_laws.proofs.StandingReplies.{sizes_is}
 use Rattle.pending_table.specs.Windows.{pending_under}
 use Rattle.session_model.specs.Names.{Entry, Limits, TargetCommand}
 use Rattle.session_model.specs.Session.{Going}

@@ -6,8 +6,8 @@ use Rattle.std.specs.List.{flat_map}
 use Rattle.machine_model.specs.Due.{Picked, passed_by, pick}
 use Rattle.machine_model.specs.Runs.{Message, Run}
 use Rattle.machine_model.specs.State.{Machine, has_raw, is_gone, is_raw, is_some}
-use Rattle.machine_model.proofs.RequestSteps.{near_before}
-use Rattle.machine_model.proofs.Stepping.{Loses, Moves, by_moves, with_said}
+use Rattle.machine_laws.proofs.RequestSteps.{near_before}
+use Rattle.machine_laws.proofs.Stepping.{Loses, Moves, by_moves, with_said}
 use Rattle.session_model.specs.Names.{a_composite, a_raw, a_request, Item, target_end}
 use Rattle.session_model.specs.Replies.{AreKept, kept_by, raw_in, read_by}
 use Rattle.session_model.proofs.Steps.{flat_map_one_more, flat_map_same}

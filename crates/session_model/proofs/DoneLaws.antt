@@ -10,8 +10,8 @@ use Rattle.machine_model.specs.Rest.{AreAnswered, request_by, requests_of, respo
 use Rattle.machine_model.specs.Runs.{Allows, Message, Run, is_disconnect, said}
 use Rattle.machine_model.specs.State.{Hand, Machine, left}
 use Rattle.machine_model.specs.Telling.{response_to}
-use Rattle.machine_model.proofs.ServedLaws.{owing, responded_left}
-use Rattle.machine_model.proofs.Stepping.{IsAt, Moves, moved, walks_due}
+use Rattle.machine_laws.proofs.ServedLaws.{owing, responded_left}
+use Rattle.machine_laws.proofs.Stepping.{IsAt, Moves, moved, walks_due}
 use Rattle.session_model.specs.Causes.{Cause, link_ending}
 use Rattle.session_model.specs.Endings.{IsDone}
 use Rattle.session_model.specs.Hearing.{AreRead}

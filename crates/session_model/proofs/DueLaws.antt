@@ -9,8 +9,8 @@ use Rattle.machine_model.specs.Lookups.{found_for}
 use Rattle.machine_model.specs.Plans.{Need, fails, has, lacks}
 use Rattle.machine_model.specs.Requests.{effect_due}
 use Rattle.machine_model.specs.State.{Hand, Machine, State, has_waiting, is_empty, is_flying, is_gone, left}
-use Rattle.machine_model.proofs.RestLaws.{is_free}
-use Rattle.machine_model.proofs.Stepping.{IsAt}
+use Rattle.machine_laws.proofs.RestLaws.{is_free}
+use Rattle.machine_laws.proofs.Stepping.{IsAt}
 use Rattle.session_model.specs.Names.{a_composite, a_raw, a_request, Act, Effect, Finding}
 use Rattle.session_model.specs.Names.{finish_done, finish_one_thread, Item, Outcome, Part}
 use Rattle.session_model.specs.Names.{target_end, Want}

@@ -14,12 +14,12 @@ use Rattle.machine_model.specs.Pending.{count as count_of}
 use Rattle.machine_model.specs.Replying.{pending_of, wire}
 use Rattle.machine_model.specs.Runs.{Message, Run}
 use Rattle.machine_model.specs.State.{Machine, SizesRead, is_gone, is_some}
-use Rattle.machine_model.proofs.IdLaws.{always_kept}
-use Rattle.machine_model.proofs.KnowingLaws.{is_known}
-use Rattle.machine_model.proofs.PendingLaws.{all_open}
 use Rattle.machine_model.proofs.PlanIds.{is_sizes}
-use Rattle.machine_model.proofs.Stepping.{Moves, by_runs, with_said}
-use Rattle.machine_model.proofs.TurnLaws.{Turns, turned}
+use Rattle.machine_laws.proofs.IdLaws.{always_kept}
+use Rattle.machine_laws.proofs.KnowingLaws.{is_known}
+use Rattle.machine_laws.proofs.PendingLaws.{all_open}
+use Rattle.machine_laws.proofs.Stepping.{Moves, by_runs, with_said}
+use Rattle.machine_laws.proofs.TurnLaws.{Turns, turned}
 use Rattle.session_model.specs.Names.{Writes}
 use Rattle.session_model.specs.Names.{Clear, Composite, Deed, Dispose, Does, Exit, Question, Replied, Resume, Set}
 use Rattle.session_model.specs.Names.{Suspend, TargetCommand, Told, a_question, a_response, an_answer, an_effect}

@@ -12,7 +12,7 @@ use Rattle.machine_model.specs.Pending.{has_such, is_greeted}
 use Rattle.machine_model.specs.Pending.{count as count_of}
 use Rattle.machine_model.specs.Replying.{pending_of}
 use Rattle.machine_model.specs.Runs.{Message, Run}
-use Rattle.machine_model.proofs.PendingLaws.{all_open, in_window}
+use Rattle.machine_laws.proofs.PendingLaws.{all_open, in_window}
 use Rattle.session_model.specs.Names.{Entry, In, Limits, Out, Side, Target, TargetCommand}
 use Rattle.session_model.specs.Bytes.{came_by, came_from}
 use Rattle.session_model.specs.Replies.{AreReplied, count_under, is_end_come, is_end_taken, one_if}

@@ -8,7 +8,7 @@ use Rattle.dap_messages.specs.declared.requests.Incoming.TheVariants.{Ignored as
 use Rattle.machine_model.specs.Rest.{request_by, requests_of}
 use Rattle.machine_model.specs.Runs.{Allows, Message, Run, is_disconnect}
 use Rattle.machine_model.specs.State.{Machine}
-use Rattle.machine_model.proofs.Stepping.{Loses, Moves, by_moves, moved, with_said}
+use Rattle.machine_laws.proofs.Stepping.{Loses, Moves, by_moves, moved, with_said}
 use Rattle.session_model.specs.Names.{Client, Entry, Limits, Request, Side}
 use Rattle.session_model.specs.Bytes.{came_by, came_from}
 use Rattle.session_model.specs.Hearing.{AreHeard, AreRead}

@@ -36,8 +36,8 @@ use Rattle.machine_model.specs.declared.parts.Thrown.{Thrown}
 use Rattle.machine_model.specs.Runs.{Message, is_disconnect}
 use Rattle.machine_model.specs.State.{Hand, Machine, State, is_attached, is_empty, knowing, left}
 use Rattle.machine_model.specs.Telling.{numbered_by, outcome_told, response_to}
-use Rattle.machine_model.proofs.Stepping.{IsAt, Moves, Skips}
-use Rattle.machine_model.proofs.Tables.{of_decided, of_told, told_alike}
+use Rattle.machine_laws.proofs.Stepping.{IsAt, Moves, Skips}
+use Rattle.machine_laws.proofs.Tables.{of_decided, of_told, told_alike}
 use Rattle.session_model.specs.Names.{Choice, Command, Decides, Finding, Item, Leaves, Lookup, Nothing, Outcome, Part}
 use Rattle.session_model.specs.Names.{Phase, Replied, Request, Stepped, Success, TargetCommand, TellsNews, Want}
 use Rattle.session_model.specs.Names.{Resume, a_composite}

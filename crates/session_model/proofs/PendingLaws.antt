@@ -7,7 +7,7 @@ use Rattle.machine_model.specs.Pending.{bit, commands_replied, commands_sent, re
 use Rattle.machine_model.specs.Pending.{count as count_of}
 use Rattle.machine_model.specs.Replying.{pending_of, wire}
 use Rattle.machine_model.specs.Runs.{Message, Run}
-use Rattle.machine_model.proofs.PendingLaws.{pending_is}
+use Rattle.machine_laws.proofs.PendingLaws.{pending_is}
 use Rattle.session_model.specs.Names.{Entry, TargetCommand}
 use Rattle.session_model.specs.Replies.{ArePackets, count_under, is_beside, under_id}
 use Rattle.session_model.specs.States.{SessionState}

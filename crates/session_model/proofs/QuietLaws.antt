@@ -9,7 +9,7 @@ use Rattle.machine_model.specs.Due.{lacking_more, load_of, queued, waiting}
 use Rattle.machine_model.specs.Plans.{question_of}
 use Rattle.machine_model.specs.Runs.{Allows, Message, said}
 use Rattle.machine_model.specs.State.{Hand, Machine}
-use Rattle.machine_model.proofs.Stepping.{Loses, Moves, moved}
+use Rattle.machine_laws.proofs.Stepping.{Loses, Moves, moved}
 use Rattle.session_model.specs.Names.{a_question, Act, Composite, Entry, Limits, Question, Quiet, Side, Want}
 use Rattle.session_model.specs.Causes.{IsWaiting}
 use Rattle.session_model.specs.Saying.{Brings, Speaks}

@@ -7,7 +7,7 @@ use Rattle.dap_messages.specs.declared.told.Response.{Response}
 use Rattle.machine_model.specs.Rest.{AreAnswered, responses_of, without_response}
 use Rattle.machine_model.specs.Runs.{Message}
 use Rattle.machine_model.specs.State.{Machine}
-use Rattle.machine_model.proofs.ServedLaws.{owing}
+use Rattle.machine_laws.proofs.ServedLaws.{owing}
 use Rattle.session_model.specs.Bytes.{HasLost}
 use Rattle.session_model.specs.LastWords.{LastWord, client_words, end_word, fails_gone, last_words, target_words}
 use Rattle.session_model.specs.Names.{Attached, BadClient, BadTarget, Client, ClientLink, Done, Ending, Entry, Flood}

@@ -12,12 +12,12 @@ use Rattle.machine_model.specs.Plans.{question_of}
 use Rattle.machine_model.specs.Replying.{SizesFor, any_sizes, sizes_of, sizes_read, wire}
 use Rattle.machine_model.specs.Runs.{Allows, Message, Run}
 use Rattle.machine_model.specs.State.{Machine, SizesRead, is_attached, is_some}
-use Rattle.machine_model.proofs.IdLaws.{IsIdTest, always_kept}
 use Rattle.machine_model.proofs.PlanIds.{IsWanted, is_sizes}
-use Rattle.machine_model.proofs.RestLaws.{near_asks}
-use Rattle.machine_model.proofs.Standing.{IsKept, at_front, awaits_sizes, in_order, needs_sizes, queue_in}
-use Rattle.machine_model.proofs.StandingReplies.{sizes_is}
-use Rattle.machine_model.proofs.Stepping.{Loses, Moves, moved}
+use Rattle.machine_laws.proofs.IdLaws.{IsIdTest, always_kept}
+use Rattle.machine_laws.proofs.RestLaws.{near_asks}
+use Rattle.machine_laws.proofs.Standing.{IsKept, at_front, awaits_sizes, in_order, needs_sizes, queue_in}
+use Rattle.machine_laws.proofs.StandingReplies.{sizes_is}
+use Rattle.machine_laws.proofs.Stepping.{Loses, Moves, moved}
 use Rattle.session_model.specs.Names.{a_question, an_effect, Clear, Deed, Dispose, Does, Exit, Part, Resume, Set, Suspend}
 use Rattle.session_model.specs.Names.{TargetCommand, Writes}
 

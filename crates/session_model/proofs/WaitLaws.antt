@@ -7,9 +7,9 @@ use Rattle.machine_model.specs.Replying.{pending_in, pending_of}
 use Rattle.machine_model.specs.Rest.{AreAnswered, IsAtRest, awaits_greeting, hand_silent, is_silent, responses_of}
 use Rattle.machine_model.specs.Runs.{Allows, Message, said}
 use Rattle.machine_model.specs.State.{Hand, has_waiting, is_flying, is_gone}
-use Rattle.machine_model.proofs.PendingLaws.{pending_is}
-use Rattle.machine_model.proofs.ServedLaws.{are_served}
-use Rattle.machine_model.proofs.TurnLaws.{none_flies, none_out}
+use Rattle.machine_laws.proofs.PendingLaws.{pending_is}
+use Rattle.machine_laws.proofs.ServedLaws.{are_served}
+use Rattle.machine_laws.proofs.TurnLaws.{none_flies, none_out}
 use Rattle.session_model.specs.Causes.{IsWaiting}
 use Rattle.session_model.specs.Names.{a_question, Act, Entry, Limits, Question}
 use Rattle.session_model.specs.Resting.{IsAnswered}

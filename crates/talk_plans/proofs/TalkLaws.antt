@@ -14,7 +14,7 @@ use Rattle.machine_model.specs.declared.acts.Sent.{Sent}
 use Rattle.machine_model.specs.declared.acts.TargetCommand.TheVariants.{Question as a_question}
 use Rattle.machine_model.specs.declared.acts.Want.{Want}
 use Rattle.machine_model.proofs.AskedLaws.{all_due, was_filled}
-use Rattle.machine_model.proofs.KeptLaws.{asked_kept, lacked_due, waits_other}
+use Rattle.machine_model.proofs.DueWants.{asked_kept, lacked_due, waits_other}
 use Rattle.machine_model.proofs.KeyLaws.{is_one}
 use Rattle.talk_look_ups.specs.Asking.{with_first}
 use Rattle.talk_plans.specs.Talking.{AreSized, SaysSizes, StaysSized, sizes_kept}

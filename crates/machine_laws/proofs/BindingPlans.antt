@@ -1,0 +1,271 @@
+-- What the look-up of classes asks: facts of classes alone, which are heard alike from what is known and from replies.
+use Rattle.std.proofs.Common.{◌≡◌, ℕ, suc, Bool, true, false, cond, not, List, [], ◌∷◌, Option, Some, None, refl, sym}
+use Rattle.std.proofs.Common.{ap, ◌∙◌, ◌||◌}
+use Rattle.std.specs.List.{AllByRecursion as All}
+use Rattle.std.specs.Prelude.{filter}
+use Rattle.class_tables.specs.Facts.{Known}
+use Rattle.class_tables.specs.Lookups.{Lookups, found_in}
+use Rattle.class_tables.specs.Signatures.{package_in}
+use Rattle.class_tables.specs.declared.loaded.Loaded.{Loaded}
+use Rattle.jdwp_commands.specs.declared.question.Question.TheVariants as questions
+use Rattle.jdwp_values.specs.declared.id.ClassId.{ClassId}
+use Rattle.machine_model.specs.Binding.{sight_alone}
+use Rattle.machine_model.specs.Classes.{bound_plan, class_plan, counts, is_keyed, keyed_plan, known_plan, lines_plan}
+use Rattle.machine_model.specs.Classes.{methods_plan, package_plan, prepared_plan, watched_plan}
+use Rattle.machine_model.specs.Facts.{fact_known, methods_in, source_in}
+use Rattle.machine_model.specs.Plans.{Found, Need, Plan, Sight, after, asking, asks_for, beside, chained, each}
+use Rattle.machine_model.specs.Plans.{fact_heard, fails, found_at, found_from, gives, has, heard_of, joined, lacking}
+use Rattle.machine_model.specs.Plans.{lacks, made_with, need, pairs, question_of, wants, must_by, must_hear, may_hear}
+use Rattle.machine_model.specs.State.{is_some}
+use Rattle.machine_model.proofs.IdRows.{all_joined}
+use Rattle.machine_model.proofs.KeyLaws.{is_one}
+use Rattle.machine_laws.specs.Names.{Answer, Question, Replied, Sent, Want, an_answer, an_error}
+use Rattle.wish_sets.specs.Places.{key_by}
+use Rattle.wish_sets.specs.Wanted.{Wanted}
+use Rattle.wish_sets.specs.Wished.{is_named, is_watched}
+use Rattle.machine_model.proofs.PlanIds.{after_like}
+
+-- Questions -----------------------------------------------------------------------------------------------------------
+
+-- it asks for a list of all classes
+abbrev pub is_listing : Question → Bool
+is_listing questions.AllClasses = true
+is_listing _ = false
+
+-- it asks for a fact that breakpoints are bound by
+abbrev pub is_fact : Question → Bool
+is_fact (questions.SourceFile class) = true
+is_fact (questions.Methods class) = true
+is_fact (questions.LineTable class method) = true
+is_fact _ = false
+
+-- a want of such a fact
+abbrev pub wants_fact : Want → Bool
+wants_fact (Want.Fact question) = is_fact question
+wants_fact _ = false
+
+-- a want of anything else
+abbrev pub wants_other : Want → Bool
+wants_other want = not (is_listing (question_of want))
+
+-- Plans ---------------------------------------------------------------------------------------------------------------
+
+-- all that the plan may want passes a test
+unfoldable pub AllWants : {A : Type 0} → (Want → Bool) → Plan A → Type 0
+AllWants test (gives a) = Unit {0}
+AllWants test (wants want rest) = (test want ≡ true) × ((heard : Option Answer) → AllWants test (rest heard))
+AllWants test (pairs p q rest) = AllWants test p × AllWants test q × ((two : _) → AllWants test (rest two))
+
+module _ (test : Want → Bool) where
+  pub chains : {A B : Type 0} (p : Plan A) (f : A → Plan B) → AllWants test p → ((a : A) → AllWants test (f a))
+      → AllWants test (chained p f)
+  unfolding AllWants chained
+  chains (gives a) f h k = k a
+  chains (wants want rest) f h k = (h.0, λ heard. chains (rest heard) f (h.1 heard) k)
+  chains (pairs p q rest) f h k = (h.0, h.1, λ two. chains (rest two) f (h.2 two) k)
+
+  pub makes : {A B : Type 0} (f : A → B) (p : Plan A) → AllWants test p → AllWants test (made_with f p)
+  unfolding AllWants made_with
+  makes f (gives a) h = tt
+  makes f (wants want rest) h = (h.0, λ heard. makes f (rest heard) (h.1 heard))
+  makes f (pairs p q rest) h = (h.0, h.1, λ two. makes f (rest two) (h.2 two))
+
+  pub every : {A B : Type 0} (f : A → Plan B) → ((a : A) → AllWants test (f a)) → (list : List A)
+      → AllWants test (each f list)
+  unfolding AllWants each
+  every f k [] = tt
+  every f k (a ∷ others) = (k a, every f k others, λ two. tt)
+
+  pub asks : {A : Type 0} (read : Option Answer → A) (want : Want) → test want ≡ true → AllWants test (asking read want)
+  unfolding AllWants
+  asks read want is = (is, λ heard. tt)
+
+-- the look-up of classes, once they are listed, wants facts alone
+bound_wants : (asked keyed : Bool) (wanted : Wanted) (class : ClassId) (signature : List ℕ)
+    → AllWants wants_fact (bound_plan asked keyed wanted class signature)
+unfolding AllWants
+bound_wants false keyed wanted class signature = tt
+bound_wants true keyed wanted class signature = chains wants_fact (asking methods_in (Want.Fact (questions.Methods class)))
+    (methods_plan keyed wanted class signature) (asks wants_fact methods_in (Want.Fact (questions.Methods class)) refl)
+    (λ methods. makes wants_fact (λ heard. class ∷ [])
+    (each (lines_plan class) (filter (counts keyed wanted signature) methods))
+    (every wants_fact (lines_plan class)
+    (λ one. asks wants_fact (λ heard. heard) (Want.Fact (questions.LineTable class one.id)) refl)
+    (filter (counts keyed wanted signature) methods)))
+
+keyed_wants : (keyed : Bool) (wanted : Wanted) (class : ClassId) (signature : List ℕ)
+    → AllWants wants_fact (keyed_plan keyed wanted class signature)
+keyed_wants keyed wanted class signature =
+    bound_wants (keyed || is_named wanted signature None) keyed wanted class signature
+
+class_wants : (wanted : Wanted) (class : ClassId) (loaded : Option Loaded)
+    → AllWants wants_fact (class_plan wanted class loaded)
+unfolding AllWants
+class_wants wanted class None = tt
+class_wants wanted class (Some loaded) = by_prepared loaded.prepared
+  where
+    by_watched : (watched : Bool) → AllWants wants_fact (watched_plan watched wanted class loaded.signature)
+    by_watched false = tt
+    by_watched true = chains wants_fact (asking source_in (Want.Fact (questions.SourceFile class)))
+        (λ source. keyed_plan (is_keyed wanted (key_by loaded.signature source)) wanted class loaded.signature)
+        (asks wants_fact source_in (Want.Fact (questions.SourceFile class)) refl)
+        (λ source. keyed_wants (is_keyed wanted (key_by loaded.signature source)) wanted class loaded.signature)
+
+    by_package : (path : Option (List ℕ)) → AllWants wants_fact (package_plan wanted class loaded.signature path)
+    by_package None = tt
+    by_package (Some path) = by_watched (is_watched wanted path)
+
+    by_prepared : (prepared : Bool) → AllWants wants_fact (prepared_plan prepared wanted class loaded.signature)
+    by_prepared false = tt
+    by_prepared true = by_package (package_in loaded.signature)
+
+pub known_wants : (wanted : Wanted) (known : Lookups) → AllWants wants_fact (known_plan wanted known)
+known_wants wanted known = makes wants_fact joined (each (λ class. class_plan wanted class (known.loaded class)) known.order)
+    (every wants_fact (λ class. class_plan wanted class (known.loaded class))
+    (λ class. class_wants wanted class (known.loaded class)) known.order)
+
+-- What is lacking -----------------------------------------------------------------------------------------------------
+
+heard_lacks : (test : Want → Bool) (sight : Sight) (want : Want) → test want ≡ true
+    → All (λ want. test want ≡ true) (lacking (heard_of sight want))
+heard_lacks test sight (Want.Must question) is = by_found (found_from 0 sight.asked question)
+  where
+    by_reply : (place : ℕ) (replied : Replied)
+        → All (λ want. test want ≡ true) (lacking (must_by place replied))
+    by_reply place (an_answer answer) = tt
+    by_reply place (an_error code) = tt
+
+    by_found : (found : Option Found) → All (λ want. test want ≡ true) (lacking (must_hear question found))
+    by_found None = (is, tt)
+    by_found (Some found) = by_reply found.place found.replied
+heard_lacks test sight (Want.May question) is = by_found (found_from 0 sight.asked question)
+  where
+    by_found : (found : Option Found) → All (λ want. test want ≡ true) (lacking (may_hear question found))
+    by_found None = (is, tt)
+    by_found (Some found) = tt
+heard_lacks test sight (Want.Fact question) is =
+    by_known (fact_known sight.classes question) (found_from 0 sight.asked question)
+  where
+    by_known : (known : Option (Option Answer)) (found : Option Found)
+        → All (λ want. test want ≡ true) (lacking (fact_heard question known found))
+    by_known None None = (is, tt)
+    by_known _ _ = tt
+
+beside_lacks : {A B : Type 0} (test : Want → Bool) (n : Need A) (k : Need B)
+    → All (λ want. test want ≡ true) (lacking n) → All (λ want. test want ≡ true) (lacking k)
+    → All (λ want. test want ≡ true) (lacking (beside n k))
+beside_lacks test (has a) (lacks want others) h k = k
+beside_lacks test (fails fault) (has b) h k = tt
+beside_lacks test (lacks want others) (has b) h k = h
+beside_lacks test (lacks want others) (lacks other more) h k =
+    all_joined (λ want. test want ≡ true) (want ∷ others) (other ∷ more) h k
+beside_lacks test _ _ h k = tt
+
+after_lacks : {A B : Type 0} (test : Want → Bool) (n : Need A) (f : A → Need B)
+    → All (λ want. test want ≡ true) (lacking n) → ((a : A) → All (λ want. test want ≡ true) (lacking (f a)))
+    → All (λ want. test want ≡ true) (lacking (after n f))
+after_lacks test (has a) f h k = k a
+after_lacks test (fails fault) f h k = tt
+after_lacks test (lacks want others) f h k = h
+
+-- what a plan lacks is what it may want
+pub plan_lacks : {A : Type 0} (test : Want → Bool) (sight : Sight) (p : Plan A) → AllWants test p
+    → All (λ want. test want ≡ true) (lacking (need sight p))
+unfolding need AllWants
+plan_lacks test sight (gives a) h = tt
+plan_lacks test sight (wants want rest) h = after_lacks test (heard_of sight want) (λ heard. need sight (rest heard))
+    (heard_lacks test sight want h.0) (λ heard. plan_lacks test sight (rest heard) (h.1 heard))
+plan_lacks test sight (pairs p q rest) h =
+    after_lacks test (beside (need sight p) (need sight q)) (λ two. need sight (rest two))
+    (beside_lacks test (need sight p) (need sight q) (plan_lacks test sight p h.0) (plan_lacks test sight q h.1))
+    (λ two. plan_lacks test sight (rest two) (h.2 two))
+
+-- Facts that were replied are known -----------------------------------------------------------------------------------
+
+-- the fact that was replied is known
+abbrev pub IsLearnt : Known → Sent → Type 0
+IsLearnt known sent = is_some sent.reply ≡ true → is_fact (question_of sent.want) ≡ true
+    → is_some (fact_known (found_in known) (question_of sent.want)) ≡ true
+
+unknown_unheard : (known : Known) (place : ℕ) (asked : List Sent) (question : Question) → All (IsLearnt known) asked
+    → is_fact question ≡ true → fact_known (found_in known) question ≡ None → found_from place asked question ≡ None
+unknown_unheard known place [] question h fact none = refl
+unknown_unheard known place (sent ∷ asked) question h fact none =
+    by_key (asks_for sent question) refl sent.reply refl (unknown_unheard known (suc place) asked question h.1 fact none)
+  where
+    by_key : (is : Bool) → asks_for sent question ≡ is → (reply : Option Replied) → sent.reply ≡ reply
+        → found_from (suc place) asked question ≡ None
+        → cond is (found_at place reply) (found_from (suc place) asked question) ≡ None
+    by_key false key reply same rest = rest
+    by_key true key None same rest = refl
+    by_key true key (Some replied) same rest =
+        let one = is_one (question_of sent.want) question key in
+        let known_now = h.0 (ap is_some same) (ap is_fact one ∙ fact) in
+        absurd (let no : true ≡ false =
+        sym known_now ∙ ap (λ q. is_some (fact_known (found_in known) q)) one ∙ ap is_some none in cc)
+
+-- a fact is heard alike with and without what was asked
+heard_alone : (known : Known) (asked : List Sent) (want : Want) → All (IsLearnt known) asked → wants_fact want ≡ true
+    → heard_of (record { classes = found_in known; asked = asked }) want ≡ heard_of (sight_alone known) want
+heard_alone known asked (Want.Fact question) h fact = by_known (fact_known (found_in known) question) refl
+  where
+    by_known : (fact_now : Option (Option Answer)) → fact_known (found_in known) question ≡ fact_now
+        → fact_heard question fact_now (found_from 0 asked question) ≡ fact_heard question fact_now None
+    by_known None is = ap (fact_heard question None) (unknown_unheard known 0 asked question h fact is)
+    by_known (Some heard) is = refl
+heard_alone known asked _ h fact = cc
+
+pub need_alone : {A : Type 0} (known : Known) (asked : List Sent) (p : Plan A) → All (IsLearnt known) asked
+    → AllWants wants_fact p
+    → need (record { classes = found_in known; asked = asked }) p ≡ need (sight_alone known) p
+unfolding need AllWants
+need_alone known asked (gives a) h k = refl
+need_alone known asked (wants want rest) h k =
+    ap (λ n. after n (λ heard. need (record { classes = found_in known; asked = asked }) (rest heard)))
+    (heard_alone known asked want h k.0)
+    ∙ after_like (heard_of (sight_alone known) want) _ _ (λ heard. need_alone known asked (rest heard) h (k.1 heard))
+need_alone known asked (pairs p q rest) h k =
+    ap (λ n. after n (λ two. need (record { classes = found_in known; asked = asked }) (rest two)))
+    (ap (λ n. beside n (need (record { classes = found_in known; asked = asked }) q)) (need_alone known asked p h k.0)
+    ∙ ap (beside (need (sight_alone known) p)) (need_alone known asked q h k.1))
+    ∙ after_like (beside (need (sight_alone known) p) (need (sight_alone known) q)) _ _
+    (λ two. need_alone known asked (rest two) h (k.2 two))
+
+-- and never fails
+abbrev pub does_fail : {A : Type 0} → Need A → Bool
+does_fail (has a) = false
+does_fail (fails fault) = true
+does_fail (lacks want others) = false
+
+heard_holds : (known : Known) (want : Want) → wants_fact want ≡ true
+    → does_fail (heard_of (sight_alone known) want) ≡ false
+heard_holds known (Want.Fact question) fact = by_known (fact_known (found_in known) question)
+  where
+    by_known : (fact_now : Option (Option Answer)) → does_fail (fact_heard question fact_now None) ≡ false
+    by_known None = refl
+    by_known (Some heard) = refl
+heard_holds known _ fact = cc
+
+after_holds : {A B : Type 0} (n : Need A) (f : A → Need B) → does_fail n ≡ false → ((a : A) → does_fail (f a) ≡ false)
+    → does_fail (after n f) ≡ false
+after_holds (has a) f h k = k a
+after_holds (fails fault) f h k = cc
+after_holds (lacks want others) f h k = refl
+
+beside_holds : {A B : Type 0} (n : Need A) (k : Need B) → does_fail n ≡ false → does_fail k ≡ false
+    → does_fail (beside n k) ≡ false
+beside_holds (has a) (fails fault) h k = cc
+beside_holds (fails fault) k h l = cc
+beside_holds (lacks want others) (fails fault) h k = cc
+beside_holds _ _ h k = refl
+
+pub need_holds : {A : Type 0} (known : Known) (p : Plan A) → AllWants wants_fact p
+    → does_fail (need (sight_alone known) p) ≡ false
+unfolding need AllWants
+need_holds known (gives a) h = refl
+need_holds known (wants want rest) h = after_holds (heard_of (sight_alone known) want) _ (heard_holds known want h.0)
+    (λ heard. need_holds known (rest heard) (h.1 heard))
+need_holds known (pairs p q rest) h = after_holds (beside (need (sight_alone known) p) (need (sight_alone known) q)) _
+    (beside_holds (need (sight_alone known) p) (need (sight_alone known) q) (need_holds known p h.0)
+    (need_holds known q h.1))
+    (λ two. need_holds known (rest two) (h.2 two))

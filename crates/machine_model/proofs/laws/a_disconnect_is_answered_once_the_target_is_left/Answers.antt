@@ -1,6 +1,0 @@
--- Behind that part stands the response.
-use Rattle.machine_model.proofs.LeavingLaws.{disconnects}
-use Rattle.machine_model.proofs.laws.a_disconnect_is_answered_once_the_target_is_left.Goals as goal
-
-pub returns : goal.returns
-returns c = disconnects

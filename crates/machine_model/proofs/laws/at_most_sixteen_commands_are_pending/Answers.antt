@@ -1,5 +1,0 @@
-use Rattle.machine_model.proofs.PendingLaws.{in_window}
-use Rattle.machine_model.proofs.laws.at_most_sixteen_commands_are_pending.Goals as goal
-
-pub returns : goal.returns
-returns c = in_window

@@ -1,6 +1,0 @@
--- At rest all that is known of classes has bound breakpoints.
-use Rattle.machine_model.proofs.BindingLaws.{are_bound}
-use Rattle.machine_model.proofs.laws.breakpoints_are_bound_by_all_that_is_known.Goals as goal
-
-pub returns : goal.returns
-returns c = are_bound

@@ -1,5 +1,0 @@
-use Rattle.machine_model.proofs.NotingLaws.{are_noted}
-use Rattle.machine_model.proofs.laws.client_options_are_those_of_the_last_initialize.Goals as goal
-
-pub returns : goal.returns
-returns c = are_noted

@@ -1,5 +1,0 @@
-use Rattle.machine_model.proofs.SpellLaws.{are_spelled}
-use Rattle.machine_model.proofs.laws.commands_have_a_spelling.Goals as goal
-
-pub returns : goal.returns
-returns c = are_spelled

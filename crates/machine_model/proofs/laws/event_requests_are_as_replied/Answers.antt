@@ -1,6 +1,0 @@
--- The Set of each wish was replied to, once nothing is due.
-use Rattle.machine_model.proofs.ReplyLaws.{as_replied}
-use Rattle.machine_model.proofs.laws.event_requests_are_as_replied.Goals as goal
-
-pub returns : goal.returns
-returns c = as_replied

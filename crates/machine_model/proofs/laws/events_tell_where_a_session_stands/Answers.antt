@@ -1,6 +1,0 @@
--- Each move keeps what is owed.
-use Rattle.machine_model.proofs.EventLaws.{events_are}
-use Rattle.machine_model.proofs.laws.events_tell_where_a_session_stands.Goals as goal
-
-pub returns : goal.returns
-returns c = events_are

@@ -1,6 +1,0 @@
--- What stands in the queue was lacking when it was put there.
-use Rattle.machine_model.proofs.QuestionLaws.{are_lacked}
-use Rattle.machine_model.proofs.laws.nothing_is_asked_but_what_is_lacking.Goals as goal
-
-pub returns : goal.returns
-returns c = are_lacked

@@ -1,6 +1,0 @@
--- At rest nothing hinders what is wanted.
-use Rattle.machine_model.proofs.SizeLaws.{is_idle}
-use Rattle.machine_model.proofs.laws.nothing_waits_at_rest.Goals as goal
-
-pub returns : goal.returns
-returns c = is_idle

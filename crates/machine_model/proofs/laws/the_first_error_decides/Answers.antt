@@ -1,6 +1,0 @@
-use Rattle.machine_model.specs.Lookups.{plan, sight_of}
-use Rattle.machine_model.proofs.PlanLaws.{both}
-use Rattle.machine_model.proofs.laws.the_first_error_decides.Goals as goal
-
-pub returns : goal.returns
-returns c = λ state hand lookup. (both (sight_of state hand) (plan lookup state)).0

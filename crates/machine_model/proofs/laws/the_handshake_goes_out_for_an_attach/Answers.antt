@@ -1,6 +1,0 @@
--- Only an `attach` awaits the handshake.
-use Rattle.machine_model.proofs.LeavingLaws.{greetings}
-use Rattle.machine_model.proofs.laws.the_handshake_goes_out_for_an_attach.Goals as goal
-
-pub returns : goal.returns
-returns c = greetings

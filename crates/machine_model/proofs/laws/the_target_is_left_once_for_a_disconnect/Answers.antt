@@ -1,6 +1,0 @@
--- An effect that leaves the target is a part of a `disconnect`.
-use Rattle.machine_model.proofs.LeavingLaws.{farewells}
-use Rattle.machine_model.proofs.laws.the_target_is_left_once_for_a_disconnect.Goals as goal
-
-pub returns : goal.returns
-returns c = farewells

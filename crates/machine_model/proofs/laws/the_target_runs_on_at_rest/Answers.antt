@@ -1,6 +1,0 @@
--- At rest no suspension is held.
-use Rattle.machine_model.proofs.SuspendLaws.{runs_on}
-use Rattle.machine_model.proofs.laws.the_target_runs_on_at_rest.Goals as goal
-
-pub returns : goal.returns
-returns c = runs_on
