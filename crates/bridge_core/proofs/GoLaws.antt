@@ -24,13 +24,13 @@ use Rattle.bridge_core.specs.Calls.{Finds, Goes, IsIdle, IsOver, Sends, finish_e
 use Rattle.bridge_core.specs.Cores.{CoreState, IsReady, fresh_core, with_machine}
 use Rattle.bridge_core.specs.Going.{Comes, IsSent, IsStep, IsTold, MaySend, is_hidden}
 use Rattle.bridge_core.specs.Names.{Act, Effect, Question, a_question, an_effect}
-use Rattle.bridge_core.specs.Hearing.{MayBe}
-use Rattle.bridge_core.proofs.HearLaws.{may_hold}
-use Rattle.bridge_core.specs.Working.{is_wait, is_work, work}
-use Rattle.bridge_core.proofs.FrameLaws.{due_framed}
+use Rattle.message_bodies.specs.Hearing.{MayBe}
+use Rattle.message_bodies.proofs.HearLaws.{may_hold}
+use Rattle.machine_work.specs.Working.{is_wait, is_work, work}
+use Rattle.machine_work.proofs.FrameLaws.{due_framed}
 use Rattle.bridge_core.proofs.RunLaws.{asks_fits, hand_sized, sends_fits}
 use Rattle.bridge_core.proofs.WindowLaws.{acts_aligned, aligned_length, asks_aligned, none_sent, same_full, sends_aligned}
-use Rattle.bridge_core.proofs.WorkLaws.{asks_free, due_any, due_less, due_stays, due_waiting, sends_alone}
+use Rattle.machine_work.proofs.WorkLaws.{asks_free, due_any, due_less, due_stays, due_waiting, sends_alone}
 use Rattle.session_model.specs.Saying.{Speaks, nth_command, told_bytes}
 use Rattle.session_model.specs.States.{id_pending}
 use Rattle.session_model.specs.declared.ending.Ending.{Ending}

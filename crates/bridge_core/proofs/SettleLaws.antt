@@ -23,11 +23,12 @@ use Rattle.bridge_core.proofs.Pending as pending
 use Rattle.bridge_core.proofs.Pending.{has_id}
 use Rattle.bridge_core.specs.Calls.{AreRead, IsAtFront, IsLike, RefusesPacket, TakesPacket}
 use Rattle.bridge_core.specs.Cores.{CoreState, IsReady, Unheard, session_in, with_machine}
-use Rattle.bridge_core.specs.Hearing.{HasBadSizes, IsJudged, IsRefused, is_tolerated_asked}
+use Rattle.message_bodies.specs.Hearing.{HasBadSizes, IsJudged, IsRefused, is_tolerated_asked}
 use Rattle.bridge_core.specs.Moving.{IsFlight, RefusesKept}
 use Rattle.bridge_core.specs.Names.{Effect, a_composite, a_question, an_effect}
 use Rattle.bridge_core.specs.Packets.{CanReply, Hears, IsSettled, IsUnsettled, Replies}
-use Rattle.bridge_core.proofs.HearLaws.{is_answer_fault, read_run}
+use Rattle.bridge_core.proofs.KeptLaws.{read_run}
+use Rattle.message_bodies.proofs.HearLaws.{is_answer_fault}
 use Rattle.bridge_core.proofs.RunLaws.{hand_next, near_late}
 use Rattle.bridge_core.proofs.WindowLaws.{effect_under, found, items_aligned, late_under, none_held, question_under}
 use Rattle.session_model.specs.Faults.{HasReply, IsTargetFault, header}

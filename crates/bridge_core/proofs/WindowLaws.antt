@@ -28,9 +28,9 @@ use Rattle.bridge_core.specs.Aligning.{Aligned, commands_of}
 use Rattle.bridge_core.proofs.Pending.{IsEffect, IsLate, IsQuestion, place_under, sent_by}
 use Rattle.bridge_core.specs.Names.{Act, Asked, Doing, Effect, Item, Question, Replied, Request, Sent, TargetCommand}
 use Rattle.bridge_core.specs.Names.{Want, WireEffect, a_question, an_effect}
-use Rattle.bridge_core.specs.Working.{is_work}
+use Rattle.machine_work.specs.Working.{is_work}
 use Rattle.bridge_core.proofs.RunLaws.{gone_silent}
-use Rattle.bridge_core.proofs.WorkLaws.{due_moves, due_stays}
+use Rattle.machine_work.proofs.WorkLaws.{due_moves, due_stays}
 
 -- Plain facts of lists ------------------------------------------------------------------------------------------------
 

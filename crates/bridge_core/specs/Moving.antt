@@ -1,9 +1,8 @@
 -- The machine's moves, in the words of the code that makes them.
 use Rattle.bridge_core.specs.Calls.{AreRead}
-use Rattle.std.specs.Prelude.{ℕ, ◌≡◌, Bool, cond, true, not, Option, None, Some}
-use Rattle.machine_model.specs.State.{Hand, Machine, State, is_raw}
+use Rattle.std.specs.Prelude.{ℕ, ◌≡◌, Bool, Option, None, Some}
+use Rattle.machine_model.specs.State.{Hand, Machine, State}
 use Rattle.machine_model.specs.declared.acts.Effect.{Effect}
-use Rattle.machine_model.specs.declared.items.Item.{Item}
 use Rattle.session_model.specs.Faults.{IsKeptFault}
 use Rattle.session_model.specs.declared.ending.Ending.{Ending}
 use Rattle.session_model.specs.declared.ending.Ending.TheVariants.{BadTarget, NoMemory}
@@ -19,10 +18,6 @@ with_hand m hand = record m { hand = Some hand }
 pub record IsFlight (m : Machine) (hand : Hand) (effect : Effect) : Type 0 where
   pub held : m.hand ≡ Some hand
   pub flying : hand.effect ≡ Some (record { effect = effect; reply = None })
-
--- the item can be begun: a composite that is kept can't, while there is a target
-abbrev pub is_next : Bool → Item → Bool
-is_next gone item = cond gone true (not (is_raw item))
 
 -- of the composites that were kept some are read, and then one ends the session
 pub data RefusesKept (m next : Machine) : Ending → Type 0 where

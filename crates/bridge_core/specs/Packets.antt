@@ -17,7 +17,7 @@ use Rattle.machine_model.specs.declared.items.Item.TheVariants.{Composite as a_c
 use Rattle.pending_table.specs.Windows.{pending_under, settled}
 use Rattle.bridge_core.specs.Calls.{TakesPacket}
 use Rattle.bridge_core.specs.Cores.{CoreState, IsSound, with_machine}
-use Rattle.bridge_core.specs.Hearing.{IsBadBody, IsJudged, IsRefused, ReadsComposite}
+use Rattle.message_bodies.specs.Hearing.{IsBadBody, IsJudged, IsRefused, ReadsComposite}
 use Rattle.bridge_core.specs.Moving.{IsFlight}
 use Rattle.session_model.specs.declared.ending.Ending.{Ending}
 use Rattle.session_model.specs.declared.ending.Ending.TheVariants.{NoMemory}

@@ -3,15 +3,11 @@
 
 mod client;
 mod hand;
-mod hearing;
 mod leaving;
 mod machine;
 mod packets;
 mod sending;
 mod session;
-mod sizes;
-mod telling;
-mod waiting;
 mod words;
 
 pub use session::{Core, Out};

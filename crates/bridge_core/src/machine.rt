@@ -16,12 +16,10 @@ ghost use Rattle.talk_plans.specs.Talking.{AreSized, act_of};
 ghost use Rattle.session_facts.specs.Effects.{IsNext};
 
 use crate::hand::{answered, done, give_up, go_on, hold, is_leaving, note_done, note_reply};
-use crate::hearing::{is_dead, read_kept};
-use crate::sizes::known;
-use crate::waiting::{is_disconnect, take_next};
 use dap_messages::Request;
 use jdwp_commands::{Asked, Question, Replied};
 use machine_model::{Item, TargetCommand};
+use message_bodies::{is_dead, is_disconnect, known, read_kept, take_next};
 use session_facts::SizesRead;
 use session_model::Ending;
 use std::alloc::Global;

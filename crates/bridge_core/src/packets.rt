@@ -9,12 +9,11 @@ ghost use Rattle.bridge_core.specs.Cores.{IsReady, with_machine};
 ghost use Rattle.bridge_core.specs.Packets.{Hears, IsSettled, IsTakenIn, IsUnsettled, IsUntaken};
 ghost use Rattle.session_model.specs.declared.ending.Ending.TheVariants.{BadTarget, NoMemory as no_memory};
 
-use crate::hearing::{composite, is_composite, judged};
 use crate::session::Core;
-use crate::sizes::{known, serving};
 use jdwp_packets::Packet;
 use jdwp_values::IdSizes;
 use machine_model::Item;
+use message_bodies::{composite, is_composite, judged, known, serving};
 use session_model::{Ending, TargetFault};
 use std::alloc::Global;
 use wire_core::Blob;

@@ -4,17 +4,15 @@ ghost use Rattle.jdwp_packets.specs.Packets.{command_packet, handshake, packet_b
 ghost use Rattle.bridge_core.specs.Cores.{IsReady};
 ghost use Rattle.bridge_core.specs.Going.{Comes, IsSent, IsStep, IsTold, MaySend, is_hidden};
 ghost use Rattle.bridge_core.specs.Calls.{Finds, IsIdle, Sends, finish_ending};
-ghost use Rattle.bridge_core.specs.Hearing.{MayBe};
+ghost use Rattle.message_bodies.specs.Hearing.{MayBe};
 ghost use Rattle.wire_core.specs.declared.outside.Side.TheVariants.{Target};
 
-use crate::hearing::bad_body;
 use crate::session::{Core, Out};
-use crate::sizes::serving;
-use crate::telling::{framed, packed};
 use dap_messages::Told;
 use jdwp_commands::Asked;
 use jdwp_packets::write_command;
 use machine_model::Finish;
+use message_bodies::{bad_body, framed, packed, serving};
 use session_facts::wire_effect;
 use session_model::{Ending, TargetFault};
 use std::alloc::Global;

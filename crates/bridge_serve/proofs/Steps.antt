@@ -1,13 +1,8 @@
 -- What a step of the machine leaves as it was, and which last words follow what goes out.
 use Rattle.std.proofs.Common.{◌≡◌, ℕ, ◌<◌, ◌≤◌, refl, sym, ap, subst, ◌∙◌, arith, Bool, true, false, List, []}
 use Rattle.std.proofs.Common.{length, Option, None, Some}
-use Rattle.bridge_core.proofs.FrameLaws.{due_framed}
-use Rattle.bridge_core.proofs.OwnMoves.{is_own_message}
-use Rattle.bridge_core.proofs.WorkLaws.{due_less, due_moves, due_waiting}
 use Rattle.bridge_core.specs.Calls.{Goes, Sends}
 use Rattle.bridge_core.specs.Cores.{CoreState, IsReady}
-use Rattle.bridge_core.specs.Names.{Act, Note}
-use Rattle.bridge_core.specs.Working.{is_work, work}
 use Rattle.bridge_serve.specs.Following.{nothing_heard}
 use Rattle.bridge_serve.specs.Names.{Client, Side, Target}
 use Rattle.machine_model.specs.Due.{due}
@@ -21,6 +16,11 @@ use Rattle.machine_laws.proofs.ServedLaws.{aside_left, left_on}
 use Rattle.machine_laws.proofs.Stepping.{Moves, moved}
 use Rattle.machine_laws.proofs.Tables.{once}
 use Rattle.machine_laws.proofs.Testing.{tested}
+use Rattle.machine_work.proofs.FrameLaws.{due_framed}
+use Rattle.machine_work.proofs.OwnMoves.{is_own_message}
+use Rattle.machine_work.proofs.WorkLaws.{due_less, due_moves, due_waiting}
+use Rattle.machine_work.specs.Names.{Act, Note}
+use Rattle.machine_work.specs.Working.{is_work, work}
 use Rattle.session_model.specs.LastWords.{client_words}
 use Rattle.session_model.specs.Saying.{Speaks}
 use Rattle.session_model.specs.States.{SessionState, StreamState}

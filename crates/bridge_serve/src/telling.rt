@@ -1,8 +1,8 @@
 ghost use Rattle.std.specs.Prelude.{◌≡◌, ◌<◌, Ok, true, false, OnOk, IfErr};
-ghost use Rattle.bridge_core.specs.Working.{work};
 ghost use Rattle.bridge_serve.specs.Following.{CoreGoesOn, CoreStops, MayTell};
 ghost use Rattle.machine_model.specs.Due.{due};
 ghost use Rattle.machine_model.specs.declared.acts.Act.{Act};
+ghost use Rattle.machine_work.specs.Working.{work};
 ghost use Rattle.session_model.specs.Causes.{link_ending};
 ghost use Rattle.session_model.specs.States.{id_pending};
 

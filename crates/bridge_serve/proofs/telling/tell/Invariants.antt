@@ -1,4 +1,4 @@
-use Rattle.bridge_core.specs.Working.{work}
+use Rattle.machine_work.specs.Working.{work}
 use Rattle.bridge_serve.specs.Following.{CoreGoesOn}
 use Rattle.bridge_serve.proofs.telling.tell.Given as goal
 

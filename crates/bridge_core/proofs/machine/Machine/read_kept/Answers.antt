@@ -4,7 +4,8 @@ use Rattle.machine_model.specs.State.{SizesRead}
 use Rattle.bridge_core.specs.Calls.{AreRead}
 use Rattle.bridge_core.specs.Moving.{RefusesKept}
 use Rattle.bridge_core.specs.contracts.machine.Machine.{the_view}
-use Rattle.bridge_core.proofs.HearLaws.{none_left_so, reads_kept_so, refuses_kept_so}
+use Rattle.bridge_core.proofs.KeptLaws.{reads_kept_so, refuses_kept_so}
+use Rattle.message_bodies.proofs.HearLaws.{none_left_so}
 use Rattle.bridge_core.proofs.machine.Machine.read_kept.Goals as goal
 
 pub returns-then-is_gone-clause-ok : goal.returns-then-is_gone-clause-ok

@@ -1,5 +1,0 @@
-use Rattle.bridge_core.specs.Hearing.{MayBeKept}
-use Rattle.bridge_core.proofs.hearing.read_at.Goals as goal
-
-pub returns-in_default-clause-err : goal.returns-in_default-clause-err
-returns-in_default-clause-err c = MayBeKept.no_memory

@@ -1,0 +1,4 @@
+pub mod FrameLaws
+pub mod LineLaws
+pub mod OwnMoves
+pub mod WorkLaws
