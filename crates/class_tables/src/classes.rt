@@ -61,8 +61,8 @@ impl Classes {
     }
 
     /// Learns a class's tag and signature, and whether it is prepared; a class that was prepared stays so. Where memory
-    /// is refused all stays as it was, as in each call that learns (JDWP, VirtualMachine command set, AllClasses; JDWP,
-    /// Event command set, Composite, ClassPrepare).
+    /// is refused all stays as it was (JDWP, VirtualMachine command set, AllClasses; JDWP, Event command set,
+    /// Composite, ClassPrepare).
     pub fn learn(
         &mut self,
         class: ClassId,
@@ -82,7 +82,8 @@ impl Classes {
         self.loaded.put(class, loaded)
     }
 
-    /// Learns the name of a class's source file, or that it has none (JDWP, ReferenceType command set, SourceFile).
+    /// Learns the name of a class's source file, or that it has none. Where memory is refused all stays as it was
+    /// (JDWP, ReferenceType command set, SourceFile).
     pub fn learn_source(&mut self, class: ClassId, source: Option<Blob>) -> Result<(), NoMemory>
         ensures ok { OnOk result (self.new ≡ with_fact (has_source class source) self.old) }
         ensures err { OnErr result (self.new ≡ self.old) }
@@ -90,7 +91,8 @@ impl Classes {
         self.sources.put(class, source)
     }
 
-    /// Learns a class's methods (JDWP, ReferenceType command set, Methods).
+    /// Learns a class's methods. Where memory is refused all stays as it was (JDWP, ReferenceType command set,
+    /// Methods).
     pub fn learn_methods(&mut self, class: ClassId, methods: List<Method>) -> Result<(), NoMemory>
         ensures ok { OnOk result (self.new ≡ with_fact (has_methods class methods) self.old) }
         ensures err { OnErr result (self.new ≡ self.old) }
@@ -98,7 +100,8 @@ impl Classes {
         self.methods.put(class, methods)
     }
 
-    /// Learns a method's lines, or that it has none (JDWP, Method command set, LineTable).
+    /// Learns a method's lines, or that it has none. Where memory is refused all stays as it was (JDWP, Method command
+    /// set, LineTable).
     pub fn learn_lines(
         &mut self,
         class: ClassId,
@@ -111,7 +114,8 @@ impl Classes {
         self.lines.put((class, method), lines)
     }
 
-    /// Learns a method's variables, or that it has none (JDWP, Method command set, VariableTable).
+    /// Learns a method's variables, or that it has none. Where memory is refused all stays as it was (JDWP, Method
+    /// command set, VariableTable).
     pub fn learn_variables(
         &mut self,
         class: ClassId,
@@ -124,7 +128,7 @@ impl Classes {
         self.variables.put((class, method), variables)
     }
 
-    /// Learns a class's fields (JDWP, ReferenceType command set, Fields).
+    /// Learns a class's fields. Where memory is refused all stays as it was (JDWP, ReferenceType command set, Fields).
     pub fn learn_fields(&mut self, class: ClassId, fields: List<Field>) -> Result<(), NoMemory>
         ensures ok { OnOk result (self.new ≡ with_fact (has_fields class fields) self.old) }
         ensures err { OnErr result (self.new ≡ self.old) }
@@ -132,7 +136,8 @@ impl Classes {
         self.fields.put(class, fields)
     }
 
-    /// Learns the class that a class extends (JDWP, ClassType command set, Superclass).
+    /// Learns the class that a class extends. Where memory is refused all stays as it was (JDWP, ClassType command set,
+    /// Superclass).
     pub fn learn_super(&mut self, class: ClassId, above: ClassId) -> Result<(), NoMemory>
         ensures ok { OnOk result (self.new ≡ with_fact (is_below class above) self.old) }
         ensures err { OnErr result (self.new ≡ self.old) }

@@ -54,7 +54,8 @@ impl Cutter {
         }
     }
 
-    /// Adds the next piece of the stream; where memory is refused the cutter stays as it was.
+    /// Adds the next piece of the stream, which has fewer than 2^63 bytes with it; where memory is refused the cutter
+    /// stays as it was.
     pub fn feed(&mut self, piece: &[u8]) -> Result<(), NoMemory>
         requires { self.old.at + length self.old.pending + length piece.now < 2 ^ 63 }
         ensures ok { OnOk result (self.new ≡ fed self.old piece.now) }

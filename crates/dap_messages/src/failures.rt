@@ -105,7 +105,8 @@ impl Failure {
         }
     }
 
-    /// No thread has the number that the request names: code 8, `unknownThread`. (DAP specification, Types, Message)
+    /// No thread has the number that the request names, or that thread isn't alive or threw nothing in this stop:
+    /// code 8, `unknownThread`. (DAP specification, Types, Message; JDWP, Error Constants, INVALID_THREAD)
     pub fn unknown_thread() -> Failure
         ensures { result ≡ unknown_thread }
     {
@@ -115,8 +116,8 @@ impl Failure {
         }
     }
 
-    /// The target answered a question of the request with this error: code 9, `targetError` and the error in decimal.
-    /// (DAP specification, Types, Message; JDWP, Error Constants)
+    /// The target refused a question, an event request or a write of the request with this error, another than 10: code
+    /// 9, `targetError` and the error in decimal. (DAP specification, Types, Message; JDWP, Error Constants)
     pub fn target_error(error: u16) -> Failure
         ensures { result ≡ target_error error }
     {
@@ -126,7 +127,8 @@ impl Failure {
         }
     }
 
-    /// Nothing has the name that the request gives: code 11, `noSuchName`. (DAP specification, Types, Message)
+    /// Nothing has the name that the request gives, or that stands in its expression: code 11, `noSuchName`.
+    /// (DAP specification, Types, Message)
     pub fn no_such_name() -> Failure
         ensures { result ≡ no_such_name }
     {
@@ -136,8 +138,9 @@ impl Failure {
         }
     }
 
-    /// The text that the request gives is outside the grammar at this place, in bytes from its start: code 12,
-    /// `badExpression` and the place in decimal. (DAP specification, Types, Message)
+    /// The text that the request gives is outside the grammar at this place, in bytes from its start, or is no value of
+    /// the kind, with the place 0: code 12, `badExpression` and the place in decimal.
+    /// (DAP specification, Types, Message)
     pub fn bad_expression(place: u32) -> Failure
         ensures { result ≡ bad_expression place }
     {
@@ -168,7 +171,7 @@ impl Failure {
         }
     }
 
-    /// No number is left for what the response would show: code 15, `referencesSpent`.
+    /// Too few numbers are left for what the response would show: code 15, `referencesSpent`.
     /// (DAP specification, Types, Message)
     pub fn references_spent() -> Failure
         ensures { result ≡ references_spent }

@@ -145,12 +145,12 @@ pub enum BreakpointStatus {
     ConditionsUnsupported,
     /// The target answered its event request with an error.
     RefusedByTarget,
-    /// No class that is loaded has code at its line yet.
+    /// No class that is loaded has code at its line yet, or has the method of a function.
     NotBoundYet,
 }
 
 /// Why a request failed: its code, which decides the message, and what the message is followed by. A code that none of
-/// the functions below gives has an empty message. (DAP specification, Types, Message)
+/// `Failure`'s functions gives has an empty message. (DAP specification, Types, Message)
 #[derive(Drop)]
 pub struct Failure {
     pub code: u8,

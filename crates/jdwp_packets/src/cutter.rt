@@ -77,8 +77,8 @@ impl PacketCutter {
         self.greeted
     }
 
-    /// Adds the next piece of the stream, and takes the greeting where it is whole now; where memory is refused the
-    /// cutter stays as it was.
+    /// Adds the next piece of the stream, which has fewer than 2^63 bytes with it, and takes the greeting where it is
+    /// whole now; where memory is refused the cutter stays as it was.
     pub fn feed(&mut self, piece: &[u8]) -> Result<(), NoMemory>
         requires { self.old.stream.at + length self.old.stream.pending + length piece.now < 2 ^ 63 }
         ensures ok { OnOk result (self.new ≡ received self.old piece.now) }

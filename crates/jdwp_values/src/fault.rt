@@ -3,7 +3,7 @@ ghost use Rattle.jdwp_values.specs.declared.fault.RowFault.TheVariants.{NoMemory
 
 use wire_core::NoMemory;
 
-/// Why a part can't be read.
+/// Why a part can't be read (JDWP, Detailed Command Information, common data types).
 #[derive(Clone, Copy, Debug, PartialEq, Eq)]
 pub enum ValueFault {
     /// Too few bytes are left.
@@ -14,14 +14,16 @@ pub enum ValueFault {
     BadCount,
 }
 
-/// A part that can't be read, with the place where it begins, in bytes from the start of the body.
+/// A part that can't be read, with the place where it begins, in bytes from the start of the body (JDWP, Detailed
+/// Command Information, common data types).
 #[derive(Clone, Copy, Debug, PartialEq, Eq)]
 pub struct ReadTrouble {
     pub fault: ValueFault,
     pub at: u32,
 }
 
-/// Why a row can't be read: memory ran out, a part can't be read, or a byte that says which row it is says none.
+/// Why a row can't be read: memory ran out, a part can't be read, or a byte that says which row it is says none (JDWP,
+/// Detailed Command Information).
 #[derive(Clone, Copy, Debug, PartialEq, Eq)]
 pub enum RowFault {
     NoMemory,

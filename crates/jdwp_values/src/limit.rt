@@ -1,7 +1,7 @@
 ghost use Rattle.std.specs.Prelude.{◌≡◌};
 ghost use Rattle.jdwp_values.specs.Counts.{allows};
 
-/// Which counts a place allows beside that no count is negative.
+/// Which counts a place allows beside that no count is negative (JDWP, Detailed Command Information).
 #[derive(Clone, Copy, Debug, PartialEq, Eq)]
 pub enum Limit {
     /// Every count.

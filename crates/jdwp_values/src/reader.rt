@@ -13,7 +13,8 @@ use crate::tag::TypeTag;
 use crate::value::Value;
 use std::marker::Model;
 
-/// Reads the parts of a body from left to right. A part that can't be read leaves the reader where that part begins.
+/// Reads the parts of a body from left to right (JDWP, Detailed Command Information, common data types). A part that
+/// can't be read leaves the reader where that part begins. `Short` comes where too few bytes are left.
 #[derive(Debug, Drop)]
 pub struct Reader<'a> {
     sizes: IdSizes,
@@ -189,7 +190,7 @@ impl<'a> Reader<'a> {
         self.settle(parts::text(self.rest))
     }
 
-    /// A type tag, a class, a method and an index.
+    /// A type tag, a class, a method and an index: `BadTag` where the tag is above 3.
     #[tactic(auto, using(crate::proofs::Settling::reads_settled), unfolding(crate::specs::Reading::part_at))]
     pub fn location(&mut self) -> Result<Location, ReadTrouble>
         ensures { Reads (λ x. x) (part_at location self.old) self.old self.new result }

@@ -26,7 +26,8 @@ fn text_at_front(bytes: &[u8]) -> (&str, &[u8])
     }
 }
 
-/// The text of a string's bytes: each byte that begins no well-formed UTF-8 sequence is shown as U+FFFD.
+/// The text of a string's bytes: each byte that begins no well-formed UTF-8 sequence is shown as U+FFFD. `NoMemory`
+/// comes where memory is refused (JDWP, Detailed Command Information, common data types, string).
 pub fn lossy(alloc: Global, bytes: &[u8]) -> Result<Text, NoMemory>
     ensures { IfOk result (λ text. text ≡ lossy bytes.now) }
 {

@@ -21,7 +21,8 @@ pub struct IdSizes {
 pub struct BadSizes(pub u32);
 
 impl IdSizes {
-    /// The sizes of a field's, a method's, an object's, a reference type's and a frame's id, in this order.
+    /// The sizes of a field's, a method's, an object's, a reference type's and a frame's id, in this order. `BadSizes`
+    /// comes exactly where one is outside 1 to 8 (JDWP, VirtualMachine command set, IDSizes).
     pub fn new(sizes: [u32; 5]) -> Result<IdSizes, BadSizes>
         ensures ok { MatchResult result (λ s. sizes ≡ s.field ∷ s.method ∷ s.object ∷ s.class ∷ s.frame ∷ [])
             (λ bad. position is_no_size sizes ≡ Some bad.0) }

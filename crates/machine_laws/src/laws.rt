@@ -60,9 +60,9 @@ pub fn event_requests_stand_as_the_messages_say()
     ensures { Stands }
 {}
 
-/// A Set that is sent is of a wish that is wished, isn't installed and wasn't refused; a Clear is of a request that is
-/// installed and isn't wished. Neither is sent while an effect is in flight (JDWP, EventRequest command set, Set and
-/// Clear).
+/// A Set that is sent is of a wish that is wished, isn't installed and wasn't refused since it is wished; a Clear is of
+/// a request that is installed and isn't wished. Neither is sent while an effect is in flight (JDWP, EventRequest
+/// command set, Set and Clear).
 pub fn each_event_request_is_set_once()
     ensures { Once }
 {}
@@ -102,7 +102,7 @@ pub fn breakpoints_are_told_once_they_are_verified()
 /// threw something, or ended its step. At some time in the messages, with this composite in hand, the event's request
 /// was installed. Then, and where the stop is told, no event request is to be set or cleared, and breakpoints are
 /// bound by all that is known. The thread and the reason are told by that event; the text of an exception is what the
-/// look-up of its type came to. Else `stopped` is told for a `pause`, in the stop that this began. Where a halt is
+/// look-up of its type came to. Else `stopped` is told for a `pause`, with a stop in hand. Where a halt is
 /// told in a stop, the Resume that undoes its suspension is due right behind it (DAP specification, Events, Stopped;
 /// JDWP, Event command set, Composite; JDWP, VirtualMachine command set, Resume).
 pub fn stops_are_told_of_what_stops_the_target()
@@ -146,9 +146,10 @@ pub fn nothing_is_asked_but_what_is_lacking()
     ensures { Questions }
 {}
 
-/// No question about null is asked, which may end the target's process: none about object 0, and not which class the
-/// class 0 extends. No step of thread 0 is set, which may end it, too. No question is asked for nothing: for no frame,
-/// no element, no field or no slot (JDWP, Detailed Command Information).
+/// No question is asked for the type, the text, the length, the fields or the elements of the object 0, and none for
+/// the class above the class 0: such a question may end the target's process. No step of thread 0 is set, which may end
+/// it, too. No question is asked for nothing: for no frame, no element, no field or no slot (JDWP, Detailed Command
+/// Information).
 pub fn nothing_is_asked_of_null()
     ensures { Harmless }
 {}
@@ -209,8 +210,8 @@ pub fn look_ups_lack_what_they_have_come_to()
     ensures { Wants }
 {}
 
-/// A look-up that is done by a world's replies has the value that it has in that world, in any order of asking; one
-/// that has failed has none there.
+/// A look-up that is done by a world's replies has the value that it has in that world, in any order of asking, where
+/// what is known of classes is so in that world; one that has failed has none there.
 pub fn look_ups_show_the_world()
     ensures { Worlds }
 {}

@@ -1,5 +1,5 @@
-//! How much the machine can still do by itself, and what an act of its own leaves as it was. It is definitions and laws,
-//! and no code.
+//! How much the machine can still do by itself, and that each act but a wait and the session's end leaves less of it.
+//! It is definitions and a law, and no code.
 #![tactic(auto)]
 
 mod laws;

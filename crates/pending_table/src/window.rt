@@ -6,7 +6,7 @@ use crate::place::{Sent, place, put, take_out, waits};
 use jdwp_commands::Asked;
 use std::marker::Model;
 
-/// A reply that answers no pending command, with its id.
+/// A reply that answers no pending command, with its id (JDWP, JDWP Packets, id).
 #[derive(Clone, Copy, Debug, PartialEq, Eq)]
 pub struct UnknownReply(pub u32);
 

@@ -16,8 +16,9 @@ use std::alloc::Global;
 use std::str;
 use target_scripts::{Building, RowTrouble, begun, chain_fault, grow};
 
-/// Reads the text of a script, in any spelling of each line's JSON. `NoMemory` comes where
-/// memory is refused, `At` with the first faulty line and the first fault that it has.
+/// Reads the text of a script, in any spelling of each line's JSON. `NoMemory` comes where memory is refused, `At` with
+/// the first faulty line and the first fault that it has. Chains of classes are judged over the classes that were read
+/// when reading stopped, at the end or at another fault. One at fault is told as `UnknownId` at the line of its class.
 #[tactic(auto, unfolding(crate::specs::Reading::script_of))]
 pub fn read_script(alloc: Global, bytes: &[u8]) -> Result<Script, ScriptTrouble>
     ensures { IsRead result (script_of bytes.now) }

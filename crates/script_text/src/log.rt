@@ -8,7 +8,8 @@ pub struct SessionLog {
     pub ending: Option<u8>,
 }
 
-/// What is wrong with a line. The kinds stand in the order in which a line is judged: the first that applies is told.
+/// What is wrong with a line: the first of these kinds that applies is told. But a line behind `["end"]` to which none
+/// of the first three applies is told as `AfterEnd`.
 #[derive(Clone, Copy, Debug, Drop, PartialEq, Eq)]
 pub enum ScriptFault {
     /// It isn't UTF-8.
@@ -23,13 +24,14 @@ pub enum ScriptFault {
     BadOrder,
     /// It gives an id again within its kind.
     RepeatedId,
-    /// It names an id that no line before it gave; of a class above another one, that no line of the world gives.
+    /// It names an id that no line before it gave. The class above a class may be given by any line that was read, and
+    /// the chain of them has to end.
     UnknownId,
     /// It is a move that can't be made where all moves before it were made.
     BadMove,
     /// It is the line after the last: `end` is missing, or the last line has no line feed.
     NoEnd,
-    /// It stands after `end`.
+    /// It stands behind `["end"]`.
     AfterEnd,
 }
 

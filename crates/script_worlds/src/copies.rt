@@ -1,4 +1,4 @@
-//! Copies of a world's rows. Each answers `NoMemory` where memory is refused.
+//! Copies of a world's rows.
 ghost use Rattle.std.specs.Prelude.{◌≡◌, IfOk};
 
 use jdwp_values::{Field, Line, Method, Variable};
@@ -27,7 +27,7 @@ fn lines_copy(alloc: Global, lines: &Option<List<Line>>) -> Result<Option<List<L
     }
 }
 
-/// A class.
+/// A copy of a class. `NoMemory` comes where memory is refused.
 pub fn class_copy(alloc: Global, row: &WorldClass) -> Result<WorldClass, NoMemory>
     ensures { IfOk result (λ copy. copy ≡ row.now) }
 {
@@ -41,7 +41,7 @@ pub fn class_copy(alloc: Global, row: &WorldClass) -> Result<WorldClass, NoMemor
     })
 }
 
-/// A method.
+/// A copy of a method. `NoMemory` comes where memory is refused.
 pub fn method_copy(alloc: Global, row: &WorldMethod) -> Result<WorldMethod, NoMemory>
     ensures { IfOk result (λ copy. copy ≡ row.now) }
 {
@@ -60,7 +60,7 @@ pub fn method_copy(alloc: Global, row: &WorldMethod) -> Result<WorldMethod, NoMe
     })
 }
 
-/// A variable.
+/// A copy of a variable. `NoMemory` comes where memory is refused.
 pub fn variable_copy(alloc: Global, row: &WorldVariable) -> Result<WorldVariable, NoMemory>
     ensures { IfOk result (λ copy. copy ≡ row.now) }
 {
@@ -78,7 +78,7 @@ pub fn variable_copy(alloc: Global, row: &WorldVariable) -> Result<WorldVariable
     })
 }
 
-/// A field.
+/// A copy of a field. `NoMemory` comes where memory is refused.
 pub fn field_copy(alloc: Global, row: &WorldField) -> Result<WorldField, NoMemory>
     ensures { IfOk result (λ copy. copy ≡ row.now) }
 {
@@ -94,7 +94,7 @@ pub fn field_copy(alloc: Global, row: &WorldField) -> Result<WorldField, NoMemor
     })
 }
 
-/// An array.
+/// A copy of an array. `NoMemory` comes where memory is refused.
 pub fn array_copy(alloc: Global, row: &WorldArray) -> Result<WorldArray, NoMemory>
     ensures { IfOk result (λ copy. copy ≡ row.now) }
 {
@@ -105,7 +105,7 @@ pub fn array_copy(alloc: Global, row: &WorldArray) -> Result<WorldArray, NoMemor
     })
 }
 
-/// A string.
+/// A copy of a string. `NoMemory` comes where memory is refused.
 pub fn string_copy(alloc: Global, row: &WorldString) -> Result<WorldString, NoMemory>
     ensures { IfOk result (λ copy. copy ≡ row.now) }
 {
@@ -116,7 +116,7 @@ pub fn string_copy(alloc: Global, row: &WorldString) -> Result<WorldString, NoMe
     })
 }
 
-/// A thread.
+/// A copy of a thread. `NoMemory` comes where memory is refused.
 pub fn thread_copy(alloc: Global, row: &WorldThread) -> Result<WorldThread, NoMemory>
     ensures { IfOk result (λ copy. copy ≡ row.now) }
 {
@@ -126,7 +126,7 @@ pub fn thread_copy(alloc: Global, row: &WorldThread) -> Result<WorldThread, NoMe
     })
 }
 
-/// A frame.
+/// A copy of a frame. `NoMemory` comes where memory is refused.
 pub fn frame_copy(alloc: Global, row: &WorldFrame) -> Result<WorldFrame, NoMemory>
     ensures { IfOk result (λ copy. copy ≡ row.now) }
 {

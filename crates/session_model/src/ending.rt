@@ -5,8 +5,8 @@ use jdwp_packets::PacketFault;
 use wire_core::NoMemory;
 
 /// The limits of a session: the happenings that it takes, the waits in vain in a row, and the items that wait.
-/// Each is at least 1, and `turns` is at most 2^40. A wait in vain takes about two milliseconds over the sockets of
-/// `wire_edge`, so that `quiet` counts these, and not seconds.
+/// Each is at least 1, and `turns` is at most 2^40. `quiet` counts waits, and not seconds: over the sockets of
+/// `wire_edge` a wait in vain takes one to two ticks of the kernel.
 #[derive(Clone, Copy, Debug, PartialEq, Eq)]
 pub struct Limits {
     pub turns: u64,
@@ -19,7 +19,7 @@ impl Limits {
     ghost use Rattle.session_model.specs.States.{AreLimits};
 
     /// The limits of a session that serves an editor: 2^40 happenings, 43,200,000 waits in vain in a row, which is
-    /// about a day of silence, and 65,536 waiting items.
+    /// one to three days of silence, and 65,536 waiting items.
     pub fn standard() -> Limits
         ensures values { result ≡ record { turns = 1099511627776; quiet = 43200000; waiting = 65536 } }
         ensures usable { AreLimits result }

@@ -77,7 +77,7 @@ impl Running {
         self.stops
     }
 
-    /// Begins the next stop, in which nothing was told yet. It takes no memory.
+    /// Begins the next stop, in which nothing was told yet; with it there are fewer than 2^63. It takes no memory.
     pub fn stop(self) -> Stop
         requires { length self.firsts + 1 < 2 ^ 63 }
         ensures { result ≡ begun self }

@@ -29,8 +29,8 @@ impl Ledger {
         Ledger { held: 0 }
     }
 
-    /// Enters a composite under its policy: one more is held under `All`, and no more under another (JDWP, Event command
-    /// set, Composite).
+    /// Enters a composite under its policy: one more is held under `All`, and no more under another. With it fewer than
+    /// 2^63 are held (JDWP, Event command set, Composite).
     pub fn composite(&mut self, policy: Policy)
         requires { with_happening (composite policy) self.old < 2 ^ 63 }
         ensures { self.new ≡ with_happening (composite policy) self.old }
@@ -40,7 +40,8 @@ impl Ledger {
         }
     }
 
-    /// Enters a Suspend that the target accepted: one more is held (JDWP, VirtualMachine command set, Suspend).
+    /// Enters a Suspend that the target accepted: one more is held, and with it fewer than 2^63 (JDWP, VirtualMachine
+    /// command set, Suspend).
     pub fn suspended(&mut self)
         requires { with_happening suspended self.old < 2 ^ 63 }
         ensures { self.new ≡ with_happening suspended self.old }

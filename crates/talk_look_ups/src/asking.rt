@@ -153,8 +153,8 @@ impl Asking {
         !self.queue.is_empty()
     }
 
-    /// What is lacking is to be asked, each question once, but for what is pending. `NoMemory` comes where memory is
-    /// refused.
+    /// What is lacking is to be asked, each question once, but for what is pending. Each of them is pending, or wasn't
+    /// asked before. `NoMemory` comes where memory is refused.
     #[tactic(auto, using(crate::proofs::AskingLaws::queue_apart))]
     pub fn queue(&mut self, alloc: Global, wants: VecDeque<Want>) -> Result<(), NoMemory>
         requires { all_due self.old.asked wants.items ≡ true }

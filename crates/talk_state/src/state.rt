@@ -103,7 +103,7 @@ impl Model for State {
 }
 
 impl State {
-    /// Before anything was heard.
+    /// Before anything was heard. `NoMemory` comes where memory is refused.
     pub fn new(alloc: Global) -> Result<State, NoMemory>
         ensures { IfOk result (λ state. state ≡ nothing_known) }
     {

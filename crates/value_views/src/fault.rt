@@ -1,4 +1,4 @@
-/// Why no value is read from a text.
+/// Why no value is read from a text (DAP specification, SetVariable request, value; JDWP, Constants, Tag).
 #[derive(Clone, Copy, Debug, PartialEq, Eq)]
 pub enum WriteFault {
     /// Values of this kind are not written.

@@ -37,7 +37,8 @@ pub struct VerifiedEntry {
     pub line: Option<i32>,
 }
 
-/// An entry that has a location: its id, and whether it is one of a source's lines and not a function.
+/// An entry that has a location: its id, and whether it is one of a source's lines and not a function (DAP
+/// specification, Events, Stopped, reason and hitBreakpointIds).
 #[derive(Clone, Copy, PartialEq, Eq)]
 pub struct EntryAt {
     pub id: u64,

@@ -12,7 +12,7 @@ use jdwp_values::{ClassId, FieldId, FrameId, MethodId, ObjectId, ThreadId, Value
 use std::alloc::Global;
 use wire_core::{Blob, List, NoMemory};
 
-/// What the target's program does next.
+/// What the target's program does next (JDWP, Event command set, Composite).
 #[derive(Debug, Drop)]
 pub enum Move {
     /// The innermost frame of the thread stands at this index, and these slots get their values.
@@ -64,7 +64,7 @@ pub enum Move {
     Death,
 }
 
-/// Why a move was not made.
+/// Why a move was not made (JDWP, VirtualMachine command set, Suspend; JDWP, Event command set, Composite, VMDeath).
 #[derive(Clone, Copy, Debug, Drop, PartialEq, Eq)]
 pub enum MoveTrouble {
     /// Memory was refused.

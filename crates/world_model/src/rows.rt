@@ -71,7 +71,8 @@ pub struct WorldString {
     pub text: Blob,
 }
 
-/// A value that was put to a field of an object. Of several that were put to one field the last counts.
+/// A value that was put to a field of an object. Of several that were put to one field the last counts (JDWP,
+/// ObjectReference command set, GetValues and SetValues).
 #[derive(Clone, Copy, Debug, PartialEq, Eq)]
 pub struct Put {
     pub object: ObjectId,

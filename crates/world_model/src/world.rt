@@ -7,7 +7,7 @@ use crate::rows::{
 use jdwp_values::IdSizes;
 use wire_core::List;
 
-/// The world of a target: its program, and the debugger's hold on it.
+/// The world of a target: its program, and the debugger's hold on it (JDWP, Detailed Command Information).
 #[derive(Debug, Drop)]
 pub struct World {
     pub sizes: IdSizes,
