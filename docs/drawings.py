@@ -10,6 +10,10 @@ import os
 import sys
 from xml.sax.saxutils import escape
 
+sys.path.insert(0, os.path.join(os.path.dirname(os.path.dirname(os.path.abspath(__file__))), "examples"))
+
+from crate_list import listed_crates
+
 WIDTH, HEIGHT, GAP = 1060, 46, 10
 LEFT, RIGHT = 150, 910
 PROVED, MODEL, EDGE, OUTSIDE = "#dceafa", "#e3f1dc", "#fbe3c8", "#ffffff"
@@ -88,22 +92,22 @@ HERE = os.path.dirname(os.path.abspath(__file__))
 
 def misplaced():
     """Why the layers aren't those of crates.txt, in words; None where they are."""
-    with open(os.path.join(os.path.dirname(HERE), "crates.txt"), encoding="utf-8") as file:
-        listed = dict(line.split(":", 1) for line in file if ":" in line and not line.startswith("#"))
+    listed = listed_crates()
     rows = {name: at for at, row in enumerate(reversed(ROWS)) for _, _, name, _ in row}
     # The edge is drawn below what it stands on: it is where the bytes come from.
     rows["wire_edge"] = rows["wire_core"] + 1
     due = {name for name in listed if not name.endswith(("_tests", "_bench"))}
     if due != set(rows):
         return "not in both crates.txt and ROWS: %s" % ", ".join(sorted(due ^ set(rows)))
-    wrong = ["%s on %s" % (name, used) for name in rows for used in listed[name].split()
+    wrong = ["%s on %s" % (name, used) for name in rows for used in listed[name]
              if rows.get(used, -1) >= rows[name]]
     return "not above what it stands on: %s" % wrong[0] if wrong else None
 
 
-def box(x, y, width, height, colour, name, what=""):
-    shape = '<rect x="%g" y="%g" width="%g" height="%g" rx="5" fill="%s" stroke="#445"/>'
-    rows = [shape % (x, y, width, height, colour)]
+def box(place, colour, name, what=""):
+    """A box at a place: how far right and down it begins, and how wide and high it is."""
+    x, y, width, height = place
+    rows = ['<rect x="%g" y="%g" width="%g" height="%g" rx="5" fill="%s" stroke="#445"/>' % (*place, colour)]
     middle, centre = x + width / 2, y + height / 2
     rows.append('<text x="%g" y="%g" class="name">%s</text>' % (middle, centre - (3 if what else -5), escape(name)))
     if what:
@@ -125,12 +129,12 @@ def layers():
         unit = (RIGHT - LEFT - GAP * (len(row) - 1)) / sum(share for share, *_ in row)
         x = LEFT
         for share, colour, name, what in row:
-            rows += box(x, y, share * unit, HEIGHT, colour, name, what)
+            rows += box((x, y, share * unit, HEIGHT), colour, name, what)
             x += share * unit + GAP
         y += HEIGHT + GAP
     edge = y - GAP - HEIGHT / 2
-    rows += box(10, 10, 75, y - GAP - 10, OUTSIDE, "editor", "DAP")
-    rows += box(WIDTH - 85, 10, 75, y - GAP - 10, OUTSIDE, "Java", "JDWP")
+    rows += box((10, 10, 75, y - GAP - 10), OUTSIDE, "editor", "DAP")
+    rows += box((WIDTH - 85, 10, 75, y - GAP - 10), OUTSIDE, "Java", "JDWP")
     rows += arrow(92, edge, LEFT - 7, "TCP", "both") + arrow(RIGHT + 7, edge, WIDTH - 92, "TCP", "both")
     for at, (colour, text) in enumerate(LEGEND):
         x = LEFT + at * 190
@@ -148,7 +152,7 @@ def exchange(messages):
     for x in (editor, bridge, java):
         rows.append('<line x1="%g" y1="50" x2="%g" y2="%g" stroke="#99a"/>' % (x, x, bottom))
     for x, colour, name in ((editor, OUTSIDE, "editor"), (bridge, PROVED, "bridge"), (java, OUTSIDE, "Java machine")):
-        rows += box(x - 70, 10, 140, 40, colour, name)
+        rows += box((x - 70, 10, 140, 40), colour, name)
     for at, (way, text) in enumerate(messages):
         start, to = ways[way]
         inset = 3 if start < to else -3
@@ -169,8 +173,9 @@ def write(name, drawing):
 
 
 if __name__ == "__main__":
-    if misplaced():
-        sys.exit("drawings.py: %s" % misplaced())
+    why = misplaced()
+    if why:
+        sys.exit("drawings.py: %s" % why)
     write("layers.svg", layers())
     write("session.svg", exchange(SESSION))
     write("stop.svg", exchange(STOP))

@@ -17,7 +17,7 @@ import subprocess
 import sys
 from functools import partial
 
-from building import PATIENCE, PROGRAM, TOP, plainly, program_of, tried
+from building import PATIENCE, TOP, plainly, program_as_it_is, tried
 from java_machine import lacking
 from over_tcp import CAPABILITIES, Client, dial
 from sessions import RUNS_ON, TERMINATED, Session, bound, has_to_be, hit, line_of, scope, stack, stopped, succeeded
@@ -212,9 +212,7 @@ def main():
     if why:
         print("first session skipped: %s" % why)
         return 0
-    # A program that was built here is taken as it is.
-    program = program_of(sys.argv[1:] or [PROGRAM][: os.path.isfile(PROGRAM)])
-    return tried([("first_session", partial(is_kept, program))])
+    return tried([("first_session", partial(is_kept, program_as_it_is(sys.argv[1:])))])
 
 
 if __name__ == "__main__":
