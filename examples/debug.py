@@ -3,8 +3,8 @@
 
 MAIN is a class, looked for in the class path, a .jar file, or a .java file, which is compiled first. The Java program
 runs with its own standard streams, and its words are those behind MAIN. One session is served. Whatever ends this
-script, Ctrl-C too, the Java program and the bridge end with it. Its status is that of the bridge; 2 where nothing was
-started, 130 after Ctrl-C.
+script, Ctrl-C too, the Java program and the bridge end with it. Its status is that of the bridge; 2 where there was no
+session, 1 where it didn't end by itself, 130 after Ctrl-C.
 
 usage: examples/debug.py [--suspend] [--port N] [--class-path PATH] [--sources FOLDER] [--program PROGRAM | --unproved]
                          MAIN [WORD..]
@@ -29,20 +29,23 @@ import subprocess
 import tempfile
 import time
 
-from building import CRATES, PATIENCE, PROGRAM, plainly, program_of, stop
+from building import CRATES, PATIENCE, plainly, program_as_it_is, stop
 from java_machine import AGENT, tool
 from over_tcp import free_port
 
 # How long an editor has to disconnect once the Java program has ended, in seconds.
 LEAVE = 5
-# How long a bridge that reached its target may take to listen, or a Java program to end behind it, in seconds; and the
-# status of a bridge that didn't reach its target.
+# How long a bridge that reached its target may take to listen, or a Java program to end behind the bridge, in seconds.
 SETTLE = 3
+# The status of a bridge that didn't reach its target.
 NOT_OPENED = 7
-# What runs the bridge unproved, for a day, in the folder of its crate; and how long it may take to compile it.
+# What runs the bridge unproved, for a day.
 UNPROVED = ["rt", "try", "--seconds", "86400", "--"]
+# The folder of the bridge's crate, where it is run.
 HOME = os.path.join(CRATES, "bridge_cmd")
+# How long the bridge may take to be compiled and to listen, in seconds, where it runs unproved.
 COMPILED = 900
+# The line that names a Java source's package.
 PACKAGE = re.compile(r"^\s*package\s+([\w.]+)\s*;", re.MULTILINE)
 
 
@@ -94,6 +97,22 @@ def compiled(path, root, classes, class_path):
         stop("%s wasn't compiled" % path)
 
 
+def java_program(chosen, folder):
+    """The Java program: how it is called, what a Java machine takes to run it, and the roots of its sources. A .java
+    file is compiled to this folder."""
+    main, class_path = chosen.main, chosen.class_path
+    if main.endswith(".jar"):
+        if not os.path.isfile(main):
+            stop("there is no file %s" % main)
+        return main, ["-jar", main], chosen.sources or ["."]
+    if not main.endswith(".java"):
+        return main, ["-cp", class_path or ".", main], chosen.sources or ["."]
+    name, root = read_source(main)
+    compiled(main, root, folder, class_path)
+    class_path = folder + (os.pathsep + class_path if class_path else "")
+    return name, ["-cp", class_path, name], chosen.sources or [root]
+
+
 def end(process):
     """Ends a process that may have ended: by a request first."""
     if process.poll() is None:
@@ -114,12 +133,6 @@ def checked_port(port):
     return port or free_port()
 
 
-def started(main, words, class_path, suspend, port):
-    java = [jdk_tool("java"), AGENT % ("y" if suspend else "n", port)]
-    java += ["-jar"] if main.endswith(".jar") else ["-cp", class_path]
-    return subprocess.Popen([*java, main, *words])
-
-
 def bridge_command(chosen):
     """What runs the bridge, and how long it may take to listen."""
     if chosen.unproved:
@@ -127,8 +140,7 @@ def bridge_command(chosen):
             stop("there is no command rt in the path: README.md says under Set up what the Rattle kit is")
         print("The bridge is compiled, unproved: this takes two to three minutes", flush=True)
         return UNPROVED, COMPILED
-    named = chosen.program or (PROGRAM if os.path.isfile(PROGRAM) else None)
-    return [program_of([named] if named else [])], SETTLE
+    return [program_as_it_is([chosen.program] if chosen.program else [])], SETTLE
 
 
 def is_opened(bridge, port, patience):
@@ -141,18 +153,23 @@ def is_opened(bridge, port, patience):
         except ConnectionRefusedError:
             # It doesn't listen yet, or no more, where an editor was quicker than this.
             time.sleep(0.02)
-    return bridge.poll() != NOT_OPENED
+    if bridge.poll() is None:
+        return True
+    # Where the session is over by now, a line says how it ended.
+    return bridge.returncode != NOT_OPENED and bridge.stdout.buffer.peek().startswith(b"ended ")
 
 
-def bridged(command, patience, port, target, java):
+def bridged(words, port, patience, java, running):
     """The bridge, once it listens at the port. It is started again until the Java machine listens, too."""
-    words = [*command, "serve", "--listen", "127.0.0.1:%d" % port, "--target", "127.0.0.1:%d" % target]
     until = time.monotonic() + PATIENCE
     while True:
-        bridge = subprocess.Popen(words, stdout=subprocess.PIPE, text=True, cwd=HOME)
+        bridge = subprocess.Popen(words, stdin=subprocess.DEVNULL, stdout=subprocess.PIPE, text=True, cwd=HOME)
+        running.callback(end, bridge)
         if is_opened(bridge, port, patience):
             return bridge
         said = bridge.communicate()[0].strip()
+        if bridge.returncode != NOT_OPENED:
+            stop("the bridge ended with status %d: %s" % (bridge.returncode, said or "it printed no line"))
         if java.poll() is not None:
             stop("the Java program ended with status %d, before the bridge reached it" % java.returncode)
         if time.monotonic() > until:
@@ -189,22 +206,18 @@ def tell_end(java):
 
 def run(chosen, folder, running):
     """Starts all that is asked for, and gives the bridge's status at its end."""
-    main, roots, class_path = chosen.main, chosen.sources, chosen.class_path
-    port = checked_port(chosen.port)
+    java_tool, port = jdk_tool("java"), checked_port(chosen.port)
+    name, program, roots = java_program(chosen, folder)
     command, patience = bridge_command(chosen)
-    if main.endswith(".java"):
-        name, root = read_source(main)
-        compiled(main, root, folder, class_path)
-        main, roots = name, roots or [root]
-        class_path = folder + (os.pathsep + class_path if class_path else "")
     target = free_port()
-    java = started(main, chosen.words, class_path or ".", chosen.suspend, target)
+    agent = AGENT % ("y" if chosen.suspend else "n", target)
+    java = subprocess.Popen([java_tool, agent, *program, *chosen.words])
     running.callback(end, java)
-    bridge = bridged(command, patience, port, target, java)
-    running.callback(end, bridge)
-    print("Java program: %s, process %d%s" % (main, java.pid, ", waits for its debugger" if chosen.suspend else ""))
+    words = [*command, "serve", "--listen", "127.0.0.1:%d" % port, "--target", "127.0.0.1:%d" % target]
+    bridge = bridged(words, port, patience, java, running)
+    print("Java program: %s, process %d%s" % (name, java.pid, ", waits for its debugger" if chosen.suspend else ""))
     print("Editor: attach to the debug adapter at 127.0.0.1, port %d, with the arguments" % port)
-    print("  " + json.dumps({"sourceRoots": [os.path.abspath(root) for root in roots or ["."]]}), flush=True)
+    print("  " + json.dumps({"sourceRoots": [os.path.abspath(root) for root in roots]}), flush=True)
     return watched(bridge, java)
 
 
