@@ -21,8 +21,9 @@ from over_tcp import framed, request
 
 LENGTHS = (25_000, 50_000, 100_000, 200_000)
 RUNS = 5
-# What a client asks before it asks for threads, and how many commands the target is sent meanwhile.
+# What a client asks before it asks for threads.
 BEGUN = (("initialize", {"adapterID": "jdwp"}), ("attach", {"sourceRoots": ["/p/src"]}))
+# How many commands the target is sent meanwhile.
 BEGUN_COMMANDS = 3
 HANDSHAKE = b"JDWP-Handshake"
 SIZES = b"\x00\x00\x00\x08" * 5

@@ -56,6 +56,7 @@ for kind, number in CASES:
             if said != expected:
                 sys.exit(f"{kind} {number}: {expected!r}, but the {name} says {said!r}")
             times[name].append(taken)
+    # How many bytes there are: of the four requests of requests.rs in turn, or of the rounds and blocks of streams.rs.
     total = 1_000_000 / 4 * (46 + 49 + 82 + 84) if kind == "requests" else 164 * 1_638_400
     least = {name: min(each) * 1e9 / total for name, each in times.items()}
     what = "a million requests" if kind == "requests" else f"{kind} in pieces of {number}"

@@ -31,7 +31,8 @@ def stop(text):
 
 
 def options():
-    words = argparse.ArgumentParser(usage="relay.py --target HOST:PORT [--program PROGRAM]")
+    words = argparse.ArgumentParser()
+    words.format_help = lambda: __doc__
     words.error = stop
     words.add_argument("--target", required=True)
     words.add_argument("--program", default=PROGRAM)

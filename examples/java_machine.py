@@ -27,7 +27,7 @@ COUNTED = re.compile(r"hits (\d+), all ([\d.]+) ms, median ([\d.]+) ms\n")
 def tool(name):
     """The path of a tool of the JDK: of JAVA_HOME, else of the path. None where there is none."""
     home = os.environ.get("JAVA_HOME")
-    found = home and shutil.which(name, path=os.path.join(home, "bin")) or shutil.which(name)
+    found = (home and shutil.which(name, path=os.path.join(home, "bin"))) or shutil.which(name)
     return found and os.path.abspath(found)
 
 

@@ -18,7 +18,7 @@ import sys
 import time
 
 from building import plainly, program_of
-from many_threads import HANDSHAKE, IN_FLIGHT, PIECE, SIZES, attached_client, cut, receive
+from many_threads import HANDSHAKE, IN_FLIGHT, SIZES, attached_client, cut, next_packets, receive
 from over_tcp import Bridge, free_port, pieces, request
 from round_trips import pair, processor_seconds
 from sessions import has_to_be
@@ -28,6 +28,7 @@ LINES = 4
 RUNS = 3
 # classes, their methods, other classes, and files that are listed
 CASES = ((50, 40, 0, 50), (500, 40, 0, 10), (500, 40, 0, 50), (500, 40, 1000, 50), (5000, 40, 0, 50), (500, 400, 0, 50))
+# The commands that change the target (JDWP, EventRequest command set, Set and Clear).
 EFFECTS = ((15, 1), (15, 2))
 
 
@@ -136,7 +137,7 @@ def send_wave(stream, first, commands):
             (group, command), body = commands[sent]
             stream.sendall(struct.pack(">IIBBB", 11 + len(body), first + sent, 0, group, command) + body)
             sent += 1
-        packets, pending = cut(pending + stream.recv(PIECE))
+        packets, pending = next_packets(stream, pending)
         done += len(packets)
 
 

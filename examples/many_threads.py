@@ -65,6 +65,17 @@ def cut(pending):
     return packets, pending[at:]
 
 
+def next_packets(stream, pending):
+    """The next packets of a link, one or more, and what stands behind them."""
+    packets = []
+    while not packets:
+        piece = stream.recv(PIECE)
+        if not piece:
+            raise EOFError("the link ended")
+        packets, pending = cut(pending + piece)
+    return packets, pending
+
+
 def reply(packet, count):
     """The reply packet to a command."""
     number, _, group, command = struct.unpack_from(">IBBB", packet, 4)
@@ -108,12 +119,7 @@ def ask_names(stream, threads):
         while sent < len(threads) and sent - len(names) < IN_FLIGHT:
             stream.sendall(asked(2 + sent, 11, 1, struct.pack(">Q", threads[sent])))
             sent += 1
-        packets = []
-        while not packets:
-            piece = stream.recv(PIECE)
-            if not piece:
-                raise EOFError("the link ended")
-            packets, pending = cut(pending + piece)
+        packets, pending = next_packets(stream, pending)
         names.extend(packet[15:] for packet in packets)
     return names
 

@@ -72,7 +72,7 @@ def dial(port, process=None):
         try:
             return socket.create_connection(("127.0.0.1", port), timeout=PATIENCE)
         except ConnectionRefusedError:
-            if time.monotonic() > end or process and process.poll() is not None:
+            if time.monotonic() > end or (process and process.poll() is not None):
                 raise
             time.sleep(0.02)
 

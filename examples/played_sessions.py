@@ -117,7 +117,7 @@ def read_played(names):
                     sessions.append((rest.split(), lines))
                 elif word == "stage":
                     lines = stages[rest] = []
-                elif word and word != "#":
+                elif line and not line.startswith("#"):
                     lines.append(line)
     return stages, cases
 

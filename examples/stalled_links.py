@@ -21,10 +21,13 @@ from many_threads import ATTACH
 from over_tcp import Bridge, request
 from round_trips import processor_seconds
 
-# How many seconds a case is measured, and how often, until the program is seen to take no more than so much.
+# How many seconds a case is measured.
 SECONDS = 4
+# How often it is measured at most, until the program takes as little as it may.
 TRIES = 8
+# How much of a core the program may take meanwhile.
 SHARE = 0.1
+# How much it may grow meanwhile.
 KILOBYTES = 1024
 
 
