@@ -10,6 +10,7 @@ pub mod BindingReplies
 pub mod BindingSeen
 pub mod BindingWatches
 pub mod CommandLemmas
+pub mod ConfiguredEntry
 pub mod EarlyItems
 pub mod EventLaws
 pub mod FrameLaws
@@ -47,6 +48,7 @@ pub mod RequestSteps
 pub mod RestLaws
 pub mod SafePlans
 pub mod ServedLaws
+pub mod ShownStops
 pub mod SizeLaws
 pub mod SpellLaws
 pub mod StandLaws

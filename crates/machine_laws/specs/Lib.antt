@@ -1,1 +1,2 @@
+pub mod ClientStops
 pub mod Names

@@ -1,6 +1,7 @@
 //! What holds of every run of the machine, and of every look-up. Each law is the contract of a function that does
 //! nothing.
 
+ghost use Rattle.machine_laws.specs.ClientStops.{ShowsStops};
 ghost use Rattle.machine_model.specs.Binding.{Binds};
 ghost use Rattle.machine_model.specs.BreakpointEvents.{TellsAll, TellsVerified};
 ghost use Rattle.machine_model.specs.EventRequests.{AsReplied, Once, Settles, Stands};
@@ -108,6 +109,15 @@ pub fn breakpoints_are_told_once_they_are_verified()
 pub fn stops_are_told_of_what_stops_the_target()
     ensures told { TellsStops }
     ensures surplus { UndoesSurplus }
+{}
+
+/// Until the target is gone, the client knows whether a stop is in hand: `stopped` begins one, and so does the success
+/// of `pause`; with the success of `continue` or of a step it is over. That is so wherever no request is in hand without
+/// its response, at rest too. And once `configurationDone` has succeeded, the target's entry isn't held (DAP
+/// specification, Events, Stopped; DAP specification, Continue, Next, StepIn, StepOut, Pause and ConfigurationDone
+/// requests).
+pub fn the_client_knows_whether_a_stop_is_in_hand()
+    ensures { ShowsStops }
 {}
 
 /// Where a stop is told no step is in flight, and no event request of one is installed. At rest, once the session is
