@@ -37,6 +37,8 @@ pub mod NotingLaws
 pub mod NumberLaws
 pub mod OutcomeLaws
 pub mod PartTests
+pub mod PausedAnswers
+pub mod PausedStops
 pub mod PendingLaws
 pub mod PlanLaws
 pub mod QuestionLaws

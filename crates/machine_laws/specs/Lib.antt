@@ -1,2 +1,3 @@
 pub mod ClientStops
 pub mod Names
+pub mod Pausing

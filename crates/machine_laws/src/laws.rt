@@ -2,6 +2,7 @@
 //! nothing.
 
 ghost use Rattle.machine_laws.specs.ClientStops.{ShowsStops};
+ghost use Rattle.machine_laws.specs.Pausing.{Pauses};
 ghost use Rattle.machine_model.specs.Binding.{Binds};
 ghost use Rattle.machine_model.specs.BreakpointEvents.{TellsAll, TellsVerified};
 ghost use Rattle.machine_model.specs.EventRequests.{AsReplied, Once, Settles, Stands};
@@ -118,6 +119,13 @@ pub fn stops_are_told_of_what_stops_the_target()
 /// requests).
 pub fn the_client_knows_whether_a_stop_is_in_hand()
     ensures { ShowsStops }
+{}
+
+/// Where `stopped` is told for a `pause`, the success of this request was told last. The event names the thread that
+/// the request names, which was told to the client by this number (DAP specification, Pause request; DAP specification,
+/// Events, Stopped).
+pub fn a_pause_is_told_of_the_thread_that_it_names()
+    ensures { Pauses }
 {}
 
 /// Where a stop is told no step is in flight, and no event request of one is installed. At rest, once the session is

@@ -4,10 +4,10 @@
 mod laws;
 
 pub use laws::{
-    a_disconnect_is_answered_once_the_target_is_left, all_that_is_lacking_was_asked,
-    at_most_sixteen_commands_are_pending, breakpoints_are_bound_before_the_target_runs_on,
-    breakpoints_are_bound_by_all_that_is_known, breakpoints_are_told_once_they_are_verified,
-    client_options_are_those_of_the_last_initialize,
+    a_disconnect_is_answered_once_the_target_is_left, a_pause_is_told_of_the_thread_that_it_names,
+    all_that_is_lacking_was_asked, at_most_sixteen_commands_are_pending,
+    breakpoints_are_bound_before_the_target_runs_on, breakpoints_are_bound_by_all_that_is_known,
+    breakpoints_are_told_once_they_are_verified, client_options_are_those_of_the_last_initialize,
     commands_are_pending_until_they_are_replied_to, commands_have_a_spelling,
     commands_use_ids_that_were_read, each_event_request_is_set_once, event_requests_are_as_replied,
     event_requests_are_settled, event_requests_stand_as_the_messages_say,
