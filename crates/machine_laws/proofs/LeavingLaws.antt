@@ -86,7 +86,7 @@ next_of (Run.moves {messages} {m} {next} {message = final} r allows) before afte
 -- The laws ------------------------------------------------------------------------------------------------------------
 
 -- the request in hand is the first without a response
-first_in : {messages : List Message} {m : Machine} {hand : Hand} {part : Part} {rest : List Part} {request : Request}
+pub first_in : {messages : List Message} {m : Machine} {hand : Hand} {part : Part} {rest : List Part} {request : Request}
     → Run messages m → IsAt m hand part rest → hand.item ≡ a_request request → has_response (part ∷ rest) ≡ true
     → IsFirst messages request
 first_in {messages} {m} {hand} {part} {rest} {request} r at is responds =

@@ -9,6 +9,7 @@ pub mod BindingPlans
 pub mod BindingReplies
 pub mod BindingSeen
 pub mod BindingWatches
+pub mod CausedChanges
 pub mod CommandLemmas
 pub mod ConfiguredEntry
 pub mod EarlyItems

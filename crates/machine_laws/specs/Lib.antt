@@ -1,3 +1,4 @@
+pub mod Changing
 pub mod ClientStops
 pub mod Names
 pub mod Pausing

@@ -1,6 +1,7 @@
 //! What holds of every run of the machine, and of every look-up. Each law is the contract of a function that does
 //! nothing.
 
+ghost use Rattle.machine_laws.specs.Changing.{Changes};
 ghost use Rattle.machine_laws.specs.ClientStops.{ShowsStops};
 ghost use Rattle.machine_laws.specs.Pausing.{Pauses};
 ghost use Rattle.machine_model.specs.Binding.{Binds};
@@ -253,4 +254,14 @@ pub fn a_disconnect_is_answered_once_the_target_is_left()
 /// request; JDWP, JDWP Start Up).
 pub fn the_handshake_goes_out_for_an_attach()
     ensures { Greetings }
+{}
+
+/// Where a command goes that changes the target, apart from its event requests, the first request without a response
+/// asks for it: Suspend for `pause`; the Resume that ends a stop for `continue`, `next`, `stepIn` and `stepOut`; that of
+/// the entry for `configurationDone`; a write for `setVariable`; Exit or Dispose for `disconnect`. Or it is the Resume
+/// that undoes the suspension of the composite in hand, which suspended the whole target (DAP specification, Requests;
+/// JDWP, VirtualMachine command set, Suspend and Resume; JDWP, StackFrame, ObjectReference and ArrayReference command
+/// sets, SetValues).
+pub fn the_target_is_changed_as_the_first_request_asks()
+    ensures { Changes }
 {}
