@@ -52,6 +52,7 @@ pub mod RestLaws
 pub mod SafePlans
 pub mod ServedLaws
 pub mod ShownStops
+pub mod SettingLaws
 pub mod SizeLaws
 pub mod SpellLaws
 pub mod StandLaws

@@ -2,3 +2,4 @@ pub mod Changing
 pub mod ClientStops
 pub mod Names
 pub mod Pausing
+pub mod Settings

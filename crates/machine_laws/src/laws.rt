@@ -24,6 +24,7 @@ ghost use Rattle.machine_model.specs.Steps.{ClearsSteps, StepsAtRest};
 ghost use Rattle.machine_model.specs.Stopping.{TellsStops, UndoesSurplus};
 ghost use Rattle.machine_model.specs.Suspending.{BindsFirst, RunsOn};
 ghost use Rattle.machine_model.specs.Waiting.{Waits};
+ghost use Rattle.machine_laws.specs.Settings.{Sets};
 
 /// The responses answer the first of the requests, one each, in order; at rest all requests are answered (DAP
 /// specification, Base Protocol, Response).
@@ -201,6 +202,15 @@ pub fn references_are_numbered_as_they_are_told()
 /// asked for; they are written down in the step behind that response (DAP specification, Initialize request).
 pub fn client_options_are_those_of_the_last_initialize()
     ensures { Notes }
+{}
+
+/// Until the target is gone, and as long as no request is in hand whose response is to come, breakpoints are those that
+/// the client set last: a request that succeeds replaces the folders of sources, the breakpoints of its source, the
+/// functions, or which exceptions stop, and one that fails changes nothing. Each breakpoint has the next id, and its
+/// line is counted as the client said (DAP specification, Initialize, Attach, SetBreakpoints, SetFunctionBreakpoints
+/// and SetExceptionBreakpoints requests).
+pub fn breakpoints_are_those_that_the_client_set_last()
+    ensures { Sets }
 {}
 
 /// Each id in a command that is sent was read before it, in an answer of the target's or in a composite, as an id of
