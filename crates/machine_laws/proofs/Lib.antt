@@ -31,6 +31,7 @@ pub mod KnowingLaws
 pub mod LeavingLaws
 pub mod LeavingParts
 pub mod LeavingWalk
+pub mod ListingLaws
 pub mod LookupIds
 pub mod MarkLaws
 pub mod NewsLaws

@@ -374,7 +374,7 @@ module _ (id : ℕ) where
           (sym (list_any-append (is_it id) (line_marks list) (flat_map line_marks (put bytes_eq key entries lists)))
           ∙ is) again
 
-  put_listed : (key : List ℕ) (entries : List LineEntry) (wanted : Wanted)
+  pub put_listed : (key : List ℕ) (entries : List LineEntry) (wanted : Wanted)
       → is_listed id (with_lines key entries wanted) ≡ true
       → (list_any (is_it id) (map line_mark entries) || is_listed id wanted) ≡ true
   put_listed key entries wanted is =
@@ -389,7 +389,7 @@ module _ (id : ℕ) where
       in_turn : (a b c d : Bool) → (d || c) ≡ true → (d ≡ true → (a || b) ≡ true) → (a || (b || c)) ≡ true
       in_turn a b c d is h = grind (arith, is, h)
 
-  functions_put : (entries : List FunctionEntry) (wanted : Wanted)
+  pub functions_put : (entries : List FunctionEntry) (wanted : Wanted)
       → is_listed id (with_functions entries wanted) ≡ true
       → (list_any (is_it id) (map function_mark entries) || is_listed id wanted) ≡ true
   functions_put entries wanted is =

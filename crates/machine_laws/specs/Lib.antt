@@ -1,5 +1,6 @@
 pub mod Changing
 pub mod ClientStops
+pub mod BreakpointLists
 pub mod Names
 pub mod Pausing
 pub mod Settings

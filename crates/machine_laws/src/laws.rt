@@ -24,6 +24,7 @@ ghost use Rattle.machine_model.specs.Steps.{ClearsSteps, StepsAtRest};
 ghost use Rattle.machine_model.specs.Stopping.{TellsStops, UndoesSurplus};
 ghost use Rattle.machine_model.specs.Suspending.{BindsFirst, RunsOn};
 ghost use Rattle.machine_model.specs.Waiting.{Waits};
+ghost use Rattle.machine_laws.specs.BreakpointLists.{Lists};
 ghost use Rattle.machine_laws.specs.Settings.{Sets};
 
 /// The responses answer the first of the requests, one each, in order; at rest all requests are answered (DAP
@@ -211,6 +212,14 @@ pub fn client_options_are_those_of_the_last_initialize()
 /// and SetExceptionBreakpoints requests).
 pub fn breakpoints_are_those_that_the_client_set_last()
     ensures { Sets }
+{}
+
+/// Until the target is gone, a `setBreakpoints` or `setFunctionBreakpoints` that succeeds is answered by the
+/// breakpoints that it asks for: as many, in its order, each with the next id and at its line. No other response has
+/// any. Each is called verified just where one of its locations is installed (DAP specification, SetBreakpoints and
+/// SetFunctionBreakpoints requests; Types, Breakpoint).
+pub fn responses_list_the_breakpoints_that_are_asked_for()
+    ensures { Lists }
 {}
 
 /// Each id in a command that is sent was read before it, in an answer of the target's or in a composite, as an id of

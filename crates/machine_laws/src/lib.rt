@@ -23,4 +23,8 @@ pub use laws::{
     the_handshake_goes_out_for_an_attach, the_target_is_changed_as_the_first_request_asks,
     the_target_is_left_once_for_a_disconnect, the_target_runs_on_at_rest,
     what_is_known_is_what_messages_say,
+    responses_list_the_breakpoints_that_are_asked_for, steps_are_over_where_a_stop_is_told,
+    stops_are_told_of_what_stops_the_target, the_first_error_decides,
+    the_handshake_goes_out_for_an_attach, the_target_is_left_once_for_a_disconnect,
+    the_target_runs_on_at_rest, what_is_known_is_what_messages_say,
 };
