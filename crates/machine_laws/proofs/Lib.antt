@@ -72,6 +72,7 @@ pub mod Tables
 pub mod Testing
 pub mod ThingIds
 pub mod ThreadIds
+pub mod ThreadLaws
 pub mod ToldLaws
 pub mod ToldParts
 pub mod TurnLaws

@@ -4,3 +4,4 @@ pub mod BreakpointLists
 pub mod Names
 pub mod Pausing
 pub mod Settings
+pub mod ThreadNumbers

@@ -26,6 +26,7 @@ ghost use Rattle.machine_model.specs.Suspending.{BindsFirst, RunsOn};
 ghost use Rattle.machine_model.specs.Waiting.{Waits};
 ghost use Rattle.machine_laws.specs.BreakpointLists.{Lists};
 ghost use Rattle.machine_laws.specs.Settings.{Sets};
+ghost use Rattle.machine_laws.specs.ThreadNumbers.{KeepsNumbers};
 
 /// The responses answer the first of the requests, one each, in order; at rest all requests are answered (DAP
 /// specification, Base Protocol, Response).
@@ -190,6 +191,11 @@ pub fn all_that_is_lacking_was_asked()
 /// are first told.
 pub fn what_is_known_is_what_messages_say()
     ensures { Knows }
+{}
+
+/// A thread that has a number keeps it as long as the session goes on (DAP specification, Types, Thread).
+pub fn threads_keep_their_numbers()
+    ensures { KeepsNumbers }
 {}
 
 /// Frames and containers are numbered 1, 2, 3 as they are first told in a stop. A number is told again in its stop alone:
