@@ -73,6 +73,8 @@ pub mod Testing
 pub mod ThingIds
 pub mod ThreadIds
 pub mod ThreadLaws
+pub mod ThreadNewsLaws
+pub mod ThreadParts
 pub mod ToldLaws
 pub mod ToldParts
 pub mod TurnLaws

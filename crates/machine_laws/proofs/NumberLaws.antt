@@ -11,7 +11,7 @@ use Rattle.machine_laws.specs.Names.{NamedThread, ThreadId}
 same_id : (thread : ThreadId) → (thread.0 == thread.0) ≡ true
 same_id thread = grind arith
 
-one_of_id : {one other : ThreadId} → one.0 ≡ other.0 → one ≡ other
+pub one_of_id : {one other : ThreadId} → one.0 ≡ other.0 → one ≡ other
 one_of_id {one} {other} is = let thread_of : ℕ → ThreadId = λ n. record { 0 = n } in ap thread_of is
 
 among_on : (threads more : List ThreadId) (thread : ThreadId) → is_among threads thread ≡ true

@@ -4,4 +4,5 @@ pub mod BreakpointLists
 pub mod Names
 pub mod Pausing
 pub mod Settings
+pub mod ThreadEvents
 pub mod ThreadNumbers

@@ -26,6 +26,7 @@ ghost use Rattle.machine_model.specs.Suspending.{BindsFirst, RunsOn};
 ghost use Rattle.machine_model.specs.Waiting.{Waits};
 ghost use Rattle.machine_laws.specs.BreakpointLists.{Lists};
 ghost use Rattle.machine_laws.specs.Settings.{Sets};
+ghost use Rattle.machine_laws.specs.ThreadEvents.{TellsInHand, TellsThreads};
 ghost use Rattle.machine_laws.specs.ThreadNumbers.{KeepsNumbers};
 
 /// The responses answer the first of the requests, one each, in order; at rest all requests are answered (DAP
@@ -196,6 +197,15 @@ pub fn what_is_known_is_what_messages_say()
 /// A thread that has a number keeps it as long as the session goes on (DAP specification, Types, Thread).
 pub fn threads_keep_their_numbers()
     ensures { KeepsNumbers }
+{}
+
+/// The event `thread` tells of a thread that started or ended by an event of the composite in hand, as started or as
+/// exited, by the number that the thread has. The starts and ends that composites told of are told one by one, in the
+/// order in which they came. At rest, once the session is attached, all are (DAP specification, Events, Thread; JDWP,
+/// Event command set, Composite, ThreadStart and ThreadDeath).
+pub fn starts_and_ends_of_threads_are_told()
+    ensures all { TellsThreads }
+    ensures in_hand { TellsInHand }
 {}
 
 /// Frames and containers are numbered 1, 2, 3 as they are first told in a stop. A number is told again in its stop alone:
