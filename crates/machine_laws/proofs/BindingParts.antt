@@ -30,7 +30,7 @@ use Rattle.machine_model.proofs.KeyLaws.{is_one}
 use Rattle.machine_laws.specs.Names.{Event, Finding, Outcome, Part, Replied, Sent, Want, all_threads, class_facts}
 use Rattle.machine_laws.specs.Names.{classes_found, Guard, Handshake, IdSizes, container_children, exception_info}
 use Rattle.machine_laws.specs.Names.{exception_text, expression_value, thread_frames, variable_write}
-use Rattle.machine_laws.proofs.Frameless.{asks_frames}
+use Rattle.machine_laws.proofs.Frameless.{asks_stack}
 use Rattle.machine_laws.proofs.SafePlans.{children_safe, exception_safe, frames_meek, is_meek, is_safe, threads_safe}
 use Rattle.machine_laws.proofs.SafePlans.{thrown_safe, value_safe, write_safe}
 use Rattle.machine_laws.proofs.BindingGrows.{Grows, found_still, grows_itself, still_learnt}
@@ -365,7 +365,7 @@ lacked_meek state hand parts none = by_first (looks_apart parts) refl
   where
     by_first : (first : Bool) → looks_apart parts ≡ first → All (λ want. is_meek want ≡ true) (lacked_by state hand parts)
     by_first false apart = all_weak (λ want. is_safe want ≡ true) (λ want. is_meek want ≡ true)
-        (λ want. and_first (is_meek want) (not (asks_frames (question_of want)))) (lacked_by state hand parts)
+        (λ want. and_first (is_meek want) (not (asks_stack (question_of want)))) (lacked_by state hand parts)
         (lacked_safe state hand parts apart)
     by_first true is = cc
 

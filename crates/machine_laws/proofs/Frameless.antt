@@ -1,5 +1,6 @@
 -- Ids that are no frame's: they alone stand in events, and in answers to other questions than that for frames.
-use Rattle.std.proofs.Common.{◌≡◌, ℕ, zero, suc, Bool, true, false, cond, List, [], ◌∷◌, Option, refl, ap, ◌∙◌}
+use Rattle.std.proofs.Common.{◌≡◌, ℕ, zero, suc, Bool, true, false, cond, List, [], ◌∷◌, Option, Some, None, refl, ap}
+use Rattle.std.proofs.Common.{◌∙◌, arith}
 use Rattle.std.specs.List.{AllByRecursion as All, flat_map}
 use Rattle.jdwp_commands.specs.Answers.{kind_of_answer, told_answer}
 use Rattle.jdwp_commands.specs.Commands.{kind_of}
@@ -30,9 +31,9 @@ use Rattle.machine_model.specs.Ids.{id_of_object, Id, class, frame, ids_answered
 use Rattle.machine_model.specs.Ids.{ids_of_event, ids_of_item, ids_of_listed, ids_of_part, ids_of_row, ids_of_said}
 use Rattle.machine_model.specs.Ids.{ids_of_saying, ids_of_simple, ids_of_value, ids_replied, method, no_thread}
 use Rattle.machine_model.specs.Replying.{IsReply, wire}
-use Rattle.machine_model.specs.State.{SizesRead}
+use Rattle.machine_model.specs.State.{SizesRead, is_some}
 use Rattle.machine_model.proofs.IdRows.{all_flat, all_joined}
-use Rattle.machine_laws.specs.Names.{Answer, Composite, Effect, Question, Replied, a_question, an_effect}
+use Rattle.machine_laws.specs.Names.{Answer, Composite, Effect, Question, Replied, ThreadId, a_question, an_effect}
 
 abbrev pub is_frame : Id → Bool
 is_frame (frame thread id) = true
@@ -42,6 +43,18 @@ is_frame _ = false
 abbrev pub asks_frames : Question → Bool
 asks_frames (questions.Frames thread start length) = true
 asks_frames _ = false
+
+-- the thread that it asks for frames of, or how many it has
+abbrev pub stack_of : Question → Option ThreadId
+stack_of (questions.Frames thread start length) = Some thread
+stack_of (questions.FrameCount thread) = Some thread
+stack_of _ = None
+
+abbrev pub asks_stack : Question → Bool
+asks_stack question = is_some (stack_of question)
+
+pub no_frames : (question : Question) → asks_stack question ≡ false → asks_frames question ≡ false
+no_frames question is = grind (arith, is)
 
 -- What may have a frame in it -----------------------------------------------------------------------------------------
 

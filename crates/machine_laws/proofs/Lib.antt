@@ -34,6 +34,8 @@ pub mod LeavingWalk
 pub mod ListingLaws
 pub mod LookupIds
 pub mod MarkLaws
+pub mod NamedLaws
+pub mod NamedParts
 pub mod NewsLaws
 pub mod NotingLaws
 pub mod NumberLaws

@@ -8,7 +8,7 @@ use Rattle.machine_laws.specs.Names.{NamedThread, ThreadId}
 
 -- Among the threads ---------------------------------------------------------------------------------------------------
 
-same_id : (thread : ThreadId) → (thread.0 == thread.0) ≡ true
+pub same_id : (thread : ThreadId) → (thread.0 == thread.0) ≡ true
 same_id thread = grind arith
 
 pub one_of_id : {one other : ThreadId} → one.0 ≡ other.0 → one ≡ other

@@ -1,6 +1,7 @@
 -- Nothing is asked but what the part in front lacked: what stands in the queue was lacking when it was put there.
 use Rattle.std.proofs.Common.{◌≡◌, Bool, true, false, cond, ◌||◌, List, [], ◌∷◌, ◌++◌, Option, Some, None, refl, sym}
 use Rattle.std.proofs.Common.{ap, subst, ◌∙◌, append_assoc, append-nil, option_map}
+use Rattle.std.specs.List.{AllByRecursion as All}
 use Rattle.machine_model.specs.Due.{asked_hand, behind_first, is_listed, lacked_by, newly_lacked, with_want, with_wants}
 use Rattle.machine_model.specs.Plans.{question_of}
 use Rattle.machine_model.specs.Questions.{AreLacked, IsLacked, is_question}
@@ -12,16 +13,11 @@ use Rattle.machine_laws.proofs.RestLaws.{near_queue}
 use Rattle.machine_laws.proofs.Stepping.{Loses, Moves, by_runs, with_said}
 use Rattle.machine_laws.proofs.Standing.{queue_in}
 
--- each of these has the property
-abbrev All : (Want → Type 0) → List Want → Type 0
-All P [] = Unit {0}
-All P (want ∷ wants) = P want × All P wants
-
 all_last : (P : Want → Type 0) (queue : List Want) (want : Want) → All P queue → P want → All P (queue ++ want ∷ [])
 all_last P [] want h p = (p, tt)
 all_last P (first ∷ queue) want h p = (h.0, all_last P queue want h.1 p)
 
-all_with : (P : Want → Type 0) (asked : List Sent) (queue more : List Want) → All P queue → All P more
+pub all_with : (P : Want → Type 0) (asked : List Sent) (queue more : List Want) → All P queue → All P more
     → All P (with_wants asked queue more)
 all_with P asked queue [] h k = h
 all_with P asked queue (want ∷ more) h k =
@@ -80,7 +76,7 @@ same_queue messages queue is h = subst (λ (queue : List Want). All (IsLacked me
 held_queue : {held : Option Hand} {hand : Hand} → held ≡ Some hand → queue_in held ≡ hand.queue
 held_queue is = ap queue_in is
 
-replied_queue : (P : Want → Type 0) (command : TargetCommand) (replied : Replied) (held : Option Hand)
+pub replied_queue : (P : Want → Type 0) (command : TargetCommand) (replied : Replied) (held : Option Hand)
     → All P (queue_in held) → All P (queue_in (option_map (hand_replied command replied) held))
 replied_queue P command replied None h = h
 replied_queue P (a_question question) replied (Some hand) h = by_test (is_failed question replied hand.asked)
@@ -90,7 +86,7 @@ replied_queue P (a_question question) replied (Some hand) h = by_test (is_failed
     by_test false = h
 replied_queue P (an_effect effect) replied (Some hand) h = h
 
-given_queue : (P : Want → Type 0) (held : Option Hand) → All P (queue_in (option_map given_up held))
+pub given_queue : (P : Want → Type 0) (held : Option Hand) → All P (queue_in (option_map given_up held))
 given_queue P None = tt
 given_queue P (Some hand) = tt
 

@@ -1,5 +1,5 @@
--- Look-ups other than that of classes list no classes, and ask nothing of null, and of them that of frames alone asks for
--- frames: by row what its plan may want.
+-- Look-ups other than that of classes list no classes, and ask nothing of null, and of them that of frames alone asks
+-- for frames: by row what its plan may want.
 use Rattle.std.proofs.Common.{◌==◌, ◌&&◌, ℕ, zero, suc, pos, Bool, true, false, not, List, [], ◌∷◌, ◌++◌, None, refl}
 use Rattle.std.proofs.Common.{Option, Some}
 use Rattle.std.specs.Prelude.{codes, Ok, Err, bytes_eq, nat_lt}
@@ -57,17 +57,17 @@ use Rattle.machine_model.specs.Variables.{locals_valued, page, page_plan, shown_
 use Rattle.machine_model.specs.Variables.{slots_of, slots_plan, values_in, with_known}
 use Rattle.machine_laws.proofs.BindingPlans.{AllWants, asks, chains, every, makes, wants_other}
 use Rattle.value_views.specs.Names.{class_name}
-use Rattle.machine_laws.proofs.Frameless.{asks_frames}
+use Rattle.machine_laws.proofs.Frameless.{asks_stack}
 use Rattle.stop_refs.specs.declared.thing.FrameThing.{FrameThing}
 use Rattle.stop_refs.specs.declared.thing.Thing.{Thing}
 use Rattle.stop_refs.specs.declared.thing.Thing.TheVariants as things
 
--- a want lists no classes, and asks nothing of null; nor does it ask for frames
+-- a want lists no classes, and asks nothing of null; nor does it ask for frames, or how many there are
 abbrev pub is_meek : Want → Bool
 is_meek want = wants_other want && is_harmless (question_of want)
 
 abbrev pub is_safe : Want → Bool
-is_safe want = is_meek want && not (asks_frames (question_of want))
+is_safe want = is_meek want && not (asks_stack (question_of want))
 
 abbrev Safe : {A : Type 0} → Plan A → Type 0
 Safe p = AllWants is_safe p

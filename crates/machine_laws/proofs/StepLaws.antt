@@ -245,7 +245,7 @@ no_thrown : (thread : ThreadId) (depth : Depth) (caught uncaught : Bool)
     → has_wish (thrown caught uncaught) (wishes.Step thread depth) ≡ false
 no_thrown thread depth caught uncaught = grind arith
 
-step_wished : (wanted : Wanted) (thread : ThreadId) (depth : Depth)
+pub step_wished : (wanted : Wanted) (thread : ThreadId) (depth : Depth)
     → has_wish (wished wanted) (wishes.Step thread depth) ≡ has_wish (stepping wanted.step) (wishes.Step thread depth)
 step_wished wanted thread depth =
     let it = wishes.Step thread depth in
@@ -261,7 +261,7 @@ step_wished wanted thread depth =
     ∙ ap (λ b. b || has_wish (stepping wanted.step) it) none
 
 -- the step of a wish
-abbrev as_step : Wish → StepWish
+abbrev pub as_step : Wish → StepWish
 as_step (wishes.Step thread depth) = record { thread = thread; depth = depth }
 as_step _ = record { thread = record { 0 = 0 }; depth = Over }
 

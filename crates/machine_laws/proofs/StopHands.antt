@@ -19,7 +19,7 @@ use Rattle.machine_laws.specs.Names.{Choice, Decides, Deed, Event, Finding, Init
 use Rattle.machine_laws.specs.Names.{Question, Replied, Resume, Sent, Suspend, TellsNews, Want, a_question, an_effect}
 use Rattle.machine_laws.specs.Names.{of_stop, Stepped, some_news}
 use Rattle.machine_laws.proofs.BindingPlans.{asks}
-use Rattle.machine_laws.proofs.Frameless.{asks_frames}
+use Rattle.machine_laws.proofs.Frameless.{asks_frames, asks_stack, no_frames}
 use Rattle.machine_laws.proofs.HoldingParts.{numbered_stop, same_stop}
 use Rattle.machine_laws.proofs.Standing.{asked_in, queue_in}
 use Rattle.machine_laws.proofs.Stepping.{IsAt, Moves, by_runs}
@@ -305,18 +305,18 @@ asked_none {rest = rest} r at ends = (in_front (quiet r) at).idle (ap (λ (is : 
 pub calm_reply : {messages : List Message} {m : Machine} {hand : Hand} (question : Question) → Run messages m
     → m.hand ≡ Some hand → is_waiting question hand.asked ≡ true → is_gone m.state.phase ≡ false
     → m.state.stopped ≡ false → asks_frames question ≡ false
-calm_reply {m = m} {hand} question r is waits near running = by_asked hand.asked waits
-    ((subst (λ (held : Option Hand). QuietHand m.state held) is (quiet r)).calm near running).sent
+calm_reply {m = m} {hand} question r is waits near running = no_frames question (by_asked hand.asked waits
+    ((subst (λ (held : Option Hand). QuietHand m.state held) is (quiet r)).calm near running).sent)
   where
     by_asked : (asked : List Sent) → is_waiting question asked ≡ true → All IsCalmSent asked
-        → asks_frames question ≡ false
+        → asks_stack question ≡ false
     by_asked [] waits h = cc
     by_asked (sent ∷ asked) waits h =
         by_test (is_none sent.reply) (asks_for sent question) refl waits (λ later. by_asked asked later h.1)
       where
         by_test : (open_one asks : Bool) → asks_for sent question ≡ asks
             → (cond open_one asks false || is_waiting question asked) ≡ true
-            → (is_waiting question asked ≡ true → asks_frames question ≡ false) → asks_frames question ≡ false
+            → (is_waiting question asked ≡ true → asks_stack question ≡ false) → asks_stack question ≡ false
         by_test true true same waits rest =
-            ap asks_frames (sym (is_one (question_of sent.want) question same)) ∙ h.0
+            ap asks_stack (sym (is_one (question_of sent.want) question same)) ∙ h.0
         by_test _ _ same waits rest = rest waits

@@ -20,7 +20,7 @@ use Rattle.machine_laws.specs.Names.{Success, TellsNews, Want, breakpoint_list, 
 use Rattle.machine_laws.specs.Names.{of_stop, thread_frames}
 use Rattle.machine_laws.proofs.BindingParts.{lacked_safe, looks_apart}
 use Rattle.machine_laws.proofs.BindingPlans.{asks, is_fact, known_wants, makes, plan_lacks, wants_fact}
-use Rattle.machine_laws.proofs.Frameless.{asks_frames}
+use Rattle.machine_laws.proofs.Frameless.{asks_stack}
 use Rattle.machine_laws.proofs.SafePlans.{is_meek, is_safe}
 use Rattle.machine_laws.proofs.Stepping.{IsAt}
 use Rattle.machine_laws.proofs.Tables.{decided_alike, told_alike}
@@ -141,7 +141,7 @@ frames_ahead [] = false
 frames_ahead (part ∷ parts) = cond (looks_frames part) true (frames_ahead parts)
 
 abbrev pub IsCalm : Want → Type 0
-IsCalm want = asks_frames (question_of want) ≡ false
+IsCalm want = asks_stack (question_of want) ≡ false
 
 abbrev pub IsCalmSent : Sent → Type 0
 IsCalmSent sent = IsCalm sent.want
@@ -150,16 +150,16 @@ IsCalmSent sent = IsCalm sent.want
 fact_calm : (want : Want) → wants_fact want ≡ true → IsCalm want
 fact_calm (Want.Fact question) is = by_question question is
   where
-    by_question : (question : Question) → is_fact question ≡ true → asks_frames question ≡ false
+    by_question : (question : Question) → is_fact question ≡ true → asks_stack question ≡ false
     by_question question is = grind (arith, is)
 fact_calm _ is = cc
 
 classes_calm : (unlisted : Bool) (wanted : Wanted) (state : State) (hand : Hand)
     → All IsCalm (lacking (need (sight_of state hand)
     (made_with classes_found (classes_plan unlisted wanted (found_in state.classes)))))
-classes_calm true wanted state hand = all_weak (λ want. not (asks_frames (question_of want)) ≡ true) IsCalm
-    (λ want is. not-true (asks_frames (question_of want)) is) _
-    (plan_lacks (λ want. not (asks_frames (question_of want))) (sight_of state hand)
+classes_calm true wanted state hand = all_weak (λ want. not (asks_stack (question_of want)) ≡ true) IsCalm
+    (λ want is. not-true (asks_stack (question_of want)) is) _
+    (plan_lacks (λ want. not (asks_stack (question_of want))) (sight_of state hand)
     (made_with classes_found (classes_plan true wanted (found_in state.classes)))
     (makes _ classes_found _ (asks _ _ (Want.Must questions.AllClasses) refl)))
 classes_calm false wanted state hand = all_weak (λ want. wants_fact want ≡ true) IsCalm fact_calm _
@@ -175,8 +175,8 @@ lacked_calm state hand parts none = by_apart (looks_apart parts) refl
   where
     by_apart : (apart : Bool) → looks_apart parts ≡ apart → All IsCalm (lacked_by state hand parts)
     by_apart false is = all_weak (λ want. is_safe want ≡ true) IsCalm
-        (λ want safe. not-true (asks_frames (question_of want))
-        (and_second (is_meek want) (not (asks_frames (question_of want))) safe)) (lacked_by state hand parts)
+        (λ want safe. not-true (asks_stack (question_of want))
+        (and_second (is_meek want) (not (asks_stack (question_of want))) safe)) (lacked_by state hand parts)
         (lacked_safe state hand parts is)
     by_apart true is = cc
 

@@ -1,6 +1,7 @@
 pub mod Changing
 pub mod ClientStops
 pub mod BreakpointLists
+pub mod NamedThreads
 pub mod Names
 pub mod Pausing
 pub mod Settings

@@ -26,6 +26,7 @@ ghost use Rattle.machine_model.specs.Suspending.{BindsFirst, RunsOn};
 ghost use Rattle.machine_model.specs.Waiting.{Waits};
 ghost use Rattle.machine_laws.specs.BreakpointLists.{Lists};
 ghost use Rattle.machine_laws.specs.Settings.{Sets};
+ghost use Rattle.machine_laws.specs.NamedThreads.{AsksNamed, StepsNamed};
 ghost use Rattle.machine_laws.specs.ThreadEvents.{TellsInHand, TellsThreads};
 ghost use Rattle.machine_laws.specs.ThreadNumbers.{KeepsNumbers};
 
@@ -206,6 +207,15 @@ pub fn threads_keep_their_numbers()
 pub fn starts_and_ends_of_threads_are_told()
     ensures all { TellsThreads }
     ensures in_hand { TellsInHand }
+{}
+
+/// A thread is asked for its frames, and how many it has, for a `stackTrace`. A step over, into or out is set of it for
+/// a `next`, a `stepIn` or a `stepOut`. This request is the first without a response, and the thread has the number
+/// that it names (DAP specification, StackTrace, Next, StepIn and StepOut requests; JDWP, ThreadReference command set,
+/// FrameCount and Frames; JDWP, EventRequest command set, Set, Step).
+pub fn requests_are_served_for_the_threads_that_they_name()
+    ensures frames { AsksNamed }
+    ensures steps { StepsNamed }
 {}
 
 /// Frames and containers are numbered 1, 2, 3 as they are first told in a stop. A number is told again in its stop alone:

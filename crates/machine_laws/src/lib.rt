@@ -32,4 +32,9 @@ pub use laws::{
     stops_are_told_of_what_stops_the_target, the_first_error_decides,
     the_handshake_goes_out_for_an_attach, the_target_is_left_once_for_a_disconnect,
     the_target_runs_on_at_rest, threads_keep_their_numbers, what_is_known_is_what_messages_say,
+    requests_are_served_for_the_threads_that_they_name, starts_and_ends_of_threads_are_told,
+    steps_are_over_where_a_stop_is_told, stops_are_told_of_what_stops_the_target,
+    the_first_error_decides, the_handshake_goes_out_for_an_attach,
+    the_target_is_left_once_for_a_disconnect, the_target_runs_on_at_rest,
+    threads_keep_their_numbers, what_is_known_is_what_messages_say,
 };
