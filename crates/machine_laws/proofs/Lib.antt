@@ -54,8 +54,8 @@ pub mod RequestSteps
 pub mod RestLaws
 pub mod SafePlans
 pub mod ServedLaws
-pub mod ShownStops
 pub mod SettingLaws
+pub mod ShownStops
 pub mod SizeLaws
 pub mod SpellLaws
 pub mod StandLaws

@@ -1,6 +1,6 @@
+pub mod BreakpointLists
 pub mod Changing
 pub mod ClientStops
-pub mod BreakpointLists
 pub mod NamedThreads
 pub mod Names
 pub mod Pausing

@@ -1,9 +1,14 @@
 //! What holds of every run of the machine, and of every look-up. Each law is the contract of a function that does
 //! nothing.
 
+ghost use Rattle.machine_laws.specs.BreakpointLists.{Lists};
 ghost use Rattle.machine_laws.specs.Changing.{Changes};
 ghost use Rattle.machine_laws.specs.ClientStops.{ShowsStops};
+ghost use Rattle.machine_laws.specs.NamedThreads.{AsksNamed, StepsNamed};
 ghost use Rattle.machine_laws.specs.Pausing.{Pauses};
+ghost use Rattle.machine_laws.specs.Settings.{Sets};
+ghost use Rattle.machine_laws.specs.ThreadEvents.{TellsInHand, TellsThreads};
+ghost use Rattle.machine_laws.specs.ThreadNumbers.{KeepsNumbers};
 ghost use Rattle.machine_model.specs.Binding.{Binds};
 ghost use Rattle.machine_model.specs.BreakpointEvents.{TellsAll, TellsVerified};
 ghost use Rattle.machine_model.specs.EventRequests.{AsReplied, Once, Settles, Stands};
@@ -24,11 +29,6 @@ ghost use Rattle.machine_model.specs.Steps.{ClearsSteps, StepsAtRest};
 ghost use Rattle.machine_model.specs.Stopping.{TellsStops, UndoesSurplus};
 ghost use Rattle.machine_model.specs.Suspending.{BindsFirst, RunsOn};
 ghost use Rattle.machine_model.specs.Waiting.{Waits};
-ghost use Rattle.machine_laws.specs.BreakpointLists.{Lists};
-ghost use Rattle.machine_laws.specs.Settings.{Sets};
-ghost use Rattle.machine_laws.specs.NamedThreads.{AsksNamed, StepsNamed};
-ghost use Rattle.machine_laws.specs.ThreadEvents.{TellsInHand, TellsThreads};
-ghost use Rattle.machine_laws.specs.ThreadNumbers.{KeepsNumbers};
 
 /// The responses answer the first of the requests, one each, in order; at rest all requests are answered (DAP
 /// specification, Base Protocol, Response).
