@@ -5,7 +5,8 @@ use jdwp_commands::Question;
 use std::alloc::Global;
 use wire_core::{List, NoMemory};
 
-/// A copy of a question.
+/// A copy of a question, equal to it in each part. `NoMemory` comes where memory is refused (JDWP, JDWP Packets, command
+/// packet).
 pub fn question_copy(alloc: Global, question: &Question) -> Result<Question, NoMemory>
     ensures { IfOk result (λ copy. copy ≡ question.now) }
 {

@@ -1,5 +1,5 @@
 //! The classes that were met on the way upwards.
-ghost use Rattle.std.specs.Prelude.{◌≡◌, ◌∷◌, ◌++◌, ◌==◌, [], false, IfOk, OnOk};
+ghost use Rattle.std.specs.Prelude.{◌≡◌, ◌∷◌, ◌++◌, ◌==◌, [], false, IfOk, OnErr, OnOk};
 ghost use Rattle.std.specs.List.{list_any};
 
 use indexmap::IndexSet;
@@ -38,10 +38,11 @@ impl MetClasses {
         self.classes.contains(&class)
     }
 
-    /// A class is met that wasn't. `NoMemory` comes where memory is refused.
+    /// A class is met that wasn't. `NoMemory` comes where memory is refused; then no more was met than before.
     pub fn add(&mut self, class: u64) -> Result<(), NoMemory>
         requires { list_any (λ other. other == class) self.old ≡ false }
-        ensures { OnOk result (self.new ≡ self.old ++ class ∷ []) }
+        ensures ok { OnOk result (self.new ≡ self.old ++ class ∷ []) }
+        ensures err { OnErr result (self.new ≡ self.old) }
     {
         self.classes.insert(class)?;
         Ok(())

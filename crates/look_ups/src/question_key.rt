@@ -162,7 +162,7 @@ fn key_of(alloc: Global, question: &Question) -> Result<List<u64>, NoMemory>
 }
 
 impl QuestionKey {
-    /// A question with its key.
+    /// A question with its key. `NoMemory` comes where memory is refused (JDWP, JDWP Packets, command packet).
     pub fn new(alloc: Global, question: Question) -> Result<QuestionKey, NoMemory>
         ensures { IfOk result (λ key. key ≡ question) }
     {

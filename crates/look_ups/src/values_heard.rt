@@ -1,5 +1,5 @@
 //! What was answered to questions for values.
-ghost use Rattle.std.specs.Prelude.{◌≡◌, ◌∷◌, [], pos, IfOk, Some};
+ghost use Rattle.std.specs.Prelude.{◌≡◌, ◌<◌, ◌≤◌, ◌^◌, ◌∷◌, [], pos, IfOk, MatchResult, Some};
 ghost use Rattle.machine_model.specs.Plans.{asking, need};
 ghost use Rattle.machine_model.specs.Variables.{elements_plan, field_values, slots_plan, values_in};
 ghost use Rattle.machine_model.specs.declared.acts.Want.{Want};
@@ -96,9 +96,10 @@ pub fn fields_heard<'a>(
     )
 }
 
-/// A number as an int. `NoMemory` comes for one of 2^31 or more: it is none, and no target tells or takes it.
+/// A number as an int. It takes no memory: `NoMemory` comes just for a number of 2^31 or more, which is no int, and
+/// which no target tells or takes (JDWP, ArrayReference command set, GetValues).
 pub fn as_int(number: u32) -> Result<i32, NoMemory>
-    ensures { IfOk result (λ int. int ≡ pos number) }
+    ensures { MatchResult result (λ int. (int ≡ pos number) × (number < 2 ^ 31)) (λ _. 2 ^ 31 ≤ number) }
 {
     if number > LAST_INT {
         return Err(NoMemory);

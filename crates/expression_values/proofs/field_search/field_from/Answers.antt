@@ -49,7 +49,7 @@ returns-in-Lacks-2 c =
 pub loop-left-preserved : goal.loop-left-preserved
 loop-left-preserved c =
     ap (λ met. need (seen_by c.args.sight) (field_from (c.loop-left.left - 1) met c.args.name.now c.in-Has-2.above.0))
-    c.in_ok-add-in-Has-2.ensures
+    c.in_ok-add-in-Has-2.ensures.ok
     ∙ sought_above (seen_by c.args.sight) c.loop-left.left c.loop-left.met c.args.name.now c.loop-left.class.0
     c.in-Has.fields.now _ c.loop-left-test.true (sym c.is_further.ensures ∙ c.if-is_further.true)
     (sym (ap (need_with (λ fields. fields.now)) c.in-Has.is) ∙ c.in_ok-fields.ensures)
