@@ -82,10 +82,10 @@ fn end_of(side: Side, links: Links) -> Option<Happening>
 }
 
 impl Play {
-    /// The play of a script at its beginning; `NoMemory` comes where memory is refused.
-    pub(crate) fn new(alloc: Global, script: Script) -> Result<Play, NoMemory>
-        ensures { IfOk result (λ play. (links : TheLinks) → is_open_in links client_side ≡ true
-            → is_open_in links target_side ≡ true → playing play links ≡ beginning script) }
+    /// The play of a script at its beginning; it takes no memory.
+    pub(crate) fn new(alloc: Global, script: Script) -> Play
+        ensures { (links : TheLinks) → is_open_in links client_side ≡ true
+            → is_open_in links target_side ≡ true → playing result links ≡ beginning script }
     {
         let Script {
             world,
@@ -93,12 +93,11 @@ impl Play {
             begin,
             schedule,
         } = script;
-        let target = Target::new(alloc, world, program, start_of(begin))?;
-        Ok(Play {
+        Play {
             schedule: Schedule::new(schedule),
             client: Client::new(alloc),
-            target,
-        })
+            target: Target::new(alloc, world, program, start_of(begin)),
+        }
     }
 
     /// The bridge sends bytes to a side: the target takes them, as far as it takes any.

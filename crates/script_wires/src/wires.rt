@@ -32,7 +32,7 @@ impl ScriptWires {
         ensures { IfOk result (IsNew script) }
     {
         let journal = Journal::new(alloc)?;
-        let play = Play::new(alloc, script)?;
+        let play = Play::new(alloc, script);
         Ok(ScriptWires {
             alloc,
             journal,

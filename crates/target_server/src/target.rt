@@ -1,6 +1,6 @@
 //! A scripted target, over the bytes of its link.
 ghost use Rattle.std.specs.Prelude.{◌≡◌, ◌<◌, ◌++◌, true, false, Ok, Err, Some, None, length, take, drop};
-ghost use Rattle.std.specs.Prelude.{slice_get, IfErr, IfOk, OnOk};
+ghost use Rattle.std.specs.Prelude.{slice_get, IfErr, OnOk};
 ghost use Rattle.jdwp_packets.specs.Receiving.{nothing_received};
 ghost use Rattle.target_server.specs.declared.trouble.TargetTrouble.{TargetTrouble as ATrouble};
 ghost use Rattle.target_server.specs.Flights.{count_out};
@@ -44,22 +44,23 @@ impl Model for Target {
 
 impl Target {
     /// A target to which nothing was fed: a world, the moves that its program makes, and the thread and the suspend
-    /// policy of its start, where that is told behind the handshakes (JDWP, Event command set, Composite, VMStart).
+    /// policy of its start, where that is told behind the handshakes. It takes no memory (JDWP, Event command set,
+    /// Composite, VMStart).
     pub fn new(
         alloc: Global,
         world: World,
         program: List<Move>,
         begin: Option<(ThreadId, Policy)>,
-    ) -> Result<Target, NoMemory>
-        ensures { IfOk result (λ t. t
-            ≡ record { joint = joint_of world program begin; heard = nothing_received; trouble = None }) }
+    ) -> Target
+        ensures { result
+            ≡ record { joint = joint_of world program begin; heard = nothing_received; trouble = None } }
     {
-        Ok(Target {
+        Target {
             link: Link::new(alloc, world, program, begin),
             cutter: PacketCutter::new(alloc),
             bytes_fed: 0,
             trouble: None,
-        })
+        }
     }
 
     /// Takes the next piece of the debugger's stream: its handshake, which is answered as soon as it is there, and then

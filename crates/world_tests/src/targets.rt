@@ -178,14 +178,10 @@ fn run_target(alloc: Global, begin: Option<(ThreadId, Policy)>, lines: &str) -> 
         drop(program);
         return Err(fail);
     }
-    match Target::new(alloc, world, program, begin) {
-        Ok(mut target) => {
-            let done = run_lines(alloc, &mut target, lines);
-            drop(target);
-            done
-        }
-        Err(_) => Err("no memory".into()),
-    }
+    let mut target = Target::new(alloc, world, program, begin);
+    let done = run_lines(alloc, &mut target, lines);
+    drop(target);
+    done
 }
 
 fn make(

@@ -13,7 +13,7 @@ returns c =
       target = fresh.target;
       open_faults = fresh.open_faults;
       asked = fresh.asked;
-      playing = c.in_ok-play.ensures c.in_ok-journal.journal.links (ap (λ (l : Link). l.is_open) fresh.client)
+      playing = c.new-play.ensures c.in_ok-journal.journal.links (ap (λ (l : Link). l.is_open) fresh.client)
           (ap (λ (l : Link). l.is_open) fresh.target);
       refused = refl;
     }
