@@ -7,7 +7,7 @@ ghost use Rattle.machine_model.specs.State.{is_flying};
 ghost use Rattle.machine_model.specs.declared.acts.Effect.{Effect as AnEffect};
 ghost use Rattle.machine_model.specs.declared.acts.TargetCommand.TheVariants.{Question as a_question};
 ghost use Rattle.machine_model.specs.declared.acts.TargetCommand.TheVariants.{Effect as an_effect};
-ghost use Rattle.talk_plans.specs.Replies.{IsInFlight, alone, doing_replied, state_replied};
+ghost use Rattle.talk_plans.specs.Replies.{IsInFlight, alone, doing_replied, last_leaves, state_replied};
 ghost use Rattle.talk_plans.specs.Talking.{AreSized, SaysSizes};
 ghost use Rattle.session_facts.specs.Effects.{IsNext};
 
@@ -96,19 +96,23 @@ impl Talk {
         put_reply(&mut self.effect, replied);
     }
 
-    /// The effect in flight is replied to, by which nothing more is known than that it was: the target has ended (JDWP,
-    /// Error Constants, VM_DEAD).
+    /// The effect in flight is replied to, by which nothing more is known than that it was: the target has ended. Where
+    /// none is in flight, nothing changes (JDWP, Error Constants, VM_DEAD).
     pub fn note_done(&mut self, replied: Replied)
-        ensures { (effect : AnEffect) → IsInFlight effect self.old.effect
+        ensures hand { (effect : AnEffect) → IsInFlight effect self.old.effect
             → self.new ≡ hand_replied (an_effect effect) replied self.old }
+        ensures same { is_flying self.old.effect ≡ false → self.new ≡ self.old }
     {
         put_reply(&mut self.effect, replied);
     }
 
-    /// Whether the effect in flight leaves the target, of which any reply will do (JDWP, VirtualMachine command set,
-    /// Dispose and Exit).
+    /// Whether the effect in flight leaves the target, of which any reply will do. Where none is in flight, it is whether
+    /// the one that was sent last did; `false` comes where none was sent (JDWP, VirtualMachine command set, Dispose and
+    /// Exit).
     pub fn is_leaving(&self) -> bool
-        ensures { (effect : AnEffect) → IsInFlight effect self.now.effect → result ≡ is_leaving (an_effect effect) }
+        ensures flying { (effect : AnEffect) → IsInFlight effect self.now.effect
+            → result ≡ is_leaving (an_effect effect) }
+        ensures last { result ≡ last_leaves self.now.effect }
     {
         match &self.effect {
             None => false,
