@@ -247,35 +247,15 @@ left_found wanted known open_ones asked are =
     ∙ by_left (λ class. (class_need sight wanted class).found) are.found.keeps
     (λ class out. finds_none sight wanted class (are.found.needless class out)) known.order
 
--- Fewer are left ------------------------------------------------------------------------------------------------------
+-- Those that are needed -----------------------------------------------------------------------------------------------
 
-both_kept : (keeps needed : ClassId → Bool) (all : List ClassId)
-    → flat_map (λ class. kept_by (needed class) class) (flat_map (λ class. kept_by (keeps class) class) all)
-    ≡ flat_map (λ class. kept_by (keeps class && needed class) class) all
-both_kept keeps needed [] = refl
-both_kept keeps needed (class ∷ others) = by_kept (keeps class) (both_kept keeps needed others)
-  where
-    by_kept : (kept : Bool)
-        → flat_map (λ other. kept_by (needed other) other) (flat_map (λ other. kept_by (keeps other) other) others)
-        ≡ flat_map (λ other. kept_by (keeps other && needed other) other) others
-        → flat_map (λ other. kept_by (needed other) other)
-        (kept_by kept class ++ flat_map (λ other. kept_by (keeps other) other) others)
-        ≡ kept_by (kept && needed class) class
-        ++ flat_map (λ other. kept_by (keeps other && needed other) other) others
-    by_kept true again = ap (λ rest. kept_by (needed class) class ++ rest) again
-    by_kept false again = again
-
-pub fewer_left : (needed : ClassId → Bool) (all left : List ClassId) → AreLeft needed all left
-    → AreLeft needed all (flat_map (λ class. kept_by (needed class) class) left)
-fewer_left needed all left are = record {
-  keeps = λ class. are.keeps class && needed class;
-  are = ap (flat_map (λ class. kept_by (needed class) class)) are.are ∙ both_kept are.keeps needed all;
-  needless = λ class. by_kept (are.keeps class) (needed class) (are.needless class);
-}
-  where
-    by_kept : (kept need : Bool) → (kept ≡ false → need ≡ false) → (kept && need) ≡ false → need ≡ false
-    by_kept true need gives h = h
-    by_kept false need gives h = gives refl
+-- of those that are left they are those of all
+pub needed_left : (needed : ClassId → Bool) (all left : List ClassId) → AreLeft needed all left
+    → flat_map (λ class. kept_by (needed class) class) left ≡ flat_map (λ class. kept_by (needed class) class) all
+needed_left needed all left are =
+    let those : ClassId → List ClassId = λ class. kept_by (needed class) class in
+    ap (flat_map those) are.are
+    ∙ by_left those are.keeps (λ class out. ap (λ (b : Bool). kept_by b class) (are.needless class out)) all
 
 -- all of those that are needed
 pub all_left : (needed : ClassId → Bool) (all : List ClassId)

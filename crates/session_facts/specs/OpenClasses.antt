@@ -82,6 +82,11 @@ abbrev pub kept_by : Bool → ClassId → List ClassId
 kept_by false class = []
 kept_by true class = class ∷ []
 
+-- those of some classes that stand so, in order
+abbrev pub standing_so : (Standing → Bool) → Wanted → Lookups → List ClassId → List ClassId
+standing_so so wanted known classes =
+    flat_map (λ class. kept_by (so (class_standing wanted known class)) class) classes
+
 -- Of all classes these are left, in order: each that is left out stands so that it needn't be kept.
 pub record AreLeft (needed : ClassId → Bool) (all left : List ClassId) : Type 0 where
   pub keeps : ClassId → Bool

@@ -1,10 +1,11 @@
 //! What a composite does when its turn comes.
-ghost use Rattle.std.specs.Prelude.{◌≡◌, ◌∷◌, [], true, fold, IfOk, OnOk};
+ghost use Rattle.std.specs.Prelude.{◌≡◌, ◌∷◌, [], fold, IfOk, OnOk};
 ghost use Rattle.std.specs.List.{flat_map};
 ghost use Rattle.machine_model.specs.Classes.{with_listed};
 ghost use Rattle.machine_model.specs.Composites.{binding_parts, composite_parts, composite_row, dying_row, events_row};
 ghost use Rattle.machine_model.specs.Composites.{has_death, is_death, learnt_in, prepared_by, prepared_in};
 ghost use Rattle.machine_model.specs.Composites.{prepared_under};
+ghost use Rattle.machine_model.specs.State.{is_empty};
 
 use crate::facts::learn_loaded;
 use class_tables::Classes;
@@ -43,9 +44,9 @@ fn learn_events(
     Ok(())
 }
 
-/// Whether no event tells of a class that was prepared.
+/// Whether no event tells of a class that was prepared (JDWP, Event command set, Composite, ClassPrepare).
 pub fn tells_of_none(events: &[TargetEvent]) -> bool
-    ensures { result ≡ true → flat_map prepared_by events.now ≡ [] }
+    ensures { result ≡ is_empty (flat_map prepared_by events.now) }
 {
     for event in events {
         if let TargetEvent::ClassPrepare { .. } = event {

@@ -1,12 +1,13 @@
 //! How classes stand by what was learnt of them: which may lack something, and which may be found.
 ghost use Rattle.std.specs.Prelude.{◌≡◌, ◌++◌, IfOk, OnOk, true};
 ghost use Rattle.std.specs.Prelude.{filter, is_some, option_copied, option_map};
-ghost use Rattle.std.specs.List.{flat_map, list_all};
+ghost use Rattle.std.specs.List.{list_all};
 ghost use Rattle.class_tables.specs.Lookups.{found_in};
 ghost use Rattle.class_tables.specs.Views.{key_in};
 ghost use Rattle.machine_model.specs.Classes.{counts};
 ghost use Rattle.session_facts.specs.OpenClasses.{AreOpen, class_standing, keyed_standing, kept_by, may_be_found, may_lack};
-ghost use Rattle.session_facts.specs.OpenClasses.{methods_standing, source_standing, stays_open, unlisted_by, unnamed_by};
+ghost use Rattle.session_facts.specs.OpenClasses.{methods_standing, source_standing, standing_so, stays_open};
+ghost use Rattle.session_facts.specs.OpenClasses.{unlisted_by, unnamed_by};
 ghost use Rattle.session_facts.specs.declared.open_classes.Standing.TheVariants.{Passed};
 
 use crate::known_classes::{
@@ -189,9 +190,15 @@ impl OpenClasses {
     }
 }
 
-/// Which of all classes that were listed may lack something, and which may be found.
+/// Which of all classes that were listed may lack something, and which may be found: these and no others, so that each
+/// that is left out lacks nothing, or isn't found. `NoMemory` comes where memory is refused (JDWP, ReferenceType command
+/// set, SourceFile and Methods; JDWP, Method command set, LineTable).
 pub fn all_open(alloc: Global, classes: &Classes, wishes: &Wishes) -> Result<OpenClasses, NoMemory>
-    ensures { IfOk result (λ left. AreOpen wishes.now.wanted (found_in classes.now) left) }
+    ensures lacking { IfOk result (λ left. left.lacking
+        ≡ standing_so may_lack wishes.now.wanted (found_in classes.now) (found_in classes.now).order) }
+    ensures found { IfOk result (λ left. left.found
+        ≡ standing_so may_be_found wishes.now.wanted (found_in classes.now) (found_in classes.now).order) }
+    ensures enough { IfOk result (λ left. AreOpen wishes.now.wanted (found_in classes.now) left) }
 {
     let mut left = OpenClasses {
         lacking: List::new(alloc),
@@ -213,8 +220,7 @@ fn still_open(
     those: &[ClassId],
 ) -> Result<List<ClassId>, NoMemory>
     ensures { IfOk result (λ kept. kept
-        ≡ flat_map (λ class. kept_by (may_lack (class_standing wishes.now.wanted (found_in classes.now) class)) class)
-        those.now) }
+        ≡ standing_so may_lack wishes.now.wanted (found_in classes.now) those.now) }
 {
     let mut kept = List::new(alloc);
     for class in those {
@@ -225,7 +231,9 @@ fn still_open(
     Ok(kept)
 }
 
-/// The same without those that lack nothing by now.
+/// The same without those that lack nothing by now: of all classes that were listed those that may lack something are
+/// left, and no others; those that may be found stay as they were. `NoMemory` comes where memory is refused (JDWP,
+/// ReferenceType command set, SourceFile and Methods; JDWP, Method command set, LineTable).
 pub fn trimmed(
     alloc: Global,
     classes: &Classes,
@@ -233,7 +241,10 @@ pub fn trimmed(
     left: OpenClasses,
 ) -> Result<OpenClasses, NoMemory>
     requires { AreOpen wishes.now.wanted (found_in classes.now) left }
-    ensures { IfOk result (λ left. AreOpen wishes.now.wanted (found_in classes.now) left) }
+    ensures lacking { IfOk result (λ kept. kept.lacking
+        ≡ standing_so may_lack wishes.now.wanted (found_in classes.now) (found_in classes.now).order) }
+    ensures found { IfOk result (λ kept. kept.found ≡ left.found) }
+    ensures enough { IfOk result (λ kept. AreOpen wishes.now.wanted (found_in classes.now) kept) }
 {
     let OpenClasses { lacking, found } = left;
     let lacking = still_open(alloc, classes, wishes, lacking.as_slice())?;

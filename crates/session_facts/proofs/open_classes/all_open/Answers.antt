@@ -72,11 +72,15 @@ returns c =
     let is : nth_in known c.loop-class.place ≡ None = sym c.nth.ensures ∙ c.in_default.is in
     let lacks : ClassId → Bool = λ class. may_lack (class_standing wanted known class) in
     let finds : ClassId → Bool = λ class. may_be_found (class_standing wanted known class) in
+    let lacking = ended (λ (class : ClassId). kept_by (lacks class) class) known.order c.loop-class.place
+    c.loop-class.left.lacking is c.loop-class.invariant.lacking in
+    let others = ended (λ (class : ClassId). kept_by (finds class) class) known.order c.loop-class.place
+    c.loop-class.left.found is c.loop-class.invariant.found in
     record {
-      lacking = subst (AreLeft lacks known.order)
-          (sym (ended (λ class. kept_by (lacks class) class) known.order c.loop-class.place
-          c.loop-class.left.lacking is c.loop-class.invariant.lacking)) (all_left lacks known.order);
-      found = subst (AreLeft finds known.order)
-          (sym (ended (λ class. kept_by (finds class) class) known.order c.loop-class.place
-          c.loop-class.left.found is c.loop-class.invariant.found)) (all_left finds known.order);
+      lacking = lacking;
+      found = others;
+      enough = record {
+        lacking = subst (AreLeft lacks known.order) (sym lacking) (all_left lacks known.order);
+        found = subst (AreLeft finds known.order) (sym others) (all_left finds known.order);
+      };
     }

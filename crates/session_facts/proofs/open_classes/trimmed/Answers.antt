@@ -1,17 +1,22 @@
-use Rattle.std.proofs.Common.{◌∙◌, Bool, ap, flat_map, subst, sym}
+use Rattle.std.proofs.Common.{◌∙◌, Bool, ap, flat_map, refl, subst, sym}
 use Rattle.class_tables.specs.Lookups.{found_in}
 use Rattle.jdwp_values.specs.declared.id.ClassId.{ClassId}
 use Rattle.session_facts.specs.OpenClasses.{AreLeft, class_standing, kept_by, may_lack}
-use Rattle.session_facts.proofs.OpenLaws.{fewer_left}
+use Rattle.session_facts.proofs.OpenLaws.{all_left, needed_left}
 use Rattle.session_facts.proofs.open_classes.trimmed.Goals as goal
 
 pub returns : goal.returns
 returns c =
     let known = found_in c.args.classes.now in
     let lacks : ClassId → Bool = λ class. may_lack (class_standing c.args.wishes.now.wanted known class) in
+    let lacking = c.in_ok-lacking.ensures
+    ∙ ap (flat_map (λ (class : ClassId). kept_by (lacks class) class)) c.as_slice.ensures
+    ∙ needed_left lacks known.order c.args.left.lacking c.requires.lacking in
     record {
-      lacking = subst (AreLeft lacks known.order) (sym (c.in_ok-lacking.ensures
-          ∙ ap (flat_map (λ class. kept_by (lacks class) class)) c.as_slice.ensures))
-          (fewer_left lacks known.order c.args.left.lacking c.requires.lacking);
-      found = c.requires.found;
+      lacking = lacking;
+      found = refl;
+      enough = record {
+        lacking = subst (AreLeft lacks known.order) (sym lacking) (all_left lacks known.order);
+        found = c.requires.found;
+      };
     }
