@@ -68,8 +68,8 @@ impl Asked {
         }
     }
 
-    /// A question that wasn't asked before is asked. `NoMemory` comes where memory is refused; then no more was asked than
-    /// before (JDWP, JDWP Packets, command packet).
+    /// A question that wasn't asked before is asked. `NoMemory` comes where memory is refused; then no more was asked
+    /// than before (JDWP, JDWP Packets, command packet).
     #[tactic(auto, using(crate::proofs::AskedLemmas::added))]
     pub fn add(&mut self, key: QuestionKey, reason: Reason) -> Result<(), NoMemory>
         requires { was_asked key self.old ≡ false }
@@ -169,8 +169,8 @@ impl Asked {
         false
     }
 
-    /// The questions that have no reply, as commands, in order of sending. `NoMemory` comes where memory is refused (JDWP,
-    /// JDWP Packets).
+    /// The questions that have no reply, as commands, in order of sending. `NoMemory` comes where memory is refused
+    /// (JDWP, JDWP Packets).
     pub fn unanswered(&self, alloc: Global) -> Result<VecDeque<TargetCommand>, NoMemory>
         ensures { IfOk result (λ late. late.items ≡ flat_map unanswered self.now) }
     {
@@ -192,8 +192,8 @@ impl Asked {
         }
     }
 
-    /// A question is replied to; a reply that is there stays, and a question that wasn't asked changes nothing. `NoMemory`
-    /// comes where memory is refused; then all is as before (JDWP, JDWP Packets, reply packet).
+    /// A question is replied to; a reply that is there stays, and a question that wasn't asked changes nothing.
+    /// `NoMemory` comes where memory is refused; then all is as before (JDWP, JDWP Packets, reply packet).
     #[tactic(auto, using(crate::proofs::AskedLemmas::filled_none, crate::proofs::AskedLemmas::filled_there))]
     pub fn fill(&mut self, key: QuestionKey, replied: Replied) -> Result<(), NoMemory>
         ensures ok { OnOk result (self.new ≡ filled key replied self.old) }

@@ -73,8 +73,8 @@ fn this_question(thread: ThreadId, frame: FrameId) -> Question
     Question::ThisObject { thread, frame }
 }
 
-/// A copy of a question, equal to it in each part. `NoMemory` comes where memory is refused (JDWP, JDWP Packets, command
-/// packet).
+/// A copy of a question, equal to it in each part. `NoMemory` comes where memory is refused (JDWP, JDWP Packets,
+/// command packet).
 pub fn question_copy(alloc: Global, question: &Question) -> Result<Question, NoMemory>
     ensures { IfOk result (λ copy. copy ≡ question.now) }
 {

@@ -195,7 +195,8 @@ fn events_row(
 }
 
 /// What a composite does whose packet stands at this offset, in bytes, in the target's stream, and which tells of the
-/// target's end or doesn't; where the session isn't attached it does nothing (JDWP, Event command set, Composite).
+/// target's end or doesn't; where the session isn't attached it does nothing. `NoMemory` comes where memory is refused
+/// (JDWP, Event command set, Composite).
 pub fn composite_parts(
     alloc: Global,
     phase: Phase,

@@ -15,7 +15,8 @@ use std::alloc::Global;
 use wire_core::{List, NoMemory};
 use wish_sets::{Change, Settled, Wish, Wishes};
 
-/// The effect that is due: what isn't wished any more is cleared first, then what is wished is set.
+/// The effect that is due: what isn't wished any more is cleared first, then what is wished is set; `None` where
+/// nothing is to be changed. `NoMemory` comes where memory is refused (JDWP, EventRequest command set, Set and Clear).
 pub fn effect_due(alloc: Global, wishes: &Wishes) -> Result<Option<Effect>, NoMemory>
     ensures { IfOk result (λ effect. effect ≡ effect_due wishes.now) }
 {
@@ -148,7 +149,8 @@ fn watches(wish: &Wish, request: Option<u32>) -> bool
     }
 }
 
-/// Whether all classes are to be listed once an effect is replied to: a watch is set, or they were to be before.
+/// Whether all classes are to be listed once an effect is replied to: a watch is set, or they were to be before (JDWP,
+/// VirtualMachine command set, AllClasses).
 pub fn unlisted_by(effect: &Effect, replied: &Replied, unlisted: bool) -> bool
     ensures { result ≡ unlisted_by effect.now replied.now unlisted }
 {
@@ -159,7 +161,8 @@ pub fn unlisted_by(effect: &Effect, replied: &Replied, unlisted: bool) -> bool
     }
 }
 
-/// What the reply to the effect that was due makes of the event requests.
+/// What the reply to the effect that was due makes of the event requests: what was set stands or was refused, what was
+/// cleared is gone. It takes no memory (JDWP, EventRequest command set, Set and Clear).
 #[tactic(auto, using(crate::proofs::EffectLaws::set_is, crate::proofs::EffectLaws::clear_is))]
 pub fn settle(wishes: &mut Wishes, effect: &Effect, replied: &Replied)
     requires { IsNext effect.now wishes.old }

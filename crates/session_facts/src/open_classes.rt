@@ -191,8 +191,8 @@ impl OpenClasses {
 }
 
 /// Which of all classes that were listed may lack something, and which may be found: these and no others, so that each
-/// that is left out lacks nothing, or isn't found. `NoMemory` comes where memory is refused (JDWP, ReferenceType command
-/// set, SourceFile and Methods; JDWP, Method command set, LineTable).
+/// that is left out lacks nothing, or isn't found. `NoMemory` comes where memory is refused (JDWP, ReferenceType
+/// command set, SourceFile and Methods; JDWP, Method command set, LineTable).
 pub fn all_open(alloc: Global, classes: &Classes, wishes: &Wishes) -> Result<OpenClasses, NoMemory>
     ensures lacking { IfOk result (λ left. left.lacking
         ≡ standing_so may_lack wishes.now.wanted (found_in classes.now) (found_in classes.now).order) }
@@ -252,7 +252,8 @@ pub fn trimmed(
 }
 
 /// Whether classes that lack nothing still do once the reply to a question is learnt: the question asks for a fact of a
-/// class that wasn't learnt before.
+/// class that wasn't learnt before (JDWP, ReferenceType command set, SourceFile and Methods; JDWP, Method command set,
+/// LineTable).
 pub fn stays_open(classes: &Classes, question: &Question) -> bool
     ensures { result ≡ stays_open (found_in classes.now) question.now }
 {

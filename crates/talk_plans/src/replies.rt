@@ -49,7 +49,9 @@ impl Talk {
         }
     }
 
-    /// A question of the item is replied to (JDWP, JDWP Packets, reply packet).
+    /// A question of the item is replied to: the reply stands where its question waited, and what it tells is known.
+    /// `NoMemory` comes where memory is refused; then nothing is said of the talk, nor of what is known (JDWP, JDWP
+    /// Packets, reply packet).
     #[tactic(auto, using(crate::proofs::TalkLaws::answered_sized))]
     pub fn answered(
         &mut self,
@@ -67,8 +69,8 @@ impl Talk {
         self.note_reply(alloc, question, replied)
     }
 
-    /// A question of the item is replied to, by which nothing more is known than that it was: the target has ended
-    /// (JDWP, Error Constants, VM_DEAD).
+    /// A question of the item is replied to, by which nothing more is known than that it was: the target has ended.
+    /// `NoMemory` comes where memory is refused; then nothing is said of the talk (JDWP, Error Constants, VM_DEAD).
     pub fn note_reply(
         &mut self,
         alloc: Global,
@@ -106,9 +108,9 @@ impl Talk {
         put_reply(&mut self.effect, replied);
     }
 
-    /// Whether the effect in flight leaves the target, of which any reply will do. Where none is in flight, it is whether
-    /// the one that was sent last did; `false` comes where none was sent (JDWP, VirtualMachine command set, Dispose and
-    /// Exit).
+    /// Whether the effect in flight leaves the target, of which any reply will do. Where none is in flight, it is
+    /// whether the one that was sent last did; `false` comes where none was sent (JDWP, VirtualMachine command set,
+    /// Dispose and Exit).
     pub fn is_leaving(&self) -> bool
         ensures flying { (effect : AnEffect) → IsInFlight effect self.now.effect
             → result ≡ is_leaving (an_effect effect) }
@@ -120,8 +122,9 @@ impl Talk {
         }
     }
 
-    /// The item is given up at its target's end; the commands are handed out that have no reply, in order of sending
-    /// (JDWP, Event command set, Composite, VMDeath).
+    /// The item is given up at its target's end; the commands are handed out that have no reply, in order of sending.
+    /// `NoMemory` comes where memory is refused; then nothing is said of the talk (JDWP, Event command set, Composite,
+    /// VMDeath).
     pub fn give_up(&mut self, alloc: Global) -> Result<VecDeque<TargetCommand>, NoMemory>
         ensures late { IfOk result (λ late. late.items ≡ pending_in (Some self.old)) }
         ensures hand { OnOk result (self.new ≡ given_up self.old) }

@@ -345,9 +345,9 @@ impl State {
         Ok(())
     }
 
-    /// It is found out which classes may lack something, by what is known now. Contracts don't see which these are: they
-    /// say that nothing else changes, and the invariant that what is left is enough. `NoMemory` comes where memory is
-    /// refused.
+    /// It is found out which classes may lack something, by what is known now. Contracts don't see which these are:
+    /// they say that nothing else changes, and the invariant that what is left is enough. `NoMemory` comes where memory
+    /// is refused (JDWP, ReferenceType command set, SourceFile and Methods; JDWP, Method command set, LineTable).
     pub fn open_classes(&mut self, alloc: Global) -> Result<(), NoMemory>
         ensures { OnOk result (self.new ≡ self.old) }
     {

@@ -20,7 +20,8 @@ returns-in-Lacks c =
 
 pub loop-left-preserved : goal.loop-left-preserved
 loop-left-preserved c =
-    ap (λ met. need (seen_by c.args.sight) (chain (c.loop-left.left - 1) met c.in-Has.above.0)) c.in_ok-add-in-Has.ensures.ok
+    ap (λ met. need (seen_by c.args.sight) (chain (c.loop-left.left - 1) met c.in-Has.above.0))
+    c.in_ok-add-in-Has.ensures.ok
     ∙ goes_as (seen_by c.args.sight) c.loop-left.left c.loop-left.met c.loop-left.class.0 c.in_ok-above.field-0 _
     c.loop-left-test.true (sym c.is_further.ensures ∙ c.if-is_further.true) c.in_ok-above.ensures c.in-Has.is
     ∙ c.loop-left.invariant
