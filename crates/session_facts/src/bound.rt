@@ -38,7 +38,8 @@ impl BoundIds {
         }
     }
 
-    /// A breakpoint is told to be verified: its id stands behind those that were told before, once.
+    /// A breakpoint is told to be verified: its id stands behind those that were told before, once. `NoMemory` comes
+    /// where memory is refused.
     pub fn add(&mut self, id: u64) -> Result<(), NoMemory>
         ensures { OnOk result (self.new ≡ with_id self.old id) }
     {
@@ -46,7 +47,7 @@ impl BoundIds {
         Ok(())
     }
 
-    /// A breakpoint is told, which may be verified.
+    /// A breakpoint is told, which may be verified. `NoMemory` comes where memory is refused.
     pub fn add_told(&mut self, breakpoint: Breakpoint) -> Result<(), NoMemory>
         ensures { OnOk result (self.new ≡ with_told self.old (breakpoint ∷ [])) }
     {

@@ -6,7 +6,7 @@ use std::alloc::Global;
 use wire_core::{List, NoMemory, Text};
 use wish_sets::Wish;
 
-/// A copy of a wish.
+/// A copy of a wish. `NoMemory` comes where memory is refused.
 pub fn wish_copy(alloc: Global, wish: &Wish) -> Result<Wish, NoMemory>
     ensures { IfOk result (λ copy. copy ≡ wish.now) }
 {
@@ -26,7 +26,7 @@ pub fn wish_copy(alloc: Global, wish: &Wish) -> Result<Wish, NoMemory>
     }
 }
 
-/// A copy of an effect.
+/// A copy of an effect. `NoMemory` comes where memory is refused.
 pub fn effect_copy(alloc: Global, effect: &Effect) -> Result<Effect, NoMemory>
     ensures { IfOk result (λ copy. copy ≡ effect.now) }
 {
@@ -40,7 +40,7 @@ pub fn effect_copy(alloc: Global, effect: &Effect) -> Result<Effect, NoMemory>
     }
 }
 
-/// Copies of texts.
+/// Copies of texts, in their order. `NoMemory` comes where memory is refused.
 pub fn text_copies(alloc: Global, texts: &[Text]) -> Result<List<Text>, NoMemory>
     ensures { IfOk result (λ copies. copies ≡ texts.now) }
 {

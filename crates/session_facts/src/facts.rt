@@ -216,7 +216,9 @@ fn knows_fact(question: &Question, classes: &Classes) -> bool
 }
 
 /// Learns the fact of a class that was asked for, unless it was learnt before, or all classes that were listed; where
-/// the target refused it, the fact is absent.
+/// the target refused it, the fact is absent. `NoMemory` comes where memory is refused (JDWP, VirtualMachine command
+/// set, AllClasses; JDWP, ReferenceType command set, SourceFile, Methods and Fields; JDWP, ClassType command set,
+/// Superclass; JDWP, Method command set, LineTable and VariableTable).
 pub fn learn(
     alloc: Global,
     question: &Question,

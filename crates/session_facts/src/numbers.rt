@@ -73,7 +73,8 @@ fn next_stop(running: Running) -> Result<Stop, NoMemory>
     Ok(running.stop())
 }
 
-/// A stop is in hand: one begins, in which nothing was told yet, unless one is (DAP specification, Events, Stopped).
+/// A stop is in hand: one begins, in which nothing was told yet, unless one is. `NoMemory` comes where one more stop
+/// can't be counted (DAP specification, Events, Stopped).
 pub fn begin_stop(alloc: Global, numbers: &mut Numbers) -> Result<(), NoMemory>
     ensures stopped { OnOk result (has_stop numbers.new ≡ true) }
     ensures numbers { OnOk result (stop_of numbers.new ≡ stop_of numbers.old) }
@@ -103,8 +104,8 @@ fn resume(alloc: Global, suspension: Suspension, numbers: &mut Numbers)
     }
 }
 
-/// What the sending of a deed changes: a stop begins with the Suspend of a pause, and is over with its Resume (JDWP,
-/// VirtualMachine command set, Suspend and Resume).
+/// What the sending of a deed changes: a stop begins with the Suspend of a pause, and is over with its Resume.
+/// `NoMemory` comes where one more stop can't be counted (JDWP, VirtualMachine command set, Suspend and Resume).
 pub fn send(alloc: Global, deed: Deed, numbers: &mut Numbers) -> Result<(), NoMemory>
     ensures stopped { OnOk result (has_stop numbers.new ≡ stopped_by deed (has_stop numbers.old)) }
     ensures numbers { OnOk result (stop_of numbers.new

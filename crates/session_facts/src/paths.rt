@@ -61,7 +61,7 @@ impl Paths {
         }
     }
 
-    /// The client lists breakpoints of a source under this path.
+    /// The client lists breakpoints of a source under this path. `NoMemory` comes where memory is refused.
     pub fn put(&mut self, alloc: Global, key: &Text, path: Text) -> Result<(), NoMemory>
         ensures { OnOk result (self.new ≡ put bytes_eq key.now path self.old) }
     {

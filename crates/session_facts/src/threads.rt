@@ -34,7 +34,7 @@ impl ThreadNumbers {
         }
     }
 
-    /// A thread is told, behind those that were, once.
+    /// A thread is told, behind those that were, once. `NoMemory` comes where memory is refused.
     pub fn add(&mut self, thread: ThreadId) -> Result<(), NoMemory>
         ensures { OnOk result (self.new ≡ with_thread self.old thread) }
     {

@@ -100,7 +100,8 @@ pub fn value_told(alloc: Global, numbers: &mut Numbers, seen: &Seen) -> Result<E
     value_of(alloc, numbers, seen)
 }
 
-/// A value that was written, as it is told (DAP specification, SetVariable request).
+/// A value that was written, as it is told. `NoMemory` comes where memory is refused (DAP specification, SetVariable
+/// request).
 pub fn written_told(alloc: Global, seen: &Seen) -> Result<Written, NoMemory>
     ensures { IfOk result (λ told. told ≡ record { value = seen.now.text; kind = seen.now.kind }) }
 {

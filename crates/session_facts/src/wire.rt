@@ -108,8 +108,9 @@ fn set_of(alloc: Global, wish: &Wish) -> Result<WireEffect, NoMemory>
     })
 }
 
-/// An effect as it is sent (JDWP, VirtualMachine command set, Suspend, Resume, Dispose and Exit; JDWP, EventRequest
-/// command set, Set and Clear; JDWP, StackFrame, ObjectReference and ArrayReference command sets, SetValues).
+/// An effect as it is sent. `NoMemory` comes where memory is refused (JDWP, VirtualMachine command set, Suspend,
+/// Resume, Dispose and Exit; JDWP, EventRequest command set, Set and Clear; JDWP, StackFrame, ObjectReference and
+/// ArrayReference command sets, SetValues).
 pub fn wire_effect(alloc: Global, effect: &Effect) -> Result<WireEffect, NoMemory>
     ensures { IfOk result (λ sent. sent ≡ wire_effect effect.now) }
 {

@@ -82,7 +82,8 @@ impl Talk {
         self.asking.answer(alloc, question, replied)
     }
 
-    /// The effect in flight is replied to; where none is, nothing changes (JDWP, JDWP Packets, reply packet).
+    /// The effect in flight is replied to; where none is, nothing changes. If it sets or clears an event request, it is
+    /// the one that is due (JDWP, JDWP Packets, reply packet).
     #[tactic(auto, using(crate::proofs::ReplyLaws::done_sized))]
     pub fn done(&mut self, state: &mut State, replied: Replied)
         requires { (effect : AnEffect) → IsInFlight effect self.old.effect → IsNext effect state.old.wishes }

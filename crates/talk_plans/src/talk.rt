@@ -93,7 +93,8 @@ impl Talk {
         })
     }
 
-    /// What the talk has next; where the window is full nothing is asked.
+    /// What the talk has next; where the window is full nothing is asked. Sizes of ids that were asked for and replied
+    /// to are known, unless the target is gone. `NoMemory` comes where memory is refused.
     #[tactic(auto, unfolding(machine_model::specs::Due::wanted, machine_model::specs::Due::newly_lacked), using(crate::proofs::TalkLaws::talk_due, crate::proofs::TalkLaws::stays_sized))]
     pub fn step(&mut self, alloc: Global, state: &mut State, full: bool) -> Result<Next, NoMemory>
         requires { AreSized state.old self.old }
