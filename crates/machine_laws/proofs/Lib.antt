@@ -1,3 +1,4 @@
+pub mod AskedSteps
 pub mod BareLaws
 pub mod BindingFacts
 pub mod BindingGrows

@@ -39,7 +39,7 @@ use Rattle.machine_laws.proofs.ThreadIds.{noted_threads, replied_threads}
 -- Numbers of threads --------------------------------------------------------------------------------------------------
 
 -- a thread that was told stays at its place
-still_numbered : {threads : List ThreadId} {thread : ThreadId} {number : ℕ} (more : List ThreadId)
+pub still_numbered : {threads : List ThreadId} {thread : ThreadId} {number : ℕ} (more : List ThreadId)
     → HasNumber threads thread number → HasNumber (threads ++ more) thread number
 still_numbered {threads} {thread} more h = record {
   before = h.before;
@@ -59,7 +59,7 @@ one_before first h = record {
 }
 
 -- a thread with this number has it
-thread_has : (threads : List ThreadId) (number : ℕ) (thread : ThreadId) → thread_with threads number ≡ Some thread
+pub thread_has : (threads : List ThreadId) (number : ℕ) (thread : ThreadId) → thread_with threads number ≡ Some thread
     → HasNumber threads thread number
 thread_has threads number thread is = by_zero (number == 0) refl is
   where
@@ -210,7 +210,8 @@ row_names state request command same = all_pass is_mute (mute_names state.thread
 begun_names : (state : State) (item : Item) → All (PartNames state.threads item) (parts_of state item)
 begun_names state (a_request request) =
     of_failure (PartNames state.threads (a_request request)) (λ failure. tt)
-    (failure_of (wanting request.command) state) (row_of request.command state) (row_names state request request.command refl)
+    (failure_of (wanting request.command) state) (row_of request.command state)
+    (row_names state request request.command refl)
 begun_names state item =
     all_pass is_mute (mute_names state.threads item) (parts_of state item) (begun_mute state item refl)
 
@@ -223,7 +224,8 @@ found_names threads item lookup result state rest h =
     (found_mute lookup result state refl) h
 
 chosen_names : (threads : List ThreadId) (item : Item) (choice : Choice) (state : State) (hand : Hand)
-    (rest : List Part) → All (PartNames threads item) rest → All (PartNames threads item) (chosen choice state hand ++ rest)
+    (rest : List Part) → All (PartNames threads item) rest
+    → All (PartNames threads item) (chosen choice state hand ++ rest)
 chosen_names threads item (TellsNews below) state hand rest h = by_news state.phase (news_of below state hand.item)
   where
     by_news : (phase : Phase) (news : List News) → All (PartNames threads item) (told_in phase news ++ rest)

@@ -7,3 +7,4 @@ pub mod Pausing
 pub mod Settings
 pub mod ThreadEvents
 pub mod ThreadNumbers
+pub mod StepRequests

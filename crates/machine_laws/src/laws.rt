@@ -9,6 +9,7 @@ ghost use Rattle.machine_laws.specs.Pausing.{Pauses};
 ghost use Rattle.machine_laws.specs.Settings.{Sets};
 ghost use Rattle.machine_laws.specs.ThreadEvents.{TellsInHand, TellsThreads};
 ghost use Rattle.machine_laws.specs.ThreadNumbers.{KeepsNumbers};
+ghost use Rattle.machine_laws.specs.StepRequests.{StepsAsAsked};
 ghost use Rattle.machine_model.specs.Binding.{Binds};
 ghost use Rattle.machine_model.specs.BreakpointEvents.{TellsAll, TellsVerified};
 ghost use Rattle.machine_model.specs.EventRequests.{AsReplied, Once, Settles, Stands};
@@ -141,6 +142,14 @@ pub fn a_pause_is_told_of_the_thread_that_it_names()
 pub fn steps_are_over_where_a_stop_is_told()
     ensures cleared { ClearsSteps }
     ensures at_rest { StepsAtRest }
+{}
+
+/// Where the Resume that ends a stop goes for `next`, `stepIn` or `stepOut`, the step in flight is the one that this asks
+/// for: of the thread that has the number, over calls, into them, or out of the method. Its event request is installed,
+/// unless the target refused it (DAP specification, Next, StepIn and StepOut requests; JDWP, EventRequest command set,
+/// Set, Step).
+pub fn the_target_runs_on_with_the_step_that_was_asked_for()
+    ensures { StepsAsAsked }
 {}
 
 /// At rest, once the session is attached, each composite that came was at its turn. One suspension of the whole target is

@@ -1,0 +1,36 @@
+-- Which step the target runs on with, in every run. The law stands at the end, behind what it speaks of.
+use Rattle.std.specs.Prelude.{ℕ, ◌≡◌, List, Some, false, not}
+use Rattle.dap_messages.specs.declared.requests.ThreadArguments.{ThreadArguments}
+use Rattle.machine_model.specs.Due.{due}
+use Rattle.machine_model.specs.Knowing.{HasNumber}
+use Rattle.machine_model.specs.Runs.{Message, Run}
+use Rattle.machine_model.specs.State.{Hand, Machine}
+use Rattle.machine_laws.specs.Names.{Act, Command, Does, Next, Request, Resume, StepIn, StepOut, ThreadId, a_request}
+use Rattle.machine_laws.specs.Names.{of_stop}
+use Rattle.wish_sets.specs.Order.{has_wish}
+use Rattle.wish_sets.specs.Wishes.{is_installed}
+use Rattle.wish_sets.specs.declared.wish.Depth.{Depth}
+use Rattle.wish_sets.specs.declared.wish.Depth.TheVariants.{Into, Out, Over}
+use Rattle.wish_sets.specs.declared.wish.Wish.TheVariants as wish
+
+-- The request asks for a step of the thread with this number: `next` over calls, `stepIn` into them, and `stepOut` out
+-- of the method (DAP specification, Next, StepIn and StepOut requests; JDWP, Constants, StepDepth).
+pub data AsksStep : Command → ℕ → Depth → Type 0 where
+  over : {arguments : ThreadArguments} → AsksStep (Next arguments) arguments.thread_id Over
+  into : {arguments : ThreadArguments} → AsksStep (StepIn arguments) arguments.thread_id Into
+  out : {arguments : ThreadArguments} → AsksStep (StepOut arguments) arguments.thread_id Out
+
+-- The thread that has this number is to step so, and the event request of the step is installed, unless the target
+-- refused it.
+pub record IsInFlight (m : Machine) (number : ℕ) (depth : Depth) : Type 0 where
+  pub thread : ThreadId
+  pub has_number : HasNumber m.state.threads thread number
+  pub is_wished : m.state.wishes.wanted.step ≡ Some (record { thread = thread; depth = depth })
+  pub is_set : is_installed m.state.wishes.installed (wish.Step thread depth)
+      ≡ not (has_wish m.state.wishes.refused (wish.Step thread depth))
+
+-- Where the stop ends for a request that asks for a step, this step is in flight.
+abbrev pub StepsAsAsked : Type 0
+StepsAsAsked = (messages : List Message) (m : Machine) (hand : Hand) (request : Request) (number : ℕ) (depth : Depth)
+    → Run messages m → m.hand ≡ Some hand → hand.item ≡ a_request request → AsksStep request.command number depth
+    → (due false m).act ≡ Act.Sends (Does (Resume of_stop)) → IsInFlight m number depth
