@@ -18,6 +18,7 @@ pub mod EventLaws
 pub mod FrameLaws
 pub mod FrameTests
 pub mod Frameless
+pub mod GoneLists
 pub mod HandshakeLaws
 pub mod HarmlessLaws
 pub mod HarmlessSteps

@@ -25,6 +25,7 @@ use Rattle.machine_laws.specs.Names.{SetBreakpoints, SetFunctionBreakpoints, Suc
 use Rattle.machine_laws.specs.Names.{a_response, breakpoint_list}
 use Rattle.machine_laws.specs.Settings.{Settings, answered_set, function_set, kept_under, line_set, nothing_set, set_by}
 use Rattle.machine_laws.specs.Settings.{set_if, settings_of, with_ids}
+use Rattle.machine_laws.proofs.GoneLists.{FarItem, IsFar, far, far_at}
 use Rattle.machine_laws.proofs.LeavingLaws.{first_in}
 use Rattle.machine_laws.proofs.SettingLaws.{Follows, FollowsItem, Listed, as_set, first_test, followed, follows_at}
 use Rattle.machine_laws.proofs.SettingLaws.{line_listed, listed_by, listed_in, lists_before, name_listed, none_listed}
@@ -352,11 +353,26 @@ tells_body command s state (breakpoint_list rooted listed) below lists same = (
 )
 tells_body command s state _ below lists same = (none_asked command s lists, tt)
 
-lists_at : {messages : List Message} {m : Machine} {hand : Hand} {rest : List Part} {request : Request} (body : Body)
+tells_far : (command : Command) (s : Settings) (state : State) (body : Body) → listed_in (Some (Success body)) ≡ None
+    → listed_by command s ≡ None → Tells command s state.wishes (body_told body (numbered body state))
+tells_far command s state (breakpoint_list rooted listed) none lists = cc
+tells_far command s state _ none lists = (none_asked command s (sym lists), tt)
+
+lists_far : {messages : List Message} {m : Machine} {hand : Hand} {rest : List Part} {request : Request} (body : Body)
+    → Run messages m → IsAt m hand (Part.Responds (Success body)) rest → hand.item ≡ a_request request
+    → is_gone m.state.phase ≡ true
+    → Tells request.command (settings_of messages) m.state.wishes (body_told body (numbered body m.state))
+lists_far {messages} {m} {rest = rest} {request} body r at is gone =
+    let item = subst (λ (item : Item). FarItem item (Part.Responds (Success body) ∷ rest)) is
+    (far_at at (far r gone)) in
+    let f : IsFar (Some (Success body)) request.command = item refl in
+    tells_far request.command (settings_of messages) m.state body f.0 (f.1 (settings_of messages))
+
+lists_near : {messages : List Message} {m : Machine} {hand : Hand} {rest : List Part} {request : Request} (body : Body)
     → Run messages m → IsAt m hand (Part.Responds (Success body)) rest → hand.item ≡ a_request request
     → is_gone m.state.phase ≡ false
     → Tells request.command (settings_of messages) m.state.wishes (body_told body (numbered body m.state))
-lists_at {messages} {m} {hand} {rest} {request} body r at is near =
+lists_near {messages} {m} {hand} {rest} {request} body r at is near =
     let set = settings_of messages in
     let item = subst (λ (item : Item). FollowsItem item set (Part.Responds (Success body) ∷ rest) (seen m.state)) is
     (follows_at set at (followed r near)) in
@@ -368,12 +384,21 @@ lists_at {messages} {m} {hand} {rest} {request} body r at is near =
     (ap₂ (λ (lists : List (List ℕ × List LineEntry)) (functions : List FunctionEntry).
     flat_map line_marks lists ++ map function_mark functions) now.lists now.functions)
 
+lists_at : {messages : List Message} {m : Machine} {hand : Hand} {rest : List Part} {request : Request} (body : Body)
+    → Run messages m → IsAt m hand (Part.Responds (Success body)) rest → hand.item ≡ a_request request
+    → Tells request.command (settings_of messages) m.state.wishes (body_told body (numbered body m.state))
+lists_at {messages} {m} {request = request} body r at is = by_phase (is_gone m.state.phase) refl
+  where
+    by_phase : (gone : Bool) → is_gone m.state.phase ≡ gone
+        → Tells request.command (settings_of messages) m.state.wishes (body_told body (numbered body m.state))
+    by_phase true gone = lists_far body r at is gone
+    by_phase false near = lists_near body r at is near
+
 lists_of : {messages : List Message} {m next : Machine} (said : Option Message) (response : Response) (shape : Shape)
     → Run messages m → Moves m said next → said ≡ Some (Message.tells (a_response response))
-    → response.outcome ≡ outcomes.Success shape → is_gone m.state.phase ≡ false
-    → ListsAsked messages m.state.wishes response shape
-lists_of {messages} {m} said response shape r (Moves.responds {hand} {rest} {request} {outcome} free at item) is success
-    near =
+    → response.outcome ≡ outcomes.Success shape → ListsAsked messages m.state.wishes response shape
+lists_of {messages} {m} said response shape r (Moves.responds {hand} {rest} {request} {outcome} free at item) is
+    success =
     let same : record {
       request_seq = request.seq;
       command = request.name;
@@ -391,7 +416,7 @@ lists_of {messages} {m} said response shape r (Moves.responds {hand} {rest} {req
         → ListsAsked messages m.state.wishes response shape
     by_outcome (Failed failure) at success same = cc
     by_outcome (Success body) at success same =
-        let told = lists_at body r at item near in
+        let told = lists_at body r at item in
         let shape_is : body_told body (numbered body m.state) ≡ shape = cc in
         let now = subst (λ (shape : Shape). Tells request.command (settings_of messages) m.state.wishes shape) shape_is
         told in
@@ -405,18 +430,18 @@ lists_of {messages} {m} said response shape r (Moves.responds {hand} {rest} {req
           asked = now.0;
           verified = now.1;
         }
-lists_of {messages = messages} said response shape r (Moves.loses late close why) is success near = by_loss why is
+lists_of {messages = messages} said response shape r (Moves.loses late close why) is success = by_loss why is
   where
     by_loss : {m : Machine} {message : Message} {late : List TargetCommand} → Loses m message late
         → Some message ≡ Some (Message.tells (a_response response))
         → ListsAsked messages m.state.wishes response shape
     by_loss Loses.by_end is = cc
     by_loss _ is = cc
-lists_of said response shape r _ is success near = cc
+lists_of said response shape r _ is success = cc
 
 pub lists_asked : (messages : List Message) (m : Machine) (response : Response) (shape : Shape) → Run messages m
     → (due false m).act ≡ Act.Tells (a_response response) → response.outcome ≡ outcomes.Success shape
-    → is_gone m.state.phase ≡ false → ListsAsked messages m.state.wishes response shape
-lists_asked messages m response shape r is success near =
+    → ListsAsked messages m.state.wishes response shape
+lists_asked messages m response shape r is success =
     lists_of (Some (Message.tells (a_response response))) response shape r (moved (Allows.acts (ap said is))) refl
-    success near
+    success

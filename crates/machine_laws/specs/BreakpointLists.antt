@@ -17,7 +17,7 @@ use Rattle.machine_laws.specs.Names.{Act, Command, Request, SetBreakpoints, SetF
 use Rattle.machine_model.specs.Requests.{Wishes}
 use Rattle.machine_model.specs.Rest.{IsAnswer}
 use Rattle.machine_model.specs.Runs.{Message, Run}
-use Rattle.machine_model.specs.State.{Machine, is_gone}
+use Rattle.machine_model.specs.State.{Machine}
 use Rattle.wish_sets.specs.Entries.{has_location}
 use Rattle.wish_sets.specs.Places.{places}
 use Rattle.wish_sets.specs.Wishes.{is_installed}
@@ -58,8 +58,8 @@ pub record ListsAsked (messages : List Message) (wishes : Wishes) (response : Re
   pub asked : option_map (map spot_told) (breakpoints_in shape) ≡ spots_asked request.command (settings_of messages)
   pub verified : IfSome (breakpoints_in shape) (AllByRecursion (IsRight wishes))
 
--- Until the target is gone, a success lists just the breakpoints that its request asks for.
+-- A success lists just the breakpoints that its request asks for.
 abbrev pub Lists : Type 0
 Lists = (messages : List Message) (m : Machine) (response : Response) (shape : Shape) → Run messages m
     → (due false m).act ≡ Act.Tells (a_response response) → response.outcome ≡ outcomes.Success shape
-    → is_gone m.state.phase ≡ false → ListsAsked messages m.state.wishes response shape
+    → ListsAsked messages m.state.wishes response shape

@@ -249,10 +249,10 @@ pub fn breakpoints_are_those_that_the_client_set_last()
     ensures { Sets }
 {}
 
-/// Until the target is gone, a `setBreakpoints` or `setFunctionBreakpoints` that succeeds is answered by the
-/// breakpoints that it asks for: as many, in its order, each with the next id and at its line. No other response has
-/// any. Each is called verified just where one of its locations is installed (DAP specification, SetBreakpoints and
-/// SetFunctionBreakpoints requests; Types, Breakpoint).
+/// A `setBreakpoints` or `setFunctionBreakpoints` that succeeds is answered by the breakpoints that it asks for: as
+/// many, in its order, each with the next id and at its line. No other response has any. Each is called verified just
+/// where one of its locations is installed (DAP specification, SetBreakpoints and SetFunctionBreakpoints requests;
+/// Types, Breakpoint).
 pub fn responses_list_the_breakpoints_that_are_asked_for()
     ensures { Lists }
 {}
