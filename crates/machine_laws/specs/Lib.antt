@@ -5,6 +5,6 @@ pub mod NamedThreads
 pub mod Names
 pub mod Pausing
 pub mod Settings
+pub mod StepRequests
 pub mod ThreadEvents
 pub mod ThreadNumbers
-pub mod StepRequests

@@ -50,8 +50,8 @@ abbrev pub with_ids : {A B : Type 0} → (ℕ → A → B) → ℕ → List A �
 with_ids make id [] = []
 with_ids make id (one ∷ others) = make id one ∷ with_ids make (id + 1) others
 
--- a breakpoint at a line that is counted from 1 (DAP specification, Types, SourceBreakpoint; JDWP, Method command set,
--- LineTable, lineNumber)
+-- one of a source, at a line as the target counts it, from 1 and up to its greatest (DAP specification, Types,
+-- SourceBreakpoint; JDWP, Method command set, LineTable, lineNumber)
 abbrev pub line_set : Bool → ℕ → SourceBreakpoint → LineEntry
 line_set from_one id one =
     record { id = id; line = pos (min (cond from_one one.line (one.line + 1)) last_line); plain = one.plain }
@@ -91,7 +91,7 @@ set_if (outcomes.Failure failure) command s = s
 abbrev pub answered_set : Settings → Request × Response → Settings
 answered_set s answered = set_if answered.1.outcome answered.0.command s
 
--- what the requests set that have a response, in order
+-- what the requests set that have a response, in order: the responses answer the first of the requests, one each
 abbrev pub settings_of : List Message → Settings
 settings_of messages = fold answered_set nothing_set (zip (requests_of messages) (responses_of messages))
 

@@ -22,6 +22,6 @@ pub use laws::{
     the_client_knows_whether_a_stop_is_in_hand, the_first_error_decides,
     the_handshake_goes_out_for_an_attach, the_target_is_changed_as_the_first_request_asks,
     the_target_is_left_once_for_a_disconnect, the_target_runs_on_at_rest,
-    threads_keep_their_numbers, what_is_known_is_what_messages_say,
-    the_target_runs_on_with_the_step_that_was_asked_for, what_is_known_is_what_messages_say,
+    the_target_runs_on_with_the_step_that_was_asked_for, threads_keep_their_numbers,
+    what_is_known_is_what_messages_say,
 };
