@@ -151,10 +151,10 @@ class Program:
 class Bridge(Program):
     """The program, run with a listener of this script as its target."""
 
-    def __init__(self, program):
+    def __init__(self, program, output=None):
         self.listener = socket.create_server(("127.0.0.1", 0))
         self.listener.settimeout(PATIENCE)
-        super().__init__(program, self.listener.getsockname()[1])
+        super().__init__(program, self.listener.getsockname()[1], output)
         self.target, _ = self.listener.accept()
         self.target.settimeout(PATIENCE)
 

@@ -1,11 +1,10 @@
 //! The lines and the statuses of endings and faults.
-use crate::runs::output_of;
 use dap_frames::FrameFault;
 use run_outcomes::{Outcome, tell};
 use session_model::{ClientFault, Ending, TargetFault};
 use std::alloc::Global;
 use std::test::Fail;
-use wire_core::NoMemory;
+use wire_core::{List, MemoryOutput, NoMemory};
 
 // Endings, each with its status and its line.
 const ENDINGS: [(Ending, u8, &str); 7] = [
@@ -33,6 +32,15 @@ const ENDINGS: [(Ending, u8, &str); 7] = [
         "ended 4 target PolicyThread at 86\n",
     ),
 ];
+
+// An output whose first write fails, or none.
+fn output_of(alloc: Global, fails: bool) -> Result<MemoryOutput, NoMemory> {
+    let mut failing = List::new(alloc);
+    if fails {
+        failing.push(0)?;
+    }
+    Ok(MemoryOutput::new(alloc, failing))
+}
 
 // How an outcome is told, over an output whose first write may fail: the status, and whether it printed just this.
 fn told(alloc: Global, outcome: Outcome, fails: bool, line: &str) -> Result<(u8, bool), NoMemory> {
