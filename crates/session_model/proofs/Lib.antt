@@ -9,6 +9,7 @@ mod Examples
 mod FaultExamples
 pub mod GreetLaws
 pub mod HearLaws
+pub mod LeavingLaws
 pub mod OverLaws
 pub mod PartLaws
 pub mod PendingLaws
@@ -21,5 +22,6 @@ pub mod ServeLaws
 pub mod SizeLaws
 pub mod SpokenLaws
 pub mod Steps
+pub mod TerminatedLaws
 pub mod TurnLaws
 pub mod WaitLaws

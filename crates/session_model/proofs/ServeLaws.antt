@@ -46,7 +46,7 @@ gone_response request =
     record { request_seq = request.seq; command = request.name; outcome = outcomes.Failure target_gone }
 
 -- the next word is told to the client
-abbrev tells_first : List LastWord → Bool
+abbrev pub tells_first : List LastWord → Bool
 tells_first [] = false
 tells_first (LastWord.tells told ∷ words) = true
 tells_first (LastWord.disposes ∷ words) = false
@@ -138,7 +138,7 @@ words_of Flood m = Words.beside (target_none m.state.phase)
 words_of NoMemory m = Words.beside tt
 
 -- what was said, what is left of the words, and that no word to the client was cut short, unless its link failed
-record Rests (words said left : List LastWord) (log : List Entry) : Type 0 where
+pub record Rests (words said left : List LastWord) (log : List Entry) : Type 0 where
   pub rest : List LastWord
   pub all : said ++ rest ≡ words
   pub later : left ≡ [] → ¬ HasLost Client log → tells_first rest ≡ false
@@ -148,7 +148,7 @@ no_word left none = rw none refl
 
 module _ {limits : Limits} {log : List Entry} {messages : List Message} {turns : ℕ} {e : EndedState}
     (h : Ended limits log messages turns e) where
-  rests : Said (last_words e.ending e.last.machine) e.said e.left h.by_words e.streams
+  pub rests : Said (last_words e.ending e.last.machine) e.said e.left h.by_words e.streams
       → Rests (last_words e.ending e.last.machine) e.said e.left log
   rests (Said.whole all) = record { rest = e.left; all = all; later = λ none _. no_word e.left none }
   rests (Said.broken before (LastWord.tells told) unsaid all none proper is) = record {

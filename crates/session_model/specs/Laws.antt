@@ -7,12 +7,14 @@ use Rattle.session_model.specs.Names.{Done, Entry, Limits, Side}
 use Rattle.session_model.specs.Causes.{IsWaiting}
 use Rattle.session_model.specs.Endings.{IsDone, ShowsInLog}
 use Rattle.session_model.specs.Hearing.{AreHeard}
+use Rattle.session_model.specs.Leaving.{IsLeftToRunOn}
 use Rattle.session_model.specs.Replies.{AreReadAlike, AreReplied}
 use Rattle.session_model.specs.Responses.{AreServedInAll}
 use Rattle.session_model.specs.Resting.{IsAnswered}
 use Rattle.session_model.specs.Sending.{IsSent, IsSentInAll}
 use Rattle.session_model.specs.Session.{Ended, EndedState, Going}
 use Rattle.session_model.specs.States.{SessionState}
+use Rattle.session_model.specs.Terminating.{IsToldOnce}
 use Rattle.session_model.specs.Turns.{AreTurns, AreTurnsThen, SaysLast}
 
 -- this holds of every session that goes on
@@ -37,6 +39,15 @@ Turns = WhileGoing (λ limits log messages turns s. AreTurns limits log turns)
 -- After an ending nothing is said but its last words, in their order, up to the first that can't be sent.
 abbrev pub LastWordsSaid : Type 0
 LastWordsSaid = OnceEnded (λ limits log messages turns e. SaysLast log e)
+
+-- Where a target is to run on when a session ends, it is let do so behind the cause; else nothing goes to it there.
+abbrev pub LeftToRunOn : Type 0
+LeftToRunOn = (limits : Limits) (log : List Entry) (messages : List Message) (turns : ℕ) (e : EndedState)
+    (ended : Ended limits log messages turns e) → IsLeftToRunOn e ended.by_words
+
+-- `terminated` is told at most once, and just once where an ending is told to the client.
+abbrev pub TerminatedOnce : Type 0
+TerminatedOnce = OnceEnded (λ limits log messages turns e. IsToldOnce log messages e)
 
 -- What a side is sent are the messages that go to it, numbered 1, 2, 3, and so on, and last words behind them.
 abbrev pub SidesAreSent : Type 0

@@ -5,6 +5,7 @@ pub mod Faults
 pub mod Hearing
 pub mod LastWords
 pub mod Laws
+pub mod Leaving
 pub mod Names
 pub mod Replies
 pub mod Responses
@@ -13,4 +14,5 @@ pub mod Saying
 pub mod Sending
 pub mod Session
 pub mod States
+pub mod Terminating
 pub mod Turns

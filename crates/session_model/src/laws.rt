@@ -2,7 +2,7 @@
 //! nothing.
 
 ghost use Rattle.session_model.specs.Laws.{Alike, Dones, Endings, LastWordsSaid, Replies, Requests, ResponsesToTheEnd};
-ghost use Rattle.session_model.specs.Laws.{AreRuns, SidesAreSent, Turns, Waitings};
+ghost use Rattle.session_model.specs.Laws.{AreRuns, LeftToRunOn, SidesAreSent, TerminatedOnce, Turns, Waitings};
 
 /// The messages of a session are a run of the translation machine, which knows no bytes.
 pub fn messages_are_a_run()
@@ -18,6 +18,22 @@ pub fn turns_are_waits()
 /// After an ending nothing is said but the ending's last words, in their order, up to the first that can't be sent.
 pub fn last_words_are_those_of_the_ending()
     ensures { LastWordsSaid }
+{}
+
+/// A target that is attached is left to run on where the session ends by its client, by a limit, or by a command that
+/// the target refused. Once no last word is left, the last that went out behind the cause is a Dispose, whole, with the
+/// next id. Only a send that failed behind the cause is in its place: that of the Dispose; or, where the ending is told
+/// to the client, one of what is told. After another ending, or where it isn't attached, the target is sent nothing
+/// behind the cause (JDWP, VirtualMachine command set, Dispose; JDWP, JDWP Packets, command packet).
+pub fn a_target_is_left_to_run_on()
+    ensures { LeftToRunOn }
+{}
+
+/// That nothing more comes of the target is told at most once in a session. Where the target is lost, refused a command
+/// or was silent for too long, it is told just once, by a message of the run or as a last word, once none is left;
+/// unless the client's link has failed (DAP specification, Events, Terminated).
+pub fn terminated_is_told_once()
+    ensures { TerminatedOnce }
 {}
 
 /// What the client is sent are the frames of what it is told, numbered 1, 2, 3, and so on; what the target is sent are
