@@ -1,6 +1,6 @@
 -- `terminated` is told at most once, and once where an ending is told to the client.
 use Rattle.std.proofs.Common.{◌≡◌, ℕ, ◌+◌, ◌≤◌, Bool, true, false, cond, not, List, [], ◌∷◌, ◌++◌, map, refl, sym, ap}
-use Rattle.std.proofs.Common.{subst, ◌∙◌, append_assoc, append-nil, arith}
+use Rattle.std.proofs.Common.{subst, ◌∙◌, append_assoc, arith}
 use Rattle.std.proofs.lemmas.List.Sums.{sum_by-append, sum_by-cons, sum_by_push}
 use Rattle.std.specs.Prelude.{count_by}
 use Rattle.dap_messages.specs.declared.told.Event.TheVariants as events
@@ -14,7 +14,7 @@ use Rattle.machine_laws.proofs.KnowingLaws.{is_known}
 use Rattle.session_model.specs.LastWords.{LastWord, end_word, fails_gone, last_words}
 use Rattle.session_model.specs.Leaving.{must_run_on}
 use Rattle.session_model.specs.Names.{a_question, a_response, an_effect, an_event, Clear, Composite, Deed, Dispose}
-use Rattle.session_model.specs.Names.{Does, Ending, Entry, Exit, Limits, Replied, Request, Resume, Set, Suspend}
+use Rattle.session_model.specs.Names.{Does, Entry, Exit, Limits, Replied, Request, Resume, Set, Suspend}
 use Rattle.session_model.specs.Names.{TargetCommand, Writes}
 use Rattle.session_model.specs.Responses.{tells_client}
 use Rattle.session_model.specs.Session.{Ended, EndedState}

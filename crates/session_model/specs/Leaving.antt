@@ -26,9 +26,9 @@ must_run_on (BadTarget fault at id) phase = false
 must_run_on TargetLink phase = false
 must_run_on NoMemory phase = false
 
--- These entries let a target run on by this packet: it is sent, whole, and nothing behind it; or that send fails, and
--- less than the whole of it is. Where the ending is told to the client, that comes first; where such a send fails,
--- nothing more is sent.
+-- These entries let a target run on by this packet: it is sent, whole, and nothing behind it. Or that send fails, and
+-- less than the whole of it is sent. Where the ending is told to the client, what is told comes first; where a send of it
+-- fails, nothing more is sent.
 pub data LetsRunOn (packet : List ℕ) (tells : Bool) : List Entry → Type 0 where
   sent : LetsRunOn packet tells (Out Target packet ∷ [])
   cut_short : {kept : ℕ} → kept < length packet → LetsRunOn packet tells (broken_send Target (take kept packet))
