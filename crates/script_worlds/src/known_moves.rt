@@ -1,13 +1,15 @@
 //! Which moves name what was given, and give what was not.
-ghost use Rattle.std.specs.Prelude.{◌≡◌};
+ghost use Rattle.std.specs.Prelude.{◌≡◌, ◌&&◌};
+ghost use Rattle.world_model.specs.declared.moves.Move.TheVariants as moves;
 ghost use Rattle.world_model.specs.Happenings.{is_nowhere};
+ghost use Rattle.script_worlds.specs.Known.{is_given_thread, are_known_slots};
 ghost use Rattle.script_worlds.specs.Known.{move_is_new, move_is_known, call_is_known, throw_is_known};
 
 use crate::given::{field_in_object, is_class, is_method};
 use crate::known::{
     are_known_slots, is_given_frame, is_given_object, is_given_thread, is_known, is_known_value,
 };
-use jdwp_values::{ClassId, MethodId, ObjectId, ThreadId};
+use jdwp_values::{ClassId, FieldId, MethodId, ObjectId, ThreadId, Value};
 use world_model::{Move, SlotValue, World};
 
 /// Whether a move gives no id that was given before.
@@ -26,6 +28,14 @@ fn is_nowhere(class: ClassId, method: MethodId, index: u64) -> bool
     ensures { result ≡ is_nowhere class method index }
 {
     class.0 == 0 && (method.0 == 0 && index == 0)
+}
+
+// Whether the thread that goes on and the values of its slots were given.
+fn at_is_known(world: &World, program: &[Move], thread: ThreadId, slots: &[SlotValue]) -> bool
+    ensures { result ≡ (is_given_thread world.now program.now thread
+        && are_known_slots world.now program.now slots.now) }
+{
+    is_given_thread(world, program, thread) && are_known_slots(world, program, slots)
 }
 
 // Whether the thread, the method, the object and the values of a frame that is entered were given.
@@ -62,15 +72,25 @@ fn throw_is_known(
         && (is_nowhere(class, method, index) || is_method(world, class, method))
 }
 
+// Whether the field of an object that a value is put to was given, and the value.
+fn store_is_known(
+    world: &World,
+    program: &[Move],
+    object: ObjectId,
+    field: FieldId,
+    value: &Value,
+) -> bool
+    ensures { result ≡ move_is_known world.now program.now (moves.Store object field value.now) }
+{
+    field_in_object(world, object, field).is_some() && is_known_value(world, program, value)
+}
+
 /// Whether a move names ids alone that were given before.
 pub fn move_is_known(world: &World, program: &[Move], row: &Move) -> bool
     ensures { result ≡ move_is_known world.now program.now row.now }
 {
     match row {
-        Move::At { thread, slots, .. } => {
-            is_given_thread(world, program, *thread)
-                && are_known_slots(world, program, slots.as_slice())
-        }
+        Move::At { thread, slots, .. } => at_is_known(world, program, *thread, slots.as_slice()),
         Move::Call {
             thread,
             class,
@@ -104,10 +124,7 @@ pub fn move_is_known(world: &World, program: &[Move], row: &Move) -> bool
             object,
             field,
             value,
-        } => {
-            field_in_object(world, *object, *field).is_some()
-                && is_known_value(world, program, value)
-        }
+        } => store_is_known(world, program, *object, *field, value),
         Move::Death => true,
     }
 }

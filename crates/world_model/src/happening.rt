@@ -5,6 +5,7 @@ ghost use Rattle.world_model.specs.Happenings.{place_at, stands, running, is_out
 ghost use Rattle.world_model.specs.Happenings.{can_hold, is_new_frame, can_enter, can_begin, is_unprepared};
 ghost use Rattle.world_model.specs.Happenings.{is_new_thread, catch_in, value_for, put_for, stored};
 ghost use Rattle.world_model.specs.Happenings.{only_if, returns_from, what_happens};
+ghost use Rattle.world_model.specs.declared.happening.Happening.TheVariants as happenings;
 ghost use Rattle.world_model.specs.declared.moves.Move.TheVariants as moves;
 ghost use Rattle.world_model.specs.Objects.{field_of};
 
@@ -341,6 +342,20 @@ fn prepares(world: &World, class: ClassId, thread: ThreadId) -> Option<Happening
     only_if(can, Happening::Prepares { thread, class })
 }
 
+// A thread starts.
+fn starts(world: &World, thread: ThreadId) -> Option<Happening>
+    ensures { result ≡ only_if (is_new_thread world.now thread) (happenings.Starts thread) }
+{
+    only_if(is_new_thread(world, thread), Happening::Starts(thread))
+}
+
+// A thread ends.
+fn dies(world: &World, thread: ThreadId) -> Option<Happening>
+    ensures { result ≡ what_happens world.now (moves.Die thread) }
+{
+    only_if(is_alive(world, thread), Happening::Dies(thread))
+}
+
 // A field of an object gets a value.
 fn stores(world: &World, object: ObjectId, field: FieldId, value: Value) -> Option<Happening>
     ensures { result ≡ what_happens world.now (moves.Store object field value) }
@@ -367,16 +382,10 @@ pub(crate) fn what_happens(world: &World, next: &Move) -> Option<Happening>
             index,
             this,
             slots,
-        } => calls(
-            world,
-            *thread,
-            *frame,
-            *class,
-            *method,
-            *index,
-            *this,
-            slots.as_slice(),
-        ),
+        } => {
+            let rows = slots.as_slice();
+            calls(world, *thread, *frame, *class, *method, *index, *this, rows)
+        }
         Move::Return(thread) => returns(world, *thread),
         Move::Prepare { class, thread } => prepares(world, *class, *thread),
         Move::Throw {
@@ -386,10 +395,8 @@ pub(crate) fn what_happens(world: &World, next: &Move) -> Option<Happening>
             method,
             index,
         } => throws(world, *thread, *object, *class, *method, *index),
-        Move::Start { thread, .. } => {
-            only_if(is_new_thread(world, *thread), Happening::Starts(*thread))
-        }
-        Move::Die(thread) => only_if(is_alive(world, *thread), Happening::Dies(*thread)),
+        Move::Start { thread, .. } => starts(world, *thread),
+        Move::Die(thread) => dies(world, *thread),
         Move::Store {
             object,
             field,

@@ -13,7 +13,7 @@ use crate::rows::{SlotValue, WorldClass, WorldFrame, WorldThread};
 use crate::steps::innermost;
 use crate::storing::kept_value;
 use crate::world::World;
-use jdwp_values::{ClassId, FieldId, FrameId, ObjectId, ThreadId, Value};
+use jdwp_values::{ClassId, FieldId, FrameId, MethodId, ObjectId, ThreadId, Value};
 use std::alloc::Global;
 use wire_core::{Blob, List, NoMemory};
 
@@ -299,6 +299,37 @@ fn go_on(
     Ok(())
 }
 
+// The new frame of a thread that calls a method.
+fn new_frame(
+    thread: ThreadId,
+    frame: FrameId,
+    class: ClassId,
+    method: MethodId,
+    index: u64,
+    this: ObjectId,
+    slots: List<SlotValue>,
+) -> WorldFrame
+    ensures { result ≡ record {
+      thread = thread;
+      id = frame;
+      class = class;
+      method = method;
+      index = index;
+      this = this;
+      slots = slots;
+    } }
+{
+    WorldFrame {
+        thread,
+        id: frame,
+        class,
+        method,
+        index,
+        this,
+        slots,
+    }
+}
+
 // There is a new innermost frame.
 fn enter(alloc: Global, world: &mut World, frame: WorldFrame) -> Result<(), NoMemory>
     ensures ok { OnOk result (world.new ≡ entered world.old frame) }
@@ -385,15 +416,8 @@ pub(crate) fn change(alloc: Global, world: &mut World, next: &Move) -> Result<()
             this,
             slots,
         } => {
-            let frame = WorldFrame {
-                thread: *thread,
-                id: *frame,
-                class: *class,
-                method: *method,
-                index: *index,
-                this: *this,
-                slots: held_slots(alloc, world, slots.as_slice())?,
-            };
+            let slots = held_slots(alloc, world, slots.as_slice())?;
+            let frame = new_frame(*thread, *frame, *class, *method, *index, *this, slots);
             enter(alloc, world, frame)
         }
         Move::Return(thread) => return_from(alloc, world, *thread),
