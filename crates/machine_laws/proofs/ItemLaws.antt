@@ -46,7 +46,7 @@ one_more : (items : List Item) (item : Item) → is_composite item ≡ false →
 one_more [] item is h = grind arith
 one_more (first ∷ items) item is h = grind (arith, h, has_more items item is, one_more items item is)
 
-raw_more : (items : List Item) (item : Item) → is_raw item ≡ false → has_raw items ≡ false
+pub raw_more : (items : List Item) (item : Item) → is_raw item ≡ false → has_raw items ≡ false
     → has_raw (items ++ item ∷ []) ≡ false
 raw_more [] item is none = rw is refl
 raw_more (first ∷ items) item is none = grind (arith, is, none, raw_more items item is)

@@ -44,12 +44,14 @@ pub mod NumberLaws
 pub mod OutcomeLaws
 pub mod PartTests
 pub mod PausedAnswers
+pub mod PausedEvents
 pub mod PausedStops
 pub mod PendingLaws
 pub mod PlanLaws
 pub mod QuestionLaws
 pub mod QuietLaws
 pub mod ReferenceLaws
+pub mod RefusedSteps
 pub mod ReplyLaws
 pub mod RequestLaws
 pub mod RequestSteps

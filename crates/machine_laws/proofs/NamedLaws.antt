@@ -240,14 +240,14 @@ asks_named messages m thread question r of is =
 -- Steps that are to be set --------------------------------------------------------------------------------------------
 
 -- the request for this step is in hand, and sets it
-record IsSetting (held : Option Hand) (threads : List ThreadId) (thread : ThreadId) (depth : Depth) : Type 0 where
-  hand : Hand
-  is_held : held ≡ Some hand
-  parts : hand.parts ≡ Part.Updates ∷ Part.Unfolds Stepped ∷ []
-  to_step : IsToStep hand.item threads (record { thread = thread; depth = depth })
+pub record IsSetting (held : Option Hand) (threads : List ThreadId) (thread : ThreadId) (depth : Depth) : Type 0 where
+  pub hand : Hand
+  pub is_held : held ≡ Some hand
+  pub parts : hand.parts ≡ Part.Updates ∷ Part.Unfolds Stepped ∷ []
+  pub to_step : IsToStep hand.item threads (record { thread = thread; depth = depth })
 
 -- each step that is to be set is that of the request in hand
-abbrev AreSetting : Machine → Type 0
+abbrev pub AreSetting : Machine → Type 0
 AreSetting m = (thread : ThreadId) (depth : Depth) → IsNewSet m.state.wishes (wishes.Step thread depth)
     → IsSetting m.hand m.state.threads thread depth
 
@@ -316,7 +316,7 @@ module _ (thread : ThreadId) (depth : Depth) where
   }
 
   -- the step that is wished
-  wished_step : (wanted : Wanted) → has_wish (wished wanted) it ≡ true
+  pub wished_step : (wanted : Wanted) → has_wish (wished wanted) it ≡ true
       → wanted.step ≡ Some (record { thread = thread; depth = depth })
   wished_step wanted is = by_step wanted.step (sym (step_wished wanted thread depth) ∙ is)
     where
@@ -482,7 +482,7 @@ setting_on m next said r h (Moves.replies {effect} {replied} is flies reply stay
 setting_on m next said r h (Moves.loses late there why) near here thread depth new = cc
 setting_on m next said r h _ near here thread depth new = h thread depth new
 
-setting : {messages : List Message} {m : Machine} → Run messages m → is_gone m.state.phase ≡ false → AreSetting m
+pub setting : {messages : List Message} {m : Machine} → Run messages m → is_gone m.state.phase ≡ false → AreSetting m
 setting r = by_runs {Holds = λ (messages : List Message) (m : Machine). is_gone m.state.phase ≡ false → AreSetting m}
     (record {
       starts = λ near thread depth new. let no = wished_step thread depth nothing_wanted new.is_wished in cc;

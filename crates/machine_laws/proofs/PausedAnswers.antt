@@ -27,16 +27,16 @@ use Rattle.machine_laws.proofs.Testing.{IsTest, tested, whole}
 
 -- Lists of parts ------------------------------------------------------------------------------------------------------
 
-abbrev is_client : StopCause → Bool
+abbrev pub is_client : StopCause → Bool
 is_client by_client = true
 is_client _ = false
 
 -- it tells of a stop that the client asked for
-abbrev tells_pause : Part → Bool
+abbrev pub tells_pause : Part → Bool
 tells_pause (Part.Tells (a_stop stopping)) = is_client stopping.cause
 tells_pause _ = false
 
-abbrev starts_paused : List Part → Bool
+abbrev pub starts_paused : List Part → Bool
 starts_paused [] = false
 starts_paused (part ∷ parts) = tells_pause part
 

@@ -1,6 +1,7 @@
 -- Whether a stop is in hand by what the client is told, as each move keeps it.
 use Rattle.std.proofs.Common.{◌≡◌, Bool, true, false, cond, ◌||◌, List, [], ◌∷◌, ◌++◌, Option, Some, None, refl}
 use Rattle.std.proofs.Common.{sym, ap, subst, ◌∙◌, option_map, arith, ℕ}
+use Rattle.dap_messages.specs.declared.requests.ThreadArguments.{ThreadArguments}
 use Rattle.machine_model.specs.Due.{asked_hand}
 use Rattle.machine_model.specs.Events.{is_clients}
 use Rattle.machine_model.specs.Knowing.{lookup_stops, stopped_behind, stopped_told}
@@ -18,14 +19,15 @@ use Rattle.machine_model.specs.Stops.{surplus, told_part}
 use Rattle.machine_model.specs.Telling.{after_event, event_told, numbered_by, outcome_told, response_to}
 use Rattle.machine_model.proofs.Bools.{first_holds, second_holds}
 use Rattle.machine_laws.specs.ClientStops.{AreRead, IsShown, configured_by, stop_by_event, stop_by_outcome}
-use Rattle.machine_laws.specs.Names.{Choice, Command, Continue, Decides, Event, Failure, Finding, HaltCause}
+use Rattle.machine_laws.specs.Names.{Body, Choice, Command, Continue, Decides, Event, Failure, Finding, HaltCause}
 use Rattle.machine_laws.specs.Names.{Item, Lookup, Next, Outcome, Part, Pause, Replied, Request, Resume}
-use Rattle.machine_laws.specs.Names.{StepIn, StepOut, Stepped, Steps, Suspend, TargetCommand, TellsNews, ThreadId}
-use Rattle.machine_laws.specs.Names.{Throws, Thrown}
+use Rattle.machine_laws.specs.Names.{StepIn, StepOut, Stepped, Steps, Success, Suspend, TargetCommand, TellsNews}
+use Rattle.machine_laws.specs.Names.{ThreadId, Throws, Thrown}
 use Rattle.machine_laws.specs.Names.{Want, a_question, a_request, a_stop, an_effect, of_stop}
 use Rattle.machine_laws.specs.Names.{variable_write}
 use Rattle.machine_laws.proofs.ConfiguredEntry.{IsSettled, is_other, none_held, settled_on, settled_told, succeeds}
 use Rattle.machine_laws.proofs.HoldingParts.{numbered_stop, same_stop}
+use Rattle.machine_laws.proofs.PausedAnswers.{starts_paused}
 use Rattle.machine_laws.proofs.RequestSteps.{near_before}
 use Rattle.machine_laws.proofs.ServedLaws.{IsLeft, aside_left, left_on, responded_left}
 use Rattle.machine_laws.proofs.Stepping.{IsAt, Moves, Skips, by_runs, with_said}
@@ -85,6 +87,11 @@ may_turn steps Part.Updates rest = true
 may_turn steps (Part.Unfolds Stepped) rest = cond steps (is_empty rest) false
 may_turn steps _ rest = false
 
+-- its success is told where a stop is in hand that the client knows of, or with one that is told next
+abbrev may_halt : Bool → Part → List Part → Bool
+may_halt shown (Part.Responds outcome) rest = cond (succeeds outcome) (shown || starts_paused rest) true
+may_halt shown part rest = may_turn false part rest
+
 -- before the response of such an item the client may know less than is so
 abbrev is_even : Bool → Bool → List Part → Bool
 is_even shown stopped parts = cond (has_response parts) true (same shown stopped)
@@ -92,7 +99,7 @@ is_even shown stopped parts = cond (has_response parts) true (same shown stopped
 abbrev may_stand : Turning → Bool → Bool → Part → List Part → Bool
 may_stand runs_on shown stopped part rest =
     cond (may_turn (same shown stopped) part rest) (is_even shown stopped (part ∷ rest)) false
-may_stand halts shown stopped part rest = cond (may_turn false part rest) (is_even shown stopped (part ∷ rest)) false
+may_stand halts shown stopped part rest = cond (may_halt shown part rest) (is_even shown stopped (part ∷ rest)) false
 may_stand stays shown stopped part rest = cond (same shown stopped) (is_steady part rest) false
 
 abbrev fits : Turning → Bool → Bool → List Part → Bool
@@ -346,7 +353,7 @@ even_parts turn shown stopped (part ∷ rest) none h =
 
     by_turn : (turn : Turning) → may_stand turn shown stopped part rest ≡ true → same shown stopped ≡ true
     by_turn runs_on is = by_bools (may_turn (same shown stopped) part rest) (same shown stopped) is
-    by_turn halts is = by_bools (may_turn false part rest) (same shown stopped) is
+    by_turn halts is = by_bools (may_halt shown part rest) (same shown stopped) is
     by_turn stays is = first_holds (same shown stopped) (is_steady part rest) is
 
 steady_parts : (shown stopped : Bool) (parts : List Part) → fits stays shown stopped parts ≡ true
@@ -380,6 +387,23 @@ showing r = by_runs {Holds = λ (messages : List Message) (m : Machine). is_gone
       moves = λ messages m next said before h moved after near.
           shows_on messages m next said before (h (near_before m next said moved near)) near moved;
     }) r
+
+-- the success of a `pause` has the stop right behind it, where the client knows of none
+pub paused_next : {messages : List Message} {m : Machine} {hand : Hand} {rest : List Part} {request : Request}
+    {arguments : ThreadArguments} {body : Body} → Run messages m → is_gone m.state.phase ≡ false
+    → IsAt m hand (Part.Responds (Success body)) rest → hand.item ≡ a_request request
+    → request.command ≡ Pause arguments
+    → ((shown configured : Bool) → AreRead messages (without_response m) shown configured → shown ≡ false)
+    → starts_paused rest ≡ true
+paused_next {m = m} {hand} {rest} {body = body} r near at is pauses none =
+    let s = showing r near in
+    let halting : turning_of hand.item ≡ halts = ap turning_of is ∙ ap turning pauses in
+    let fit = subst (λ (turn : Turning). fits turn s.shown m.state.stopped (Part.Responds (Success body) ∷ rest) ≡ true)
+    halting (front_fits s.shown s.fits at) in
+    let stands = first_holds (may_stand halts s.shown m.state.stopped (Part.Responds (Success body)) rest) _ fit in
+    ap (λ (shown : Bool). shown || starts_paused rest) (sym (none s.shown s.configured s.told))
+    ∙ first_holds (s.shown || starts_paused rest)
+    (is_even s.shown m.state.stopped (Part.Responds (Success body) ∷ rest)) stands
 
 pub shows_stops : (messages : List Message) (m : Machine) → Run messages m → is_gone m.state.phase ≡ false
     → IsShown messages m

@@ -57,7 +57,7 @@ has_behind [] rest is = is
 has_behind (part ∷ parts) rest is = grind (arith, has_behind parts rest)
 
 -- what is told, noted or replied keeps the sizes
-told_sizes : (outcome : Outcome) (state : State)
+pub told_sizes : (outcome : Outcome) (state : State)
     → ((numbered_by outcome state).phase ≡ state.phase) × ((numbered_by outcome state).sizes ≡ state.sizes)
 told_sizes outcome state = (grind arith, grind arith)
 

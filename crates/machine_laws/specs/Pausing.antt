@@ -1,5 +1,5 @@
--- The event `stopped` of a `pause`, in every run. The law stands at the end, behind what it speaks of.
-use Rattle.std.specs.Prelude.{◌≡◌, ◌∷◌, ◌++◌, List, [], Some, false}
+-- The event `stopped` of a `pause`, in every run. The laws stand at the end, behind what they speak of.
+use Rattle.std.specs.Prelude.{ℕ, ◌≡◌, ◌∷◌, ◌++◌, Bool, List, [], Some, false}
 use Rattle.dap_messages.specs.declared.requests.ThreadArguments.{ThreadArguments}
 use Rattle.dap_messages.specs.declared.told.Event.TheVariants as events
 use Rattle.dap_messages.specs.declared.told.Outcome.TheVariants as outcomes
@@ -11,8 +11,9 @@ use Rattle.machine_model.specs.Knowing.{HasNumber}
 use Rattle.machine_model.specs.Names.{Pause, Request, ThreadId, Told, an_event}
 use Rattle.machine_model.specs.Rest.{told_of}
 use Rattle.machine_model.specs.Runs.{Message, Run}
-use Rattle.machine_model.specs.State.{Hand, Machine}
+use Rattle.machine_model.specs.State.{Hand, Machine, is_gone}
 use Rattle.machine_model.specs.Telling.{response_to}
+use Rattle.machine_laws.specs.ClientStops.{AreRead}
 use Rattle.machine_laws.specs.Names.{Act, a_request}
 
 -- the success of the request is the last that the client was told
@@ -40,3 +41,27 @@ abbrev pub Pauses : Type 0
 Pauses = (messages : List Message) (m : Machine) (stop : Stopped) → Run messages m
     → (due false m).act ≡ Act.Tells (an_event (events.Stopped stop)) → stop.reason ≡ reasons.Pause
     → IsPaused messages m stop
+
+-- The success of the request is the last that the client was told, and by what it was told before no stop was in hand.
+pub record HasSucceeded (messages : List Message) (request : Request) : Type 0 where
+  pub before : List Message
+  pub after : List Message
+  pub shape : Shape
+  pub others : List Request
+  pub configured : Bool
+  pub messages_are : messages ≡ before ++ Message.tells (response_to request (outcomes.Success shape)) ∷ after
+  pub is_last : told_of after ≡ []
+  pub no_stop : AreRead before (request ∷ others) false configured
+
+-- the event `stopped` is due for a pause, of the thread with this number (DAP specification, Events, Stopped)
+pub record IsPauseDue (m : Machine) (number : ℕ) : Type 0 where
+  pub stop : Stopped
+  pub is_due : (due false m).act ≡ Act.Tells (an_event (events.Stopped stop))
+  pub is_pause : stop.reason ≡ reasons.Pause
+  pub is_named : stop.thread ≡ number
+
+-- Where a `pause` has succeeded outside a stop, this event is what the client is told next, unless the target is gone.
+abbrev pub TellsPauses : Type 0
+TellsPauses = (messages : List Message) (m : Machine) (request : Request) (arguments : ThreadArguments)
+    → Run messages m → is_gone m.state.phase ≡ false → request.command ≡ Pause arguments
+    → HasSucceeded messages request → IsPauseDue m arguments.thread_id

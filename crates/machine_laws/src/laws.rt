@@ -5,9 +5,9 @@ ghost use Rattle.machine_laws.specs.BreakpointLists.{Lists};
 ghost use Rattle.machine_laws.specs.Changing.{Changes};
 ghost use Rattle.machine_laws.specs.ClientStops.{ShowsStops};
 ghost use Rattle.machine_laws.specs.NamedThreads.{AsksNamed, StepsNamed};
-ghost use Rattle.machine_laws.specs.Pausing.{Pauses};
+ghost use Rattle.machine_laws.specs.Pausing.{Pauses, TellsPauses};
 ghost use Rattle.machine_laws.specs.Settings.{Sets};
-ghost use Rattle.machine_laws.specs.StepRequests.{StepsAsAsked};
+ghost use Rattle.machine_laws.specs.StepRequests.{FailsRefused, StepsAsAsked};
 ghost use Rattle.machine_laws.specs.ThreadEvents.{TellsInHand, TellsThreads};
 ghost use Rattle.machine_laws.specs.ThreadNumbers.{KeepsNumbers};
 ghost use Rattle.machine_model.specs.Binding.{Binds};
@@ -129,10 +129,12 @@ pub fn the_client_knows_whether_a_stop_is_in_hand()
 {}
 
 /// Where `stopped` is told for a `pause`, the success of this request was told last. The event names the thread that
-/// the request names, which was told to the client by this number (DAP specification, Pause request; DAP specification,
-/// Events, Stopped).
+/// the request names, which was told to the client by this number. And where a `pause` has succeeded while the client
+/// knew of no stop, this event is what it is told next, until the target is gone (DAP specification, Pause request; DAP
+/// specification, Events, Stopped).
 pub fn a_pause_is_told_of_the_thread_that_it_names()
-    ensures { Pauses }
+    ensures answered { Pauses }
+    ensures told { TellsPauses }
 {}
 
 /// Where a stop is told no step is in flight, and no event request of one is installed. At rest, once the session is
@@ -146,10 +148,11 @@ pub fn steps_are_over_where_a_stop_is_told()
 
 /// Where the Resume that ends a stop goes for `next`, `stepIn` or `stepOut`, the step in flight is the one that this asks
 /// for: of the thread that has the number, over calls, into them, or out of the method. Its event request is installed,
-/// unless the target refused it (DAP specification, Next, StepIn and StepOut requests; JDWP, EventRequest command set,
-/// Set, Step).
+/// unless the target refused it. Where the target refused it, the request is answered by a failure, as long as there is
+/// a target (DAP specification, Next, StepIn and StepOut requests; JDWP, EventRequest command set, Set, Step).
 pub fn the_target_runs_on_with_the_step_that_was_asked_for()
-    ensures { StepsAsAsked }
+    ensures in_flight { StepsAsAsked }
+    ensures refused { FailsRefused }
 {}
 
 /// At rest, once the session is attached, each composite that came was at its turn. One suspension of the whole target is
