@@ -5,7 +5,6 @@ use Rattle.std.specs.List.{flat_map}
 use Rattle.std.proofs.lemmas.List.{append_cancel_left}
 use Rattle.std.proofs.lemmas.List.Sums.{fold-append}
 use Rattle.dap_messages.specs.declared.requests.ThreadArguments.{ThreadArguments}
-use Rattle.dap_messages.specs.declared.told.Event.TheVariants as events
 use Rattle.dap_messages.specs.declared.told.Outcome.{Outcome as OutcomeTold}
 use Rattle.dap_messages.specs.declared.told.Outcome.TheVariants as outcomes
 use Rattle.dap_messages.specs.declared.told.Response.{Response}
@@ -16,7 +15,7 @@ use Rattle.machine_model.specs.Due.{Load, busy, can_read, clear, due, hand_load,
 use Rattle.machine_model.specs.Events.{is_clients}
 use Rattle.machine_model.specs.Names.{Told, a_response}
 use Rattle.machine_model.specs.Replying.{ended}
-use Rattle.machine_model.specs.Rest.{told_by, told_of, without_response}
+use Rattle.machine_model.specs.Rest.{told_by, without_response}
 use Rattle.machine_model.specs.Rows.{has_response}
 use Rattle.machine_model.specs.Runs.{Allows, Message, Run, said}
 use Rattle.machine_model.specs.State.{Hand, Machine, State, has_raw, has_waiting, is_empty, is_flying, is_gone, is_raw}
@@ -240,17 +239,20 @@ responded_next {messages} {m} {hand} {rest} {other} {others = others} request (S
         first_same : {left : List Request} → other ∷ left ≡ request ∷ others → other ≡ request
         first_same same = cc
 
+-- the response that is told is this one
 pub same_told : {one other : Response}
     → Some (Message.tells (a_response one)) ≡ Some (Message.tells (a_response other)) → one ≡ other
 same_told is = cc
 
+-- the success is told: the stop is next
 succeeded : {messages : List Message} {arguments : ThreadArguments} {shape : Shape} {others : List Request}
     {configured : Bool} (m next : Machine) (said : Option Message) (request : Request) → Run messages m
     → is_gone m.state.phase ≡ false → request.command ≡ Pause arguments
     → AreRead messages (request ∷ others) false configured
     → said ≡ Some (Message.tells (response_to request (outcomes.Success shape))) → Moves m said next
     → IsTelling next request
-succeeded {shape = shape} m next said request r near pauses_it read is (Moves.responds {outcome = outcome} free at same) =
+succeeded {shape = shape} m next said request r near pauses_it read is
+    (Moves.responds {outcome = outcome} free at same) =
     responded_next {shape = shape} request outcome next r near free at same pauses_it read
     (ap (λ (response : Response). response.outcome) (same_told is)) refl
     (still_read outcome m (free_reads m free near))
@@ -260,6 +262,7 @@ succeeded m next said request r near pauses_it read is _ = cc
 
 -- Until it is told ----------------------------------------------------------------------------------------------------
 
+-- where nothing raw came, nothing can be read
 still_unread : (gone sized was now : Bool) → (was ≡ false → now ≡ false) → reads_in gone sized was ≡ false
     → reads_in gone sized now ≡ false
 still_unread true sized was now k is = refl
@@ -272,6 +275,7 @@ one_waits : (m : Machine) (item : Item) → is_raw item ≡ false → can_read m
 one_waits m item plain none = still_unread (is_gone m.state.phase) (is_some m.state.sizes) (has_raw m.waiting)
     (has_raw (m.waiting ++ item ∷ [])) (raw_more m.waiting item plain) none
 
+-- nor can one that is kept
 kept_waits : (m : Machine) (item : Item) → is_some m.state.sizes ≡ false
     → reads_in (is_gone m.state.phase) (is_some m.state.sizes) (has_raw (m.waiting ++ item ∷ [])) ≡ false
 kept_waits m item unsized = by_bools (is_gone m.state.phase) (is_some m.state.sizes) (has_raw (m.waiting ++ item ∷ []))
@@ -296,6 +300,7 @@ still_telling next same none t = record {
   none_read = none;
 }
 
+-- one item is in hand
 pub same_held : {held : Option Hand} {one other : Hand} → held ≡ Some one → held ≡ Some other → one ≡ other
 same_held {one = one} {other} is held = let same : Some one ≡ Some other = sym is ∙ held in cc
 
@@ -330,6 +335,7 @@ telling_on {m} next message near here none t (Allows.keeps {at} {body} unsized) 
 telling_on next message near here none t (Allows.reads before after read is plain taken) =
     let no : false ≡ true = sym t.none_read ∙ read in cc
 
+-- once a `pause` has succeeded outside a stop, the stop stands in front until it is told
 telling : {messages : List Message} {m : Machine} {request : Request} {arguments : ThreadArguments} → Run messages m
     → is_gone m.state.phase ≡ false → request.command ≡ Pause arguments → HasSucceeded messages request
     → IsTelling m request

@@ -6,7 +6,6 @@ use Rattle.std.specs.List.{AllByRecursion as All}
 use Rattle.std.specs.List.Sorted.{IsStrictlySortedBy}
 use Rattle.std.specs.Ordering.{is_eq}
 use Rattle.std.specs.declared.cmp.Ordering.TheVariants.{Less}
-use Rattle.dap_messages.specs.declared.told.Outcome.TheVariants as outcomes
 use Rattle.dap_messages.specs.declared.told.Response.{Response}
 use Rattle.machine_model.specs.Due.{asked_hand, due, newly_lacked}
 use Rattle.machine_model.specs.Replying.{hand_replied}
@@ -284,12 +283,15 @@ fails_on m next said depth near none h (Moves.finds found free at needs done) =
 fails_on m next said depth near none h (Moves.passes_over {hand} {rest = rest} free at why) =
     skipped_fails depth m hand rest why (front_fails depth h at) (front_due depth h at) (front depth h at)
 fails_on m next said depth near none h (Moves.tells free at) = let no : false ≡ true = front_fails depth h at in cc
-fails_on m next said depth near none h (Moves.sends free at close) = let no : false ≡ true = front_fails depth h at in cc
+fails_on m next said depth near none h (Moves.sends free at close) =
+    let no : false ≡ true = front_fails depth h at in cc
 fails_on m next said depth near none h (Moves.updates {effect = effect} free at is close) =
     updated_fails depth effect at is h
-fails_on m next said depth near none h (Moves.greets free at is close) = let no : false ≡ true = front_fails depth h at in cc
+fails_on m next said depth near none h (Moves.greets free at is close) =
+    let no : false ≡ true = front_fails depth h at in cc
 fails_on m next said depth near none h (Moves.notes {hand} {rest = rest} free at) =
-    noted_fails depth m.state.wishes next.state.wishes hand rest (decides rest) refl (front_fails depth h at) (front depth h at)
+    noted_fails depth m.state.wishes next.state.wishes hand rest (decides rest) refl (front_fails depth h at)
+    (front depth h at)
 fails_on m next said depth near none h (Moves.unfolds {hand} {choice} {rest} free at) =
     unfolded_fails depth m hand rest choice (front_fails depth h at) (front depth h at)
 fails_on m next said depth near none h (Moves.queues {hand} free is) =
@@ -343,6 +345,7 @@ module _ {messages : List Message} {m : Machine} {hand : Hand} (thread : ThreadI
       (option_map (hand_replied (an_effect (Set (wishes.Step thread depth))) (an_error code)) held)) (sym held)
       (refused_fails (flies ∙ ap (λ (effect : Effect). Some (record { effect = effect; reply = None })) same))))
 
+-- the refusal comes: the request in hand is to fail
 refused_at : {messages : List Message} (m next : Machine) (said : Option Message) (thread : ThreadId) (depth : Depth)
     (code : ℕ) → Run messages m → is_gone m.state.phase ≡ false → is_gone next.state.phase ≡ false
     → said ≡ Some (Message.answers (an_effect (Set (wishes.Step thread depth))) (an_error code)) → Moves m said next
@@ -354,6 +357,7 @@ refused_at m next said thread depth code r near here is (Moves.late {command} be
 refused_at m next said thread depth code r near here is (Moves.loses late close why) = cc
 refused_at m next said thread depth code r near here is _ = cc
 
+-- once a step was refused, its request is to fail until it has its response
 failing : {messages : List Message} {m : Machine} → Run messages m → is_gone m.state.phase ≡ false
     → (h : HasRefused messages) → HandFails m.state.wishes h.depth m.hand
 failing Run.starts near h = none_yet h.before h.after _ h.messages_are
@@ -389,6 +393,7 @@ failing (Run.moves {messages} {m} {next} {message} r allows) near h =
 
 -- The law -------------------------------------------------------------------------------------------------------------
 
+-- both words for such a request say the same
 asks_step : {command : Command} {depth : Depth} {number : ℕ} → IsStep command depth number
     → AsksStep command number depth
 asks_step IsStep.over = AsksStep.over
@@ -402,8 +407,7 @@ failed_at {m = m} depth said response r h is
     (Moves.responds {hand} {rest} {request} {outcome = Failed failure} free at same) =
     let f = front depth h at in
     let one : request ≡ f.request = request_same (sym same ∙ f.is_request) in
-    let told : response ≡ record { request_seq = request.seq; command = request.name; outcome = outcomes.Failure failure }
-    = sym (same_told is) in record {
+    let told = sym (same_told is) in record {
       request = f.request;
       number = f.number;
       failure = failure;

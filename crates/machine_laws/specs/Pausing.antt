@@ -42,7 +42,8 @@ Pauses = (messages : List Message) (m : Machine) (stop : Stopped) → Run messag
     → (due false m).act ≡ Act.Tells (an_event (events.Stopped stop)) → stop.reason ≡ reasons.Pause
     → IsPaused messages m stop
 
--- The success of the request is the last that the client was told, and by what it was told before no stop was in hand.
+-- The success of the request is the last that the client was told, and by what it was told before no stop was in hand
+-- (DAP specification, Pause request).
 pub record HasSucceeded (messages : List Message) (request : Request) : Type 0 where
   pub before : List Message
   pub after : List Message

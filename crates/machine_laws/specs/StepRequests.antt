@@ -53,7 +53,8 @@ pub record HasRefused (messages : List Message) : Type 0 where
       ++ Message.answers (an_effect (Set (wish.Step thread depth))) (an_error code) ∷ after
   pub none_told : responses_of after ≡ []
 
--- The first request without a response asks for a step of this depth, and this response to it says that it fails.
+-- The first request without a response asks for a step of this depth, and this response to it says that it fails (DAP
+-- specification, Next, StepIn and StepOut requests; Base Protocol, ErrorResponse).
 pub record HasFailed (messages : List Message) (depth : Depth) (response : Response) : Type 0 where
   pub request : Request
   pub number : ℕ
