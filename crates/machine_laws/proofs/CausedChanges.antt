@@ -41,7 +41,7 @@ pub data Purpose : Type 0 where
   undoing : Purpose
   nothing : Purpose
 
-abbrev purpose : Command → Purpose
+abbrev pub purpose : Command → Purpose
 purpose (Pause arguments) = pausing
 purpose (Continue arguments) = running
 purpose (Next arguments) = running
@@ -51,12 +51,12 @@ purpose ConfigurationDone = configuring
 purpose (SetVariable arguments) = writing
 purpose _ = nothing
 
-abbrev purpose_under : Policy → Purpose
+abbrev pub purpose_under : Policy → Purpose
 purpose_under NoThread = nothing
 purpose_under EventThread = nothing
 purpose_under All = undoing
 
-abbrev purpose_of : Item → Purpose
+abbrev pub purpose_of : Item → Purpose
 purpose_of (a_request request) = purpose request.command
 purpose_of (a_composite at composite) = purpose_under composite.policy
 purpose_of (a_raw at body) = nothing
@@ -66,7 +66,7 @@ abbrev is_pausing : Purpose → Bool
 is_pausing pausing = true
 is_pausing _ = false
 
-abbrev is_running : Purpose → Bool
+abbrev pub is_running : Purpose → Bool
 is_running running = true
 is_running _ = false
 
@@ -74,7 +74,7 @@ abbrev is_configuring : Purpose → Bool
 is_configuring configuring = true
 is_configuring _ = false
 
-abbrev is_writing : Purpose → Bool
+abbrev pub is_writing : Purpose → Bool
 is_writing writing = true
 is_writing _ = false
 
@@ -205,6 +205,19 @@ fits_on m next said h _ = h
 fitting : {messages : List Message} {m : Machine} → Run messages m → hand_fits m.hand ≡ true
 fitting r = by_moves {Holds = λ (messages : List Message) (m : Machine). hand_fits m.hand ≡ true}
     (record { starts = refl; moves = λ messages m next said h moved. fits_on m next said h moved }) r
+
+-- a value is written for a `setVariable` alone, and the stop is over for a request that runs on
+pub is_to_write : {messages : List Message} {m : Machine} {hand : Hand} {rest : List Part} (write : Write)
+    → Run messages m → IsAt m hand (Part.Sends (Writes write)) rest → is_writing (purpose_of hand.item) ≡ true
+is_to_write {hand = hand} {rest} write r at = first_holds (is_writing (purpose_of hand.item)) (has_response rest)
+    (first_holds (may_do (Writes write) (purpose_of hand.item) (has_response rest)) (fits (purpose_of hand.item) rest)
+    (front_fits (fitting r) at))
+
+pub is_to_run : {messages : List Message} {m : Machine} {hand : Hand} {rest : List Part} → Run messages m
+    → IsAt m hand (Part.Sends (Resume of_stop)) rest → is_running (purpose_of hand.item) ≡ true
+is_to_run {hand = hand} {rest} r at = first_holds (is_running (purpose_of hand.item)) (has_response rest)
+    (first_holds (may_do (Resume of_stop) (purpose_of hand.item) (has_response rest))
+    (fits (purpose_of hand.item) rest) (front_fits (fitting r) at))
 
 -- What asks for a change ----------------------------------------------------------------------------------------------
 

@@ -18,6 +18,7 @@ pub mod EventLaws
 pub mod FrameLaws
 pub mod FrameTests
 pub mod Frameless
+pub mod GivenPlans
 pub mod GoneLists
 pub mod HandshakeLaws
 pub mod HarmlessLaws
@@ -41,6 +42,7 @@ pub mod NamedParts
 pub mod NewsLaws
 pub mod NotingLaws
 pub mod NumberLaws
+pub mod NumbersInStops
 pub mod OutcomeLaws
 pub mod PartTests
 pub mod PausedAnswers
@@ -81,6 +83,7 @@ pub mod ThreadIds
 pub mod ThreadLaws
 pub mod ThreadNewsLaws
 pub mod ThreadParts
+pub mod ThrownLaws
 pub mod ToldLaws
 pub mod ToldParts
 pub mod TurnLaws
@@ -89,3 +92,4 @@ pub mod WaitingLaws
 pub mod WishIds
 pub mod WishLemmas
 pub mod WorldLaws
+pub mod WrittenValues

@@ -64,11 +64,11 @@ gone_tail_none item = grind arith
 
 -- What is known of the item in hand -----------------------------------------------------------------------------------
 
-record InOrder (earlier : List Message) (request : Request) : Type 0 where
-  answered : List Request
-  others : List Request
-  heard : requests_of earlier ≡ answered ++ request ∷ others
-  in_turn : AreAnswered answered (responses_of earlier)
+pub record InOrder (earlier : List Message) (request : Request) : Type 0 where
+  pub answered : List Request
+  pub others : List Request
+  pub heard : requests_of earlier ≡ answered ++ request ∷ others
+  pub in_turn : AreAnswered answered (responses_of earlier)
 
 data LeadsNow (earlier messages : List Message) (request : Request) (turn now : State) (part : Part) : Type 0 where
   same_target : is_gone now.phase ≡ is_gone turn.phase → Leads earlier messages request turn part
@@ -464,7 +464,7 @@ given_held messages m next (Some hand) message silent near gone h = record {
 -- The induction -------------------------------------------------------------------------------------------------------
 
 -- a look-up stands only where the target isn't gone
-near_of : {messages : List Message} {m : Machine} {hand : Hand} {part : Part} {rest : List Part} → Run messages m
+pub near_of : {messages : List Message} {m : Machine} {hand : Hand} {part : Part} {rest : List Part} → Run messages m
     → IsAt m hand part rest → (is_free part) ≡ false → is_gone m.state.phase ≡ false
 near_of {messages} {m} {hand} {part} {rest} r at is =
     by_gone (is_gone m.state.phase) (whole free_once (tested free r) at)
@@ -624,8 +624,32 @@ explains_on messages m next said r h _ now = record {
   held = same_all messages m next m.hand _ refl refl (λ still. refl) h.held;
 }
 
-pub are_explained : (messages : List Message) (m : Machine) → Run messages m → AreExplained messages
-are_explained messages m r = (by_runs {Holds = Explains} (record {
+explaining : {messages : List Message} {m : Machine} → Run messages m → Explains messages m
+explaining r = by_runs {Holds = Explains} (record {
   starts = record { explained = AreExplained.none; held = tt };
   moves = λ messages m next said before h moved now. explains_on messages m next said before h moved now;
-}) r).explained
+}) r
+
+pub are_explained : (messages : List Message) (m : Machine) → Run messages m → AreExplained messages
+are_explained messages m r = (explaining r).explained
+
+-- the messages before the turn of the request in hand, and those since then, by which this was asked for it
+pub record IsAsked (messages : List Message) (hand : Hand) (request : Request) : Type 0 where
+  pub earlier : List Message
+  pub since : List Message
+  pub messages_are : messages ≡ earlier ++ since
+  pub in_order : InOrder earlier request
+  pub none_told : responses_of since ≡ []
+  pub asked : AreAsked since hand.asked hand.effect
+
+pub asked_since : {messages : List Message} {m : Machine} {hand : Hand} {request : Request} → Run messages m
+    → is_gone m.state.phase ≡ false → m.hand ≡ Some hand → hand.item ≡ a_request request
+    → has_response hand.parts ≡ true → IsAsked messages hand request
+asked_since {request = request} r near is item responds = let h = held_of (explaining r) is in record {
+  earlier = h.earlier;
+  since = h.since;
+  messages_are = h.messages_are;
+  in_order = h.in_order request item;
+  none_told = h.none_told responds;
+  asked = h.asked near;
+}

@@ -13,6 +13,17 @@ abbrev pub passes : (Part → Bool) → List Part → Bool
 passes test [] = true
 passes test (part ∷ parts) = cond (test part) (passes test parts) false
 
+pub both_pass : (test : Part → Bool) (parts rest : List Part) → passes test parts ≡ true → passes test rest ≡ true
+    → passes test (parts ++ rest) ≡ true
+both_pass test [] rest is h = h
+both_pass test (part ∷ parts) rest is h = by_test (test part) is (λ others. both_pass test parts rest others h)
+  where
+    by_test : (first : Bool) → cond first (passes test parts) false ≡ true
+        → (passes test parts ≡ true → passes test (parts ++ rest) ≡ true)
+        → cond first (passes test (parts ++ rest)) false ≡ true
+    by_test true is k = k is
+    by_test false is k = cc
+
 -- each has what the test promises, and so have the parts behind them
 pub all_passing : {Q : Part → Type 0} (test : Part → Bool) → ((part : Part) → test part ≡ true → Q part)
     → (parts rest : List Part) → passes test parts ≡ true → All Q rest → All Q (parts ++ rest)

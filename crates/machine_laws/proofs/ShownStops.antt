@@ -44,7 +44,7 @@ pub data Turning : Type 0 where
   halts : Turning
   stays : Turning
 
-abbrev turning : Command → Turning
+abbrev pub turning : Command → Turning
 turning (Continue arguments) = runs_on
 turning (Next arguments) = runs_on
 turning (StepIn arguments) = runs_on
@@ -52,7 +52,7 @@ turning (StepOut arguments) = runs_on
 turning (Pause arguments) = halts
 turning _ = stays
 
-abbrev turning_of : Item → Turning
+abbrev pub turning_of : Item → Turning
 turning_of (a_request request) = turning request.command
 turning_of _ = stays
 
@@ -404,6 +404,17 @@ paused_next {m = m} {hand} {rest} {body = body} r near at is pauses none =
     ap (λ (shown : Bool). shown || starts_paused rest) (sym (none s.shown s.configured s.told))
     ∙ first_holds (s.shown || starts_paused rest)
     (is_even s.shown m.state.stopped (Part.Responds (Success body) ∷ rest)) stands
+
+-- as long as an item is in hand that changes nothing of it, too
+pub shown_beside : {messages : List Message} {m : Machine} {hand : Hand} {part : Part} {rest : List Part}
+    → Run messages m → is_gone m.state.phase ≡ false → IsAt m hand part rest → turning_of hand.item ≡ stays
+    → (configured : Bool) × AreRead messages (without_response m) m.state.stopped configured
+shown_beside {messages} {m} {hand} {part} {rest} r near at still =
+    let h = showing r near in
+    let fit = subst (λ (turn : Turning). fits turn h.shown m.state.stopped (part ∷ rest) ≡ true) still
+    (front_fits h.shown h.fits at) in
+    let same = same_is h.shown m.state.stopped (steady_parts h.shown m.state.stopped (part ∷ rest) fit) in
+    (h.configured, subst (λ (shown : Bool). AreRead messages (without_response m) shown h.configured) same h.told)
 
 pub shows_stops : (messages : List Message) (m : Machine) → Run messages m → is_gone m.state.phase ≡ false
     → IsShown messages m

@@ -49,7 +49,7 @@ use Rattle.machine_laws.proofs.PartTests.{is_mute, is_pause_command, of_failure,
 -- Hits ----------------------------------------------------------------------------------------------------------------
 
 -- what halted among some events halted among more
-one_before : (w : Wishes) (event : ATargetEvent) (events : List ATargetEvent) (halt : Halt) → HasHalted w events halt
+pub one_before : (w : Wishes) (event : ATargetEvent) (events : List ATargetEvent) (halt : Halt) → HasHalted w events halt
     → HasHalted w (event ∷ events) halt
 one_before w event events halt h = record {
   before = event ∷ h.before;

@@ -29,7 +29,7 @@ pub data Turns (m : Machine) : Option Message → Machine → Type 0 where
   loses : {said : Option Message} {next : Machine} → is_gone next.state.phase ≡ true → next.state.stopped ≡ false
       → Turns m said next
 
-request_quiet : (effect : Effect) → is_deed effect ≡ false → ends_stop (Message.sends (an_effect effect)) ≡ false
+pub request_quiet : (effect : Effect) → is_deed effect ≡ false → ends_stop (Message.sends (an_effect effect)) ≡ false
 request_quiet (Does deed) is = cc
 request_quiet _ is = refl
 

@@ -8,3 +8,5 @@ pub mod Settings
 pub mod StepRequests
 pub mod ThreadEvents
 pub mod ThreadNumbers
+pub mod ThrownExceptions
+pub mod VariableWrites

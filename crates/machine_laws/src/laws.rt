@@ -10,6 +10,8 @@ ghost use Rattle.machine_laws.specs.Settings.{Sets};
 ghost use Rattle.machine_laws.specs.StepRequests.{FailsRefused, StepsAsAsked};
 ghost use Rattle.machine_laws.specs.ThreadEvents.{TellsInHand, TellsThreads};
 ghost use Rattle.machine_laws.specs.ThreadNumbers.{KeepsNumbers};
+ghost use Rattle.machine_laws.specs.ThrownExceptions.{ShowsThrown};
+ghost use Rattle.machine_laws.specs.VariableWrites.{SetsByWrites, WritesInStops};
 ghost use Rattle.machine_model.specs.Binding.{Binds};
 ghost use Rattle.machine_model.specs.BreakpointEvents.{TellsAll, TellsVerified};
 ghost use Rattle.machine_model.specs.EventRequests.{AsReplied, Once, Settles, Stands};
@@ -321,4 +323,20 @@ pub fn the_handshake_goes_out_for_an_attach()
 /// sets, SetValues).
 pub fn the_target_is_changed_as_the_first_request_asks()
     ensures { Changes }
+{}
+
+/// Where a `setVariable` succeeds, a value was written for it: since it is the first request without a response, the
+/// last command that changes the target is a write, and the target answered it, and with no error. A value is written
+/// in a stop alone, as the client knows it from what it was told (DAP specification, SetVariable request; JDWP,
+/// StackFrame, ObjectReference and ArrayReference command sets, SetValues).
+pub fn values_are_set_by_writes_in_a_stop()
+    ensures written { SetsByWrites }
+    ensures in_stop { WritesInStops }
+{}
+
+/// Where an `exceptionInfo` succeeds, the thread that has the number which it names threw something in the stop in
+/// hand: an event of a composite told so, under an event request that was installed, and no stop is over since then
+/// (DAP specification, ExceptionInfo request; JDWP, Event command set, Composite, Exception).
+pub fn exception_infos_are_of_threads_that_have_thrown()
+    ensures { ShowsThrown }
 {}
