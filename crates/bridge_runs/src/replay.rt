@@ -1,6 +1,9 @@
 //! Replays a session log.
-ghost use Rattle.std.specs.Prelude.{◌≡◌, [], IfOk, Ok};
+ghost use Rattle.std.specs.Prelude.{◌≡◌, ◌∷◌, ℕ, List, [], IfOk, Ok, Some};
 ghost use Rattle.script_text.specs.Reading.{reading_of};
+ghost use Rattle.script_text.specs.declared.log.SessionLog.{SessionLog as TheLog};
+ghost use Rattle.wire_core.specs.Outside.{IsOpen};
+ghost use Rattle.wire_core.specs.declared.outside.Side.TheVariants.{Client, Target};
 ghost use Rattle.bridge_runs.specs.Command.{IsServedAgain, Replays};
 
 use bridge_serve::serve;
@@ -32,6 +35,19 @@ fn served_again(alloc: Global, text: Blob, log: &SessionLog) -> Result<SessionLo
     ensures { IfOk result (IsServedAgain log.now.entries) }
 {
     let mut wires = LogWires::new(alloc, text, log)?;
-    let ending = serve(alloc, &Limits::standard(), &mut wires);
+    let log = served_over(alloc, &mut wires);
+    wires.finish();
+    log
+}
+
+// Serves a session over wires that replay the log of a text, and gives the log of that session.
+fn served_over(alloc: Global, wires: &mut LogWires) -> Result<SessionLog, NoMemory>
+    requires log { wires.old.log ≡ Some [] }
+    requires client { IsOpen Client wires.old }
+    requires target { IsOpen Target wires.old }
+    ensures { (text : List ℕ) (log : TheLog) → wires.old.asked ≡ text ∷ [] → reading_of text ≡ Ok log
+        → IfOk result (IsServedAgain log.entries) }
+{
+    let ending = serve(alloc, &Limits::standard(), wires);
     log_of(alloc, ending, wires.entries()?)
 }

@@ -1,6 +1,9 @@
 //! Plays a script.
-ghost use Rattle.std.specs.Prelude.{◌≡◌, [], IfOk, Ok};
+ghost use Rattle.std.specs.Prelude.{◌≡◌, ◌∷◌, ℕ, List, [], IfOk, Ok, Some};
 ghost use Rattle.script_files.specs.Reading.{script_of};
+ghost use Rattle.script_rows.specs.declared.script.Script.{Script as TheScript};
+ghost use Rattle.wire_core.specs.Outside.{IsOpen};
+ghost use Rattle.wire_core.specs.declared.outside.Side.TheVariants.{Client, Target};
 ghost use Rattle.bridge_runs.specs.Command.{IsServedOf, Plays};
 
 use bridge_serve::serve;
@@ -34,6 +37,19 @@ fn served_of(alloc: Global, text: Blob, script: Script) -> Result<SessionLog, No
     ensures { IfOk result (IsServedOf script) }
 {
     let mut wires = PlayedWires::new(alloc, text, script)?;
-    let ending = serve(alloc, &Limits::standard(), &mut wires);
+    let log = served_over(alloc, &mut wires);
+    wires.finish();
+    log
+}
+
+// Serves a session over wires that play the script of a text, and gives the log of that session.
+fn served_over(alloc: Global, wires: &mut PlayedWires) -> Result<SessionLog, NoMemory>
+    requires log { wires.old.log ≡ Some [] }
+    requires client { IsOpen Client wires.old }
+    requires target { IsOpen Target wires.old }
+    ensures { (text : List ℕ) (script : TheScript) → wires.old.asked ≡ text ∷ [] → script_of text ≡ Ok script
+        → IfOk result (IsServedOf script) }
+{
+    let ending = serve(alloc, &Limits::standard(), wires);
     log_of(alloc, ending, wires.entries()?)
 }

@@ -55,6 +55,9 @@ impl LogWires {
         })
     }
 
+    /// Lets the wires go.
+    pub fn finish(self) {}
+
     /// What came and went so far; `NoMemory` comes where memory was refused to the wires, so that a link failed. What
     /// came are the first of what the log of the text has.
     pub fn entries(&self) -> Result<&[Entry], NoMemory>

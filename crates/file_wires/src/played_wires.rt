@@ -51,6 +51,12 @@ impl PlayedWires {
         })
     }
 
+    /// Lets the wires go.
+    pub fn finish(self) {
+        let PlayedWires { text: _, wires } = self;
+        wires.finish();
+    }
+
     /// What came and went so far; `NoMemory` comes where memory was refused to the wires, so that a link failed.
     pub fn entries(&self) -> Result<&[Entry], NoMemory>
         ensures whole { IfOk result (λ log. self.now.log ≡ Some log.now) }

@@ -48,6 +48,9 @@ impl ScriptWires {
         self.journal.entries()
     }
 
+    /// Lets the wires go.
+    pub fn finish(self) {}
+
     /// Whether a link failed since memory was refused.
     pub fn refused(&self) -> bool
         ensures { result ≡ is_refused self.now }
