@@ -247,6 +247,13 @@ def outputs_that_are_cut_have_a_status(program):
             run = subprocess.run([program, word, file.name], stdin=subprocess.DEVNULL, stdout=output,
                                  stderr=subprocess.DEVNULL, preexec_fn=limit_files, timeout=PATIENCE, check=False)
             has_to_be(word, (run.returncode, os.fstat(output.fileno()).st_size), (9, FRONT))
+    with tempfile.TemporaryFile() as output, Bridge(program, output, limit_files) as bridge:
+        link = bridge.client().stream
+        link.sendall(INITIALIZE + DISCONNECT)
+        told = b"".join(pieces(link)).count(b"Content-Length: ")
+        link.close()
+        bridge.target.close()
+        has_to_be("serve", (bridge.status(), os.fstat(output.fileno()).st_size, told), (9, FRONT, 2))
     return True
 
 

@@ -126,12 +126,13 @@ class Client:
 
 class Program:
     """The program, run for the target at a port. What it prints goes where a script's own does, or all of it to one
-    place that is named."""
+    place that is named. A call may be named that its process makes first."""
 
-    def __init__(self, program, target, output=None):
+    def __init__(self, program, target, output=None, first=None):
         self.port = free_port()
         words = ["serve", "--listen", "127.0.0.1:%d" % self.port, "--target", "127.0.0.1:%d" % target]
-        self.process = subprocess.Popen([program, *words], stdout=output, stderr=output and subprocess.STDOUT)
+        self.process = subprocess.Popen([program, *words], stdout=output, stderr=output and subprocess.STDOUT,
+                                        preexec_fn=first)
 
     def __enter__(self):
         return self
@@ -151,10 +152,10 @@ class Program:
 class Bridge(Program):
     """The program, run with a listener of this script as its target."""
 
-    def __init__(self, program, output=None):
+    def __init__(self, program, output=None, first=None):
         self.listener = socket.create_server(("127.0.0.1", 0))
         self.listener.settimeout(PATIENCE)
-        super().__init__(program, self.listener.getsockname()[1], output)
+        super().__init__(program, self.listener.getsockname()[1], output, first)
         self.target, _ = self.listener.accept()
         self.target.settimeout(PATIENCE)
 
