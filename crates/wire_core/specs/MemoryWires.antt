@@ -12,7 +12,7 @@ use Rattle.wire_core.specs.declared.script.Step.{Step}
 use Rattle.wire_core.specs.declared.script.Cut.{Cut}
 use Rattle.wire_core.specs.declared.memory_wires.MemoryWires.{MemoryWires}
 use Rattle.wire_core.specs.Outside.{Outside, Adds, entry_of, broken_send, other_side}
-use Rattle.wire_core.specs.Links.{raised, Keeps, Counts, outside_with, open_count, first_open, IsFresh}
+use Rattle.wire_core.specs.Links.{raised, Keeps, Counts, outside_with, open_count, first_open, shut_link, IsFresh}
 use Rattle.wire_core.specs.Log.{entries, HasRoom}
 use Rattle.wire_core.specs.Names.{names_of}
 use Rattle.wire_core.specs.SendCounts.{count_to}
@@ -66,6 +66,14 @@ pub record CountsSend (old new : MemoryWires) (side : Side) : Type 0 where
 -- nothing was given, sent, counted or refused
 pub record KeepsScript (old new : MemoryWires) : Type 0 where
   pub client : (outside_of new).client ≡ (outside_of old).client
+  pub target : (outside_of new).target ≡ (outside_of old).target
+  pub steps : steps_of new ≡ steps_of old
+  pub sends : KeepsSends old new
+  pub refused : is_refused new ≡ is_refused old
+
+-- the client's link is shut, and nothing else was given, sent, counted or refused
+pub record ShutsClient (old new : MemoryWires) : Type 0 where
+  pub client : (outside_of new).client ≡ shut_link (outside_of old).client
   pub target : (outside_of new).target ≡ (outside_of old).target
   pub steps : steps_of new ≡ steps_of old
   pub sends : KeepsSends old new

@@ -88,6 +88,23 @@ pub record FailsToConnect (old new : Outside) (listen target : List ℕ) : Type 
   pub asked : new.asked ≡ listen ∷ target ∷ []
   pub rose : Rose old.open_faults new.open_faults
 
+-- the target's link alone opened, under the name asked for, and the client's counts as shut; nothing is logged
+pub record Reaches (old new : Outside) (target : List ℕ) : Type 0 where
+  pub log : Adds old new []
+  pub waits : SameWaits old new
+  pub counts : Counts old new
+  pub asked : new.asked ≡ target ∷ []
+  pub client_closed : new.client.is_open ≡ false
+  pub target_open : IsOpen Target new
+
+-- the target's link was not opened, and the count of such faults rose
+pub record FailsToReach (old new : Outside) (target : List ℕ) : Type 0 where
+  pub log : Adds old new []
+  pub waits : SameWaits old new
+  pub counts : Counts old new
+  pub asked : new.asked ≡ target ∷ []
+  pub rose : Rose old.open_faults new.open_faults
+
 -- which side is open stays as it is
 abbrev pub KeepsOpen : Side → Outside → Outside → Type 0
 KeepsOpen side old new = (link_of side new).is_open ≡ (link_of side old).is_open

@@ -1,4 +1,4 @@
-ghost use Rattle.std.specs.Prelude.{◌≡◌};
+ghost use Rattle.std.specs.Prelude.{◌≡◌, ◌≤◌, true};
 ghost use Rattle.wire_core.specs.declared.outside.Side.TheVariants.{Client, Target};
 ghost use Rattle.wire_core.specs.Links.{raised, told, open_link, shut_link, failed_link, empty_link, link_after, link_asked};
 ghost use Rattle.wire_core.specs.Links.{is_open_in, first_open, IsFresh, CountsOpen, open_count};
@@ -87,6 +87,21 @@ impl Links {
                 is_open: true,
                 ..self.client
             },
+            target: Link {
+                is_open: true,
+                ..self.target
+            },
+        }
+    }
+
+    /// The links with the target's side open and the client's shut.
+    pub fn reached(self) -> Links
+        ensures client { told result.client ≡ shut_link (told self.client) }
+        ensures target { told result.target ≡ open_link (told self.target) }
+        ensures count { is_open_in self Target ≡ true → open_count result ≤ open_count self }
+    {
+        Links {
+            client: self.client.shut(),
             target: Link {
                 is_open: true,
                 ..self.target

@@ -4,7 +4,7 @@ ghost use Rattle.wire_core.specs.declared.outside.Side.TheVariants.{Client, Targ
 ghost use Rattle.wire_core.specs.declared.outside.Happening.TheVariants.{Failed as fails};
 ghost use Rattle.wire_core.specs.declared.outside.Entry.TheVariants.{Out, Failed};
 ghost use Rattle.wire_core.specs.Outside.{other_side, entry_of, Adds, IsOpen, HasOpen, Connects, FailsToConnect, Hears};
-ghost use Rattle.wire_core.specs.Outside.{SameWaits, Sends, FailsToSend};
+ghost use Rattle.wire_core.specs.Outside.{Reaches, FailsToReach, SameWaits, Sends, FailsToSend};
 ghost use Rattle.wire_core.specs.Links.{raised, is_open_in, open_count, Counts, IsWithin};
 ghost use Rattle.wire_core.specs.SendCounts.{count_to};
 ghost use Rattle.wire_core.specs.Entries.{HasCopy};
@@ -258,9 +258,11 @@ fn log_happening(
 
 impl Wires for MemoryWires {
     ghost use Rattle.wire_core.specs.MemoryWires.{outside_of, KeepsScript, NextInMemory, SendsInMemory, KeepsSends};
-    ghost use Rattle.wire_core.specs.MemoryWires.{CountsSend};
+    ghost use Rattle.wire_core.specs.MemoryWires.{CountsSend, ShutsClient};
 
     ghost outside = { outside_of };
+
+    ghost stays = { λ v w. Unit {0} };
 
     // It answers `OpenFailed` exactly where a side isn't open.
     fn connect(&mut self, listen: Text, target: Text) -> Result<(), OpenFailed>
@@ -273,8 +275,34 @@ impl Wires for MemoryWires {
         ensures one_fault { OnErr result (self.new.open_faults ≡ raised self.old.open_faults) }
         ensures script { KeepsScript self.old self.new }
     {
-        self.asked = Some(Names { listen, target });
+        self.asked = Some(Names {
+            listen: Some(listen),
+            target,
+        });
         if self.links.is_open(Side::Client) && self.links.is_open(Side::Target) {
+            return Ok(());
+        }
+        self.open_faults = raise(self.open_faults);
+        Err(OpenFailed)
+    }
+
+    // It answers `OpenFailed` exactly where the target's side isn't open. The client's steps are passed over then.
+    fn reach(&mut self, target: Text) -> Result<(), OpenFailed>
+        requires { (outside_of self.old).asked ≡ [] }
+        ensures ok { OnOk result (Reaches (outside_of self.old) (outside_of self.new) target) }
+        ensures err { OnErr result (FailsToReach (outside_of self.old) (outside_of self.new) target) }
+        ensures target_open { IsOk result ↔ IsOpen Target (outside_of self.old) }
+        ensures no_fault { OnOk result (self.new.open_faults ≡ self.old.open_faults) }
+        ensures one_fault { OnErr result (self.new.open_faults ≡ raised self.old.open_faults) }
+        ensures shuts { OnOk result (ShutsClient self.old self.new) }
+        ensures script { OnErr result (KeepsScript self.old self.new) }
+    {
+        self.asked = Some(Names {
+            listen: None,
+            target,
+        });
+        if self.links.is_open(Side::Target) {
+            self.links = self.links.reached();
             return Ok(());
         }
         self.open_faults = raise(self.open_faults);
@@ -325,4 +353,8 @@ impl Wires for MemoryWires {
             }
         }
     }
+
+    ghost stays_so = { λ w. record {} };
+
+    ghost stays_on = { λ u v w a b. record {} };
 }
