@@ -75,7 +75,7 @@ GREETED = ("'JDWP-Handshake'", "'JDWP-Handshake'")
 SIZED = ("command 1 1.7", "reply 1 " + 5 * "00000008")
 STARTS = ("command 2 15.1 060000000000", "reply 2 00000001")
 DEATHS = ("command 3 15.1 070000000000", "reply 3 00000002")
-# These pairs, what the client says before it closes its side, and the pairs behind that: the status and the line.
+# These pairs, what the client says or that it closes its side, and the pairs behind that: the status and the line.
 TARGETS = (
     ([("'JDWP-Handshake'", "'JDWP-handshake'")], None, [], 4, "ended 4 target BadHandshake at 5"),
     ([GREETED, ("command 1 1.7", "0000000a")], None, [], 4, "ended 4 target ShortLength at 14"),
@@ -192,18 +192,30 @@ def sessions_end_by_the_client(program):
 def sessions_end_by_the_target(program):
     for first, leaves, then, status, line in TARGETS:
         with Bridge(program, subprocess.PIPE) as bridge:
-            link = bridge.client().stream
-            link.sendall(framed(request(1, "attach", ATTACH)))
+            client = bridge.client()
+            client.send(request(1, "attach", ATTACH))
             take_turns(bridge.target, first)
             if leaves is not None:
-                link.sendall(leaves)
-                link.shutdown(socket.SHUT_WR)
+                leave(client, leaves)
             take_turns(bridge.target, then)
+            if leaves:
+                # A side that closes before its response comes may be heard before the target's reply.
+                client.receive()
             has_to_be("the rest that the target is sent", bridge.heard_by_target(), b"")
             bridge.target.close()
-            link.close()
+            client.close()
             has_to_be("the run", ended(bridge), (status, line + "\n"))
     return True
+
+
+def leave(client, leaves):
+    """The client says this once it is told that it is attached, by a response and an event; or closes its side, where
+    it has nothing to say."""
+    for _ in range(2):
+        client.receive()
+    client.stream.sendall(leaves)
+    if not leaves:
+        client.stream.shutdown(socket.SHUT_WR)
 
 
 def take_turns(target, turns):
