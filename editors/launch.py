@@ -1,0 +1,97 @@
+#!/usr/bin/env python3
+"""The debug adapter that an editor starts for a Java program, over its standard input and output.
+
+It starts the Java program that a `launch` names, or reaches the one that an `attach` names, and the bridge beside it;
+and it ends what it started. docs/EDITORS.md says what both requests take. The line that the bridge prints goes to the
+standard error. The status is that of the bridge; 2 where there was none, 1 where the editor goes away before.
+
+usage: editors/launch.py [--target HOST:PORT] [--listen PORT] [--plain] [--program PROGRAM]
+
+  --target HOST:PORT   where the Java machine of an `attach` listens, where the request doesn't say so
+  --listen PORT        serves editors that connect to this port of this machine, one session after another
+  --plain              hands on what both say, and adds nothing to it
+  --program PROGRAM    a built bridge; without it crates/bridge_cmd/out/bridge_cmd of this repository
+"""
+import argparse
+import os
+import signal
+import socket
+import sys
+
+from launcher.bridge import PROGRAM
+from launcher.keeper import Keeper
+from launcher.session import Session
+from launcher.wire import EditorGone, Reader, Writer
+
+
+def stop(text):
+    print("launch.py: %s" % text, file=sys.stderr)
+    sys.exit(2)
+
+
+def options(words):
+    parser = argparse.ArgumentParser()
+    parser.format_help = lambda: __doc__
+    parser.error = stop
+    parser.add_argument("--target")
+    parser.add_argument("--listen", type=int)
+    parser.add_argument("--plain", action="store_true")
+    parser.add_argument("--program", default=PROGRAM)
+    return parser.parse_args(words)
+
+
+def to_editor(piece):
+    """Writes all of a piece to the standard output."""
+    try:
+        while piece:
+            piece = piece[os.write(1, piece) :]
+    except OSError:
+        raise EditorGone from None
+
+
+def over_streams(chosen, keeper):
+    """Serves the editor that started this script."""
+    return Session(Reader(lambda count: os.read(0, count)), Writer(to_editor), chosen, keeper).run()
+
+
+def over_link(link, chosen, keeper):
+    """Serves an editor that has connected."""
+
+    def send(piece):
+        try:
+            link.sendall(piece)
+        except OSError:
+            raise EditorGone from None
+
+    with link:
+        link.setsockopt(socket.IPPROTO_TCP, socket.TCP_NODELAY, 1)
+        return Session(Reader(link.recv), Writer(send), chosen, keeper).run()
+
+
+def over_port(chosen, keeper):
+    """Serves the editors that connect, one after the other, until a signal ends this script."""
+    try:
+        listener = socket.create_server(("127.0.0.1", chosen.listen))
+    except (OSError, OverflowError) as trouble:
+        stop("nothing can listen at port %d: %s" % (chosen.listen, trouble))
+    with listener:
+        while True:
+            over_link(listener.accept()[0], chosen, keeper)
+
+
+def main(words):
+    chosen = options(words)
+    # Whatever ends this script, what it started ends with it.
+    for number in (signal.SIGINT, signal.SIGTERM, signal.SIGHUP):
+        signal.signal(number, lambda number, _: sys.exit(128 + number))
+    keeper = Keeper()
+    try:
+        return (over_port if chosen.listen else over_streams)(chosen, keeper)
+    finally:
+        for number in (signal.SIGINT, signal.SIGTERM, signal.SIGHUP):
+            signal.signal(number, signal.SIG_IGN)
+        keeper.end()
+
+
+if __name__ == "__main__":
+    sys.exit(main(sys.argv[1:]))
