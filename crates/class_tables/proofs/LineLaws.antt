@@ -26,13 +26,13 @@ mapped P Q [] gives all = tt
 mapped P Q (entry ∷ entries) gives all = (gives entry all.0, mapped P Q entries gives all.1)
 
 -- an entry above the index is passed over
-passed : (index : ℕ) (entry : Line) (entries : List Line) → nat_le entry.index index ≡ false
+pub passed : (index : ℕ) (entry : Line) (entries : List Line) → nat_le entry.index index ≡ false
     → entry_at index (entry ∷ entries) ≡ entry_at index entries
 passed index entry entries above =
     ap greatest (cond-false (nat_le entry.index index) (entry ∷ filter (λ other. nat_le other.index index) entries)
     (filter (λ other. nat_le other.index index) entries) above)
 
-taken : (index : ℕ) (entry : Line) (entries : List Line) → nat_le entry.index index ≡ true
+pub taken : (index : ℕ) (entry : Line) (entries : List Line) → nat_le entry.index index ≡ true
     → entry_at index (entry ∷ entries) ≡ later (Some entry) (entry_at index entries)
 taken index entry entries reached =
     ap greatest (cond-true (nat_le entry.index index) (entry ∷ filter (λ other. nat_le other.index index) entries)

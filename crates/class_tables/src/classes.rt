@@ -5,8 +5,9 @@ ghost use Rattle.class_tables.specs.Lookups.{found_in};
 ghost use Rattle.class_tables.specs.Views.{nth_in, class_in, facts_of, facts_shown, key_in, key_shown, line_in};
 ghost use Rattle.class_tables.specs.Views.{binding_entries, location_in, locations_in};
 
-use crate::lines::{entry_at, line_start};
+use crate::lines::line_start;
 use crate::loaded::{Loaded, is_prepared, signature_of, stays_prepared, tag_of};
+use crate::method_lines::{MethodLines, given, kept};
 use crate::table::Table;
 use crate::view::{ClassView, KeyView, key_view};
 use jdwp_values::{ClassId, Field, Line, LineTable, Location, Method, MethodId, TypeTag, Variable};
@@ -22,10 +23,11 @@ pub struct Classes {
     loaded: Table<ClassId, Loaded>,
     sources: Table<ClassId, Option<Blob>>,
     methods: Table<ClassId, List<Method>>,
-    lines: Table<(ClassId, MethodId), Option<LineTable>>,
+    lines: Table<(ClassId, MethodId), Option<MethodLines>>,
     variables: Table<(ClassId, MethodId), Option<List<Variable>>>,
     fields: Table<ClassId, List<Field>>,
     supers: Table<ClassId, ClassId>,
+    alloc: Global,
 }
 
 impl Model for Classes {
@@ -57,6 +59,7 @@ impl Classes {
             variables: Table::new(alloc),
             fields: Table::new(alloc),
             supers: Table::new(alloc),
+            alloc,
         }
     }
 
@@ -111,6 +114,7 @@ impl Classes {
         ensures ok { OnOk result (self.new ≡ with_fact (has_lines class method lines) self.old) }
         ensures err { OnErr result (self.new ≡ self.old) }
     {
+        let lines = kept(self.alloc, lines)?;
         self.lines.put((class, method), lines)
     }
 
@@ -180,8 +184,7 @@ impl Classes {
     pub fn lines(&self, class: ClassId, method: MethodId) -> Option<Option<&LineTable>>
         ensures { option_map option_copied result ≡ (found_in self.now).lines class method }
     {
-        let lines = self.lines.get((class, method))?;
-        Some(lines.as_ref())
+        given(self.lines.get((class, method)))
     }
 
     /// The variables of a method: `None` exactly where they were not learnt, `Some(None)` where they are absent.
@@ -205,8 +208,8 @@ impl Classes {
     pub fn line_of(&self, location: Location) -> Option<i32>
         ensures { result ≡ line_in (found_in self.now) location }
     {
-        let table = self.lines(location.class, location.method)??;
-        let entry = entry_at(location.index, table.lines.as_slice())?;
+        let lines = self.lines.get((location.class, location.method))?;
+        let entry = lines.as_ref()?.entry_at(location.index)?;
         Some(entry.line)
     }
 
@@ -261,7 +264,7 @@ impl Classes {
     ) -> Option<Location>
         ensures { result ≡ location_in (found_in self.now) class tag line method }
     {
-        let entries = binding_entries(self.lines.get((class, method)));
+        let entries = binding_entries(self.lines(class, method));
         let index = line_start(line, entries)?;
         Some(Location {
             tag,
@@ -280,8 +283,8 @@ fn file_of(source: Option<&Option<Blob>>) -> Option<Option<&Blob>>
 }
 
 // The entries that a breakpoint may bind to: none in a native method.
-fn binding_entries(lines: Option<&Option<LineTable>>) -> &[Line]
-    ensures { result.now ≡ binding_entries (option_copied lines.entry) }
+fn binding_entries(lines: Option<Option<&LineTable>>) -> &[Line]
+    ensures { result.now ≡ binding_entries (option_map option_copied lines.entry) }
 {
     match lines {
         Some(Some(table)) if table.start >= 0 => table.lines.as_slice(),

@@ -5,6 +5,7 @@ mod classes;
 mod laws;
 mod lines;
 mod loaded;
+mod method_lines;
 mod signature;
 mod table;
 mod view;
