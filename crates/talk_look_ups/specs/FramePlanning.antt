@@ -1,15 +1,16 @@
 -- What is shown of frames, in the words of the code: what is heard of the class of each, what it lacks, and how it is
 -- shown once nothing is lacking (JDWP, ThreadReference command set, Frames; JDWP, ReferenceType command set, Signature,
 -- SourceFile and Methods; JDWP, Method command set, LineTable).
-use Rattle.std.specs.Prelude.{ℕ, pos, ◌++◌, List, [], ◌∷◌, Option, None, option_copied, option_map, unwrap_or}
+use Rattle.std.specs.Prelude.{ℕ, ℤ, pos, ◌++◌, codes, List, [], ◌∷◌, Option, None, option_copied, option_map, unwrap_or}
 use Rattle.jdwp_commands.specs.declared.listed.Frame.{Frame}
 use Rattle.jdwp_commands.specs.declared.question.Question.TheVariants as questions
-use Rattle.jdwp_values.specs.declared.class.LineTable.{LineTable}
 use Rattle.jdwp_values.specs.declared.class.Method.{Method}
 use Rattle.jdwp_values.specs.declared.id.ClassId.{ClassId}
 use Rattle.jdwp_values.specs.declared.id.ThreadId.{ThreadId}
+use Rattle.jdwp_values.specs.declared.location.Location.{Location}
 use Rattle.machine_model.specs.Facts.{signature_in}
-use Rattle.machine_model.specs.Frames.{counted_plan, frame_shown, frames_in, frames_plan, shown_plan}
+use Rattle.machine_model.specs.Frames.{counted_plan, frame_shown, frames_in, frames_plan, line_at, method_name, shown_plan}
+use Rattle.machine_model.specs.Frames.{spot_by}
 use Rattle.machine_model.specs.Plans.{Need, Plan, Sight, asking, chained, found_from, need}
 use Rattle.machine_model.specs.State.{State}
 use Rattle.machine_model.specs.declared.acts.Want.{Want}
@@ -18,6 +19,8 @@ use Rattle.machine_model.specs.declared.parts.ShownFrame.{ShownFrame}
 use Rattle.session_facts.specs.ClassPlanning.{known_or, lines_heard, lines_lacking, methods_heard, source_heard}
 use Rattle.session_facts.specs.ClassPlanning.{unless_heard}
 use Rattle.talk_look_ups.specs.declared.frame_names.ClassHeard.{ClassHeard}
+use Rattle.value_views.specs.Names.{class_name}
+use Rattle.wish_sets.specs.Places.{key_by}
 
 -- the signature of a class, where it was learnt or replied
 abbrev pub signature_heard : Sight → ClassId → Option (List ℕ)
@@ -44,10 +47,17 @@ counted_in sight state thread start levels total = need sight (counted_plan stat
 unfoldable pub stack_in : Sight → State → ThreadId → ℕ → ℕ → Need Finding
 stack_in sight state thread start levels = need sight (frames_plan state thread start levels)
 
--- what was heard of a class and its method, as a frame is shown by it
-abbrev pub facts_heard : ClassHeard → (List ℕ × Option (List ℕ)) × (List Method × Option LineTable)
-facts_heard heard =
-    ((heard.signature.now, option_copied heard.source), (heard.methods.now, option_copied heard.lines))
+-- a frame as it is shown, by what was heard of its class and by its line
+abbrev pub frame_by : State → ThreadId → Frame → ClassHeard → ShownFrame
+frame_by state thread frame heard = record {
+  frame = record { thread = thread; frame = frame.id; at = frame.at };
+  name = class_name heard.signature.now ++ codes "." ++ method_name frame.at.method heard.methods.now;
+  spot = spot_by state (key_by heard.signature.now (option_copied heard.source)) heard.line;
+}
+
+-- the line of a location, where the lines of its method were learnt or replied
+abbrev pub line_found : Sight → Location → Option ℤ
+line_found sight at = line_at at.index (unwrap_or (lines_heard sight at.class at.method) None)
 
 -- What is lacking -----------------------------------------------------------------------------------------------------
 

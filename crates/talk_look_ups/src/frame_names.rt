@@ -1,7 +1,7 @@
 //! How a frame is shown: its name, its line and its source.
 ghost use Rattle.std.specs.Prelude.{◌≡◌, ◌==◌, ◌++◌, codes, find, option_copied, IfOk};
-ghost use Rattle.machine_model.specs.Frames.{frame_shown, in_package, line_at, method_name, path_in, path_of, spot_by};
-ghost use Rattle.talk_look_ups.specs.FramePlanning.{facts_heard};
+ghost use Rattle.machine_model.specs.Frames.{in_package, line_at, method_name, path_in, path_of, spot_by};
+ghost use Rattle.talk_look_ups.specs.FramePlanning.{frame_by};
 ghost use Rattle.value_views.specs.Names.{class_name};
 ghost use Rattle.wish_sets.specs.Places.{key_by};
 
@@ -16,14 +16,14 @@ use talk_state::{State, trimmed};
 use value_views::class_name;
 use wire_core::{Blob, NoMemory, Text};
 
-/// What was heard of a class and of one of its methods; what wasn't is absent (JDWP, ReferenceType command set,
-/// Signature, SourceFile and Methods; JDWP, Method command set, LineTable).
+/// What was heard of a class, and the line at which a frame stands in it; what wasn't is absent (JDWP, ReferenceType
+/// command set, Signature, SourceFile and Methods; JDWP, Method command set, LineTable).
 #[derive(Clone, Copy)]
 pub(crate) struct ClassHeard<'a> {
     pub(crate) signature: &'a [u8],
     pub(crate) source: Option<&'a Blob>,
     pub(crate) methods: &'a [Method],
-    pub(crate) lines: Option<&'a LineTable>,
+    pub(crate) line: Option<i32>,
 }
 
 // Two texts with another between them.
@@ -71,8 +71,8 @@ fn frame_name(
     joined(alloc, class.as_str(), ".", method.as_str())
 }
 
-// The line of a code index (JDWP, Method command set, LineTable).
-fn line_at(index: u64, table: Option<&LineTable>) -> Option<i32>
+/// The line of a code index (JDWP, Method command set, LineTable).
+pub(crate) fn line_at(index: u64, table: Option<&LineTable>) -> Option<i32>
     ensures { result ≡ line_at index (option_copied table.entry) }
 {
     let entry = entry_at(index, table?.lines.as_slice())?;
@@ -162,9 +162,8 @@ pub(crate) fn frame_shown(
     frame: Frame,
     heard: ClassHeard<'_>,
 ) -> Result<ShownFrame, NoMemory>
-    ensures { IfOk result (λ shown. shown ≡ frame_shown state.now thread frame (facts_heard heard.entry)) }
+    ensures { IfOk result (λ shown. shown ≡ frame_by state.now thread frame heard.entry) }
 {
-    let line = line_at(frame.at.index, heard.lines);
     Ok(ShownFrame {
         frame: FrameThing {
             thread,
@@ -172,6 +171,6 @@ pub(crate) fn frame_shown(
             at: frame.at,
         },
         name: frame_name(alloc, heard.signature, frame.at.method, heard.methods)?,
-        spot: spot_by(alloc, state, heard.signature, heard.source, line)?,
+        spot: spot_by(alloc, state, heard.signature, heard.source, heard.line)?,
     })
 }

@@ -5,16 +5,17 @@ ghost use Rattle.machine_model.specs.Facts.{signature_in};
 ghost use Rattle.machine_model.specs.Frames.{count_from, count_in, frames_in};
 ghost use Rattle.machine_model.specs.Plans.{answer_in};
 ghost use Rattle.session_facts.specs.ClassPlanning.{lines_heard};
-ghost use Rattle.talk_look_ups.specs.FramePlanning.{counted_in, frame_found, frame_lacking, listed_in, methods_lacking};
+ghost use Rattle.talk_look_ups.specs.FramePlanning.{counted_in, frame_found, frame_lacking, line_found, listed_in};
+ghost use Rattle.talk_look_ups.specs.FramePlanning.{methods_lacking};
 ghost use Rattle.talk_look_ups.specs.FramePlanning.{shown_in, signature_heard, signature_lacking, source_lacking};
 ghost use Rattle.talk_look_ups.specs.FramePlanning.{stack_in};
 ghost use Rattle.talk_look_ups.specs.Planning.{need_of, sight_in};
 
 use crate::class_plans::{add_lines, lack, methods_heard, source_heard};
-use crate::frame_names::{ClassHeard, frame_shown};
+use crate::frame_names::{ClassHeard, frame_shown, line_at};
 use crate::need::{Need, lacks};
 use jdwp_commands::{Answer, Frame, Question, Replied};
-use jdwp_values::{ClassId, LineTable, MethodId, ThreadId};
+use jdwp_values::{ClassId, LineTable, Location, MethodId, ThreadId};
 use look_ups::{Asked, QuestionKey};
 use machine_model::{Finding, ShownFrame, Want};
 use session_facts::{known_signature, line_table_in};
@@ -78,6 +79,23 @@ fn lines_heard<'a>(
         None => Ok(None),
         Some((_, replied)) => Ok(Some(line_table_in(replied))),
     }
+}
+
+// The line of a location: by a binary search where the lines of its method were learnt, else by a scan of what was
+// replied (JDWP, Method command set, LineTable).
+fn line_found(
+    alloc: Global,
+    state: &State,
+    asked: &Asked,
+    at: Location,
+) -> Result<Option<i32>, NoMemory>
+    ensures { IfOk result (λ line. line ≡ line_found (sight_in state.now asked.now) at) }
+{
+    if state.classes.lines(at.class, at.method).is_some() {
+        return Ok(state.classes.line_of(at));
+    }
+    let lines = lines_heard(alloc, state, asked, at.class, at.method)?;
+    Ok(line_at(at.index, lines.unwrap_or(None)))
 }
 
 fn add_signature(
@@ -173,7 +191,7 @@ fn frame_found(
         signature: signature_heard(alloc, state, asked, class)?.unwrap_or(&[]),
         source: source_heard(alloc, state, asked, class)?.unwrap_or(None),
         methods: methods_heard(alloc, state, asked, class)?.unwrap_or(&[]),
-        lines: lines_heard(alloc, state, asked, class, frame.at.method)?.unwrap_or(None),
+        line: line_found(alloc, state, asked, frame.at)?,
     };
     frame_shown(alloc, state, thread, frame, heard)
 }
