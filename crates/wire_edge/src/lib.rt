@@ -8,6 +8,7 @@ mod std_output;
 mod std_streams;
 mod streams;
 mod tcp_wires;
+mod watch;
 
 pub use disk_files::DiskFiles;
 pub use std_output::{StdOutput, StdWriter, WriterOutput};

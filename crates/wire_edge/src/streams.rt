@@ -7,9 +7,6 @@ use std::net::OpenStream;
 use std::thread;
 use std::time::{Clock, Duration};
 
-// How long a read that may wait does so, in milliseconds. The system rounds it up to its own ticks.
-const WAIT_MILLIS: u64 = 1;
-
 // How long a call sleeps where nothing is there, in microseconds.
 const SLEEP_MICROS: u64 = 1900;
 
@@ -29,11 +26,9 @@ pub(crate) enum Unsent {
     Broken,
 }
 
-/// A stream that answers at once, and sends what it is given at once. Where it is let wait, a read of it waits for a
-/// moment.
+/// A stream that answers at once, and sends what it is given at once.
 pub(crate) fn ready<S: OpenStream + Drop>(stream: S) -> io::Result<S> {
     stream.set_nodelay(true)?;
-    stream.set_read_timeout(Some(Duration::from_millis(WAIT_MILLIS)))?;
     stream.set_nonblocking(true)?;
     Ok(stream)
 }

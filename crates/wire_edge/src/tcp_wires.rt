@@ -1,5 +1,5 @@
 ghost use Rattle.std.specs.Prelude.{◌≡◌, ◌<◌, false, true, [], length, IfOk, IfSome, IfNone, OnOk, OnErr};
-ghost use Rattle.wire_core.specs.Links.{IsFresh, IsPossible, is_open_in};
+ghost use Rattle.wire_core.specs.Links.{IsFresh, IsPossible, is_open_in, raised};
 ghost use Rattle.wire_core.specs.Outside.{other_side, WasEmpty, IsOpen, HasOpen, Hears, Sends, FailsToSend};
 ghost use Rattle.wire_edge.specs.Streams.{Asks, AsksInTurn, GivesTurn, InTurn, IsOf, IsQuiet, heard_of};
 ghost use Rattle.wire_edge.specs.Tally.{told_by};
@@ -7,6 +7,8 @@ ghost use Rattle.wire_edge.specs.Tally.{told_by};
 use crate::awaiting::accept;
 use crate::farewell::part;
 use crate::streams::{Polled, Unsent, is_alive, pause, poll, ready, send_all};
+use crate::watch::Watch;
+use std::alloc::Allocator;
 use std::io::{self, ErrorKind};
 use std::net::{Net, OpenStream, TcpListener, TcpStream};
 use std::time::{Clock, Duration, Instant};
@@ -16,35 +18,28 @@ use wire_core::{Happening, Links, Names, OpenFailed, SendFailed, Side, Text, Wir
 // that has not shaken hands within two seconds.
 const FRESH_MILLIS: u64 = 1500;
 
-// How often both sides are asked behind what the client was told, before a wait: for less than a millisecond.
-const ROUNDS: u16 = 1000;
-
 /// Wires over two TCP streams of the system. They tell no log, and a count stands still at its last value.
 ///
 /// - `next` asks both sides without blocking, the one first from which nothing came last. Where both are silent it waits
-///   for a moment at the side from which something is due: at the target's while something was sent to it last, else at
-///   the client's. Behind what the client was told it asks both many times before it waits, since a target that was
-///   resumed may stop again at once.
+///   for a moment, until the system says of one of them that something came, and asks both again.
 /// - A reset by the peer is the end of its stream. What is sent to a target that has ended counts as sent.
 /// - A link to the target on which nothing went yet doesn't end: where the target dropped it, or it is older than
 ///   1.5 seconds, the first send dials again.
 /// - The client is the first connection that sends a byte; one that ends before is passed over.
 #[derive(Drop)]
-pub struct TcpWires<R: Net> {
+pub struct TcpWires<R: Net + Alloc> {
     rt: R,
     tally: Tally,
     client: Option<R::Stream>,
     target: Option<R::Stream>,
+    // both streams, since they were opened
+    watch: Option<Watch<R::A>>,
     // when the target was dialled
     dialled: Option<Instant>,
     // nothing went to the target or came from it
     is_fresh: bool,
     // the side that is asked next
     turn: Side,
-    // the side from which something is due
-    due: Side,
-    // how often both sides are asked before the next wait
-    rounds: u16,
 }
 
 /// What the wires tell of themselves.
@@ -56,7 +51,10 @@ struct Tally {
     asked: Option<Names>,
 }
 
-impl<R: Net + Clock + Alloc + Drop> TcpWires<R> {
+impl<R: Net + Clock + Alloc + Drop> TcpWires<R>
+where
+    R::A: Copy,
+{
     /// Wires that are closed until `connect` opens them.
     pub fn new(rt: R) -> TcpWires<R>
         ensures waits { (told_by result.tally).waits ≡ 0 }
@@ -74,11 +72,10 @@ impl<R: Net + Clock + Alloc + Drop> TcpWires<R> {
             },
             client: None,
             target: None,
+            watch: None,
             dialled: None,
             is_fresh: true,
             turn: Side::Client,
-            due: Side::Client,
-            rounds: 0,
         }
     }
 
@@ -92,15 +89,37 @@ impl<R: Net + Clock + Alloc + Drop> TcpWires<R> {
         part(&self.rt, client, target);
     }
 
+    // Opens the target's stream.
+    fn open_target(&mut self, target: &Text) -> io::Result<()>
+        ensures { self.new.tally ≡ self.old.tally }
+    {
+        let watch = Watch::new(self.rt.alloc(), &self.rt)?;
+        self.dialled = Instant::now(&self.rt).ok();
+        self.target = Some(dial(&self.rt, &watch, target)?);
+        self.watch = Some(watch);
+        Ok(())
+    }
+
     // Opens both streams, the target's first.
     fn open(&mut self, listen: &Text, target: &Text) -> io::Result<()>
         ensures { self.new.tally ≡ self.old.tally }
     {
-        self.dialled = Instant::now(&self.rt).ok();
-        self.target = Some(dial(&self.rt, target)?);
+        self.open_target(target)?;
         let listener = TcpListener::bind(&self.rt, listen.as_str())?;
-        self.client = Some(accept(self.rt.alloc(), &self.rt, &listener)?);
+        let client = accept(self.rt.alloc(), &self.rt, &listener)?;
+        if let Some(watch) = &self.watch {
+            watch.add(&client)?;
+        }
+        self.client = Some(client);
         Ok(())
+    }
+
+    // Counts that a link was not opened.
+    fn refuse(&mut self) -> OpenFailed
+        ensures { self.new.tally ≡ record self.old.tally { open_faults = raised self.old.tally.open_faults } }
+    {
+        self.tally.open_faults = raise(self.tally.open_faults);
+        OpenFailed
     }
 
     // Whether the target's link, on which nothing went so far, is still there and young.
@@ -124,11 +143,11 @@ impl<R: Net + Clock + Alloc + Drop> TcpWires<R> {
         }
         // The old link first: a Java machine takes one at a time.
         self.target = None;
-        let Some(names) = &self.tally.asked else {
+        let (Some(names), Some(watch)) = (&self.tally.asked, &self.watch) else {
             return Err(io::Error::from(ErrorKind::NotConnected));
         };
         self.dialled = Instant::now(&self.rt).ok();
-        self.target = Some(dial(&self.rt, &names.target)?);
+        self.target = Some(dial(&self.rt, watch, &names.target)?);
         Ok(())
     }
 
@@ -228,58 +247,18 @@ impl<R: Net + Clock + Alloc + Drop> TcpWires<R> {
         }
     }
 
-    // Asks both sides again and again behind what the client was told.
-    fn ask_on(&mut self, buffer: &mut [u8]) -> Option<Happening>
-        ensures asks { Asks (told_by self.old.tally) (told_by self.new.tally) }
-        ensures possible { IfSome result (IsPossible self.old.tally.links (length buffer.old)) }
-        ensures turn { IfSome result (IsOf (other_side self.new.turn)) }
+    // Waits until one of the sides may have something, or for a moment; false where the moment went by.
+    fn linger(&mut self) -> bool
+        ensures tally { self.new.tally ≡ self.old.tally }
+        ensures turn { self.new.turn ≡ self.old.turn }
     {
-        for _ in 0..self.rounds {
-            if let Some(happening) = self.ask_both(buffer) {
-                return Some(happening);
+        match &mut self.watch {
+            Some(watch) => watch.wait(&self.rt),
+            None => {
+                pause(&self.rt);
+                false
             }
         }
-        self.rounds = 0;
-        None
-    }
-
-    // The open side from which something is due.
-    fn due_side(&self) -> Side {
-        let links = self.tally.links;
-        if links.is_open(self.due) {
-            self.due
-        } else {
-            self.due.other()
-        }
-    }
-
-    // Lets reads of a side wait for a moment, or answer at once; false where this can't be had.
-    fn let_wait(&self, side: Side, waits: bool) -> bool {
-        let stream = match side {
-            Side::Client => &self.client,
-            Side::Target => &self.target,
-        };
-        match stream {
-            Some(stream) => stream.set_nonblocking(!waits).is_ok(),
-            None => false,
-        }
-    }
-
-    // Waits for a moment at the side from which something is due. The other side has the turn then.
-    fn ask_due(&mut self, buffer: &mut [u8]) -> Option<Happening>
-        ensures asks { Asks (told_by self.old.tally) (told_by self.new.tally) }
-        ensures possible { IfSome result (IsPossible self.old.tally.links (length buffer.old)) }
-        ensures turn { IfSome result (IsOf (other_side self.new.turn)) }
-    {
-        let side = self.due_side();
-        self.turn = side.other();
-        if !self.let_wait(side, true) {
-            pause(&self.rt);
-            return None;
-        }
-        let heard = self.ask(side, buffer);
-        self.let_wait(side, false);
-        heard
     }
 
     // What comes next; after a moment of silence, nothing. The side that it doesn't come from is asked first afterwards.
@@ -293,19 +272,21 @@ impl<R: Net + Clock + Alloc + Drop> TcpWires<R> {
         if let Some(happening) = self.ask_both(buffer) {
             return happening;
         }
-        if let Some(happening) = self.ask_on(buffer) {
-            return happening;
+        if !self.linger() {
+            return Happening::Quiet;
         }
-        match self.ask_due(buffer) {
+        match self.ask_both(buffer) {
             Some(happening) => happening,
             None => Happening::Quiet,
         }
     }
 }
 
-// A stream to this address.
-fn dial<R: Net>(rt: &R, address: &Text) -> io::Result<R::Stream> {
-    ready(TcpStream::connect(rt, address.as_str())?)
+// A stream to this address, which is watched.
+fn dial<R: Net, A: Allocator>(rt: &R, watch: &Watch<A>, address: &Text) -> io::Result<R::Stream> {
+    let stream = ready(TcpStream::connect(rt, address.as_str())?)?;
+    watch.add(&stream)?;
+    Ok(stream)
 }
 
 // What comes of a side that was asked.
@@ -320,21 +301,41 @@ fn heard(side: Side, polled: Polled) -> Option<Happening>
     }
 }
 
-impl<R: Net + Clock + Alloc + Drop> Wires for TcpWires<R> {
+impl<R: Net + Clock + Alloc + Drop> Wires for TcpWires<R>
+where
+    R::A: Copy,
+{
     ghost outside = { λ w. told_by w.tally };
+
+    ghost stays = { λ v w. Unit {0} };
 
     fn connect(&mut self, listen: Text, target: Text) -> Result<(), OpenFailed> {
         let opened = self.open(&listen, &target);
-        self.tally.asked = Some(Names { listen, target });
+        self.tally.asked = Some(Names {
+            listen: Some(listen),
+            target,
+        });
         match opened {
             Ok(()) => {
                 self.tally.links = self.tally.links.opened();
                 Ok(())
             }
-            Err(_) => {
-                self.tally.open_faults = raise(self.tally.open_faults);
-                Err(OpenFailed)
+            Err(_) => Err(self.refuse()),
+        }
+    }
+
+    fn reach(&mut self, target: Text) -> Result<(), OpenFailed> {
+        let opened = self.open_target(&target);
+        self.tally.asked = Some(Names {
+            listen: None,
+            target,
+        });
+        match opened {
+            Ok(()) => {
+                self.tally.links = self.tally.links.reached();
+                Ok(())
             }
+            Err(_) => Err(self.refuse()),
         }
     }
 
@@ -365,11 +366,13 @@ impl<R: Net + Clock + Alloc + Drop> Wires for TcpWires<R> {
             Side::Target => self.send_target(bytes),
         };
         if sent {
-            self.due = side;
-            self.rounds = if side == Side::Client { ROUNDS } else { 0 };
             return Ok(());
         }
         self.tally.links = self.tally.links.after(Happening::Failed(side));
         Err(SendFailed)
     }
+
+    ghost stays_so = { λ w. record {} };
+
+    ghost stays_on = { λ u v w a b. record {} };
 }
