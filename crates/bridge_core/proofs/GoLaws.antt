@@ -16,7 +16,7 @@ use Rattle.machine_model.specs.Runs.{Allows, Message, Run, said}
 use Rattle.machine_model.specs.State.{Hand, Machine}
 use Rattle.machine_model.specs.declared.acts.TargetCommand.{TargetCommand}
 use Rattle.machine_model.specs.declared.parts.Finish.{Finish}
-use Rattle.machine_laws.proofs.PendingLaws.{in_window}
+use Rattle.machine_steps.proofs.PendingLaws.{in_window}
 use Rattle.pending_table.specs.Windows.{Window, id_of, is_full, pending_under, with_sent}
 use Rattle.bridge_core.specs.Aligning.{Aligned}
 use Rattle.bridge_core.proofs.Pending.{sent_by}

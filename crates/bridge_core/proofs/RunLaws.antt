@@ -8,13 +8,13 @@ use Rattle.machine_model.specs.Replying.{SizesFor, pending_in, wire}
 use Rattle.machine_model.specs.Rest.{hand_silent}
 use Rattle.machine_model.specs.Runs.{Allows, Message, Run, said}
 use Rattle.machine_model.specs.State.{Hand, Machine, has_waiting, is_flying, is_gone}
-use Rattle.machine_laws.proofs.KeptLaws.{always_kept}
-use Rattle.machine_laws.proofs.PendingLaws.{all_open, pending_is}
-use Rattle.machine_laws.proofs.QuietLaws.{near_flies}
-use Rattle.machine_laws.proofs.RequestLaws.{IsDue, settling, was_due}
-use Rattle.machine_laws.proofs.RequestSteps.{flying_in, flying_of, parts_left}
-use Rattle.machine_laws.proofs.SpellLaws.{are_spelled}
-use Rattle.machine_laws.proofs.TurnLaws.{none_flies, none_out}
+use Rattle.machine_steps.proofs.KeptLaws.{always_kept}
+use Rattle.machine_steps.proofs.PendingLaws.{all_open, pending_is}
+use Rattle.machine_steps.proofs.QuietLaws.{near_flies}
+use Rattle.machine_steps.proofs.RequestLaws.{IsDue, settling, was_due}
+use Rattle.machine_steps.proofs.RequestSteps.{flying_in, flying_of, parts_left}
+use Rattle.machine_steps.proofs.SpellLaws.{are_spelled}
+use Rattle.machine_steps.proofs.TurnLaws.{none_flies, none_out}
 use Rattle.bridge_core.specs.Names.{Act, Effect, Question, TargetCommand, a_question, an_effect}
 use Rattle.bridge_core.specs.Names.{Clear, Does, Set}
 use Rattle.talk_plans.specs.Talking.{AreSized}

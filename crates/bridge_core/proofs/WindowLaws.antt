@@ -17,12 +17,12 @@ use Rattle.machine_model.specs.Runs.{Message, Run, greeting_heard, heard, said, 
 use Rattle.machine_model.specs.State.{Hand, Machine, is_gone, is_none}
 use Rattle.machine_model.proofs.AskedLaws.{was_filled, was_more}
 use Rattle.machine_model.proofs.KeyLaws.{is_one, is_same, same_back}
-use Rattle.machine_laws.proofs.HandshakeLaws.{has_handshake}
-use Rattle.machine_laws.proofs.KeptLaws.{always_kept, next_new}
-use Rattle.machine_laws.proofs.PendingLaws.{all_open}
-use Rattle.machine_laws.proofs.Standing.{asked_in}
-use Rattle.machine_laws.proofs.Stepping.{Moves, by_runs}
-use Rattle.machine_laws.proofs.TurnLaws.{Turns, is_beside, turned}
+use Rattle.machine_steps.proofs.HandshakeLaws.{has_handshake}
+use Rattle.machine_steps.proofs.KeptLaws.{always_kept, next_new}
+use Rattle.machine_steps.proofs.PendingLaws.{all_open}
+use Rattle.machine_steps.proofs.Standing.{asked_in}
+use Rattle.machine_steps.proofs.Stepping.{Moves, by_runs}
+use Rattle.machine_steps.proofs.TurnLaws.{Turns, is_beside, turned}
 use Rattle.pending_table.specs.Windows.{Window, id_of, is_full as is_window_full, pending_under, without}
 use Rattle.bridge_core.specs.Aligning.{Aligned, commands_of}
 use Rattle.bridge_core.proofs.Pending.{IsEffect, IsLate, IsQuestion, place_under, sent_by}

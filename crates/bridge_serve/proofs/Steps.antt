@@ -11,11 +11,11 @@ use Rattle.machine_model.specs.Rest.{request_by, response_by}
 use Rattle.machine_model.specs.Rows.{noted}
 use Rattle.machine_model.specs.Runs.{Allows, Message, Run, said}
 use Rattle.machine_model.specs.State.{Machine, State, is_gone}
-use Rattle.machine_laws.proofs.PendingLaws.{pending_is}
-use Rattle.machine_laws.proofs.ServedLaws.{aside_left, left_on}
-use Rattle.machine_laws.proofs.Stepping.{Moves, moved}
-use Rattle.machine_laws.proofs.Tables.{once}
-use Rattle.machine_laws.proofs.Testing.{tested}
+use Rattle.machine_steps.proofs.PendingLaws.{pending_is}
+use Rattle.machine_steps.proofs.ServedLaws.{aside_left, left_on}
+use Rattle.machine_steps.proofs.Stepping.{Moves, moved}
+use Rattle.machine_steps.proofs.Tables.{once}
+use Rattle.machine_steps.proofs.Testing.{tested}
 use Rattle.machine_work.proofs.FrameLaws.{due_framed}
 use Rattle.machine_work.proofs.OwnMoves.{is_own_message}
 use Rattle.machine_work.proofs.WorkLaws.{due_less, due_moves, due_waiting}

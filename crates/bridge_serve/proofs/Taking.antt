@@ -29,7 +29,7 @@ use Rattle.machine_model.specs.Runs.{Allows, Message, greeting_heard}
 use Rattle.machine_model.specs.State.{Machine, State, has_raw, is_gone, is_some}
 use Rattle.machine_model.specs.declared.items.Item.{Item}
 use Rattle.machine_model.specs.declared.acts.Act.{Act}
-use Rattle.machine_laws.proofs.Stepping.{Moves, moved}
+use Rattle.machine_steps.proofs.Stepping.{Moves, moved}
 use Rattle.session_model.specs.Causes.{Cause, ReadsOn, ReadsTarget}
 use Rattle.session_model.specs.Faults.{IsKeptFault, IsTargetFault}
 use Rattle.session_model.specs.LastWords.{last_words}

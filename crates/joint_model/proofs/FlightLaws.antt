@@ -24,13 +24,13 @@ use Rattle.machine_model.specs.declared.parts.Note.{Note}
 use Rattle.machine_model.specs.declared.parts.Part.{Part}
 use Rattle.machine_model.specs.declared.parts.Stopping.{Stopping}
 use Rattle.machine_model.specs.Rows.{noted}
-use Rattle.machine_laws.proofs.HoldingParts.{numbered_stop, same_stop}
-use Rattle.machine_laws.proofs.PendingLaws.{all_open, pending_is}
-use Rattle.machine_laws.proofs.QuietLaws.{quiet_now}
-use Rattle.machine_laws.proofs.Stepping.{IsAt, Moves, moved, walks_due}
-use Rattle.machine_laws.proofs.Tables.{free, free_once}
-use Rattle.machine_laws.proofs.Testing.{tested, whole}
-use Rattle.machine_laws.proofs.TurnLaws.{Turns, is_beside, none_flies, none_late, none_out, same_hand, turned}
+use Rattle.machine_steps.proofs.HoldingParts.{numbered_stop, same_stop}
+use Rattle.machine_steps.proofs.PendingLaws.{all_open, pending_is}
+use Rattle.machine_steps.proofs.QuietLaws.{quiet_now}
+use Rattle.machine_steps.proofs.Stepping.{IsAt, Moves, moved, walks_due}
+use Rattle.machine_steps.proofs.Tables.{free, free_once}
+use Rattle.machine_steps.proofs.Testing.{tested, whole}
+use Rattle.machine_steps.proofs.TurnLaws.{Turns, is_beside, none_flies, none_late, none_out, same_hand, turned}
 use Rattle.world_model.specs.declared.world.World.{World}
 use Rattle.world_model.specs.Replies.{reply_of}
 use Rattle.world_model.proofs.HoldLaws.{all_push}

@@ -29,11 +29,11 @@ use Rattle.machine_model.specs.declared.parts.Stopping.{Stopping}
 use Rattle.machine_model.specs.declared.parts.Lookup.{Lookup}
 use Rattle.machine_model.specs.declared.parts.Part.{Part}
 use Rattle.machine_model.proofs.KeyLaws.{is_one}
-use Rattle.machine_laws.proofs.HoldingParts.{lost_flags, lost_held, numbered_stop, same_stop}
-use Rattle.machine_laws.proofs.PendingLaws.{all_open}
-use Rattle.machine_laws.proofs.Stepping.{IsAt, Moves, moved}
+use Rattle.machine_steps.proofs.HoldingParts.{lost_flags, lost_held, numbered_stop, same_stop}
+use Rattle.machine_steps.proofs.PendingLaws.{all_open}
+use Rattle.machine_steps.proofs.Stepping.{IsAt, Moves, moved}
 use Rattle.machine_laws.proofs.StopLaws.{tells_stops}
-use Rattle.machine_laws.proofs.TurnLaws.{Turns, none_late, same_hand, turned}
+use Rattle.machine_steps.proofs.TurnLaws.{Turns, none_late, same_hand, turned}
 use Rattle.world_model.specs.declared.world.World.{World}
 use Rattle.world_model.specs.Replies.{reply_of}
 use Rattle.world_model.proofs.HoldLaws.{all_push}

@@ -18,9 +18,9 @@ use Rattle.machine_model.specs.Replying.{pending_of}
 use Rattle.machine_model.specs.Runs.{Allows, Message, Run}
 use Rattle.machine_model.specs.State.{Machine, is_gone}
 use Rattle.machine_laws.proofs.KnowingLaws.{is_known}
-use Rattle.machine_laws.proofs.PendingLaws.{all_open, pending_is}
-use Rattle.machine_laws.proofs.Stepping.{moved}
-use Rattle.machine_laws.proofs.TurnLaws.{Turns, is_beside, turned}
+use Rattle.machine_steps.proofs.PendingLaws.{all_open, pending_is}
+use Rattle.machine_steps.proofs.Stepping.{moved}
+use Rattle.machine_steps.proofs.TurnLaws.{Turns, is_beside, turned}
 use Rattle.suspend_ledger.specs.Suspensions.{suspensions_by}
 
 -- Sums ----------------------------------------------------------------------------------------------------------------

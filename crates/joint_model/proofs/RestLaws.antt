@@ -27,8 +27,8 @@ use Rattle.machine_model.specs.declared.items.Item.{Item}
 use Rattle.machine_model.specs.declared.items.Phase.{Phase}
 use Rattle.machine_model.specs.declared.items.Phase.TheVariants.{Attached, Fresh}
 use Rattle.machine_laws.proofs.KnowingLaws.{is_known}
-use Rattle.machine_laws.proofs.PendingLaws.{pending_is}
-use Rattle.machine_laws.proofs.SizeLaws.{is_idle}
+use Rattle.machine_steps.proofs.PendingLaws.{pending_is}
+use Rattle.machine_steps.proofs.SizeLaws.{is_idle}
 use Rattle.suspend_ledger.specs.Suspensions.{suspensions_by}
 use Rattle.world_model.specs.declared.rows.Installed.{Installed}
 use Rattle.world_model.specs.declared.world.World.{World}

@@ -18,28 +18,28 @@ use Rattle.machine_model.specs.Runs.{Allows, Message, Run, said}
 use Rattle.machine_model.specs.State.{Hand, Machine, State, is_gone}
 use Rattle.machine_model.specs.Stops.{surplus, told_part}
 use Rattle.machine_model.specs.Telling.{after_event, numbered_by}
-use Rattle.machine_laws.specs.Names.{Act, Attached, Choice, Classes, Command, Decides, Deed, Does, Effect, Event}
-use Rattle.machine_laws.specs.Names.{Failure, Finding, HaltCause, Item, Lines, Lookup, News, Next, Note, Outcome, Part}
-use Rattle.machine_laws.specs.Names.{Phase, Replied, Request, Resume, StepIn, StepOut, Stepped, Steps, TargetCommand}
-use Rattle.machine_laws.specs.Names.{TellsNews, ThreadId, Want, a_question, a_request, an_effect, came_to, has_stepped}
-use Rattle.machine_laws.specs.Names.{Success, a_stop, of_stop, some_news, thread_changed, thread_list, threw}
+use Rattle.machine_steps.specs.Names.{Act, Attached, Choice, Classes, Command, Decides, Deed, Does, Effect, Event}
+use Rattle.machine_steps.specs.Names.{Failure, Finding, HaltCause, Item, Lines, Lookup, News, Next, Note, Outcome, Part}
+use Rattle.machine_steps.specs.Names.{Phase, Replied, Request, Resume, StepIn, StepOut, Stepped, Steps, TargetCommand}
+use Rattle.machine_steps.specs.Names.{TellsNews, ThreadId, Want, a_question, a_request, an_effect, came_to, has_stepped}
+use Rattle.machine_steps.specs.Names.{Success, a_stop, of_stop, some_news, thread_changed, thread_list, threw}
 use Rattle.machine_model.proofs.Bools.{first_holds, second_holds}
 use Rattle.std.proofs.lemmas.Bool.{not-true}
 use Rattle.machine_laws.specs.StepRequests.{AsksStep, IsInFlight}
 use Rattle.machine_laws.proofs.BindingFacts.{only_classes}
 use Rattle.machine_laws.proofs.NumberLaws.{grows}
-use Rattle.machine_laws.proofs.PartTests.{all_pass, all_passing, is_request, of_failure, passes, tells_more}
+use Rattle.machine_steps.proofs.PartTests.{all_pass, all_passing, is_request, of_failure, passes, tells_more}
 use Rattle.machine_laws.proofs.PausedStops.{still_numbered, thread_has}
-use Rattle.machine_laws.proofs.ReferenceLaws.{due_request}
-use Rattle.machine_laws.proofs.RequestLaws.{settling}
-use Rattle.machine_laws.proofs.RequestSteps.{is_deed, learnt_wishes, numbered_wishes, told_wishes}
-use Rattle.machine_laws.proofs.Stepping.{IsAt, Loses, Moves, Skips, by_moves, by_runs, moved}
+use Rattle.machine_steps.proofs.ReferenceLaws.{due_request}
+use Rattle.machine_steps.proofs.RequestLaws.{settling}
+use Rattle.machine_steps.proofs.RequestSteps.{is_deed, learnt_wishes, numbered_wishes, told_wishes}
+use Rattle.machine_steps.proofs.Stepping.{IsAt, Loses, Moves, Skips, by_moves, by_runs, moved}
 use Rattle.machine_laws.proofs.StepLaws.{step_wished}
 use Rattle.machine_laws.proofs.SuspendLaws.{binds_first}
-use Rattle.machine_laws.proofs.Tables.{of_decided, told_alike}
-use Rattle.machine_laws.proofs.Testing.{IsTest, tested, whole}
-use Rattle.machine_laws.proofs.ThreadIds.{noted_threads, replied_threads}
-use Rattle.machine_laws.proofs.WishLemmas.{none_due_change}
+use Rattle.machine_steps.proofs.Tables.{of_decided, told_alike}
+use Rattle.machine_steps.proofs.Testing.{IsTest, tested, whole}
+use Rattle.machine_steps.proofs.ThreadIds.{noted_threads, replied_threads}
+use Rattle.machine_steps.proofs.WishLemmas.{none_due_change}
 use Rattle.wish_sets.proofs.LeftLaws.{at_rest}
 use Rattle.wish_sets.proofs.WishLaws.{is_itself}
 use Rattle.wish_sets.specs.Order.{has_wish}

@@ -4,8 +4,8 @@ use Rattle.std.proofs.Common.{◌≡◌, ℕ, Bool, true, false, not, List, [], 
 use Rattle.std.proofs.Common.{◌&&◌, ◌==◌, map, arith}
 use Rattle.std.specs.List.{AllByRecursion as All, list_any}
 use Rattle.machine_model.specs.Requests.{Wishes, effect_due}
-use Rattle.machine_laws.specs.Names.{Clear, Set}
-use Rattle.machine_laws.proofs.WishLemmas.{due_clear, new_set_due, none_due_change}
+use Rattle.machine_steps.specs.Names.{Clear, Set}
+use Rattle.machine_steps.proofs.WishLemmas.{due_clear, new_set_due, none_due_change}
 use Rattle.wish_sets.proofs.LeftLaws.{any-kept}
 use Rattle.wish_sets.proofs.NextLaws.{none-is, surplus_clear}
 use Rattle.wish_sets.proofs.OrderLaws.{any-insert}

@@ -18,7 +18,7 @@ use Rattle.machine_model.specs.Plans.{Sight, after, asking, beside, each, has, j
 use Rattle.machine_model.specs.Replying.{knows_fact, learnt, with_heard}
 use Rattle.machine_model.specs.State.{is_some}
 use Rattle.machine_model.proofs.PlanIds.{after_like, need_chained, need_made}
-use Rattle.machine_laws.specs.Names.{Answer, Question, Want}
+use Rattle.machine_steps.specs.Names.{Answer, Question, Want}
 use Rattle.machine_laws.proofs.BindingPlans.{is_fact}
 use Rattle.wish_sets.specs.Places.{key_by}
 use Rattle.wish_sets.specs.Wanted.{Wanted, class_found, put_known, with_class, with_known}

@@ -16,10 +16,10 @@ use Rattle.machine_model.specs.Plans.{Need, Plan, after, beside, each, fact_hear
 use Rattle.machine_model.specs.Plans.{made_with, need, pairs, question_of, wants, lacks}
 use Rattle.machine_model.specs.Replying.{knows_fact, learnt, with_heard}
 use Rattle.machine_model.specs.State.{is_some}
-use Rattle.machine_laws.specs.Names.{Answer, Question, Sent, Want}
+use Rattle.machine_steps.specs.Names.{Answer, Question, Sent, Want}
 use Rattle.machine_laws.proofs.BindingFacts.{is_mapped}
 use Rattle.machine_laws.proofs.BindingPlans.{AllWants, IsLearnt, is_fact, is_listing, known_wants, wants_fact}
-use Rattle.machine_laws.proofs.StandingReplies.{only_loaded}
+use Rattle.machine_steps.proofs.StandingReplies.{only_loaded}
 use Rattle.wish_sets.specs.Wanted.{Wanted}
 
 -- Tables --------------------------------------------------------------------------------------------------------------

@@ -14,13 +14,13 @@ use Rattle.machine_model.specs.State.{Hand, State, has_waiting, is_empty, is_non
 use Rattle.machine_model.specs.Stops.{surplus}
 use Rattle.machine_model.proofs.KeyLaws.{is_one}
 use Rattle.machine_model.proofs.Bools.{never, or_more}
-use Rattle.machine_laws.specs.Names.{Attached, Choice, Classes, Command, Decides, Failure, Item, Lines, News, Part}
-use Rattle.machine_laws.specs.Names.{Phase, Question, Replied, Sent, TellsNews, Want, a_raw, a_request, class_facts}
-use Rattle.machine_laws.specs.Names.{Functions, Stepped, Steps, Throws}
+use Rattle.machine_steps.specs.Names.{Attached, Choice, Classes, Command, Decides, Failure, Item, Lines, News, Part}
+use Rattle.machine_steps.specs.Names.{Phase, Question, Replied, Sent, TellsNews, Want, a_raw, a_request, class_facts}
+use Rattle.machine_steps.specs.Names.{Functions, Stepped, Steps, Throws}
 use Rattle.machine_laws.proofs.BindingGrows.{Grows, one_learnt, still_learnt}
 use Rattle.machine_laws.proofs.BindingPlans.{IsLearnt, is_fact, is_listing}
-use Rattle.machine_laws.proofs.Tables.{is_updates, of_decided, of_told, told_alike}
-use Rattle.machine_laws.proofs.Testing.{IsTest}
+use Rattle.machine_steps.proofs.Tables.{is_updates, of_decided, of_told, told_alike}
+use Rattle.machine_steps.proofs.Testing.{IsTest}
 use Rattle.std.proofs.lemmas.Bool.{or_right}
 
 -- Parts ---------------------------------------------------------------------------------------------------------------

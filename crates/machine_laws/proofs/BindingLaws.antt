@@ -13,15 +13,15 @@ use Rattle.machine_model.specs.Runs.{Message, Run}
 use Rattle.machine_model.specs.State.{Hand, Machine, State, is_gone, fresh}
 use Rattle.machine_model.specs.Telling.{after_event, numbered_by}
 use Rattle.machine_model.specs.Composites.{composite_parts, has_death, learnt_in}
-use Rattle.machine_laws.specs.Names.{Attached, Item, Part, Phase, Sent, Want, a_composite, a_question, an_effect}
+use Rattle.machine_steps.specs.Names.{Attached, Item, Part, Phase, Sent, Want, a_composite, a_question, an_effect}
 use Rattle.machine_laws.proofs.BindingHands.{begun_noted, binds_ahead, placed, placed_rest, placed_test}
-use Rattle.machine_laws.proofs.RequestLaws.{IsDue, Settling, settles, settling, was_due}
-use Rattle.machine_laws.proofs.RequestSteps.{flying_in, flying_of, near_before, numbered_wishes, parts_left}
-use Rattle.machine_laws.proofs.RequestSteps.{told_wishes}
-use Rattle.machine_laws.proofs.Standing.{asked_in, queue_in}
-use Rattle.machine_laws.proofs.Stepping.{IsAt, Moves, Skips, by_runs}
-use Rattle.machine_laws.proofs.Tables.{is_updates}
-use Rattle.machine_laws.proofs.Testing.{Passed, whole, tested}
+use Rattle.machine_steps.proofs.RequestLaws.{IsDue, Settling, settles, settling, was_due}
+use Rattle.machine_steps.proofs.RequestSteps.{flying_in, flying_of, near_before, numbered_wishes, parts_left}
+use Rattle.machine_steps.proofs.RequestSteps.{told_wishes}
+use Rattle.machine_steps.proofs.Standing.{asked_in, queue_in}
+use Rattle.machine_steps.proofs.Stepping.{IsAt, Moves, Skips, by_runs}
+use Rattle.machine_steps.proofs.Tables.{is_updates}
+use Rattle.machine_steps.proofs.Testing.{Passed, whole, tested}
 use Rattle.machine_laws.proofs.BindingWatches.{none_wished, due_set}
 use Rattle.machine_laws.proofs.BindingParts.{AreLike, Binding, IsBinding, Same, are_same, as_before, asks_on}
 use Rattle.machine_laws.proofs.BindingParts.{clear_now, event_same, goes_by, is_other, itself, leaves_watches}

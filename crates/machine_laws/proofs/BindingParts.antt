@@ -27,10 +27,10 @@ use Rattle.machine_model.specs.Telling.{after_event, numbered_by}
 use Rattle.machine_model.specs.Frames.{frames_plan}
 use Rattle.machine_model.proofs.PlanIds.{need_made}
 use Rattle.machine_model.proofs.KeyLaws.{is_one}
-use Rattle.machine_laws.specs.Names.{Event, Finding, Outcome, Part, Replied, Sent, Want, all_threads, class_facts}
-use Rattle.machine_laws.specs.Names.{classes_found, Guard, Handshake, IdSizes, container_children, exception_info}
-use Rattle.machine_laws.specs.Names.{exception_text, expression_value, thread_frames, variable_write}
-use Rattle.machine_laws.proofs.Frameless.{asks_stack}
+use Rattle.machine_steps.specs.Names.{Event, Finding, Outcome, Part, Replied, Sent, Want, all_threads, class_facts}
+use Rattle.machine_steps.specs.Names.{classes_found, Guard, Handshake, IdSizes, container_children, exception_info}
+use Rattle.machine_steps.specs.Names.{exception_text, expression_value, thread_frames, variable_write}
+use Rattle.machine_steps.proofs.Frameless.{asks_stack}
 use Rattle.machine_laws.proofs.SafePlans.{children_safe, exception_safe, frames_meek, is_meek, is_safe, threads_safe}
 use Rattle.machine_laws.proofs.SafePlans.{thrown_safe, value_safe, write_safe}
 use Rattle.machine_laws.proofs.BindingGrows.{Grows, found_still, grows_itself, still_learnt}
@@ -42,10 +42,10 @@ use Rattle.machine_laws.proofs.BindingFacts.{bound_alike, same_known}
 use Rattle.machine_laws.proofs.BindingPlans.{IsLearnt, does_fail, known_wants, need_alone, need_holds, is_listing}
 use Rattle.machine_laws.proofs.BindingPlans.{plan_lacks, wants_other}
 use Rattle.machine_laws.proofs.BindingSeen.{bound_still}
-use Rattle.machine_laws.proofs.RequestSteps.{parts_left}
-use Rattle.machine_laws.proofs.RestLaws.{is_free}
-use Rattle.machine_laws.proofs.Standing.{asked_in, queue_in}
-use Rattle.machine_laws.proofs.Tables.{is_updates}
+use Rattle.machine_steps.proofs.RequestSteps.{parts_left}
+use Rattle.machine_steps.proofs.RestLaws.{is_free}
+use Rattle.machine_steps.proofs.Standing.{asked_in, queue_in}
+use Rattle.machine_steps.proofs.Tables.{is_updates}
 use Rattle.machine_laws.proofs.BindingWatches.{WatchesSet, or_false}
 use Rattle.wish_sets.specs.Wanted.{Wanted}
 use Rattle.machine_model.proofs.Bools.{and_first}

@@ -19,7 +19,7 @@ use Rattle.machine_model.specs.Plans.{lacks, made_with, need, pairs, question_of
 use Rattle.machine_model.specs.State.{is_some}
 use Rattle.machine_model.proofs.IdRows.{all_joined}
 use Rattle.machine_model.proofs.KeyLaws.{is_one}
-use Rattle.machine_laws.specs.Names.{Answer, Question, Replied, Sent, Want, an_answer, an_error}
+use Rattle.machine_steps.specs.Names.{Answer, Question, Replied, Sent, Want, an_answer, an_error}
 use Rattle.wish_sets.specs.Places.{key_by}
 use Rattle.wish_sets.specs.Wanted.{Wanted}
 use Rattle.wish_sets.specs.Wished.{is_named, is_watched}

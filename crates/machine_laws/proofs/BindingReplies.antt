@@ -15,10 +15,10 @@ use Rattle.machine_model.specs.Requests.{Wishes, wishes_after}
 use Rattle.machine_model.specs.Rows.{written_by, chosen, leaves, news_of, noted, refused_with, stepped_by}
 use Rattle.machine_model.specs.State.{Hand, State, is_some}
 use Rattle.machine_model.specs.Stops.{hit_parts, surplus, told_part}
-use Rattle.machine_laws.specs.Names.{Finding, Outcome, Written, variable_write, write_found, Choice, Classes, Decides}
-use Rattle.machine_laws.specs.Names.{Effect, Leaves, Lines, Lookup, Note, Part, Question, Replied, Sent, Set}
-use Rattle.machine_laws.specs.Names.{TellsNews, Want, an_effect, class_facts, Attached, Functions, Halt, Phase}
-use Rattle.machine_laws.specs.Names.{Stepped, Steps, StopsAt, Thrown}
+use Rattle.machine_steps.specs.Names.{Finding, Outcome, Written, variable_write, write_found, Choice, Classes, Decides}
+use Rattle.machine_steps.specs.Names.{Effect, Leaves, Lines, Lookup, Note, Part, Question, Replied, Sent, Set}
+use Rattle.machine_steps.specs.Names.{TellsNews, Want, an_effect, class_facts, Attached, Functions, Halt, Phase}
+use Rattle.machine_steps.specs.Names.{Stepped, Steps, StopsAt, Thrown}
 use Rattle.machine_laws.proofs.BindingFacts.{all_bound, fact_learnt, only_classes, same_known}
 use Rattle.machine_laws.proofs.BindingGrows.{Grows, grows_itself, learnt_grows, learnt_loaded}
 use Rattle.machine_laws.proofs.BindingHands.{asks_listing, asks_filled, awaited_is, awaits_listing, awaits_filled}
@@ -26,9 +26,9 @@ use Rattle.machine_laws.proofs.BindingHands.{binds_ahead, first_note, has_note, 
 use Rattle.machine_laws.proofs.BindingHands.{listed_filled, looks_ahead, looks_first, needs_none, needs_watches}
 use Rattle.machine_laws.proofs.BindingHands.{notes_list, queues_listing, was_listed}
 use Rattle.machine_laws.proofs.BindingPlans.{IsLearnt, is_fact, is_listing}
-use Rattle.machine_laws.proofs.RequestLaws.{IsDue}
-use Rattle.machine_laws.proofs.RequestSteps.{is_deed, learnt_wishes}
-use Rattle.machine_laws.proofs.Tables.{decided_alike, of_decided, of_told, starts_updates, told_alike}
+use Rattle.machine_steps.proofs.RequestLaws.{IsDue}
+use Rattle.machine_steps.proofs.RequestSteps.{is_deed, learnt_wishes}
+use Rattle.machine_steps.proofs.Tables.{decided_alike, of_decided, of_told, starts_updates, told_alike}
 use Rattle.wish_sets.specs.Wanted.{Wanted, with_exceptions, with_known, with_step}
 use Rattle.wish_sets.specs.declared.wish.Wish.TheVariants as wishes
 use Rattle.machine_model.specs.Facts.{fact_known}

@@ -22,7 +22,7 @@ use Rattle.machine_model.specs.Plans.{lacks, made_with, need}
 use Rattle.machine_model.specs.State.{is_some}
 use Rattle.machine_model.proofs.IdRows.{all_joined}
 use Rattle.machine_model.proofs.PlanIds.{need_chained, need_made}
-use Rattle.machine_laws.specs.Names.{Answer, Question, Want}
+use Rattle.machine_steps.specs.Names.{Answer, Question, Want}
 use Rattle.machine_laws.proofs.BindingFacts.{is_mapped}
 use Rattle.machine_laws.proofs.BindingGrows.{Grows}
 use Rattle.machine_laws.proofs.BindingPlaces.{HasLines, as_found, same_places}

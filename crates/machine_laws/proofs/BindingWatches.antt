@@ -9,12 +9,12 @@ use Rattle.machine_model.specs.EventRequests.{is_set_of}
 use Rattle.machine_model.specs.Replying.{IsReply}
 use Rattle.machine_model.specs.Requests.{Wishes, effect_due, wishes_after}
 use Rattle.machine_model.specs.State.{SizesRead}
-use Rattle.machine_laws.specs.Names.{Effect, Part, Replied, Set, an_effect}
+use Rattle.machine_steps.specs.Names.{Effect, Part, Replied, Set, an_effect}
 use Rattle.machine_laws.proofs.BindingFacts.{only_classes}
 use Rattle.machine_laws.proofs.ReplyLaws.{IsUnset, new_unset, none_installed, other_stays, set_is}
-use Rattle.machine_laws.proofs.RequestLaws.{IsDue}
-use Rattle.machine_laws.proofs.RequestSteps.{is_deed}
-use Rattle.machine_laws.proofs.WishLemmas.{new_set_due, none_due_change}
+use Rattle.machine_steps.proofs.RequestLaws.{IsDue}
+use Rattle.machine_steps.proofs.RequestSteps.{is_deed}
+use Rattle.machine_steps.proofs.WishLemmas.{new_set_due, none_due_change}
 use Rattle.wish_sets.proofs.LeftLaws.{at_rest}
 use Rattle.wish_sets.proofs.TidyLaws.{kept_refusals}
 use Rattle.wish_sets.proofs.WatchLaws.{has-append}

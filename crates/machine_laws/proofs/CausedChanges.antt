@@ -17,17 +17,17 @@ use Rattle.machine_model.specs.State.{Hand, Machine, State}
 use Rattle.machine_model.specs.Stops.{surplus, told_part}
 use Rattle.machine_model.proofs.Bools.{both_hold, first_holds, second_holds}
 use Rattle.machine_laws.specs.Changing.{AsksFor, IsCause}
-use Rattle.machine_laws.specs.Names.{Act, Choice, Command, ConfigurationDone, Continue, Decides, Deed}
-use Rattle.machine_laws.specs.Names.{Disconnect, Dispose, Does, Exit, Failure, Finding, HaltCause, Item, Lookup}
-use Rattle.machine_laws.specs.Names.{Next, Part, Pause, Phase, Replied, Request, Resume, SetVariable, StepIn}
-use Rattle.machine_laws.specs.Names.{StepOut, Stepped, Suspend, Suspension, TargetCommand, TellsNews, ThreadId}
-use Rattle.machine_laws.specs.Names.{Want, Write, Writes, a_composite, a_question, a_raw, a_request, an_effect}
-use Rattle.machine_laws.specs.Names.{of_composite, of_entry, of_stop, target_end, variable_write}
+use Rattle.machine_steps.specs.Names.{Act, Choice, Command, ConfigurationDone, Continue, Decides, Deed}
+use Rattle.machine_steps.specs.Names.{Disconnect, Dispose, Does, Exit, Failure, Finding, HaltCause, Item, Lookup}
+use Rattle.machine_steps.specs.Names.{Next, Part, Pause, Phase, Replied, Request, Resume, SetVariable, StepIn}
+use Rattle.machine_steps.specs.Names.{StepOut, Stepped, Suspend, Suspension, TargetCommand, TellsNews, ThreadId}
+use Rattle.machine_steps.specs.Names.{Want, Write, Writes, a_composite, a_question, a_raw, a_request, an_effect}
+use Rattle.machine_steps.specs.Names.{of_composite, of_entry, of_stop, target_end, variable_write}
 use Rattle.machine_laws.proofs.LeavingLaws.{farewells, first_in}
-use Rattle.machine_laws.proofs.ReferenceLaws.{due_request}
-use Rattle.machine_laws.proofs.RequestSteps.{is_deed}
-use Rattle.machine_laws.proofs.Stepping.{IsAt, Loses, Moves, by_moves, moved}
-use Rattle.machine_laws.proofs.Tables.{of_decided, told_alike}
+use Rattle.machine_steps.proofs.ReferenceLaws.{due_request}
+use Rattle.machine_steps.proofs.RequestSteps.{is_deed}
+use Rattle.machine_steps.proofs.Stepping.{IsAt, Loses, Moves, by_moves, moved}
+use Rattle.machine_steps.proofs.Tables.{of_decided, told_alike}
 
 -- What an item is for -------------------------------------------------------------------------------------------------
 

@@ -15,14 +15,14 @@ use Rattle.machine_model.specs.Stops.{thrown_in, told_part}
 use Rattle.machine_model.specs.Telling.{after_event, numbered_by, outcome_told}
 use Rattle.machine_model.proofs.Bools.{first_holds, second_holds}
 use Rattle.machine_laws.specs.ClientStops.{configured_by, configures}
-use Rattle.machine_laws.specs.Names.{Choice, Command, Configured, Decides, Deed, EntryHeld, Event, Failed, Failure}
-use Rattle.machine_laws.specs.Names.{Finding, Halt, HaltCause, Initialized, Item, Lookup, Note, Outcome, Part, Replied}
-use Rattle.machine_laws.specs.Names.{Request, Stepped, Success, TargetCommand, TellsNews, Terminated, ThreadId}
-use Rattle.machine_laws.specs.Names.{Thrown, Want, Written, a_question, a_request, a_response, a_stop, an_effect}
-use Rattle.machine_laws.specs.Names.{some_news}
-use Rattle.machine_laws.proofs.HoldingParts.{numbered_entry, same_entry}
-use Rattle.machine_laws.proofs.Stepping.{IsAt, Moves, Skips, by_moves}
-use Rattle.machine_laws.proofs.Tables.{told_alike}
+use Rattle.machine_steps.specs.Names.{Choice, Command, Configured, Decides, Deed, EntryHeld, Event, Failed, Failure}
+use Rattle.machine_steps.specs.Names.{Finding, Halt, HaltCause, Initialized, Item, Lookup, Note, Outcome, Part, Replied}
+use Rattle.machine_steps.specs.Names.{Request, Stepped, Success, TargetCommand, TellsNews, Terminated, ThreadId}
+use Rattle.machine_steps.specs.Names.{Thrown, Want, Written, a_question, a_request, a_response, a_stop, an_effect}
+use Rattle.machine_steps.specs.Names.{some_news}
+use Rattle.machine_steps.proofs.HoldingParts.{numbered_entry, same_entry}
+use Rattle.machine_steps.proofs.Stepping.{IsAt, Moves, Skips, by_moves}
+use Rattle.machine_steps.proofs.Tables.{told_alike}
 
 -- What is left of an item ---------------------------------------------------------------------------------------------
 

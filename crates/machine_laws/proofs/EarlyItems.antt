@@ -12,20 +12,20 @@ use Rattle.machine_model.specs.State.{Hand, Machine, SizesRead, State, has_raw, 
 use Rattle.machine_model.specs.State.{is_some, knowing, left}
 use Rattle.machine_model.specs.Telling.{after_event, attached_from, numbered_by}
 use Rattle.machine_model.proofs.Bools.{first_holds, other_fails}
-use Rattle.machine_laws.specs.Names.{Choice, Command, Composite, Decides, Event, Failure, Guard, Handshake, IdSizes}
-use Rattle.machine_laws.specs.Names.{Initialized, Item, Note, Outcome, Part, Phase, Question, Replied, TellsNews}
-use Rattle.machine_laws.specs.Names.{Terminated, a_composite, a_question, a_raw, a_request}
-use Rattle.machine_laws.proofs.HandshakeLaws.{IsBehind, both_queued, is_handshake}
+use Rattle.machine_steps.specs.Names.{Choice, Command, Composite, Decides, Event, Failure, Guard, Handshake, IdSizes}
+use Rattle.machine_steps.specs.Names.{Initialized, Item, Note, Outcome, Part, Phase, Question, Replied, TellsNews}
+use Rattle.machine_steps.specs.Names.{Terminated, a_composite, a_question, a_raw, a_request}
+use Rattle.machine_steps.proofs.HandshakeLaws.{IsBehind, both_queued, is_handshake}
 use Rattle.machine_laws.proofs.ItemLaws.{has_composite, has_more, has_rest, is_composite}
-use Rattle.machine_laws.proofs.PendingLaws.{all_open}
-use Rattle.machine_laws.proofs.QuietLaws.{attached_gone, waits_some}
-use Rattle.machine_laws.proofs.SizeLaws.{question_sizes}
-use Rattle.machine_laws.proofs.Standing.{asked_in}
-use Rattle.machine_laws.proofs.Stepping.{IsAt, Moves, Skips, by_runs}
-use Rattle.machine_laws.proofs.Tables.{chosen_is, decided_alike, finished_is, has_attach, plain_attach, told_alike}
-use Rattle.machine_laws.proofs.Testing.{IsTest, Passed, same_noted, same_numbered, same_replied, tested, whole}
+use Rattle.machine_steps.proofs.PendingLaws.{all_open}
+use Rattle.machine_steps.proofs.QuietLaws.{attached_gone, waits_some}
+use Rattle.machine_steps.proofs.SizeLaws.{question_sizes}
+use Rattle.machine_steps.proofs.Standing.{asked_in}
+use Rattle.machine_steps.proofs.Stepping.{IsAt, Moves, Skips, by_runs}
+use Rattle.machine_steps.proofs.Tables.{chosen_is, decided_alike, finished_is, has_attach, plain_attach, told_alike}
+use Rattle.machine_steps.proofs.Testing.{IsTest, Passed, same_noted, same_numbered, same_replied, tested, whole}
 use Rattle.std.proofs.lemmas.Bool.{or_right}
-use Rattle.machine_laws.proofs.RequestSteps.{parts_left}
+use Rattle.machine_steps.proofs.RequestSteps.{parts_left}
 
 -- The test ------------------------------------------------------------------------------------------------------------
 

@@ -17,17 +17,17 @@ use Rattle.machine_model.specs.Telling.{news_told, number_among, after_event, ev
 use Rattle.machine_model.specs.Breakpoints.{verified_told}
 use Rattle.machine_model.specs.Knowing.{has_last}
 use Rattle.machine_model.proofs.Bools.{never}
-use Rattle.machine_laws.specs.Names.{Command, Event, Failed, Failure, Initialized, Item, News, Outcome, Part, Replied}
-use Rattle.machine_laws.specs.Names.{Request, Success, TargetCommand, Terminated, Want, a_composite, a_question, a_raw}
-use Rattle.machine_laws.specs.Names.{a_request, a_stop, an_effect, an_event, entry_verified, some_news, target_end}
-use Rattle.machine_laws.specs.Names.{thread_changed}
-use Rattle.machine_laws.proofs.RestLaws.{IsDone, at_rest, late_gone, no_late, none_waiting}
-use Rattle.machine_laws.proofs.ServedLaws.{IsLeft, aside_left, left_on, loss_silent, picked_all, responded_left}
-use Rattle.machine_laws.proofs.ServedLaws.{silent_left}
-use Rattle.machine_laws.proofs.Stepping.{IsAt, Loses, Moves, Skips, by_moves, by_runs, with_said}
-use Rattle.machine_laws.proofs.Tables.{attaches, chosen_is, finished_is, free as free_test, free_once, has_attach}
-use Rattle.machine_laws.proofs.Tables.{has_joined, none_attaches, once, plain_attach, row_is, responds_once}
-use Rattle.machine_laws.proofs.Testing.{passed, same_noted, same_numbered, same_replied, tested, whole}
+use Rattle.machine_steps.specs.Names.{Command, Event, Failed, Failure, Initialized, Item, News, Outcome, Part, Replied}
+use Rattle.machine_steps.specs.Names.{Request, Success, TargetCommand, Terminated, Want, a_composite, a_question, a_raw}
+use Rattle.machine_steps.specs.Names.{a_request, a_stop, an_effect, an_event, entry_verified, some_news, target_end}
+use Rattle.machine_steps.specs.Names.{thread_changed}
+use Rattle.machine_steps.proofs.RestLaws.{IsDone, at_rest, late_gone, no_late, none_waiting}
+use Rattle.machine_steps.proofs.ServedLaws.{IsLeft, aside_left, left_on, loss_silent, picked_all, responded_left}
+use Rattle.machine_steps.proofs.ServedLaws.{silent_left}
+use Rattle.machine_steps.proofs.Stepping.{IsAt, Loses, Moves, Skips, by_moves, by_runs, with_said}
+use Rattle.machine_steps.proofs.Tables.{attaches, chosen_is, finished_is, free as free_test, free_once, has_attach}
+use Rattle.machine_steps.proofs.Tables.{has_joined, none_attaches, once, plain_attach, row_is, responds_once}
+use Rattle.machine_steps.proofs.Testing.{passed, same_noted, same_numbered, same_replied, tested, whole}
 use Rattle.machine_laws.proofs.MarkLaws.{same_reply, same_told as numbered_end, same_note}
 
 -- What is left of an item: an `attach` tells `initialized` behind its success, and no other item does -----------------

@@ -13,19 +13,19 @@ use Rattle.machine_model.specs.Runs.{Message, Run}
 use Rattle.machine_model.specs.State.{Hand, Machine, is_gone, knowing, numbers_over}
 use Rattle.machine_model.proofs.IdRows.{all_weak}
 use Rattle.machine_model.proofs.PlanIds.{OfThing}
-use Rattle.machine_laws.specs.Names.{Does, Part, Resume, TargetCommand, an_effect, of_stop}
-use Rattle.machine_laws.proofs.Frameless.{composite_free, effect_free, is_frame, reply_free}
-use Rattle.machine_laws.proofs.IdLaws.{WasReadOnce, ids_were_read, last_or_not, none_yet, sends_may, weak_kept}
-use Rattle.machine_laws.proofs.IdLaws.{weak_thing}
-use Rattle.machine_laws.proofs.RequestSteps.{near_before}
-use Rattle.machine_laws.proofs.Standing.{IsKept, ids_said}
-use Rattle.machine_laws.proofs.StandingReplies.{not_empty}
-use Rattle.machine_laws.proofs.StandingWalk.{kept_on}
-use Rattle.machine_laws.proofs.Stepping.{IsAt, Moves, by_runs, with_said}
+use Rattle.machine_steps.specs.Names.{Does, Part, Resume, TargetCommand, an_effect, of_stop}
+use Rattle.machine_steps.proofs.Frameless.{composite_free, effect_free, is_frame, reply_free}
+use Rattle.machine_steps.proofs.IdLaws.{WasReadOnce, ids_were_read, last_or_not, none_yet, sends_may, weak_kept}
+use Rattle.machine_steps.proofs.IdLaws.{weak_thing}
+use Rattle.machine_steps.proofs.RequestSteps.{near_before}
+use Rattle.machine_steps.proofs.Standing.{IsKept, ids_said}
+use Rattle.machine_steps.proofs.StandingReplies.{not_empty}
+use Rattle.machine_steps.proofs.StandingWalk.{kept_on}
+use Rattle.machine_steps.proofs.Stepping.{IsAt, Moves, by_runs, with_said}
 use Rattle.machine_laws.proofs.StopHands.{asked_none, calm_reply}
 use Rattle.machine_laws.proofs.StopParts.{bare_parts}
 use Rattle.machine_laws.proofs.StopTurns.{Turns, says_end, turns}
-use Rattle.machine_laws.proofs.ThingIds.{AreThings, things_on}
+use Rattle.machine_steps.proofs.ThingIds.{AreThings, things_on}
 use Rattle.machine_laws.proofs.FrameTests.{IsOfStop, begun_now, free, grows, items_free, longer, near_free, read_now}
 
 -- The invariant -------------------------------------------------------------------------------------------------------

@@ -17,20 +17,20 @@ use Rattle.machine_model.specs.State.{Hand, Machine, State, is_some}
 use Rattle.machine_model.proofs.IdRows.{all_joined}
 use Rattle.machine_model.proofs.PlanIds.{AreKnown, IsAsked, IsWanted, OfClass, OfObject, OfThrown}
 use Rattle.machine_model.proofs.Bools.{both_hold}
-use Rattle.machine_laws.specs.Names.{Writes, Classes, Item, Lines, Part, Sent, Success, ThreadId, Want, a_composite}
-use Rattle.machine_laws.specs.Names.{of_stop, Functions, Thrown, Throws, Dispose, Exit, Resume, Suspend, a_written}
-use Rattle.machine_laws.specs.Names.{Capabilities, Continued, Failed, Nothing, a_stop, breakpoint_list, Steps}
-use Rattle.machine_laws.specs.Names.{exception_text, some_news, thread_changed}
-use Rattle.machine_laws.proofs.Frameless.{composite_free, every_one, fields_free, is_frame, methods_free}
-use Rattle.machine_laws.proofs.ItemIds.{AreItems, HandStands}
-use Rattle.machine_laws.proofs.Standing.{Near, PartStands}
-use Rattle.machine_laws.proofs.Stepping.{with_said}
+use Rattle.machine_steps.specs.Names.{Writes, Classes, Item, Lines, Part, Sent, Success, ThreadId, Want, a_composite}
+use Rattle.machine_steps.specs.Names.{of_stop, Functions, Thrown, Throws, Dispose, Exit, Resume, Suspend, a_written}
+use Rattle.machine_steps.specs.Names.{Capabilities, Continued, Failed, Nothing, a_stop, breakpoint_list, Steps}
+use Rattle.machine_steps.specs.Names.{exception_text, some_news, thread_changed}
+use Rattle.machine_steps.proofs.Frameless.{composite_free, every_one, fields_free, is_frame, methods_free}
+use Rattle.machine_steps.proofs.ItemIds.{AreItems, HandStands}
+use Rattle.machine_steps.proofs.Standing.{Near, PartStands}
+use Rattle.machine_steps.proofs.Stepping.{with_said}
 use Rattle.machine_laws.proofs.StopParts.{are_bare, is_bare}
 use Rattle.machine_laws.proofs.StopTurns.{says_end}
-use Rattle.machine_laws.proofs.ThingIds.{AreThings}
-use Rattle.machine_laws.proofs.HitIds.{ItemStands}
-use Rattle.machine_laws.proofs.ThreadIds.{TellStands}
-use Rattle.machine_laws.proofs.WishIds.{weak_wished}
+use Rattle.machine_steps.proofs.ThingIds.{AreThings}
+use Rattle.machine_steps.proofs.HitIds.{ItemStands}
+use Rattle.machine_steps.proofs.ThreadIds.{TellStands}
+use Rattle.machine_steps.proofs.WishIds.{weak_wished}
 
 -- The test ------------------------------------------------------------------------------------------------------------
 

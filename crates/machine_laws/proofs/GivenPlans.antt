@@ -17,9 +17,9 @@ use Rattle.machine_model.specs.Values.{by_id, declared_plan, length_plan, type_p
 use Rattle.machine_model.specs.Writing.{Writing, child_named, child_written, digits_of, element_by, element_store}
 use Rattle.machine_model.specs.Writing.{field_store, field_written, index_written, is_index_name, object_size}
 use Rattle.machine_model.specs.Writing.{slot_store, value_for, write_by, write_with}
-use Rattle.machine_laws.specs.Names.{Answer, Failure, Finding, NamedThread, Store, ThreadId, Thrown, Want}
-use Rattle.machine_laws.specs.Names.{all_threads, exception_found, exception_info, frames_found, no_value}
-use Rattle.machine_laws.specs.Names.{threads_found, value_found, variable_write, variables_found, write_found}
+use Rattle.machine_steps.specs.Names.{Answer, Failure, Finding, NamedThread, Store, ThreadId, Thrown, Want}
+use Rattle.machine_steps.specs.Names.{all_threads, exception_found, exception_info, frames_found, no_value}
+use Rattle.machine_steps.specs.Names.{threads_found, value_found, variable_write, variables_found, write_found}
 use Rattle.stop_refs.specs.declared.thing.Thing.{Thing}
 use Rattle.stop_refs.specs.declared.thing.Thing.TheVariants as things
 use Rattle.value_views.specs.Names.{class_name}

@@ -11,16 +11,16 @@ use Rattle.machine_model.specs.Runs.{Message, Run}
 use Rattle.machine_model.specs.State.{Hand, Machine, State, is_gone}
 use Rattle.machine_model.specs.Telling.{after_event}
 use Rattle.machine_model.proofs.Bools.{first_holds}
-use Rattle.machine_laws.specs.Names.{Choice, Command, Event, Gone, Initialized, Item, Leaves, Outcome, Part}
-use Rattle.machine_laws.specs.Names.{Phase, Replied, Request, TargetCommand, Terminated, Want, a_question, a_request}
-use Rattle.machine_laws.specs.Names.{an_effect}
+use Rattle.machine_steps.specs.Names.{Choice, Command, Event, Gone, Initialized, Item, Leaves, Outcome, Part}
+use Rattle.machine_steps.specs.Names.{Phase, Replied, Request, TargetCommand, Terminated, Want, a_question, a_request}
+use Rattle.machine_steps.specs.Names.{an_effect}
 use Rattle.machine_laws.specs.Settings.{Settings}
-use Rattle.machine_laws.proofs.QuietLaws.{attached_gone}
+use Rattle.machine_steps.proofs.QuietLaws.{attached_gone}
 use Rattle.machine_laws.proofs.SettingLaws.{answer, listed_as, listed_in}
-use Rattle.machine_laws.proofs.Stepping.{IsAt, Moves, Skips, by_runs}
-use Rattle.machine_laws.proofs.Tables.{free as free_test, free_once, last_silent, once, responds_once, silent_last}
-use Rattle.machine_laws.proofs.Tables.{silent_test}
-use Rattle.machine_laws.proofs.Testing.{same_noted, same_replied, tested, whole}
+use Rattle.machine_steps.proofs.Stepping.{IsAt, Moves, Skips, by_runs}
+use Rattle.machine_steps.proofs.Tables.{free as free_test, free_once, last_silent, once, responds_once, silent_last}
+use Rattle.machine_steps.proofs.Tables.{silent_test}
+use Rattle.machine_steps.proofs.Testing.{same_noted, same_replied, tested, whole}
 
 -- no response is to come that lists breakpoints, nor a success of a request that asks for some
 abbrev pub IsFar : Option Outcome → Command → Type 0

@@ -13,13 +13,13 @@ use Rattle.machine_model.specs.Questions.{AreLacked, IsLacked, is_question}
 use Rattle.machine_model.specs.Runs.{Message, Run}
 use Rattle.machine_model.specs.State.{Hand, Machine, State}
 use Rattle.machine_model.proofs.IdRows.{all_weak}
-use Rattle.machine_laws.specs.Names.{Finding, Part, Question, TargetCommand, Want, a_question, an_effect, class_facts}
-use Rattle.machine_laws.specs.Names.{classes_found}
+use Rattle.machine_steps.specs.Names.{Finding, Part, Question, TargetCommand, Want, a_question, an_effect, class_facts}
+use Rattle.machine_steps.specs.Names.{classes_found}
 use Rattle.machine_laws.proofs.BindingHands.{looks_first}
 use Rattle.machine_laws.proofs.BindingParts.{lacked_meek}
 use Rattle.machine_laws.proofs.BindingPlans.{asks, is_fact, known_wants, makes, plan_lacks, wants_fact, wants_other}
 use Rattle.machine_laws.proofs.HarmlessSteps.{effects_harmless}
-use Rattle.machine_laws.proofs.IdLaws.{last_or_not}
+use Rattle.machine_steps.proofs.IdLaws.{last_or_not}
 use Rattle.machine_laws.proofs.QuestionLaws.{are_lacked}
 use Rattle.machine_laws.proofs.SafePlans.{is_meek}
 use Rattle.wish_sets.specs.Wanted.{Wanted}

@@ -11,16 +11,16 @@ use Rattle.machine_model.specs.Rows.{step_parts, stepped_by, thread_there, threa
 use Rattle.machine_model.specs.Runs.{Message, Run}
 use Rattle.machine_model.specs.State.{Hand, Machine, State}
 use Rattle.machine_model.proofs.IdRows.{all_joined}
-use Rattle.machine_laws.specs.Names.{Choice, Classes, Command, Decides, Effect, Failure, Item, Next, Note, Part, Set}
-use Rattle.machine_laws.specs.Names.{StepIn, StepOut, Stepped, Steps, TargetCommand, TellsNews, ThreadId, a_raw, Lines}
-use Rattle.machine_laws.specs.Names.{a_request, an_effect}
+use Rattle.machine_steps.specs.Names.{Choice, Classes, Command, Decides, Effect, Failure, Item, Next, Note, Part, Set}
+use Rattle.machine_steps.specs.Names.{StepIn, StepOut, Stepped, Steps, TargetCommand, TellsNews, ThreadId, a_raw, Lines}
+use Rattle.machine_steps.specs.Names.{a_request, an_effect}
 use Rattle.machine_laws.proofs.BindingFacts.{only_classes}
 use Rattle.machine_laws.proofs.BindingWatches.{or_false, without_mid}
-use Rattle.machine_laws.proofs.RequestSteps.{learnt_wishes, numbered_wishes, told_wishes}
-use Rattle.machine_laws.proofs.Stepping.{Loses, Moves, by_moves, with_said}
-use Rattle.machine_laws.proofs.Tables.{decided_alike, told_alike}
-use Rattle.machine_laws.proofs.Testing.{IsTest, Passed, passed_on, whole}
-use Rattle.machine_laws.proofs.WishLemmas.{new_set_due}
+use Rattle.machine_steps.proofs.RequestSteps.{learnt_wishes, numbered_wishes, told_wishes}
+use Rattle.machine_steps.proofs.Stepping.{Loses, Moves, by_moves, with_said}
+use Rattle.machine_steps.proofs.Tables.{decided_alike, told_alike}
+use Rattle.machine_steps.proofs.Testing.{IsTest, Passed, passed_on, whole}
+use Rattle.machine_steps.proofs.WishLemmas.{new_set_due}
 use Rattle.wish_sets.proofs.WishLaws.{equal_is, wished_has}
 use Rattle.wish_sets.specs.Order.{has_wish}
 use Rattle.wish_sets.specs.Places.{places}

@@ -7,10 +7,10 @@ use Rattle.machine_model.specs.Due.{Picked, can_read, passed_by, pick}
 use Rattle.machine_model.specs.Knowing.{composite_in}
 use Rattle.machine_model.specs.Runs.{Message}
 use Rattle.machine_model.specs.State.{Machine, has_raw, is_gone, is_raw, is_some}
-use Rattle.machine_laws.specs.Names.{Composite, Item, a_composite, a_raw, a_request, target_end}
-use Rattle.machine_laws.proofs.RequestSteps.{near_before}
-use Rattle.machine_laws.proofs.ServedLaws.{picked_all}
-use Rattle.machine_laws.proofs.Stepping.{Moves}
+use Rattle.machine_steps.specs.Names.{Composite, Item, a_composite, a_raw, a_request, target_end}
+use Rattle.machine_steps.proofs.RequestSteps.{near_before}
+use Rattle.machine_steps.proofs.ServedLaws.{picked_all}
+use Rattle.machine_steps.proofs.Stepping.{Moves}
 
 abbrev pub is_composite : Item → Bool
 is_composite (a_composite at composite) = true

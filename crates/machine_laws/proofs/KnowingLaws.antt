@@ -19,20 +19,20 @@ use Rattle.machine_model.specs.State.{Hand, Machine, SizesRead, State, is_gone, 
 use Rattle.machine_model.specs.Telling.{after_event, attached_from, event_told, numbered_by, outcome_told}
 use Rattle.machine_model.specs.Classes.{classes_in, with_listed}
 use Rattle.machine_model.specs.Plans.{answer_in}
-use Rattle.machine_laws.specs.Names.{Answer, Attached, Command, Composite, Effect, EntryHeld, Event, Fresh, Gone}
-use Rattle.machine_laws.specs.Names.{Initialized, Item, NamedThread, Note, Options, Outcome, Part, Phase, Question}
-use Rattle.machine_laws.specs.Names.{Replied, Success, TargetCommand, Terminated, ThreadId, a_composite, a_question}
-use Rattle.machine_laws.specs.Names.{a_raw, a_request, a_stop, an_answer, an_effect, an_event, some_news, target_end}
-use Rattle.machine_laws.specs.Names.{thread_changed, thread_list, entry_verified}
+use Rattle.machine_steps.specs.Names.{Answer, Attached, Command, Composite, Effect, EntryHeld, Event, Fresh, Gone}
+use Rattle.machine_steps.specs.Names.{Initialized, Item, NamedThread, Note, Options, Outcome, Part, Phase, Question}
+use Rattle.machine_steps.specs.Names.{Replied, Success, TargetCommand, Terminated, ThreadId, a_composite, a_question}
+use Rattle.machine_steps.specs.Names.{a_raw, a_request, a_stop, an_answer, an_effect, an_event, some_news, target_end}
+use Rattle.machine_steps.specs.Names.{thread_changed, thread_list, entry_verified}
 use Rattle.machine_laws.proofs.BindingFacts.{is_mapped}
 use Rattle.machine_laws.proofs.MarkLaws.{IsMarked, marked_at, marked_on, marks, over_gone, plain_last}
 use Rattle.machine_laws.proofs.NumberLaws.{are_distinct, distinct_with, in_order_with, numbered_once}
-use Rattle.machine_laws.proofs.TurnLaws.{NoneLate, unsent}
-use Rattle.machine_laws.proofs.QuietLaws.{IsKept, IsQuiet, is_end_item, kept_end, kept_on, near_flies, near_waits}
-use Rattle.machine_laws.proofs.QuietLaws.{picked_end, quiet_on}
-use Rattle.machine_laws.proofs.RestLaws.{late_gone, near_asks, no_late}
-use Rattle.machine_laws.proofs.Stepping.{IsAt, Loses, Moves, by_runs, with_said}
-use Rattle.machine_laws.proofs.Testing.{Passed, tested, whole}
+use Rattle.machine_steps.proofs.TurnLaws.{NoneLate, unsent}
+use Rattle.machine_steps.proofs.QuietLaws.{IsKept, IsQuiet, is_end_item, kept_end, kept_on, near_flies, near_waits}
+use Rattle.machine_steps.proofs.QuietLaws.{picked_end, quiet_on}
+use Rattle.machine_steps.proofs.RestLaws.{late_gone, near_asks, no_late}
+use Rattle.machine_steps.proofs.Stepping.{IsAt, Loses, Moves, by_runs, with_said}
+use Rattle.machine_steps.proofs.Testing.{Passed, tested, whole}
 use Rattle.class_tables.specs.Facts.{Fact, Known, same_class, same_method, with_fact}
 use Rattle.class_tables.specs.Tables.{under}
 use Rattle.jdwp_commands.specs.declared.listed.LoadedClass.{LoadedClass}
@@ -42,22 +42,22 @@ use Rattle.machine_model.specs.Composites.{has_death, prepared_in}
 use Rattle.machine_model.specs.Due.{begun}
 use Rattle.machine_model.specs.Outcomes.{result_of}
 use Rattle.machine_laws.proofs.EarlyItems.{IsEarly, always_early, not_fresh}
-use Rattle.machine_laws.proofs.HeldLaws.{asked_last, asked_owes, chosen_owes, composite_last, composite_owes, deed_may}
-use Rattle.machine_laws.proofs.HeldLaws.{deed_view_is, dies_front, due_sends, end_owes, entry_held, found_owes}
-use Rattle.machine_laws.proofs.HeldLaws.{free_owes, given_owes, gone_owed, held_as, held_front, replied_last}
-use Rattle.machine_laws.proofs.HeldLaws.{replied_owes, row_last, row_owes, skipped_last, skipped_owes, stop_held}
+use Rattle.machine_steps.proofs.HeldLaws.{asked_last, asked_owes, chosen_owes, composite_last, composite_owes, deed_may}
+use Rattle.machine_steps.proofs.HeldLaws.{deed_view_is, dies_front, due_sends, end_owes, entry_held, found_owes}
+use Rattle.machine_steps.proofs.HeldLaws.{free_owes, given_owes, gone_owed, held_as, held_front, replied_last}
+use Rattle.machine_steps.proofs.HeldLaws.{replied_owes, row_last, row_owes, skipped_last, skipped_owes, stop_held}
 use Rattle.machine_laws.proofs.ItemLaws.{IsInOrder, in_order, ordered_on, picked_composites, read_composites}
 use Rattle.machine_laws.proofs.ItemLaws.{waits_in_order}
-use Rattle.machine_laws.proofs.ServedLaws.{one_more}
-use Rattle.machine_laws.proofs.Tables.{chosen_is, finished_is, free, free_once}
+use Rattle.machine_steps.proofs.ServedLaws.{one_more}
+use Rattle.machine_steps.proofs.Tables.{chosen_is, finished_is, free, free_once}
 use Rattle.std.specs.List.{flat_map}
 use Rattle.std.specs.Prelude.{fold, map, ◌+◌}
 use Rattle.suspend_ledger.specs.Suspensions.{suspensions_by}
 use Rattle.machine_model.specs.Lookups.{finished}
 use Rattle.machine_model.proofs.Bools.{never, other_fails}
-use Rattle.machine_laws.proofs.HoldingParts.{IsHolding, IsLost, holding, lost_flags, lost_held, numbered_entry}
-use Rattle.machine_laws.proofs.HoldingParts.{numbered_stop, same_entry, same_stop}
-use Rattle.machine_laws.proofs.ThreadIds.{replied_threads}
+use Rattle.machine_steps.proofs.HoldingParts.{IsHolding, IsLost, holding, lost_flags, lost_held, numbered_entry}
+use Rattle.machine_steps.proofs.HoldingParts.{numbered_stop, same_entry, same_stop}
+use Rattle.machine_steps.proofs.ThreadIds.{replied_threads}
 
 -- Replies -------------------------------------------------------------------------------------------------------------
 

@@ -18,19 +18,19 @@ use Rattle.machine_model.specs.Runs.{Message, Run}
 use Rattle.machine_model.specs.State.{Hand, Machine, SizesRead, is_attached, is_flying, is_gone, is_none}
 use Rattle.machine_model.specs.Telling.{outcome_told}
 use Rattle.machine_model.proofs.Bools.{both_hold}
-use Rattle.machine_laws.specs.Names.{Attach, Attached, Command, Deed, Disconnect, Dispose, Does, Doing, Exit, Fresh}
-use Rattle.machine_laws.specs.Names.{Guard, Handshake, IdSizes, Item, Outcome, Part, Phase, Request, TargetCommand}
-use Rattle.machine_laws.specs.Names.{a_question, a_request, a_response, an_effect}
+use Rattle.machine_steps.specs.Names.{Attach, Attached, Command, Deed, Disconnect, Dispose, Does, Doing, Exit, Fresh}
+use Rattle.machine_steps.specs.Names.{Guard, Handshake, IdSizes, Item, Outcome, Part, Phase, Request, TargetCommand}
+use Rattle.machine_steps.specs.Names.{a_question, a_request, a_response, an_effect}
 use Rattle.machine_laws.proofs.KnowingLaws.{is_known}
 use Rattle.machine_laws.proofs.LeavingParts.{Aim, aim_of_command, aim_of, attaches, is_to_leave, is_sends, is_leave}
 use Rattle.machine_laws.proofs.LeavingParts.{is_ends, has_part, leaves_well, may_stand, left_by, none_behind, fits_of}
 use Rattle.machine_laws.proofs.LeavingParts.{left_of, split_fit, leaving_of, sends_there, sends_leave, leaving}
 use Rattle.machine_laws.proofs.LeavingWalk.{stands_at, due_aside, deed_farewell, lost_apart, none_fresh, standing}
-use Rattle.machine_laws.proofs.RestLaws.{is_free}
-use Rattle.machine_laws.proofs.ServedLaws.{owing}
-use Rattle.machine_laws.proofs.Stepping.{IsAt, Loses, Moves, moved}
-use Rattle.machine_laws.proofs.Tables.{once, responds_once}
-use Rattle.machine_laws.proofs.Testing.{tested, whole}
+use Rattle.machine_steps.proofs.RestLaws.{is_free}
+use Rattle.machine_steps.proofs.ServedLaws.{owing}
+use Rattle.machine_steps.proofs.Stepping.{IsAt, Loses, Moves, moved}
+use Rattle.machine_steps.proofs.Tables.{once, responds_once}
+use Rattle.machine_steps.proofs.Testing.{tested, whole}
 
 -- Where a message stands ----------------------------------------------------------------------------------------------
 

@@ -8,10 +8,10 @@ use Rattle.machine_model.specs.Rows.{chosen, gone_parts, gone_row, gone_tail, ha
 use Rattle.machine_model.specs.Rows.{request_parts}
 use Rattle.machine_model.specs.State.{Hand, State, is_attached, is_none}
 use Rattle.machine_model.proofs.Bools.{both_hold, first_holds, second_more}
-use Rattle.machine_laws.specs.Names.{Attach, Attached, Choice, Command, Decides, Deed, Disconnect, Dispose, Doing}
-use Rattle.machine_laws.specs.Names.{Exit, Finding, Handshake, Item, Leaves, Lookup, News, Part, Phase, TellsNews}
-use Rattle.machine_laws.specs.Names.{a_request, an_effect}
-use Rattle.machine_laws.proofs.Tables.{of_decided, same}
+use Rattle.machine_steps.specs.Names.{Attach, Attached, Choice, Command, Decides, Deed, Disconnect, Dispose, Doing}
+use Rattle.machine_steps.specs.Names.{Exit, Finding, Handshake, Item, Leaves, Lookup, News, Part, Phase, TellsNews}
+use Rattle.machine_steps.specs.Names.{a_request, an_effect}
+use Rattle.machine_steps.proofs.Tables.{of_decided, same}
 
 -- What an item is for -------------------------------------------------------------------------------------------------
 

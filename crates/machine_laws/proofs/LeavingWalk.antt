@@ -14,17 +14,17 @@ use Rattle.machine_model.specs.Rows.{chosen, has_response, parts_of}
 use Rattle.machine_model.specs.Runs.{Message, Run}
 use Rattle.machine_model.specs.State.{Hand, Machine, State, is_attached, is_none}
 use Rattle.machine_model.specs.Telling.{after_event}
-use Rattle.machine_laws.specs.Names.{Choice, Clear, Deed, Does, Doing, Effect, Event, Item, Part, Phase, Question}
-use Rattle.machine_laws.specs.Names.{Replied, Set, TargetCommand, Want, a_question, an_effect}
-use Rattle.machine_laws.proofs.HandshakeLaws.{such_more}
+use Rattle.machine_steps.specs.Names.{Choice, Clear, Deed, Does, Doing, Effect, Event, Item, Part, Phase, Question}
+use Rattle.machine_steps.specs.Names.{Replied, Set, TargetCommand, Want, a_question, an_effect}
+use Rattle.machine_steps.proofs.HandshakeLaws.{such_more}
 use Rattle.machine_laws.proofs.LeavingParts.{Aim, aim_of, is_to_leave, is_sends, is_leave, is_ends, has_part}
 use Rattle.machine_laws.proofs.LeavingParts.{may_stand, fits, left_by, sends_attached, is_over, was_left, stands}
 use Rattle.machine_laws.proofs.LeavingParts.{hand_stands, begun_stands, chosen_fits, chosen_attached, chosen_leaves}
 use Rattle.machine_laws.proofs.LeavingParts.{found_fits, gone_stands, has_both, fits_joined, none_sends, fits_of}
 use Rattle.machine_laws.proofs.LeavingParts.{tail_stands, other_stands, split_fit, leaving_of, sends_there}
 use Rattle.machine_laws.proofs.LeavingParts.{sends_leave, other_deed}
-use Rattle.machine_laws.proofs.Stepping.{IsAt, Loses, Moves, Skips, by_moves, by_runs, with_said}
-use Rattle.machine_laws.proofs.Testing.{same_noted, same_numbered, same_replied}
+use Rattle.machine_steps.proofs.Stepping.{IsAt, Loses, Moves, Skips, by_moves, by_runs, with_said}
+use Rattle.machine_steps.proofs.Testing.{same_noted, same_numbered, same_replied}
 use Rattle.std.proofs.lemmas.Bool.{not-true}
 
 -- The item in hand ----------------------------------------------------------------------------------------------------

@@ -20,9 +20,9 @@ use Rattle.machine_model.specs.State.{Hand, Machine, State, is_gone, is_some}
 use Rattle.machine_model.specs.Telling.{body_told, numbered, outcome_told}
 use Rattle.machine_laws.specs.BreakpointLists.{IsRight, ListsAsked, breakpoints_in, function_asked, line_asked}
 use Rattle.machine_laws.specs.BreakpointLists.{spot_told, spots_asked}
-use Rattle.machine_laws.specs.Names.{Act, Body, Command, Failed, Item, ListedBreakpoint, Outcome, Part, Request}
-use Rattle.machine_laws.specs.Names.{SetBreakpoints, SetFunctionBreakpoints, Success, TargetCommand, a_request}
-use Rattle.machine_laws.specs.Names.{a_response, breakpoint_list}
+use Rattle.machine_steps.specs.Names.{Act, Body, Command, Failed, Item, ListedBreakpoint, Outcome, Part, Request}
+use Rattle.machine_steps.specs.Names.{SetBreakpoints, SetFunctionBreakpoints, Success, TargetCommand, a_request}
+use Rattle.machine_steps.specs.Names.{a_response, breakpoint_list}
 use Rattle.machine_laws.specs.Settings.{Settings, answered_set, function_set, kept_under, line_set, nothing_set, set_by}
 use Rattle.machine_laws.specs.Settings.{set_if, settings_of, with_ids}
 use Rattle.machine_laws.proofs.GoneLists.{FarItem, IsFar, far, far_at}
@@ -30,9 +30,9 @@ use Rattle.machine_laws.proofs.LeavingLaws.{first_in}
 use Rattle.machine_laws.proofs.SettingLaws.{Follows, FollowsItem, Listed, as_set, first_test, followed, follows_at}
 use Rattle.machine_laws.proofs.SettingLaws.{line_listed, listed_by, listed_in, lists_before, name_listed, none_listed}
 use Rattle.machine_laws.proofs.SettingLaws.{seen}
-use Rattle.machine_laws.proofs.Stepping.{IsAt, Loses, Moves, moved}
-use Rattle.machine_laws.proofs.Tables.{once, responds_once}
-use Rattle.machine_laws.proofs.Testing.{tested, whole}
+use Rattle.machine_steps.proofs.Stepping.{IsAt, Loses, Moves, moved}
+use Rattle.machine_steps.proofs.Tables.{once, responds_once}
+use Rattle.machine_steps.proofs.Testing.{tested, whole}
 use Rattle.machine_laws.proofs.ToldParts.{functions_put, put_listed}
 use Rattle.machine_laws.proofs.VerifiedLaws.{function_mark, is_it, is_listed, is_placed, line_mark, line_marks, marks}
 use Rattle.machine_laws.proofs.VerifiedLaws.{placed_listed, stands_verified}

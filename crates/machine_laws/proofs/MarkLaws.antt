@@ -11,12 +11,12 @@ use Rattle.machine_model.specs.Runs.{Message}
 use Rattle.machine_model.specs.State.{Hand, Machine, State, is_gone}
 use Rattle.machine_model.specs.Telling.{after_event, attached_from, numbered_by}
 use Rattle.machine_model.specs.Composites.{composite_parts, has_death}
-use Rattle.machine_laws.specs.Names.{Command, Event, Failure, Gone, Initialized, Item, Note, Outcome, Part, Phase}
-use Rattle.machine_laws.specs.Names.{Replied, TargetCommand, Terminated, a_composite, a_question, a_raw, a_request}
-use Rattle.machine_laws.specs.Names.{an_effect, target_end}
-use Rattle.machine_laws.proofs.Stepping.{IsAt, Moves}
-use Rattle.machine_laws.proofs.Tables.{are_plain, attaches, chosen_is, finished_is, has_attach, plain_attach}
-use Rattle.machine_laws.proofs.Testing.{IsTest, Passed, same_noted, same_numbered, same_replied, whole}
+use Rattle.machine_steps.specs.Names.{Command, Event, Failure, Gone, Initialized, Item, Note, Outcome, Part, Phase}
+use Rattle.machine_steps.specs.Names.{Replied, TargetCommand, Terminated, a_composite, a_question, a_raw, a_request}
+use Rattle.machine_steps.specs.Names.{an_effect, target_end}
+use Rattle.machine_steps.proofs.Stepping.{IsAt, Moves}
+use Rattle.machine_steps.proofs.Tables.{are_plain, attaches, chosen_is, finished_is, has_attach, plain_attach}
+use Rattle.machine_steps.proofs.Testing.{IsTest, Passed, same_noted, same_numbered, same_replied, whole}
 use Rattle.jdwp_events.specs.declared.kind.Policy.{Policy}
 use Rattle.machine_model.proofs.Bools.{always, first_holds}
 use Rattle.std.proofs.lemmas.Bool.{not-true}

@@ -21,29 +21,29 @@ use Rattle.machine_model.specs.Rows.{chosen, noted}
 use Rattle.machine_model.specs.Runs.{Allows, Message, Run, said}
 use Rattle.machine_model.specs.State.{Hand, Machine, State, is_empty, is_gone, is_some}
 use Rattle.machine_model.proofs.IdRows.{all_weak}
-use Rattle.machine_laws.specs.Names.{Act, Classes, Clear, Does, Effect, Functions, Item, Lines, Note, Part, Question}
-use Rattle.machine_laws.specs.Names.{Replied, Set, Stepped, Steps, StopsAt, TargetCommand, ThreadId, Want, a_question}
-use Rattle.machine_laws.specs.Names.{an_answer, an_effect, an_error, frames_found, thread_frames}
+use Rattle.machine_steps.specs.Names.{Act, Classes, Clear, Does, Effect, Functions, Item, Lines, Note, Part, Question}
+use Rattle.machine_steps.specs.Names.{Replied, Set, Stepped, Steps, StopsAt, TargetCommand, ThreadId, Want, a_question}
+use Rattle.machine_steps.specs.Names.{an_answer, an_effect, an_error, frames_found, thread_frames}
 use Rattle.machine_laws.specs.NamedThreads.{AsksStack, IsOfStack, IsOfStep}
 use Rattle.machine_laws.proofs.BindingFacts.{only_classes}
 use Rattle.machine_laws.proofs.BindingPlans.{AllWants, asks, chains, every, makes, plan_lacks}
 use Rattle.machine_laws.proofs.BindingWatches.{or_false}
-use Rattle.machine_laws.proofs.Frameless.{stack_of}
+use Rattle.machine_steps.proofs.Frameless.{stack_of}
 use Rattle.machine_laws.proofs.LeavingLaws.{first_in}
 use Rattle.machine_laws.proofs.NamedParts.{AreNamed, IsToStep, named, named_front}
 use Rattle.machine_laws.proofs.NumberLaws.{one_of_id, same_id}
 use Rattle.machine_laws.proofs.QuestionLaws.{all_with, given_queue, replied_queue}
-use Rattle.machine_laws.proofs.RequestLaws.{IsDue, settling, was_due}
-use Rattle.machine_laws.proofs.RequestSteps.{flying_in, flying_of, learnt_wishes, near_before, numbered_wishes}
-use Rattle.machine_laws.proofs.RequestSteps.{parts_left, replied_left, told_wishes}
-use Rattle.machine_laws.proofs.RestLaws.{is_free, near_asks}
-use Rattle.machine_laws.proofs.Standing.{queue_in}
-use Rattle.machine_laws.proofs.Stepping.{IsAt, Loses, Moves, Skips, by_moves, by_runs, moved}
+use Rattle.machine_steps.proofs.RequestLaws.{IsDue, settling, was_due}
+use Rattle.machine_steps.proofs.RequestSteps.{flying_in, flying_of, learnt_wishes, near_before, numbered_wishes}
+use Rattle.machine_steps.proofs.RequestSteps.{parts_left, replied_left, told_wishes}
+use Rattle.machine_steps.proofs.RestLaws.{is_free, near_asks}
+use Rattle.machine_steps.proofs.Standing.{queue_in}
+use Rattle.machine_steps.proofs.Stepping.{IsAt, Loses, Moves, Skips, by_moves, by_runs, moved}
 use Rattle.machine_laws.proofs.StepLaws.{as_step, step_wished}
 use Rattle.machine_laws.proofs.StopParts.{IsCalm, lacked_calm}
-use Rattle.machine_laws.proofs.Tables.{is_updates}
-use Rattle.machine_laws.proofs.ThreadIds.{replied_threads}
-use Rattle.machine_laws.proofs.WishLemmas.{due_clear, new_set_due, none_due_change}
+use Rattle.machine_steps.proofs.Tables.{is_updates}
+use Rattle.machine_steps.proofs.ThreadIds.{replied_threads}
+use Rattle.machine_steps.proofs.WishLemmas.{due_clear, new_set_due, none_due_change}
 use Rattle.wish_sets.proofs.LeftLaws.{at_rest}
 use Rattle.wish_sets.proofs.NextLaws.{surplus_clear}
 use Rattle.wish_sets.proofs.TidyLaws.{installed-with, kept_refusals, refused-with}

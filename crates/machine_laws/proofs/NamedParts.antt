@@ -14,14 +14,14 @@ use Rattle.machine_model.specs.Rows.{stack_parts, step_parts, stepped_thread, th
 use Rattle.machine_model.specs.Rows.{wanting}
 use Rattle.machine_model.specs.Runs.{Message, Run}
 use Rattle.machine_model.specs.State.{Hand, Machine, State}
-use Rattle.machine_laws.specs.Names.{Attached, Choice, Command, Decides, Failure, Finding, Item, Lookup, News}
-use Rattle.machine_laws.specs.Names.{Next, Note, Part, Phase, Replied, Request, StackTrace, StepIn, StepOut, Stepped}
-use Rattle.machine_laws.specs.Names.{Steps, TargetCommand, TellsNews, ThreadId, Want, a_question, a_request, an_effect}
-use Rattle.machine_laws.specs.Names.{thread_frames}
+use Rattle.machine_steps.specs.Names.{Attached, Choice, Command, Decides, Failure, Finding, Item, Lookup, News}
+use Rattle.machine_steps.specs.Names.{Next, Note, Part, Phase, Replied, Request, StackTrace, StepIn, StepOut, Stepped}
+use Rattle.machine_steps.specs.Names.{Steps, TargetCommand, TellsNews, ThreadId, Want, a_question, a_request, an_effect}
+use Rattle.machine_steps.specs.Names.{thread_frames}
 use Rattle.machine_laws.specs.NamedThreads.{IsStep}
-use Rattle.machine_laws.proofs.PartTests.{is_request, passes}
-use Rattle.machine_laws.proofs.Stepping.{IsAt, Moves, by_moves}
-use Rattle.machine_laws.proofs.Tables.{of_decided}
+use Rattle.machine_steps.proofs.PartTests.{is_request, passes}
+use Rattle.machine_steps.proofs.Stepping.{IsAt, Moves, by_moves}
+use Rattle.machine_steps.proofs.Tables.{of_decided}
 use Rattle.machine_laws.proofs.ThreadLaws.{Grows, grows_on, kept}
 use Rattle.wish_sets.specs.declared.wish.Depth.{Depth}
 use Rattle.wish_sets.specs.declared.wish.Depth.TheVariants.{Into, Out, Over}

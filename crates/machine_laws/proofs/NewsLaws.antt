@@ -28,15 +28,15 @@ use Rattle.machine_model.specs.Rows.{parts_of, refused_with, row_of, stepped_by,
 use Rattle.machine_model.specs.Runs.{Allows, Message, Run, said}
 use Rattle.machine_model.specs.State.{Hand, Machine, State}
 use Rattle.machine_model.specs.Telling.{numbered_by}
-use Rattle.machine_laws.specs.Names.{Act, Attached, Choice, Command, Decides, Does, Effect, Failure, Finding}
-use Rattle.machine_laws.specs.Names.{Initialized, Item, Lookup, News, Part, Phase, Question, Replied, TellsNews}
-use Rattle.machine_laws.specs.Names.{Terminated, a_composite, a_question, a_raw, a_request, a_stop, an_effect}
-use Rattle.machine_laws.specs.Names.{an_event, entry_verified, some_news, thread_changed, Stepped}
-use Rattle.machine_laws.proofs.QuietLaws.{IsQuiet, near_flies, quiet_on}
-use Rattle.machine_laws.proofs.RequestLaws.{IsDue, settling, was_due}
-use Rattle.machine_laws.proofs.RequestSteps.{asked_left, flying_in, flying_of, learnt_wishes, parts_left, replied_left}
-use Rattle.machine_laws.proofs.Stepping.{IsAt, Moves, Skips, by_moves, by_runs, moved, Loses}
-use Rattle.machine_laws.proofs.Tables.{decided_alike, starts_updates}
+use Rattle.machine_steps.specs.Names.{Act, Attached, Choice, Command, Decides, Does, Effect, Failure, Finding}
+use Rattle.machine_steps.specs.Names.{Initialized, Item, Lookup, News, Part, Phase, Question, Replied, TellsNews}
+use Rattle.machine_steps.specs.Names.{Terminated, a_composite, a_question, a_raw, a_request, a_stop, an_effect}
+use Rattle.machine_steps.specs.Names.{an_event, entry_verified, some_news, thread_changed, Stepped}
+use Rattle.machine_steps.proofs.QuietLaws.{IsQuiet, near_flies, quiet_on}
+use Rattle.machine_steps.proofs.RequestLaws.{IsDue, settling, was_due}
+use Rattle.machine_steps.proofs.RequestSteps.{asked_left, flying_in, flying_of, learnt_wishes, parts_left, replied_left}
+use Rattle.machine_steps.proofs.Stepping.{IsAt, Moves, Skips, by_moves, by_runs, moved, Loses}
+use Rattle.machine_steps.proofs.Tables.{decided_alike, starts_updates}
 use Rattle.wish_sets.proofs.OrderLaws.{sorted-fold}
 use Rattle.wish_sets.specs.Entries.{all_entries, is_verified, verified}
 use Rattle.wish_sets.specs.declared.entry.VerifiedEntry.{VerifiedEntry}

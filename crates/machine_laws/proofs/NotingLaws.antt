@@ -13,16 +13,16 @@ use Rattle.machine_model.specs.Rows.{parts_by, news_of, parts_of, request_parts,
 use Rattle.machine_model.specs.Runs.{Message, Run}
 use Rattle.machine_model.specs.State.{Hand, Machine, State, is_gone, knowing, left}
 use Rattle.machine_model.specs.Telling.{after_event, numbered_by, outcome_told, response_to}
-use Rattle.machine_laws.specs.Names.{Attached, Choice, ClientOptions, Command, Decides, Event, Failure, Finding}
-use Rattle.machine_laws.specs.Names.{Initialized, Item, Lookup, News, Note, Options, Outcome, Part, Phase, Replied}
-use Rattle.machine_laws.specs.Names.{Request, TargetCommand, TellsNews, Terminated, Want, a_composite, a_question}
-use Rattle.machine_laws.specs.Names.{a_raw, a_request, a_response, an_effect, target_end}
-use Rattle.machine_laws.proofs.QuietLaws.{attached_gone}
-use Rattle.machine_laws.proofs.ServedLaws.{IsLeft, left_on}
-use Rattle.machine_laws.proofs.Stepping.{IsAt, Loses, Moves, Skips, by_runs, with_said}
-use Rattle.machine_laws.proofs.Tables.{chosen_is, finished_is, has_joined, of_decided, once, once_in, responds_once}
-use Rattle.machine_laws.proofs.Tables.{row_is}
-use Rattle.machine_laws.proofs.Testing.{IsTest, Passed, same_noted, same_numbered, same_replied, tested, whole}
+use Rattle.machine_steps.specs.Names.{Attached, Choice, ClientOptions, Command, Decides, Event, Failure, Finding}
+use Rattle.machine_steps.specs.Names.{Initialized, Item, Lookup, News, Note, Options, Outcome, Part, Phase, Replied}
+use Rattle.machine_steps.specs.Names.{Request, TargetCommand, TellsNews, Terminated, Want, a_composite, a_question}
+use Rattle.machine_steps.specs.Names.{a_raw, a_request, a_response, an_effect, target_end}
+use Rattle.machine_steps.proofs.QuietLaws.{attached_gone}
+use Rattle.machine_steps.proofs.ServedLaws.{IsLeft, left_on}
+use Rattle.machine_steps.proofs.Stepping.{IsAt, Loses, Moves, Skips, by_runs, with_said}
+use Rattle.machine_steps.proofs.Tables.{chosen_is, finished_is, has_joined, of_decided, once, once_in, responds_once}
+use Rattle.machine_steps.proofs.Tables.{row_is}
+use Rattle.machine_steps.proofs.Testing.{IsTest, Passed, same_noted, same_numbered, same_replied, tested, whole}
 use Rattle.std.proofs.lemmas.Bool.{not-true}
 
 -- Lists of parts ------------------------------------------------------------------------------------------------------

@@ -4,7 +4,7 @@ use Rattle.std.proofs.Common.{refl, sym, ap, subst, ◌∙◌, append_assoc, app
 use Rattle.std.proofs.lemmas.Bool.{eqb-true}
 use Rattle.machine_model.specs.Knowing.{AreInOrder, AreNumberedOnce, HasNumber, thread_number}
 use Rattle.machine_model.specs.Telling.{is_among, number_among, thread_told, with_thread, with_threads}
-use Rattle.machine_laws.specs.Names.{NamedThread, ThreadId}
+use Rattle.machine_steps.specs.Names.{NamedThread, ThreadId}
 
 -- Among the threads ---------------------------------------------------------------------------------------------------
 

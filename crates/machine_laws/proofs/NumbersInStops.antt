@@ -15,23 +15,23 @@ use Rattle.machine_model.specs.Runs.{Message, Run}
 use Rattle.machine_model.specs.State.{Hand, Machine, State, numbers_over}
 use Rattle.machine_model.specs.Telling.{after_event, numbered_by}
 use Rattle.machine_model.proofs.Bools.{both_hold, first_holds, second_holds}
-use Rattle.machine_laws.specs.Names.{Body, Choice, Command, Deed, Decides, Evaluate, Event, Failed, Failure, Finding}
-use Rattle.machine_laws.specs.Names.{Initialized, Item, Lookup, Outcome, Part, Phase, Replied, Resume, Scopes}
-use Rattle.machine_laws.specs.Names.{StackTrace, Stepped, Success, Suspend, TargetCommand, TellsNews, Terminated}
-use Rattle.machine_laws.specs.Names.{Variables, a_question, a_request, a_stop, a_value, all_threads, an_effect}
-use Rattle.machine_laws.specs.Names.{container_children, exception_info, expression_value, frame_list, of_stop}
-use Rattle.machine_laws.specs.Names.{scope_list, some_news, thread_frames, variable_list, variable_write, Attached}
-use Rattle.machine_laws.specs.Names.{Fresh, Gone}
+use Rattle.machine_steps.specs.Names.{Body, Choice, Command, Deed, Decides, Evaluate, Event, Failed, Failure, Finding}
+use Rattle.machine_steps.specs.Names.{Initialized, Item, Lookup, Outcome, Part, Phase, Replied, Resume, Scopes}
+use Rattle.machine_steps.specs.Names.{StackTrace, Stepped, Success, Suspend, TargetCommand, TellsNews, Terminated}
+use Rattle.machine_steps.specs.Names.{Variables, a_question, a_request, a_stop, a_value, all_threads, an_effect}
+use Rattle.machine_steps.specs.Names.{container_children, exception_info, expression_value, frame_list, of_stop}
+use Rattle.machine_steps.specs.Names.{scope_list, some_news, thread_frames, variable_list, variable_write, Attached}
+use Rattle.machine_steps.specs.Names.{Fresh, Gone}
 use Rattle.machine_laws.proofs.GivenPlans.{finds_exception, finds_threads, is_unnumbered, result_passes}
-use Rattle.machine_laws.proofs.HoldingParts.{numbered_stop, same_stop}
-use Rattle.machine_laws.proofs.PartTests.{both_pass, is_request, passes}
-use Rattle.machine_laws.proofs.ReferenceLaws.{noted_numbers, replied_numbers}
-use Rattle.machine_laws.proofs.RequestSteps.{asked_left, parts_left, replied_left}
-use Rattle.machine_laws.proofs.Stepping.{IsAt, Moves, by_runs}
+use Rattle.machine_steps.proofs.HoldingParts.{numbered_stop, same_stop}
+use Rattle.machine_steps.proofs.PartTests.{both_pass, is_request, passes}
+use Rattle.machine_steps.proofs.ReferenceLaws.{noted_numbers, replied_numbers}
+use Rattle.machine_steps.proofs.RequestSteps.{asked_left, parts_left, replied_left}
+use Rattle.machine_steps.proofs.Stepping.{IsAt, Moves, by_runs}
 use Rattle.machine_laws.proofs.StepLaws.{noted_stop}
 use Rattle.machine_laws.proofs.StopParts.{are_bare, bare_parts, is_bare}
-use Rattle.machine_laws.proofs.Tables.{decided_alike, last_silent, silent_last, silent_test, told_alike}
-use Rattle.machine_laws.proofs.Testing.{tested, whole}
+use Rattle.machine_steps.proofs.Tables.{decided_alike, last_silent, silent_last, silent_test, told_alike}
+use Rattle.machine_steps.proofs.Testing.{tested, whole}
 use Rattle.stop_refs.specs.Numbers.{InHand, and_then, container, frame, next_in, or_unknown, refused_in, stop_with}
 use Rattle.stop_refs.specs.Numbers.{thing_with}
 use Rattle.stop_refs.specs.Things.{as_container, as_frame}

@@ -17,16 +17,16 @@ use Rattle.machine_model.specs.Rows.{taken}
 use Rattle.machine_model.specs.Runs.{Message, Run}
 use Rattle.machine_model.specs.State.{Hand, Machine, State, in_hand, is_gone, knowing, left}
 use Rattle.machine_model.specs.Telling.{after_event, attached_from, event_told, outcome_told, response_to}
-use Rattle.machine_laws.specs.Names.{Choice, Does, Doing, Event, Finding, Initialized, Item, Lookup, Outcome, Part}
-use Rattle.machine_laws.specs.Names.{Phase, Request, TargetCommand, Terminated, a_question, a_request, an_effect}
-use Rattle.machine_laws.specs.Names.{an_event}
-use Rattle.machine_laws.proofs.KeptLaws.{always_kept, next_new}
-use Rattle.machine_laws.proofs.RestLaws.{is_free as is_free_hand, late_gone, near_asks, no_late}
-use Rattle.machine_laws.proofs.ServedLaws.{loss_silent, owing, picked_requests}
-use Rattle.machine_laws.proofs.Stepping.{IsAt, Loses, Moves, Skips, by_runs, with_said}
-use Rattle.machine_laws.proofs.Tables.{choice_near, chosen_is, finished_is, free, free_once, has_joined, is_free}
-use Rattle.machine_laws.proofs.Tables.{last_silent, once, responds_once, silent_last, silent_test}
-use Rattle.machine_laws.proofs.Testing.{same_noted, same_numbered, same_replied, tested, whole}
+use Rattle.machine_steps.specs.Names.{Choice, Does, Doing, Event, Finding, Initialized, Item, Lookup, Outcome, Part}
+use Rattle.machine_steps.specs.Names.{Phase, Request, TargetCommand, Terminated, a_question, a_request, an_effect}
+use Rattle.machine_steps.specs.Names.{an_event}
+use Rattle.machine_steps.proofs.KeptLaws.{always_kept, next_new}
+use Rattle.machine_steps.proofs.RestLaws.{is_free as is_free_hand, late_gone, near_asks, no_late}
+use Rattle.machine_steps.proofs.ServedLaws.{loss_silent, owing, picked_requests}
+use Rattle.machine_steps.proofs.Stepping.{IsAt, Loses, Moves, Skips, by_runs, with_said}
+use Rattle.machine_steps.proofs.Tables.{choice_near, chosen_is, finished_is, free, free_once, has_joined, is_free}
+use Rattle.machine_steps.proofs.Tables.{last_silent, once, responds_once, silent_last, silent_test}
+use Rattle.machine_steps.proofs.Testing.{same_noted, same_numbered, same_replied, tested, whole}
 
 -- The part that brings the response -----------------------------------------------------------------------------------
 

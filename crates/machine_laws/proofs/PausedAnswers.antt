@@ -14,16 +14,16 @@ use Rattle.machine_model.specs.State.{Hand, Machine, State}
 use Rattle.machine_model.specs.Stops.{surplus, told_part}
 use Rattle.machine_model.specs.Telling.{body_told, numbered, outcome_told, response_to}
 use Rattle.machine_model.proofs.Bools.{first_fails, second_holds}
-use Rattle.machine_laws.specs.Names.{Attached, Choice, Command, Decides, Failed, Failure, Finding, HaltCause, Item}
-use Rattle.machine_laws.specs.Names.{Leaves, Lookup, News, Outcome, Part, Phase, Replied, Request, StopCause, Stopping}
-use Rattle.machine_laws.specs.Names.{Success, TargetCommand, TellsNews, ThreadId, Want, a_question, a_request, a_stop}
-use Rattle.machine_laws.specs.Names.{Stepped, Written, an_effect, by_client}
+use Rattle.machine_steps.specs.Names.{Attached, Choice, Command, Decides, Failed, Failure, Finding, HaltCause, Item}
+use Rattle.machine_steps.specs.Names.{Leaves, Lookup, News, Outcome, Part, Phase, Replied, Request, StopCause, Stopping}
+use Rattle.machine_steps.specs.Names.{Success, TargetCommand, TellsNews, ThreadId, Want, a_question, a_request, a_stop}
+use Rattle.machine_steps.specs.Names.{Stepped, Written, an_effect, by_client}
 use Rattle.machine_model.specs.Names.{Told}
 use Rattle.machine_laws.specs.Pausing.{IsToldLast}
-use Rattle.machine_laws.proofs.ServedLaws.{one_more}
-use Rattle.machine_laws.proofs.Stepping.{IsAt, Moves, Skips, by_runs, with_said}
-use Rattle.machine_laws.proofs.Tables.{of_decided}
-use Rattle.machine_laws.proofs.Testing.{IsTest, tested, whole}
+use Rattle.machine_steps.proofs.ServedLaws.{one_more}
+use Rattle.machine_steps.proofs.Stepping.{IsAt, Moves, Skips, by_runs, with_said}
+use Rattle.machine_steps.proofs.Tables.{of_decided}
+use Rattle.machine_steps.proofs.Testing.{IsTest, tested, whole}
 
 -- Lists of parts ------------------------------------------------------------------------------------------------------
 

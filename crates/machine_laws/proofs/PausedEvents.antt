@@ -23,22 +23,22 @@ use Rattle.machine_model.specs.State.{is_some}
 use Rattle.machine_model.specs.Telling.{after_event, event_told, number_among, numbered_by, outcome_told, reason_told}
 use Rattle.machine_model.specs.Telling.{response_to}
 use Rattle.machine_laws.specs.ClientStops.{AreRead, configured_by, stop_by_event, stop_by_outcome}
-use Rattle.machine_laws.specs.Names.{Act, Failed, Item, Outcome, Part, Pause, Request, StopCause, Stopping}
-use Rattle.machine_laws.specs.Names.{Success, a_composite, a_raw, a_request, a_stop, an_event, by_client}
+use Rattle.machine_steps.specs.Names.{Act, Failed, Item, Outcome, Part, Pause, Request, StopCause, Stopping}
+use Rattle.machine_steps.specs.Names.{Success, a_composite, a_raw, a_request, a_stop, an_event, by_client}
 use Rattle.machine_laws.specs.Pausing.{HasSucceeded, IsPauseDue, IsPaused}
-use Rattle.machine_laws.proofs.IdLaws.{last_or_not}
+use Rattle.machine_steps.proofs.IdLaws.{last_or_not}
 use Rattle.machine_laws.proofs.ItemLaws.{raw_more}
 use Rattle.machine_laws.proofs.PausedAnswers.{is_client, starts_paused}
 use Rattle.machine_laws.proofs.PausedStops.{pauses}
-use Rattle.machine_laws.proofs.QuietLaws.{waits_some}
-use Rattle.machine_laws.proofs.RequestSteps.{near_before}
-use Rattle.machine_laws.proofs.RestLaws.{IsFree, is_free}
-use Rattle.machine_laws.proofs.ServedLaws.{one_more, responded_left}
+use Rattle.machine_steps.proofs.QuietLaws.{waits_some}
+use Rattle.machine_steps.proofs.RequestSteps.{near_before}
+use Rattle.machine_steps.proofs.RestLaws.{IsFree, is_free}
+use Rattle.machine_steps.proofs.ServedLaws.{one_more, responded_left}
 use Rattle.machine_laws.proofs.ShownStops.{paused_next, shows_stops}
-use Rattle.machine_laws.proofs.SizeLaws.{told_sizes}
-use Rattle.machine_laws.proofs.Stepping.{IsAt, Loses, Moves, gone_on, moved}
-use Rattle.machine_laws.proofs.Tables.{once, responds_once}
-use Rattle.machine_laws.proofs.Testing.{tested, whole}
+use Rattle.machine_steps.proofs.SizeLaws.{told_sizes}
+use Rattle.machine_steps.proofs.Stepping.{IsAt, Loses, Moves, gone_on, moved}
+use Rattle.machine_steps.proofs.Tables.{once, responds_once}
+use Rattle.machine_steps.proofs.Testing.{tested, whole}
 use Rattle.std.proofs.lemmas.Bool.{not-true}
 
 -- Where a message stands ----------------------------------------------------------------------------------------------

@@ -20,21 +20,21 @@ use Rattle.machine_model.specs.State.{Hand, Machine, State}
 use Rattle.machine_model.specs.Stops.{surplus, told_part}
 use Rattle.machine_model.specs.Telling.{after_event, is_among, number_among, numbered_by, reason_told, with_thread}
 use Rattle.wish_sets.specs.Entries.{entries_at}
-use Rattle.machine_laws.specs.Names.{Act, Attached, Choice, Command, Decides, Event, Finding, HaltCause, Hit}
-use Rattle.machine_laws.specs.Names.{Initialized, Item, Lookup, NamedThread, News, Outcome, Part, Pause, Phase}
-use Rattle.machine_laws.specs.Names.{Replied, Request, StopCause, Success, TargetCommand, TellsNews}
-use Rattle.machine_laws.specs.Names.{Terminated, ThreadId, Want, a_question, a_request, a_stop, an_effect, an_event}
-use Rattle.machine_laws.specs.Names.{by_client, by_exception, by_step, came_to, entry_verified, exception_text}
-use Rattle.machine_laws.specs.Names.{has_stepped, some_news, thread_changed, thread_list, threw}
+use Rattle.machine_steps.specs.Names.{Act, Attached, Choice, Command, Decides, Event, Finding, HaltCause, Hit}
+use Rattle.machine_steps.specs.Names.{Initialized, Item, Lookup, NamedThread, News, Outcome, Part, Pause, Phase}
+use Rattle.machine_steps.specs.Names.{Replied, Request, StopCause, Success, TargetCommand, TellsNews}
+use Rattle.machine_steps.specs.Names.{Terminated, ThreadId, Want, a_question, a_request, a_stop, an_effect, an_event}
+use Rattle.machine_steps.specs.Names.{by_client, by_exception, by_step, came_to, entry_verified, exception_text}
+use Rattle.machine_steps.specs.Names.{has_stepped, some_news, thread_changed, thread_list, threw}
 use Rattle.machine_laws.specs.Pausing.{IsPaused, IsToldLast}
 use Rattle.machine_laws.proofs.KnowingLaws.{is_known}
 use Rattle.machine_laws.proofs.NumberLaws.{grows}
-use Rattle.machine_laws.proofs.PartTests.{all_pass, all_passing, begun_mute, chosen_mute, found_mute, given_mute}
-use Rattle.machine_laws.proofs.PartTests.{is_mute, of_failure, row_mute}
+use Rattle.machine_steps.proofs.PartTests.{all_pass, all_passing, begun_mute, chosen_mute, found_mute, given_mute}
+use Rattle.machine_steps.proofs.PartTests.{is_mute, of_failure, row_mute}
 use Rattle.machine_laws.proofs.PausedAnswers.{told_last}
-use Rattle.machine_laws.proofs.Stepping.{IsAt, Loses, Moves, by_moves, moved}
-use Rattle.machine_laws.proofs.Tables.{of_decided}
-use Rattle.machine_laws.proofs.ThreadIds.{noted_threads, replied_threads}
+use Rattle.machine_steps.proofs.Stepping.{IsAt, Loses, Moves, by_moves, moved}
+use Rattle.machine_steps.proofs.Tables.{of_decided}
+use Rattle.machine_steps.proofs.ThreadIds.{noted_threads, replied_threads}
 
 -- Numbers of threads --------------------------------------------------------------------------------------------------
 

@@ -9,7 +9,7 @@ use Rattle.machine_model.specs.PlanLaws.{IsUnheard, LacksOpen, Reaches, RepliedA
 use Rattle.machine_model.specs.Plans.{Fault, Found, Need, Plan, Sight, after, asks_for, beside, earlier, fact_heard}
 use Rattle.machine_model.specs.Plans.{fact_replied, fails, found_at, found_from, gives, has, heard_of, lacks, may_hear}
 use Rattle.machine_model.specs.Plans.{must_by, must_hear, need, pairs, wants}
-use Rattle.machine_laws.specs.Names.{Answer, Question, Replied, Sent, Want, an_answer, an_error}
+use Rattle.machine_steps.specs.Names.{Answer, Question, Replied, Sent, Want, an_answer, an_error}
 
 -- What was heard ------------------------------------------------------------------------------------------------------
 

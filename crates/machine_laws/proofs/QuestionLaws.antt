@@ -8,10 +8,10 @@ use Rattle.machine_model.specs.Questions.{AreLacked, IsLacked, is_question}
 use Rattle.machine_model.specs.Replying.{given_up, hand_replied, is_failed, is_waiting, unless_failed}
 use Rattle.machine_model.specs.Runs.{Message, Run}
 use Rattle.machine_model.specs.State.{Hand, Machine, is_gone}
-use Rattle.machine_laws.specs.Names.{Replied, Sent, TargetCommand, Want, a_question, an_effect}
-use Rattle.machine_laws.proofs.RestLaws.{near_queue}
-use Rattle.machine_laws.proofs.Stepping.{Loses, Moves, by_runs, with_said}
-use Rattle.machine_laws.proofs.Standing.{queue_in}
+use Rattle.machine_steps.specs.Names.{Replied, Sent, TargetCommand, Want, a_question, an_effect}
+use Rattle.machine_steps.proofs.RestLaws.{near_queue}
+use Rattle.machine_steps.proofs.Stepping.{Loses, Moves, by_runs, with_said}
+use Rattle.machine_steps.proofs.Standing.{queue_in}
 
 all_last : (P : Want → Type 0) (queue : List Want) (want : Want) → All P queue → P want → All P (queue ++ want ∷ [])
 all_last P [] want h p = (p, tt)

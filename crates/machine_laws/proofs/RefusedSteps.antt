@@ -15,20 +15,20 @@ use Rattle.machine_model.specs.Rows.{chosen, code_in, refused_with, stepped_by}
 use Rattle.machine_model.specs.Runs.{Allows, Message, Run, said}
 use Rattle.machine_model.specs.State.{Hand, Machine, is_gone, is_some}
 use Rattle.machine_laws.specs.NamedThreads.{IsStep}
-use Rattle.machine_laws.specs.Names.{Choice, Command, Effect, Failed, Part, Question, Replied, Request}
-use Rattle.machine_laws.specs.Names.{Set, Stepped, Success, ThreadId, Want, a_question, a_request}
-use Rattle.machine_laws.specs.Names.{Act, a_response, an_effect, an_error}
+use Rattle.machine_steps.specs.Names.{Choice, Command, Effect, Failed, Part, Question, Replied, Request}
+use Rattle.machine_steps.specs.Names.{Set, Stepped, Success, ThreadId, Want, a_question, a_request}
+use Rattle.machine_steps.specs.Names.{Act, a_response, an_effect, an_error}
 use Rattle.machine_laws.specs.StepRequests.{AsksStep, HasFailed, HasRefused}
 use Rattle.machine_laws.proofs.ConfiguredEntry.{succeeds}
-use Rattle.machine_laws.proofs.IdLaws.{last_or_not}
+use Rattle.machine_steps.proofs.IdLaws.{last_or_not}
 use Rattle.machine_laws.proofs.LeavingLaws.{first_in}
 use Rattle.machine_laws.proofs.NamedLaws.{setting, wished_step}
 use Rattle.machine_laws.proofs.PausedEvents.{behind_more, none_yet, same_held, same_told}
-use Rattle.machine_laws.proofs.RequestLaws.{settling, was_due}
-use Rattle.machine_laws.proofs.RequestSteps.{flying_in, flying_of, learnt_wishes, near_before}
-use Rattle.machine_laws.proofs.RestLaws.{late_gone, no_late}
-use Rattle.machine_laws.proofs.Stepping.{IsAt, Loses, Moves, Skips, gone_on, moved}
-use Rattle.machine_laws.proofs.WishLemmas.{due_set, new_set_due}
+use Rattle.machine_steps.proofs.RequestLaws.{settling, was_due}
+use Rattle.machine_steps.proofs.RequestSteps.{flying_in, flying_of, learnt_wishes, near_before}
+use Rattle.machine_steps.proofs.RestLaws.{late_gone, no_late}
+use Rattle.machine_steps.proofs.Stepping.{IsAt, Loses, Moves, Skips, gone_on, moved}
+use Rattle.machine_steps.proofs.WishLemmas.{due_set, new_set_due}
 use Rattle.wish_sets.proofs.LeftLaws.{each-has}
 use Rattle.wish_sets.proofs.NextLaws.{is-none, sets-is}
 use Rattle.wish_sets.proofs.TidyLaws.{refused-with}

@@ -13,13 +13,13 @@ use Rattle.machine_model.specs.Requests.{Wishes, request_in, set_to, wishes_afte
 use Rattle.machine_model.specs.Rest.{IsAtRest}
 use Rattle.machine_model.specs.Runs.{Message, Run}
 use Rattle.machine_model.specs.State.{Machine, SizesRead, is_gone}
-use Rattle.machine_laws.specs.Names.{Answer, Attached, Clear, Effect, Part, Replied, Set, an_answer, an_effect}
-use Rattle.machine_laws.proofs.RequestLaws.{IsDue, Settling, settles, settling, step_of, was_due}
-use Rattle.machine_laws.proofs.RequestSteps.{Step, flying_in, is_deed, near_before, parts_left, says_aside}
+use Rattle.machine_steps.specs.Names.{Answer, Attached, Clear, Effect, Part, Replied, Set, an_answer, an_effect}
+use Rattle.machine_steps.proofs.RequestLaws.{IsDue, Settling, settles, settling, step_of, was_due}
+use Rattle.machine_steps.proofs.RequestSteps.{Step, flying_in, is_deed, near_before, parts_left, says_aside}
 use Rattle.machine_laws.proofs.StandLaws.{refused_replied}
-use Rattle.machine_laws.proofs.Stepping.{Moves, moved, gone_on}
-use Rattle.machine_laws.proofs.WishLemmas.{due_clear, left_inserted, left_same, new_set_due, none_left}
-use Rattle.machine_laws.proofs.WishLemmas.{none_due_change}
+use Rattle.machine_steps.proofs.Stepping.{Moves, moved, gone_on}
+use Rattle.machine_steps.proofs.WishLemmas.{due_clear, left_inserted, left_same, new_set_due, none_left}
+use Rattle.machine_steps.proofs.WishLemmas.{none_due_change}
 use Rattle.wish_sets.proofs.NextLaws.{surplus_clear}
 use Rattle.wish_sets.proofs.OrderLaws.{any-insert}
 use Rattle.wish_sets.proofs.WishLaws.{alike, alike_requests, equal_is, filter-insert, is_itself}

@@ -30,8 +30,8 @@ use Rattle.machine_model.specs.Lookups.{name_plan, names_plan, threads_in, threa
 use Rattle.machine_model.specs.Writing.{Writing, child_named, child_written, digits_of, element_by, element_store}
 use Rattle.machine_model.specs.Writing.{field_store, field_written, index_written, is_index_name, local_written}
 use Rattle.machine_model.specs.Writing.{slot_store, value_for, write_by, write_with}
-use Rattle.machine_laws.specs.Names.{Answer, ClassId, ThreadId, Thrown, Want, exception_found, frames_found}
-use Rattle.machine_laws.specs.Names.{text_found, Failure, Store, no_value, value_found, variables_found}
+use Rattle.machine_steps.specs.Names.{Answer, ClassId, ThreadId, Thrown, Want, exception_found, frames_found}
+use Rattle.machine_steps.specs.Names.{text_found, Failure, Store, no_value, value_found, variables_found}
 use Rattle.std.specs.Str.Parse.{digits_value}
 use Rattle.dap_messages.specs.Telling.{bad_index, no_such_name}
 use Rattle.field_exprs.specs.declared.expr.Expr.{Expr}
@@ -57,7 +57,7 @@ use Rattle.machine_model.specs.Variables.{locals_valued, page, page_plan, shown_
 use Rattle.machine_model.specs.Variables.{slots_of, slots_plan, values_in, with_known}
 use Rattle.machine_laws.proofs.BindingPlans.{AllWants, asks, chains, every, makes, wants_other}
 use Rattle.value_views.specs.Names.{class_name}
-use Rattle.machine_laws.proofs.Frameless.{asks_stack}
+use Rattle.machine_steps.proofs.Frameless.{asks_stack}
 use Rattle.stop_refs.specs.declared.thing.FrameThing.{FrameThing}
 use Rattle.stop_refs.specs.declared.thing.Thing.{Thing}
 use Rattle.stop_refs.specs.declared.thing.Thing.TheVariants as things

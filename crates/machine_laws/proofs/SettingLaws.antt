@@ -31,23 +31,23 @@ use Rattle.machine_model.specs.Runs.{Message, Run}
 use Rattle.machine_model.specs.State.{Hand, Machine, State, is_gone, is_some, knowing, left}
 use Rattle.machine_model.specs.Telling.{after_event, numbered_by, outcome_told, response_to}
 use Rattle.machine_model.proofs.Bools.{always, first_holds, second_holds}
-use Rattle.machine_laws.specs.Names.{Attach, Attached, Choice, Classes, Command, Decides, Effect, Event, Failed}
-use Rattle.machine_laws.specs.Names.{Failure, Finding, Functions, Initialize, Item, Leaves, Lines, ListedBreakpoint}
-use Rattle.machine_laws.specs.Names.{Lookup, Note, Options, Outcome, Part, Phase, Replied, Request, SetBreakpoints}
-use Rattle.machine_laws.specs.Names.{SetExceptionBreakpoints, SetFunctionBreakpoints, Stepped, StopsAt, Success}
-use Rattle.machine_laws.specs.Names.{TargetCommand, TellsNews, Want, Written, a_composite, a_question, a_raw, a_request}
-use Rattle.machine_laws.specs.Names.{a_response, an_effect, breakpoint_list, class_facts, container_children}
-use Rattle.machine_laws.specs.Names.{exception_text, expression_value, no_value, target_end, thread_frames}
-use Rattle.machine_laws.specs.Names.{variable_write, write_found}
+use Rattle.machine_steps.specs.Names.{Attach, Attached, Choice, Classes, Command, Decides, Effect, Event, Failed}
+use Rattle.machine_steps.specs.Names.{Failure, Finding, Functions, Initialize, Item, Leaves, Lines, ListedBreakpoint}
+use Rattle.machine_steps.specs.Names.{Lookup, Note, Options, Outcome, Part, Phase, Replied, Request, SetBreakpoints}
+use Rattle.machine_steps.specs.Names.{SetExceptionBreakpoints, SetFunctionBreakpoints, Stepped, StopsAt, Success}
+use Rattle.machine_steps.specs.Names.{TargetCommand, TellsNews, Want, Written, a_composite, a_question, a_raw, a_request}
+use Rattle.machine_steps.specs.Names.{a_response, an_effect, breakpoint_list, class_facts, container_children}
+use Rattle.machine_steps.specs.Names.{exception_text, expression_value, no_value, target_end, thread_frames}
+use Rattle.machine_steps.specs.Names.{variable_write, write_found}
 use Rattle.machine_model.specs.declared.parts.Note.TheVariants.{Roots}
 use Rattle.machine_laws.specs.Settings.{IsAsSet, Settings, answered_set, function_set, kept_under, line_set}
 use Rattle.machine_laws.specs.Settings.{nothing_set, set_by, set_if, settings_of, with_ids}
-use Rattle.machine_laws.proofs.RequestSteps.{near_before}
-use Rattle.machine_laws.proofs.ServedLaws.{IsLeft, Owes, left_on, one_more, owing, responded_left}
-use Rattle.machine_laws.proofs.Stepping.{IsAt, Loses, Moves, Skips, by_runs, with_said}
-use Rattle.machine_laws.proofs.Tables.{chosen_is, decided_alike, finished_is, has_joined, once, responds_once, row_is}
-use Rattle.machine_laws.proofs.Tables.{told_alike}
-use Rattle.machine_laws.proofs.Testing.{IsTest, passed, tested, whole}
+use Rattle.machine_steps.proofs.RequestSteps.{near_before}
+use Rattle.machine_steps.proofs.ServedLaws.{IsLeft, Owes, left_on, one_more, owing, responded_left}
+use Rattle.machine_steps.proofs.Stepping.{IsAt, Loses, Moves, Skips, by_runs, with_said}
+use Rattle.machine_steps.proofs.Tables.{chosen_is, decided_alike, finished_is, has_joined, once, responds_once, row_is}
+use Rattle.machine_steps.proofs.Tables.{told_alike}
+use Rattle.machine_steps.proofs.Testing.{IsTest, passed, tested, whole}
 use Rattle.stop_refs.specs.Numbers.{InHand}
 use Rattle.wish_sets.specs.Wanted.{Wanted, with_class, with_known}
 use Rattle.wish_sets.specs.declared.entry.FunctionEntry.{FunctionEntry}

@@ -19,21 +19,21 @@ use Rattle.machine_model.specs.Stops.{surplus, told_part}
 use Rattle.machine_model.specs.Telling.{after_event, event_told, numbered_by, outcome_told, response_to}
 use Rattle.machine_model.proofs.Bools.{first_holds, second_holds}
 use Rattle.machine_laws.specs.ClientStops.{AreRead, IsShown, configured_by, stop_by_event, stop_by_outcome}
-use Rattle.machine_laws.specs.Names.{Body, Choice, Command, Continue, Decides, Event, Failure, Finding, HaltCause}
-use Rattle.machine_laws.specs.Names.{Item, Lookup, Next, Outcome, Part, Pause, Replied, Request, Resume}
-use Rattle.machine_laws.specs.Names.{StepIn, StepOut, Stepped, Steps, Success, Suspend, TargetCommand, TellsNews}
-use Rattle.machine_laws.specs.Names.{ThreadId, Throws, Thrown}
-use Rattle.machine_laws.specs.Names.{Want, a_question, a_request, a_stop, an_effect, of_stop}
-use Rattle.machine_laws.specs.Names.{variable_write}
+use Rattle.machine_steps.specs.Names.{Body, Choice, Command, Continue, Decides, Event, Failure, Finding, HaltCause}
+use Rattle.machine_steps.specs.Names.{Item, Lookup, Next, Outcome, Part, Pause, Replied, Request, Resume}
+use Rattle.machine_steps.specs.Names.{StepIn, StepOut, Stepped, Steps, Success, Suspend, TargetCommand, TellsNews}
+use Rattle.machine_steps.specs.Names.{ThreadId, Throws, Thrown}
+use Rattle.machine_steps.specs.Names.{Want, a_question, a_request, a_stop, an_effect, of_stop}
+use Rattle.machine_steps.specs.Names.{variable_write}
 use Rattle.machine_laws.proofs.ConfiguredEntry.{IsSettled, is_other, none_held, settled_on, settled_told, succeeds}
-use Rattle.machine_laws.proofs.HoldingParts.{numbered_stop, same_stop}
+use Rattle.machine_steps.proofs.HoldingParts.{numbered_stop, same_stop}
 use Rattle.machine_laws.proofs.PausedAnswers.{starts_paused}
-use Rattle.machine_laws.proofs.RequestSteps.{near_before}
-use Rattle.machine_laws.proofs.ServedLaws.{IsLeft, aside_left, left_on, responded_left}
-use Rattle.machine_laws.proofs.Stepping.{IsAt, Moves, Skips, by_runs, with_said}
+use Rattle.machine_steps.proofs.RequestSteps.{near_before}
+use Rattle.machine_steps.proofs.ServedLaws.{IsLeft, aside_left, left_on, responded_left}
+use Rattle.machine_steps.proofs.Stepping.{IsAt, Moves, Skips, by_runs, with_said}
 use Rattle.machine_laws.proofs.StepLaws.{noted_stop}
-use Rattle.machine_laws.proofs.Tables.{of_decided, once, responds_once, same, told_alike}
-use Rattle.machine_laws.proofs.Testing.{tested, whole}
+use Rattle.machine_steps.proofs.Tables.{of_decided, once, responds_once, same, told_alike}
+use Rattle.machine_steps.proofs.Testing.{tested, whole}
 use Rattle.std.proofs.lemmas.Bool.{not-true}
 
 -- What is left of an item ---------------------------------------------------------------------------------------------

@@ -15,12 +15,12 @@ use Rattle.machine_model.specs.Replying.{IsReply}
 use Rattle.machine_model.specs.Requests.{Wishes, effect_due, request_in, set_to, wishes_after}
 use Rattle.machine_model.specs.Runs.{Allows, Message, Run, said}
 use Rattle.machine_model.specs.State.{Machine, SizesRead, is_gone}
-use Rattle.machine_laws.specs.Names.{Act, Answer, Clear, Does, Effect, Part, Replied, Set, TargetCommand, an_answer}
-use Rattle.machine_laws.specs.Names.{an_effect, an_error}
-use Rattle.machine_laws.proofs.RequestLaws.{IsDue, Settling, settling, settling_on, step_of, was_due}
-use Rattle.machine_laws.proofs.RequestSteps.{Step, flying_in, is_deed, lands, near_before, parts_left, says_aside}
-use Rattle.machine_laws.proofs.Stepping.{Loses, Moves, by_runs, moved, with_said, gone_on}
-use Rattle.machine_laws.proofs.WishLemmas.{any_kept, any_with, cleared_once, due_clear, new_set_due}
+use Rattle.machine_steps.specs.Names.{Act, Answer, Clear, Does, Effect, Part, Replied, Set, TargetCommand, an_answer}
+use Rattle.machine_steps.specs.Names.{an_effect, an_error}
+use Rattle.machine_steps.proofs.RequestLaws.{IsDue, Settling, settling, settling_on, step_of, was_due}
+use Rattle.machine_steps.proofs.RequestSteps.{Step, flying_in, is_deed, lands, near_before, parts_left, says_aside}
+use Rattle.machine_steps.proofs.Stepping.{Loses, Moves, by_runs, moved, with_said, gone_on}
+use Rattle.machine_steps.proofs.WishLemmas.{any_kept, any_with, cleared_once, due_clear, new_set_due}
 use Rattle.wish_sets.proofs.NextLaws.{clears-is, installed_clear, surplus_clear}
 use Rattle.wish_sets.proofs.OrderLaws.{any-insert}
 use Rattle.wish_sets.proofs.WishLaws.{alike, equal_is, is_itself}

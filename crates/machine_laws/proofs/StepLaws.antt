@@ -20,20 +20,20 @@ use Rattle.machine_model.specs.State.{Hand, Machine, State, is_empty, is_gone, i
 use Rattle.machine_model.specs.Steps.{HasNoStep, IsStepAtRest}
 use Rattle.machine_model.specs.Stops.{surplus, told_part}
 use Rattle.machine_model.specs.Telling.{after_event}
-use Rattle.machine_laws.specs.Names.{Written, Act, Attached, Choice, Classes, Command, Decides, Effect, Event, Finding}
-use Rattle.machine_laws.specs.Names.{HaltCause, Item, Leaves, Lookup, Note, Part, Replied, Stepped, Steps}
-use Rattle.machine_laws.specs.Names.{TargetCommand, TellsNews, ThreadId, Want, a_question, a_raw, a_request, a_stop}
-use Rattle.machine_laws.specs.Names.{an_effect, an_event, Lines, entry_verified, some_news}
+use Rattle.machine_steps.specs.Names.{Written, Act, Attached, Choice, Classes, Command, Decides, Effect, Event, Finding}
+use Rattle.machine_steps.specs.Names.{HaltCause, Item, Leaves, Lookup, Note, Part, Replied, Stepped, Steps}
+use Rattle.machine_steps.specs.Names.{TargetCommand, TellsNews, ThreadId, Want, a_question, a_raw, a_request, a_stop}
+use Rattle.machine_steps.specs.Names.{an_effect, an_event, Lines, entry_verified, some_news}
 use Rattle.machine_laws.proofs.BindingFacts.{only_classes}
 use Rattle.machine_laws.proofs.BindingWatches.{or_false}
-use Rattle.machine_laws.proofs.HoldingParts.{numbered_stop, same_stop}
-use Rattle.machine_laws.proofs.RequestLaws.{settles, settling}
-use Rattle.machine_laws.proofs.RequestSteps.{learnt_wishes, numbered_wishes}
-use Rattle.machine_laws.proofs.Stepping.{IsAt, Moves, Skips, by_moves, moved, Loses}
+use Rattle.machine_steps.proofs.HoldingParts.{numbered_stop, same_stop}
+use Rattle.machine_steps.proofs.RequestLaws.{settles, settling}
+use Rattle.machine_steps.proofs.RequestSteps.{learnt_wishes, numbered_wishes}
+use Rattle.machine_steps.proofs.Stepping.{IsAt, Moves, Skips, by_moves, moved, Loses}
 use Rattle.machine_laws.proofs.SuspendLaws.{bound_at_stop}
-use Rattle.machine_laws.proofs.Tables.{free as free_test, free_once, of_decided, told_alike}
-use Rattle.machine_laws.proofs.Testing.{tested, whole}
-use Rattle.machine_laws.proofs.WishLemmas.{none_due_change}
+use Rattle.machine_steps.proofs.Tables.{free as free_test, free_once, of_decided, told_alike}
+use Rattle.machine_steps.proofs.Testing.{tested, whole}
+use Rattle.machine_steps.proofs.WishLemmas.{none_due_change}
 use Rattle.wish_sets.proofs.LeftLaws.{at_rest}
 use Rattle.wish_sets.proofs.WatchLaws.{has-append}
 use Rattle.wish_sets.proofs.WishLaws.{equal_is, wished_has}

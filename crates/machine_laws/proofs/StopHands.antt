@@ -15,20 +15,20 @@ use Rattle.machine_model.specs.State.{Hand, Machine, State, is_gone, is_none}
 use Rattle.machine_model.specs.Telling.{after_event, numbered_by}
 use Rattle.machine_model.proofs.IdRows.{all_joined}
 use Rattle.machine_model.proofs.KeyLaws.{is_one}
-use Rattle.machine_laws.specs.Names.{Choice, Decides, Deed, Event, Finding, Initialized, Item, Lookup, Part, Phase}
-use Rattle.machine_laws.specs.Names.{Question, Replied, Resume, Sent, Suspend, TellsNews, Want, a_question, an_effect}
-use Rattle.machine_laws.specs.Names.{of_stop, Stepped, some_news}
+use Rattle.machine_steps.specs.Names.{Choice, Decides, Deed, Event, Finding, Initialized, Item, Lookup, Part, Phase}
+use Rattle.machine_steps.specs.Names.{Question, Replied, Resume, Sent, Suspend, TellsNews, Want, a_question, an_effect}
+use Rattle.machine_steps.specs.Names.{of_stop, Stepped, some_news}
 use Rattle.machine_laws.proofs.BindingPlans.{asks}
-use Rattle.machine_laws.proofs.Frameless.{asks_frames, asks_stack, no_frames}
-use Rattle.machine_laws.proofs.HoldingParts.{numbered_stop, same_stop}
-use Rattle.machine_laws.proofs.Standing.{asked_in, queue_in}
-use Rattle.machine_laws.proofs.Stepping.{IsAt, Moves, by_runs}
-use Rattle.machine_laws.proofs.Tables.{decided_alike, told_alike}
-use Rattle.machine_laws.proofs.Testing.{Passed, passed, same_noted, same_numbered, same_replied, tested}
+use Rattle.machine_steps.proofs.Frameless.{asks_frames, asks_stack, no_frames}
+use Rattle.machine_steps.proofs.HoldingParts.{numbered_stop, same_stop}
+use Rattle.machine_steps.proofs.Standing.{asked_in, queue_in}
+use Rattle.machine_steps.proofs.Stepping.{IsAt, Moves, by_runs}
+use Rattle.machine_steps.proofs.Tables.{decided_alike, told_alike}
+use Rattle.machine_steps.proofs.Testing.{Passed, passed, same_noted, same_numbered, same_replied, tested}
 use Rattle.machine_laws.proofs.StopParts.{IsCalm, IsCalmSent, are_bare, bare_ends, bare_parts, bare_test, ends_ahead}
 use Rattle.machine_laws.proofs.StopParts.{ends_one, frames_ahead, lacked_calm, lacked_none, looks_frames, taken_calm}
 use Rattle.machine_laws.proofs.StepLaws.{noted_stop}
-use Rattle.machine_laws.proofs.RequestSteps.{parts_left}
+use Rattle.machine_steps.proofs.RequestSteps.{parts_left}
 
 -- The invariant -------------------------------------------------------------------------------------------------------
 

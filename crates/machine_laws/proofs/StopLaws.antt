@@ -30,21 +30,21 @@ use Rattle.machine_model.specs.Stops.{thrown_in, told_part}
 use Rattle.machine_model.specs.Suspending.{IsBoundFirst}
 use Rattle.machine_model.specs.Telling.{after_event, reason_told}
 use Rattle.machine_model.proofs.Bools.{first_fails, first_holds}
-use Rattle.machine_laws.specs.Names.{Act, Attached, Choice, Command, Decides, Deed, Does, Event, Finding, Halt}
-use Rattle.machine_laws.specs.Names.{HaltCause, Hit, Initialized, Item, Lookup, News, Part, Pause, Phase, Replied}
-use Rattle.machine_laws.specs.Names.{Resume, StopCause, Stopping, TargetCommand, TellsNews, Terminated, ThreadId}
-use Rattle.machine_laws.specs.Names.{Thrown, Want, a_composite, a_question, a_request, a_stop, an_effect, an_event}
-use Rattle.machine_laws.specs.Names.{by_client, by_exception, by_step, came_to, exception_text, has_stepped}
-use Rattle.machine_laws.specs.Names.{of_composite, some_news, threw, entry_verified}
-use Rattle.machine_laws.proofs.HoldingParts.{holding, may_all, may_front, may_stop, only_resumes}
-use Rattle.machine_laws.proofs.RequestSteps.{decides}
-use Rattle.machine_laws.proofs.RestLaws.{is_free}
-use Rattle.machine_laws.proofs.Stepping.{IsAt, Moves, by_runs, moved, with_said, Loses}
+use Rattle.machine_steps.specs.Names.{Act, Attached, Choice, Command, Decides, Deed, Does, Event, Finding, Halt}
+use Rattle.machine_steps.specs.Names.{HaltCause, Hit, Initialized, Item, Lookup, News, Part, Pause, Phase, Replied}
+use Rattle.machine_steps.specs.Names.{Resume, StopCause, Stopping, TargetCommand, TellsNews, Terminated, ThreadId}
+use Rattle.machine_steps.specs.Names.{Thrown, Want, a_composite, a_question, a_request, a_stop, an_effect, an_event}
+use Rattle.machine_steps.specs.Names.{by_client, by_exception, by_step, came_to, exception_text, has_stepped}
+use Rattle.machine_steps.specs.Names.{of_composite, some_news, threw, entry_verified}
+use Rattle.machine_steps.proofs.HoldingParts.{holding, may_all, may_front, may_stop, only_resumes}
+use Rattle.machine_steps.proofs.RequestSteps.{decides}
+use Rattle.machine_steps.proofs.RestLaws.{is_free}
+use Rattle.machine_steps.proofs.Stepping.{IsAt, Moves, by_runs, moved, with_said, Loses}
 use Rattle.machine_laws.proofs.SuspendLaws.{bound_at_choice, bound_at_stop}
-use Rattle.machine_laws.proofs.Tables.{free as free_test, free_once}
-use Rattle.machine_laws.proofs.Testing.{tested, whole}
-use Rattle.machine_laws.proofs.PartTests.{all_pass, all_passing, begun_mute, chosen_mute, found_mute, given_mute}
-use Rattle.machine_laws.proofs.PartTests.{is_mute, is_pause_command, of_failure, row_mute}
+use Rattle.machine_steps.proofs.Tables.{free as free_test, free_once}
+use Rattle.machine_steps.proofs.Testing.{tested, whole}
+use Rattle.machine_steps.proofs.PartTests.{all_pass, all_passing, begun_mute, chosen_mute, found_mute, given_mute}
+use Rattle.machine_steps.proofs.PartTests.{is_mute, is_pause_command, of_failure, row_mute}
 
 -- Hits ----------------------------------------------------------------------------------------------------------------
 

@@ -14,17 +14,17 @@ use Rattle.machine_model.specs.Rows.{chosen, news_of, parts_of, refused_with, st
 use Rattle.machine_model.specs.Runs.{Message, Run}
 use Rattle.machine_model.specs.State.{Hand, Machine, State}
 use Rattle.machine_model.proofs.IdRows.{all_joined, all_weak}
-use Rattle.machine_laws.specs.Names.{Writes, a_written, variable_write, Body, Capabilities, Choice, Continued, Decides}
-use Rattle.machine_laws.specs.Names.{Failed, Finding, Item, Lookup, Nothing, Outcome, Part, Question, Resume, Sent}
-use Rattle.machine_laws.specs.Names.{Success, TellsNews, Want, breakpoint_list, class_facts, classes_found, Stepped}
-use Rattle.machine_laws.specs.Names.{of_stop, thread_frames}
+use Rattle.machine_steps.specs.Names.{Writes, a_written, variable_write, Body, Capabilities, Choice, Continued, Decides}
+use Rattle.machine_steps.specs.Names.{Failed, Finding, Item, Lookup, Nothing, Outcome, Part, Question, Resume, Sent}
+use Rattle.machine_steps.specs.Names.{Success, TellsNews, Want, breakpoint_list, class_facts, classes_found, Stepped}
+use Rattle.machine_steps.specs.Names.{of_stop, thread_frames}
 use Rattle.machine_laws.proofs.BindingParts.{lacked_safe, looks_apart}
 use Rattle.machine_laws.proofs.BindingPlans.{asks, is_fact, known_wants, makes, plan_lacks, wants_fact}
-use Rattle.machine_laws.proofs.Frameless.{asks_stack}
+use Rattle.machine_steps.proofs.Frameless.{asks_stack}
 use Rattle.machine_laws.proofs.SafePlans.{is_meek, is_safe}
-use Rattle.machine_laws.proofs.Stepping.{IsAt}
-use Rattle.machine_laws.proofs.Tables.{decided_alike, told_alike}
-use Rattle.machine_laws.proofs.Testing.{IsTest, tested, whole}
+use Rattle.machine_steps.proofs.Stepping.{IsAt}
+use Rattle.machine_steps.proofs.Tables.{decided_alike, told_alike}
+use Rattle.machine_steps.proofs.Testing.{IsTest, tested, whole}
 use Rattle.wish_sets.specs.Wanted.{Wanted}
 use Rattle.machine_model.proofs.Bools.{and_second}
 use Rattle.std.proofs.lemmas.Bool.{not-true}

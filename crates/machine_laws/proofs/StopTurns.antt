@@ -5,12 +5,12 @@ use Rattle.machine_model.specs.Ids.{begins_stop, ids_given}
 use Rattle.machine_model.specs.ReferenceNumbers.{ends_stop}
 use Rattle.machine_model.specs.Runs.{Message}
 use Rattle.machine_model.specs.State.{Hand, Machine, is_gone, knowing}
-use Rattle.machine_laws.specs.Names.{Does, Effect, Part, Resume, Suspend, Terminated, a_question, a_stop, an_effect}
-use Rattle.machine_laws.specs.Names.{of_stop}
-use Rattle.machine_laws.proofs.HoldingParts.{numbered_stop, same_stop}
-use Rattle.machine_laws.proofs.ReferenceLaws.{due_request}
-use Rattle.machine_laws.proofs.RequestSteps.{is_deed}
-use Rattle.machine_laws.proofs.Stepping.{IsAt, Moves}
+use Rattle.machine_steps.specs.Names.{Does, Effect, Part, Resume, Suspend, Terminated, a_question, a_stop, an_effect}
+use Rattle.machine_steps.specs.Names.{of_stop}
+use Rattle.machine_steps.proofs.HoldingParts.{numbered_stop, same_stop}
+use Rattle.machine_steps.proofs.ReferenceLaws.{due_request}
+use Rattle.machine_steps.proofs.RequestSteps.{is_deed}
+use Rattle.machine_steps.proofs.Stepping.{IsAt, Moves}
 use Rattle.machine_laws.proofs.StepLaws.{noted_stop}
 
 abbrev pub says_end : Option Message → Bool

@@ -15,22 +15,22 @@ use Rattle.machine_model.specs.Suspending.{IsBoundFirst, IsHeld}
 use Rattle.machine_model.specs.Telling.{after_event}
 use Rattle.machine_model.specs.Stops.{decided, surplus, told_part}
 use Rattle.machine_model.specs.Pending.{bit}
-use Rattle.machine_laws.specs.Names.{Written, Act, Attached, Choice, Command, Configured, Decides, Deed, Does}
-use Rattle.machine_laws.specs.Names.{EntryHeld, Event, Failure, Finding, Item, Leaves, Lookup, Note, Part, Phase}
-use Rattle.machine_laws.specs.Names.{Resume, Stopping, Suspension, TellsNews, a_question, a_raw, a_request, a_stop}
-use Rattle.machine_laws.specs.Names.{an_effect, of_composite, HaltCause, Stepped, ThreadId, of_entry, of_stop}
+use Rattle.machine_steps.specs.Names.{Written, Act, Attached, Choice, Command, Configured, Decides, Deed, Does}
+use Rattle.machine_steps.specs.Names.{EntryHeld, Event, Failure, Finding, Item, Leaves, Lookup, Note, Part, Phase}
+use Rattle.machine_steps.specs.Names.{Resume, Stopping, Suspension, TellsNews, a_question, a_raw, a_request, a_stop}
+use Rattle.machine_steps.specs.Names.{an_effect, of_composite, HaltCause, Stepped, ThreadId, of_entry, of_stop}
 use Rattle.machine_laws.proofs.BindingLaws.{binding, in_front}
 use Rattle.machine_laws.proofs.BindingParts.{IsBinding}
-use Rattle.machine_laws.proofs.HeldLaws.{due_sends}
+use Rattle.machine_steps.proofs.HeldLaws.{due_sends}
 use Rattle.machine_laws.proofs.KnowingLaws.{is_known}
-use Rattle.machine_laws.proofs.RequestLaws.{Settling, front_set, settles, settling}
-use Rattle.machine_laws.proofs.SizeLaws.{replied_parts, asked_parts}
-use Rattle.machine_laws.proofs.Stepping.{IsAt, Moves, by_runs, moved, Loses}
-use Rattle.machine_laws.proofs.Tables.{free, free_once, of_decided, told_alike}
-use Rattle.machine_laws.proofs.Testing.{IsTest, Passed, same_noted, same_numbered, same_replied, tested, whole}
+use Rattle.machine_steps.proofs.RequestLaws.{Settling, front_set, settles, settling}
+use Rattle.machine_steps.proofs.SizeLaws.{replied_parts, asked_parts}
+use Rattle.machine_steps.proofs.Stepping.{IsAt, Moves, by_runs, moved, Loses}
+use Rattle.machine_steps.proofs.Tables.{free, free_once, of_decided, told_alike}
+use Rattle.machine_steps.proofs.Testing.{IsTest, Passed, same_noted, same_numbered, same_replied, tested, whole}
 use Rattle.machine_laws.proofs.BindingHands.{binds_ahead}
 use Rattle.std.specs.Prelude.{◌+◌}
-use Rattle.machine_laws.proofs.RequestSteps.{decides, is_choice, needs_set, parts_left}
+use Rattle.machine_steps.proofs.RequestSteps.{decides, is_choice, needs_set, parts_left}
 
 -- Behind a Resume nothing more is set or bound ----------------------------------------------------------------------
 

@@ -5,12 +5,12 @@ use Rattle.machine_model.specs.Runs.{Message}
 use Rattle.machine_model.specs.State.{Machine, State}
 use Rattle.machine_model.specs.Telling.{after_event, numbered_by}
 use Rattle.std.specs.Prelude.{Option}
-use Rattle.machine_laws.specs.Names.{Event, NamedThread, Outcome, Success, ThreadId, a_question, a_stop, an_effect}
-use Rattle.machine_laws.specs.Names.{some_news, thread_changed, thread_list}
+use Rattle.machine_steps.specs.Names.{Event, NamedThread, Outcome, Success, ThreadId, a_question, a_stop, an_effect}
+use Rattle.machine_steps.specs.Names.{some_news, thread_changed, thread_list}
 use Rattle.machine_laws.specs.ThreadNumbers.{Reaches}
 use Rattle.machine_laws.proofs.NumberLaws.{grows}
-use Rattle.machine_laws.proofs.Stepping.{Moves, gone_on, moved}
-use Rattle.machine_laws.proofs.ThreadIds.{noted_threads, replied_threads}
+use Rattle.machine_steps.proofs.Stepping.{Moves, gone_on, moved}
+use Rattle.machine_steps.proofs.ThreadIds.{noted_threads, replied_threads}
 
 -- others stand behind these
 abbrev pub Grows : List ThreadId → List ThreadId → Type 0

@@ -15,21 +15,21 @@ use Rattle.machine_model.specs.Rows.{chosen, news_of, parts_of, told_in}
 use Rattle.machine_model.specs.Runs.{Allows, Message, Run, said}
 use Rattle.machine_model.specs.State.{Hand, Machine, is_gone}
 use Rattle.machine_model.specs.Telling.{attached_from, is_among, number_among, with_thread}
-use Rattle.machine_laws.specs.Names.{Act, Attached, Composite, Does, Fresh, Gone, Initialized, Item, Part, Phase}
-use Rattle.machine_laws.specs.Names.{TargetCommand, TellsNews, Terminated, ThreadId, a_composite, a_question, a_raw}
-use Rattle.machine_laws.specs.Names.{a_request, an_effect, an_event, some_news, thread_changed}
+use Rattle.machine_steps.specs.Names.{Act, Attached, Composite, Does, Fresh, Gone, Initialized, Item, Part, Phase}
+use Rattle.machine_steps.specs.Names.{TargetCommand, TellsNews, Terminated, ThreadId, a_composite, a_question, a_raw}
+use Rattle.machine_steps.specs.Names.{a_request, an_effect, an_event, some_news, thread_changed}
 use Rattle.machine_laws.specs.ThreadEvents.{AreThreadsTold, AreToldAs, Change, IsChange, changes_in, changes_of}
 use Rattle.machine_laws.specs.ThreadEvents.{composite_by, told_by, told_of}
 use Rattle.machine_laws.proofs.EarlyItems.{IsEarly, always_early, not_fresh}
 use Rattle.machine_laws.proofs.ItemLaws.{IsInOrder, in_order, ordered_on, picked_composites, read_composites}
 use Rattle.machine_laws.proofs.ItemLaws.{waits_in_order}
 use Rattle.machine_laws.proofs.NumberLaws.{among_one, one_of_id}
-use Rattle.machine_laws.proofs.RequestSteps.{near_before}
-use Rattle.machine_laws.proofs.ServedLaws.{one_more}
-use Rattle.machine_laws.proofs.SizeLaws.{is_idle}
-use Rattle.machine_laws.proofs.Stepping.{IsAt, Loses, Moves, by_moves, by_runs, moved, with_said}
-use Rattle.machine_laws.proofs.Tables.{free as free_test, free_once, is_free}
-use Rattle.machine_laws.proofs.Testing.{Passed, same_noted, same_numbered, same_replied, tested, whole}
+use Rattle.machine_steps.proofs.RequestSteps.{near_before}
+use Rattle.machine_steps.proofs.ServedLaws.{one_more}
+use Rattle.machine_steps.proofs.SizeLaws.{is_idle}
+use Rattle.machine_steps.proofs.Stepping.{IsAt, Loses, Moves, by_moves, by_runs, moved, with_said}
+use Rattle.machine_steps.proofs.Tables.{free as free_test, free_once, is_free}
+use Rattle.machine_steps.proofs.Testing.{Passed, same_noted, same_numbered, same_replied, tested, whole}
 use Rattle.machine_laws.proofs.ThreadLaws.{Grows, grows_on, kept}
 use Rattle.machine_laws.proofs.ThreadParts.{HandLast, IsBegun, IsLast, all_left, asked_last, asked_left, begun_left}
 use Rattle.machine_laws.proofs.ThreadParts.{chosen_left, fewer_left, found_left, given_last, hand_left, item_changes}

@@ -33,26 +33,26 @@ use Rattle.machine_model.specs.Stops.{thrown_by, thrown_in, told_part}
 use Rattle.machine_model.specs.Telling.{after_event, event_told, numbered_by, outcome_told}
 use Rattle.machine_model.proofs.Bools.{first_holds, never, second_holds}
 use Rattle.machine_model.proofs.IdRows.{all_joined, all_weak}
-use Rattle.machine_laws.specs.Names.{Act, Choice, Command, Decides, Deed, Does, Event, ExceptionInfo, Failure}
-use Rattle.machine_laws.specs.Names.{Finding, Halt, HaltCause, Item, Lookup, Note, Outcome, Part, Replied, Request}
-use Rattle.machine_laws.specs.Names.{Resume, Stepped, TargetCommand, TellsNews, Terminated, ThreadId, Throws, Thrown}
-use Rattle.machine_laws.specs.Names.{Initialized, Want, a_composite, a_question, a_request, a_response, a_stop}
-use Rattle.machine_laws.specs.Names.{an_effect, an_event, of_stop, some_news, threw}
+use Rattle.machine_steps.specs.Names.{Act, Choice, Command, Decides, Deed, Does, Event, ExceptionInfo, Failure}
+use Rattle.machine_steps.specs.Names.{Finding, Halt, HaltCause, Item, Lookup, Note, Outcome, Part, Replied, Request}
+use Rattle.machine_steps.specs.Names.{Resume, Stepped, TargetCommand, TellsNews, Terminated, ThreadId, Throws, Thrown}
+use Rattle.machine_steps.specs.Names.{Initialized, Want, a_composite, a_question, a_request, a_response, a_stop}
+use Rattle.machine_steps.specs.Names.{an_effect, an_event, of_stop, some_news, threw}
 use Rattle.machine_laws.specs.ThrownExceptions.{HasThrown, IsOfThrown, IsThrown}
 use Rattle.machine_laws.proofs.CausedChanges.{is_running, is_to_run, purpose, purpose_of}
 use Rattle.machine_laws.proofs.ConfiguredEntry.{succeeds}
 use Rattle.machine_laws.proofs.LeavingLaws.{first_in}
 use Rattle.machine_laws.proofs.NumberLaws.{one_of_id}
-use Rattle.machine_laws.proofs.PartTests.{both_pass, is_request, passes}
+use Rattle.machine_steps.proofs.PartTests.{both_pass, is_request, passes}
 use Rattle.machine_laws.proofs.PausedStops.{thread_has}
-use Rattle.machine_laws.proofs.ReferenceLaws.{due_request}
-use Rattle.machine_laws.proofs.RequestSteps.{asked_left, parts_left, replied_left}
-use Rattle.machine_laws.proofs.Stepping.{IsAt, Loses, Moves, by_runs, moved, with_said}
+use Rattle.machine_steps.proofs.ReferenceLaws.{due_request}
+use Rattle.machine_steps.proofs.RequestSteps.{asked_left, parts_left, replied_left}
+use Rattle.machine_steps.proofs.Stepping.{IsAt, Loses, Moves, by_runs, moved, with_said}
 use Rattle.machine_laws.proofs.StopLaws.{one_before}
 use Rattle.machine_laws.proofs.StopTurns.{request_quiet, says_end}
 use Rattle.machine_laws.proofs.SuspendLaws.{bound_at_choice}
-use Rattle.machine_laws.proofs.Tables.{of_decided, told_alike}
-use Rattle.machine_laws.proofs.Testing.{IsTest, gone_behind, tested, whole}
+use Rattle.machine_steps.proofs.Tables.{of_decided, told_alike}
+use Rattle.machine_steps.proofs.Testing.{IsTest, gone_behind, tested, whole}
 use Rattle.machine_laws.proofs.ThreadLaws.{Grows, grows_on, kept}
 use Rattle.machine_laws.proofs.WrittenValues.{success_of}
 

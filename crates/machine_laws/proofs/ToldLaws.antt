@@ -10,13 +10,13 @@ use Rattle.machine_model.specs.Breakpoints.{with_id, with_told}
 use Rattle.machine_model.specs.Lookups.{finished, plain_outcome, text_of, body_of, outcome_by, refusal, value_outcome}
 use Rattle.machine_model.specs.Lookups.{written_parts}
 use Rattle.machine_model.specs.References.{has_room, things_of}
-use Rattle.machine_laws.specs.Names.{Seen, Written, variable_write, write_found, Attached, Choice, Clear, Decides}
-use Rattle.machine_laws.specs.Names.{Effect, Failed, Finding, Fresh, Gone, Initialized, Item, Leaves, ListedBreakpoint}
-use Rattle.machine_laws.specs.Names.{Lookup, Nothing, Outcome, Part, Phase, Question, Replied, Set, Success}
-use Rattle.machine_laws.specs.Names.{TargetCommand, TellsNews, Terminated, Want, a_question, a_stop, an_answer}
-use Rattle.machine_laws.specs.Names.{an_effect, breakpoint_list, class_facts, entry_verified, some_news}
-use Rattle.machine_laws.specs.Names.{thread_changed, container_children, thread_frames, expression_value, no_value}
-use Rattle.machine_laws.specs.Names.{by_exception, exception_text, Stepped}
+use Rattle.machine_steps.specs.Names.{Seen, Written, variable_write, write_found, Attached, Choice, Clear, Decides}
+use Rattle.machine_steps.specs.Names.{Effect, Failed, Finding, Fresh, Gone, Initialized, Item, Leaves, ListedBreakpoint}
+use Rattle.machine_steps.specs.Names.{Lookup, Nothing, Outcome, Part, Phase, Question, Replied, Set, Success}
+use Rattle.machine_steps.specs.Names.{TargetCommand, TellsNews, Terminated, Want, a_question, a_stop, an_answer}
+use Rattle.machine_steps.specs.Names.{an_effect, breakpoint_list, class_facts, entry_verified, some_news}
+use Rattle.machine_steps.specs.Names.{thread_changed, container_children, thread_frames, expression_value, no_value}
+use Rattle.machine_steps.specs.Names.{by_exception, exception_text, Stepped}
 use Rattle.stop_refs.specs.Numbers.{InHand}
 use Rattle.dap_messages.specs.Telling.{references_spent}
 use Rattle.machine_model.specs.Due.{asked_hand}
@@ -34,12 +34,12 @@ use Rattle.machine_model.specs.Telling.{attached_from, numbered_by}
 use Rattle.machine_laws.proofs.NewsLaws.{breakpoints_told, changes_alike, each_joined, learnt_bound}
 use Rattle.machine_laws.proofs.BareLaws.{bare_cleared, bare_installed, bare_none, bare_refused, is_bare}
 use Rattle.machine_laws.proofs.BareLaws.{placed_cleared, placed_installed}
-use Rattle.machine_laws.proofs.RequestLaws.{IsDue, IsSet, front_set, settles, settling, was_due}
-use Rattle.machine_laws.proofs.RequestSteps.{asked_left, flying_in, flying_of, learnt_wishes, near_before, is_choice}
-use Rattle.machine_laws.proofs.RequestSteps.{needs_set, parts_left, replied_left}
-use Rattle.machine_laws.proofs.Stepping.{IsAt, Moves, Skips, by_runs}
-use Rattle.machine_laws.proofs.Tables.{decided_alike, starts_updates}
-use Rattle.machine_laws.proofs.Testing.{same_replied}
+use Rattle.machine_steps.proofs.RequestLaws.{IsDue, IsSet, front_set, settles, settling, was_due}
+use Rattle.machine_steps.proofs.RequestSteps.{asked_left, flying_in, flying_of, learnt_wishes, near_before, is_choice}
+use Rattle.machine_steps.proofs.RequestSteps.{needs_set, parts_left, replied_left}
+use Rattle.machine_steps.proofs.Stepping.{IsAt, Moves, Skips, by_runs}
+use Rattle.machine_steps.proofs.Tables.{decided_alike, starts_updates}
+use Rattle.machine_steps.proofs.Testing.{same_replied}
 use Rattle.wish_sets.proofs.OrderLaws.{each-insert}
 use Rattle.wish_sets.specs.Entries.{all_entries, is_verified, state_of, verified}
 use Rattle.wish_sets.specs.Wishes.{cleared, installed_as, is_installed, refused_now}

@@ -12,10 +12,10 @@ use Rattle.machine_model.specs.Requests.{Wishes}
 use Rattle.machine_model.specs.Rows.{breakpoint_parts, end_parts, failure_of, noted, parts_by, parts_of, row_of}
 use Rattle.machine_model.specs.Rows.{wanting, if_attached}
 use Rattle.machine_model.specs.State.{State}
-use Rattle.machine_laws.specs.Names.{Classes, Command, Failure, Item, Lines, ListedBreakpoint, Note, Part, Phase}
-use Rattle.machine_laws.specs.Names.{SetBreakpoints, Success, TellsNews, a_composite, a_raw, a_request}
-use Rattle.machine_laws.specs.Names.{breakpoint_list, class_facts, entry_verified, some_news, target_end, Functions}
-use Rattle.machine_laws.specs.Names.{SetFunctionBreakpoints, Steps, StopsAt}
+use Rattle.machine_steps.specs.Names.{Classes, Command, Failure, Item, Lines, ListedBreakpoint, Note, Part, Phase}
+use Rattle.machine_steps.specs.Names.{SetBreakpoints, Success, TellsNews, a_composite, a_raw, a_request}
+use Rattle.machine_steps.specs.Names.{breakpoint_list, class_facts, entry_verified, some_news, target_end, Functions}
+use Rattle.machine_steps.specs.Names.{SetFunctionBreakpoints, Steps, StopsAt}
 use Rattle.class_tables.specs.Lookups.{Lookups, found_in}
 use Rattle.class_tables.specs.Tables.{put}
 use Rattle.wish_sets.specs.Wanted.{Wanted, with_class, with_exceptions, with_functions, with_known, with_lines}

@@ -11,7 +11,7 @@ use Rattle.jdwp_values.specs.declared.id.ClassId.{ClassId}
 use Rattle.jdwp_values.specs.declared.location.Location.{Location}
 use Rattle.machine_model.specs.Breakpoints.{has_id, is_news, newly_verified, with_id}
 use Rattle.machine_model.specs.Requests.{Wishes}
-use Rattle.machine_laws.specs.Names.{ListedBreakpoint}
+use Rattle.machine_steps.specs.Names.{ListedBreakpoint}
 use Rattle.wish_sets.proofs.OrderLaws.{any-fold}
 use Rattle.wish_sets.specs.Entries.{all_entries, function_seen, has_location, is_verified, line_seen, state_of}
 use Rattle.wish_sets.specs.Entries.{verified}

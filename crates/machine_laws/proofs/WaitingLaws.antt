@@ -13,10 +13,10 @@ use Rattle.machine_model.specs.State.{Hand, Machine, has_waiting, is_empty}
 use Rattle.machine_model.specs.Waiting.{IsAsked, IsWait, WaitsWith, are_asked}
 use Rattle.machine_model.proofs.KeyLaws.{is_same}
 use Rattle.machine_model.proofs.Bools.{first_holds, or_more}
-use Rattle.machine_laws.specs.Names.{Act, Question, Sent, Want}
-use Rattle.machine_laws.proofs.PendingLaws.{Open, all_open}
-use Rattle.machine_laws.proofs.TurnLaws.{none_flies, none_late, none_out, same_hand}
-use Rattle.machine_laws.proofs.QuietLaws.{load_in, waits_some}
+use Rattle.machine_steps.specs.Names.{Act, Question, Sent, Want}
+use Rattle.machine_steps.proofs.PendingLaws.{Open, all_open}
+use Rattle.machine_steps.proofs.TurnLaws.{none_flies, none_late, none_out, same_hand}
+use Rattle.machine_steps.proofs.QuietLaws.{load_in, waits_some}
 use Rattle.std.proofs.lemmas.Bool.{or_left, or_right}
 
 -- What is to be asked -------------------------------------------------------------------------------------------------

@@ -8,7 +8,7 @@ use Rattle.machine_model.specs.PlanLaws.{Agrees, AreOfWorld, Hears, IsOf, IsRefu
 use Rattle.machine_model.specs.Plans.{Fault, Need, Plan, Sight, answer_in, chained, each, gives, lacks, made_with}
 use Rattle.machine_model.specs.Plans.{beside, heard_of, must_say, need, of_world, pairs, said_of, two_of, wants}
 use Rattle.machine_model.specs.State.{State}
-use Rattle.machine_laws.specs.Names.{Answer, NamedThread, Question, Replied, ThreadId, Want, an_answer, an_error}
+use Rattle.machine_steps.specs.Names.{Answer, NamedThread, Question, Replied, ThreadId, Want, an_answer, an_error}
 use Rattle.machine_laws.proofs.PlanLaws.{Each, IsSo, after_so, beside_so, heard_so}
 
 -- By a world's replies ------------------------------------------------------------------------------------------------

@@ -22,25 +22,25 @@ use Rattle.machine_model.specs.State.{Hand, Machine, State, is_empty, is_flying,
 use Rattle.machine_model.specs.Telling.{outcome_told}
 use Rattle.machine_model.proofs.Bools.{first_holds, second_holds}
 use Rattle.machine_laws.specs.ClientStops.{AreRead}
-use Rattle.machine_laws.specs.Names.{Act, Answer, Choice, Command, Deed, Does, Doing, Effect, Failed, Failure}
-use Rattle.machine_laws.specs.Names.{Finding, Item, Lookup, Outcome, Part, Question, Replied, Request, SetVariable}
-use Rattle.machine_laws.specs.Names.{Success, Want, TargetCommand, Write, Writes, Written, a_composite, a_question}
-use Rattle.machine_laws.specs.Names.{a_request, a_response, an_answer, an_effect, an_error, no_value, variable_write}
-use Rattle.machine_laws.specs.Names.{write_found}
+use Rattle.machine_steps.specs.Names.{Act, Answer, Choice, Command, Deed, Does, Doing, Effect, Failed, Failure}
+use Rattle.machine_steps.specs.Names.{Finding, Item, Lookup, Outcome, Part, Question, Replied, Request, SetVariable}
+use Rattle.machine_steps.specs.Names.{Success, Want, TargetCommand, Write, Writes, Written, a_composite, a_question}
+use Rattle.machine_steps.specs.Names.{a_request, a_response, an_answer, an_effect, an_error, no_value, variable_write}
+use Rattle.machine_steps.specs.Names.{write_found}
 use Rattle.machine_laws.specs.VariableWrites.{HasWritten, IsBehindWrite, IsInStop}
 use Rattle.machine_laws.proofs.CausedChanges.{is_to_write, is_writing, purpose, purpose_of, purpose_under}
 use Rattle.machine_laws.proofs.ConfiguredEntry.{succeeds}
 use Rattle.machine_laws.proofs.GivenPlans.{finds_write, is_of_write, result_passes}
-use Rattle.machine_laws.proofs.HoldingParts.{numbered_stop, same_stop}
+use Rattle.machine_steps.proofs.HoldingParts.{numbered_stop, same_stop}
 use Rattle.machine_laws.proofs.LeavingLaws.{first_in}
 use Rattle.machine_laws.proofs.NumbersInStops.{IsRefused, no_container, none_numbered}
 use Rattle.machine_laws.proofs.OutcomeLaws.{asked_since, near_of}
-use Rattle.machine_laws.proofs.ReferenceLaws.{due_request}
-use Rattle.machine_laws.proofs.RequestSteps.{is_deed}
-use Rattle.machine_laws.proofs.RestLaws.{is_free}
+use Rattle.machine_steps.proofs.ReferenceLaws.{due_request}
+use Rattle.machine_steps.proofs.RequestSteps.{is_deed}
+use Rattle.machine_steps.proofs.RestLaws.{is_free}
 use Rattle.machine_laws.proofs.ShownStops.{shown_beside, stays, turning, turning_of}
-use Rattle.machine_laws.proofs.Stepping.{IsAt, Loses, Moves, Skips, by_runs, moved}
-use Rattle.machine_laws.proofs.Testing.{same_numbered, same_replied}
+use Rattle.machine_steps.proofs.Stepping.{IsAt, Loses, Moves, Skips, by_runs, moved}
+use Rattle.machine_steps.proofs.Testing.{same_numbered, same_replied}
 use Rattle.stop_refs.specs.Numbers.{container}
 use Rattle.stop_refs.specs.declared.fault.RefFault.{RefFault}
 use Rattle.stop_refs.specs.declared.thing.Thing.{Thing}

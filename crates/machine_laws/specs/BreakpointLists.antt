@@ -13,7 +13,7 @@ use Rattle.machine_laws.specs.Settings.{Settings, settings_of, with_ids}
 use Rattle.machine_model.specs.Breakpoints.{is_verified}
 use Rattle.machine_model.specs.Due.{due}
 use Rattle.machine_model.specs.Leaving.{IsFirst}
-use Rattle.machine_laws.specs.Names.{Act, Command, Request, SetBreakpoints, SetFunctionBreakpoints, a_response}
+use Rattle.machine_steps.specs.Names.{Act, Command, Request, SetBreakpoints, SetFunctionBreakpoints, a_response}
 use Rattle.machine_model.specs.Requests.{Wishes}
 use Rattle.machine_model.specs.Rest.{IsAnswer}
 use Rattle.machine_model.specs.Runs.{Message, Run}

@@ -8,9 +8,9 @@ use Rattle.machine_model.specs.Due.{due}
 use Rattle.machine_model.specs.Leaving.{IsFirst, deed_for}
 use Rattle.machine_model.specs.Runs.{Message, Run}
 use Rattle.machine_model.specs.State.{Hand, Machine}
-use Rattle.machine_laws.specs.Names.{Act, Command, Composite, ConfigurationDone, Continue, Deed, Disconnect, Does, Next}
-use Rattle.machine_laws.specs.Names.{Pause, Request, Resume, SetVariable, StepIn, StepOut, Suspend, Write, Writes}
-use Rattle.machine_laws.specs.Names.{a_composite, of_composite, of_entry, of_stop}
+use Rattle.machine_steps.specs.Names.{Act, Command, Composite, ConfigurationDone, Continue, Deed, Disconnect, Does, Next}
+use Rattle.machine_steps.specs.Names.{Pause, Request, Resume, SetVariable, StepIn, StepOut, Suspend, Write, Writes}
+use Rattle.machine_steps.specs.Names.{a_composite, of_composite, of_entry, of_stop}
 
 -- The request asks for this change: `pause` that the whole target is suspended, `continue` and a step that the stop is
 -- over, `configurationDone` that the entry is held no longer, `setVariable` that a value is written, and `disconnect`

@@ -2,7 +2,6 @@ pub mod BreakpointLists
 pub mod Changing
 pub mod ClientStops
 pub mod NamedThreads
-pub mod Names
 pub mod Pausing
 pub mod Settings
 pub mod StepRequests

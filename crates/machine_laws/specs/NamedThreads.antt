@@ -8,7 +8,7 @@ use Rattle.machine_model.specs.Knowing.{HasNumber}
 use Rattle.machine_model.specs.Leaving.{IsFirst}
 use Rattle.machine_model.specs.Runs.{Message, Run}
 use Rattle.machine_model.specs.State.{Machine}
-use Rattle.machine_laws.specs.Names.{Act, Command, Next, Question, Request, Set, StackTrace, StepIn, StepOut, ThreadId}
+use Rattle.machine_steps.specs.Names.{Act, Command, Next, Question, Request, Set, StackTrace, StepIn, StepOut, ThreadId}
 use Rattle.wish_sets.specs.declared.wish.Depth.{Depth}
 use Rattle.wish_sets.specs.declared.wish.Depth.TheVariants.{Into, Out, Over}
 use Rattle.wish_sets.specs.declared.wish.Wish.TheVariants as wishes

@@ -14,7 +14,7 @@ use Rattle.machine_model.specs.Runs.{Message, Run}
 use Rattle.machine_model.specs.State.{Hand, Machine, is_gone}
 use Rattle.machine_model.specs.Telling.{response_to}
 use Rattle.machine_laws.specs.ClientStops.{AreRead}
-use Rattle.machine_laws.specs.Names.{Act, a_request}
+use Rattle.machine_steps.specs.Names.{Act, a_request}
 
 -- the success of the request is the last that the client was told
 pub record IsToldLast (messages : List Message) (request : Request) : Type 0 where

@@ -11,8 +11,8 @@ use Rattle.machine_model.specs.Leaving.{IsFirst}
 use Rattle.machine_model.specs.Rest.{IsAnswer, responses_of}
 use Rattle.machine_model.specs.Runs.{Message, Run}
 use Rattle.machine_model.specs.State.{Hand, Machine, is_gone}
-use Rattle.machine_laws.specs.Names.{Act, Command, Does, Next, Request, Resume, Set, StepIn, StepOut, ThreadId}
-use Rattle.machine_laws.specs.Names.{a_request, a_response, an_effect, an_error, of_stop}
+use Rattle.machine_steps.specs.Names.{Act, Command, Does, Next, Request, Resume, Set, StepIn, StepOut, ThreadId}
+use Rattle.machine_steps.specs.Names.{a_request, a_response, an_effect, an_error, of_stop}
 use Rattle.wish_sets.specs.Order.{has_wish}
 use Rattle.wish_sets.specs.Wishes.{is_installed}
 use Rattle.wish_sets.specs.declared.wish.Depth.{Depth}

@@ -11,7 +11,7 @@ use Rattle.machine_model.specs.Knowing.{HasNumber}
 use Rattle.machine_model.specs.Rest.{IsAtRest}
 use Rattle.machine_model.specs.Runs.{Message, Run}
 use Rattle.machine_model.specs.State.{Hand, Machine}
-use Rattle.machine_laws.specs.Names.{Act, Attached, Composite, ThreadId, a_composite, an_event}
+use Rattle.machine_steps.specs.Names.{Act, Attached, Composite, ThreadId, a_composite, an_event}
 
 -- a thread, and whether it has started or has ended
 pub record Change : Type 0 where

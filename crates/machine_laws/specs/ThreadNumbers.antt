@@ -2,7 +2,7 @@
 use Rattle.std.specs.Prelude.{ℕ, ◌≡◌, false}
 use Rattle.machine_model.specs.Due.{due}
 use Rattle.machine_model.specs.Knowing.{HasNumber}
-use Rattle.machine_laws.specs.Names.{Act, ThreadId}
+use Rattle.machine_steps.specs.Names.{Act, ThreadId}
 use Rattle.machine_model.specs.Runs.{Allows, Message}
 use Rattle.machine_model.specs.State.{Machine}
 

@@ -14,7 +14,7 @@ use Rattle.machine_model.specs.Rest.{IsAnswer}
 use Rattle.machine_model.specs.Runs.{Message, Run}
 use Rattle.machine_model.specs.State.{Machine}
 use Rattle.machine_model.specs.Stopping.{WasHalted}
-use Rattle.machine_laws.specs.Names.{Act, Composite, ExceptionInfo, Request, ThreadId, a_composite, a_response, threw}
+use Rattle.machine_steps.specs.Names.{Act, Composite, ExceptionInfo, Request, ThreadId, a_composite, a_response, threw}
 
 -- The thread threw this by an event of a composite, under an event request that was installed. Since then no stop is
 -- over (JDWP, Event command set, Composite, Exception; JDWP, VirtualMachine command set, Resume).

@@ -11,8 +11,8 @@ use Rattle.machine_model.specs.Rest.{IsAnswer, responses_of}
 use Rattle.machine_model.specs.Runs.{Message, Run}
 use Rattle.machine_model.specs.State.{Machine}
 use Rattle.machine_laws.specs.ClientStops.{AreRead}
-use Rattle.machine_laws.specs.Names.{Act, Answer, Does, Request, Sent, SetVariable, Write, Writes, a_response}
-use Rattle.machine_laws.specs.Names.{an_answer}
+use Rattle.machine_steps.specs.Names.{Act, Answer, Does, Request, Sent, SetVariable, Write, Writes, a_response}
+use Rattle.machine_steps.specs.Names.{an_answer}
 
 -- Since the request is the first without a response, the last command that changes the target is a write, and the
 -- target answered it, and with no error (JDWP, StackFrame, ObjectReference and ArrayReference command sets, SetValues).

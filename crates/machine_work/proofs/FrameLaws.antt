@@ -6,7 +6,7 @@ use Rattle.machine_model.specs.Rows.{noted}
 use Rattle.machine_model.specs.Runs.{Message, said}
 use Rattle.machine_model.specs.State.{Machine, State, has_raw, is_gone, is_raw, is_some}
 use Rattle.machine_model.specs.Telling.{after_event, numbered_by}
-use Rattle.machine_laws.proofs.Stepping.{Moves}
+use Rattle.machine_steps.proofs.Stepping.{Moves}
 use Rattle.machine_work.specs.Names.{Event, Item, Note, Outcome}
 use Rattle.machine_work.specs.Working.{is_work}
 use Rattle.machine_work.proofs.OwnMoves.{is_own, not_lost}

@@ -48,8 +48,8 @@ use Rattle.machine_model.specs.Stops.{hit_parts}
 use Rattle.machine_model.specs.declared.parts.Halt.{Halt}
 use Rattle.machine_model.specs.declared.parts.Suspension.TheVariants.{Composite as of_composite}
 use Rattle.machine_model.specs.declared.parts.Thrown.{Thrown}
-use Rattle.machine_laws.proofs.Stepping.{IsAt, Moves}
-use Rattle.machine_laws.proofs.Tables.{of_decided, of_told}
+use Rattle.machine_steps.proofs.Stepping.{IsAt, Moves}
+use Rattle.machine_steps.proofs.Tables.{of_decided, of_told}
 use Rattle.wish_sets.specs.declared.wish.Depth.{Depth}
 use Rattle.wish_sets.specs.declared.wish.Depth.TheVariants.{Into, Out, Over}
 use Rattle.jdwp_values.specs.declared.id.ThreadId.{ThreadId}

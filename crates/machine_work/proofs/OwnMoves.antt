@@ -3,7 +3,7 @@ use Rattle.std.proofs.Common.{◌≡◌, Bool, true, false, List, Option, Some, 
 use Rattle.machine_work.specs.Names.{TargetCommand}
 use Rattle.machine_model.specs.Runs.{Message}
 use Rattle.machine_model.specs.State.{Machine}
-use Rattle.machine_laws.proofs.Stepping.{Loses}
+use Rattle.machine_steps.proofs.Stepping.{Loses}
 
 -- the machine's own message, and not one that comes
 abbrev pub is_own_message : Message → Bool

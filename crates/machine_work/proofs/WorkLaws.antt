@@ -44,15 +44,15 @@ use Rattle.machine_model.specs.Stops.{hit_parts}
 use Rattle.machine_model.specs.declared.parts.Halt.{Halt}
 use Rattle.machine_model.specs.declared.parts.Suspension.TheVariants.{Composite as of_composite}
 use Rattle.machine_model.specs.declared.parts.Thrown.{Thrown}
-use Rattle.machine_laws.proofs.HandshakeLaws.{has_handshake}
-use Rattle.machine_laws.proofs.PendingLaws.{all_open}
-use Rattle.machine_laws.proofs.QuietLaws.{lacking_hand, load_in}
-use Rattle.machine_laws.proofs.RestLaws.{is_free, near_queue}
-use Rattle.machine_laws.proofs.Stepping.{IsAt, Moves, moved, walks_due}
-use Rattle.machine_laws.proofs.Tables.{of_decided, of_told}
+use Rattle.machine_steps.proofs.HandshakeLaws.{has_handshake}
+use Rattle.machine_steps.proofs.PendingLaws.{all_open}
+use Rattle.machine_steps.proofs.QuietLaws.{lacking_hand, load_in}
+use Rattle.machine_steps.proofs.RestLaws.{is_free, near_queue}
+use Rattle.machine_steps.proofs.Stepping.{IsAt, Moves, moved, walks_due}
+use Rattle.machine_steps.proofs.Tables.{of_decided, of_told}
 use Rattle.wish_sets.specs.declared.wish.Depth.{Depth}
 use Rattle.wish_sets.specs.declared.wish.Depth.TheVariants.{Into, Out, Over}
-use Rattle.machine_laws.proofs.TurnLaws.{Turns, turned, unsent}
+use Rattle.machine_steps.proofs.TurnLaws.{Turns, turned, unsent}
 use Rattle.machine_work.specs.Working.{choice_weight, hand_work, is_wait, is_work, lines_in, news_in_hand, news_left}
 use Rattle.machine_work.specs.Working.{one_if, one_unless, waiting_work, weight, weights, work, work_of}
 use Rattle.dap_messages.specs.declared.requests.StackTraceArguments.{StackTraceArguments}

@@ -1,4 +1,4 @@
-use Rattle.machine_laws.proofs.SpellLaws.{are_spelled}
+use Rattle.machine_steps.proofs.SpellLaws.{are_spelled}
 use Rattle.machine_laws.proofs.laws.commands_have_a_spelling.Goals as goal
 
 pub returns : goal.returns

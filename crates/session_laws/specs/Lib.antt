@@ -1,0 +1,11 @@
+pub mod Bytes
+pub mod Endings
+pub mod Hearing
+pub mod Laws
+pub mod Leaving
+pub mod Replies
+pub mod Responses
+pub mod Resting
+pub mod Sending
+pub mod Terminating
+pub mod Turns

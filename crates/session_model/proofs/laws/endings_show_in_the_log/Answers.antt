@@ -1,5 +1,0 @@
-use Rattle.session_model.proofs.EndLaws.{shows}
-use Rattle.session_model.proofs.laws.endings_show_in_the_log.Goals as goal
-
-pub returns : goal.returns
-returns c = λ limits log messages turns e ended. shows ended

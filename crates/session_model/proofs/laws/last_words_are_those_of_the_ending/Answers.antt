@@ -1,5 +1,0 @@
-use Rattle.session_model.proofs.TurnLaws.{says_last}
-use Rattle.session_model.proofs.laws.last_words_are_those_of_the_ending.Goals as goal
-
-pub returns : goal.returns
-returns c = λ limits log messages turns e ended. says_last ended

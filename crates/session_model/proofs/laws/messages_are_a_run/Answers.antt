@@ -1,5 +1,0 @@
-use Rattle.session_model.proofs.RunLaws.{is_run}
-use Rattle.session_model.proofs.laws.messages_are_a_run.Goals as goal
-
-pub returns : goal.returns
-returns c = λ limits log messages turns s going. is_run going
