@@ -45,7 +45,7 @@ ROWS = [
      (1, PROVED, "world_model", "the world of a target"), (0.9, PROVED, "pending_table", "pending commands"),
      (0.9, MODEL, "body_faults", "the first wrong part")],
     [(1, PROVED, "jdwp_commands", "commands, and their answers"), (1, PROVED, "wish_sets", "event requests"),
-     (1, PROVED, "suspend_ledger", "suspensions")],
+     (1, PROVED, "suspend_ledger", "suspensions"), (1, PROVED, "session_endings", "endings, and limits")],
     [(1, PROVED, "jdwp_events", "events, and modifiers"), (1, PROVED, "class_tables", "facts of classes"),
      (1, PROVED, "stop_refs", "numbers of a stop"), (1, PROVED, "value_views", "texts of values"),
      (0.8, MODEL, "json_lines", "lines of JSON")],

@@ -12,8 +12,8 @@ use Rattle.bridge_core.specs.Calls.{Refuses, RefusesEnd, Takes}
 use Rattle.bridge_core.specs.Cores.{CoreState, IsReady, IsSound, with_machine}
 use Rattle.bridge_core.specs.Names.{Item, Request, a_request}
 use Rattle.bridge_core.proofs.WindowLaws.{ended_aligned, greeted_aligned, heard_aligned}
-use Rattle.session_model.specs.declared.ending.Ending.{Ending}
-use Rattle.session_model.specs.declared.ending.Ending.TheVariants.{Flood}
+use Rattle.session_endings.specs.declared.ending.Ending.{Ending}
+use Rattle.session_endings.specs.declared.ending.Ending.TheVariants.{Flood}
 
 -- Requests ------------------------------------------------------------------------------------------------------------
 

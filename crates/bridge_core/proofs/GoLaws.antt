@@ -33,7 +33,7 @@ use Rattle.bridge_core.proofs.WindowLaws.{acts_aligned, aligned_length, asks_ali
 use Rattle.machine_work.proofs.WorkLaws.{asks_free, due_any, due_less, due_stays, due_waiting, sends_alone}
 use Rattle.session_model.specs.Saying.{Speaks, nth_command, told_bytes}
 use Rattle.session_model.specs.States.{id_pending}
-use Rattle.session_model.specs.declared.ending.Ending.{Ending}
+use Rattle.session_endings.specs.declared.ending.Ending.{Ending}
 use Rattle.talk_plans.specs.Talking.{AreSized, act_of}
 use Rattle.talk_plans.specs.declared.next.Next.{Next}
 use Rattle.talk_plans.specs.declared.next.Next.TheVariants as nexts

@@ -14,9 +14,9 @@ use Rattle.bridge_core.specs.Moving.{RefusesKept}
 use Rattle.message_bodies.proofs.HearLaws.{is_composite_fault}
 use Rattle.bridge_core.specs.Calls.{AreRead}
 use Rattle.session_model.specs.Faults.{RefusesComposite}
-use Rattle.session_model.specs.declared.ending.Ending.{Ending}
-use Rattle.session_model.specs.declared.ending.Ending.TheVariants.{BadTarget}
-use Rattle.session_model.specs.declared.ending.TargetFault.{TargetFault}
+use Rattle.session_endings.specs.declared.ending.Ending.{Ending}
+use Rattle.session_endings.specs.declared.ending.Ending.TheVariants.{BadTarget}
+use Rattle.session_endings.specs.declared.ending.TargetFault.{TargetFault}
 
 -- Composites that can be read ------------------------------------------------------------------------------------------
 

@@ -9,7 +9,7 @@ use Rattle.bridge_core.specs.Wording.{word_seen}
 use Rattle.bridge_core.specs.declared.words.Word.{Word}
 use Rattle.session_model.specs.LastWords.{LastWord, last_word_said, word_bytes}
 use Rattle.session_model.specs.States.{StreamState}
-use Rattle.session_model.specs.declared.ending.Ending.{Ending}
+use Rattle.session_endings.specs.declared.ending.Ending.{Ending}
 use Rattle.wire_core.specs.declared.outside.Side.{Side}
 
 -- the next of the words that were formed, and those that are left

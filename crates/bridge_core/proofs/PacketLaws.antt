@@ -17,10 +17,10 @@ use Rattle.message_bodies.proofs.HearLaws.{is_composite_fault}
 use Rattle.bridge_core.proofs.WindowLaws.{item_aligned}
 use Rattle.session_model.specs.Faults.{IsTargetFault, RefusesComposite}
 use Rattle.session_model.specs.Saying.{PacketSays, is_composite}
-use Rattle.session_model.specs.declared.ending.Ending.{Ending}
-use Rattle.session_model.specs.declared.ending.Ending.TheVariants.{BadTarget, Flood, NoMemory}
-use Rattle.session_model.specs.declared.ending.TargetFault.{TargetFault}
-use Rattle.session_model.specs.declared.ending.TargetFault.TheVariants.{BadCommand}
+use Rattle.session_endings.specs.declared.ending.Ending.{Ending}
+use Rattle.session_endings.specs.declared.ending.Ending.TheVariants.{BadTarget, Flood, NoMemory}
+use Rattle.session_endings.specs.declared.ending.TargetFault.{TargetFault}
+use Rattle.session_endings.specs.declared.ending.TargetFault.TheVariants.{BadCommand}
 
 -- Composites ----------------------------------------------------------------------------------------------------------
 

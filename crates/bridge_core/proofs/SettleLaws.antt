@@ -33,9 +33,9 @@ use Rattle.bridge_core.proofs.RunLaws.{hand_next, near_late}
 use Rattle.bridge_core.proofs.WindowLaws.{effect_under, found, items_aligned, late_under, none_held, question_under}
 use Rattle.session_model.specs.Faults.{HasReply, IsTargetFault, header}
 use Rattle.session_model.specs.Saying.{PacketSays, SaysReply}
-use Rattle.session_model.specs.declared.ending.Ending.{Ending}
-use Rattle.session_model.specs.declared.ending.Ending.TheVariants.{BadTarget, TargetRefused}
-use Rattle.session_model.specs.declared.ending.TargetFault.TheVariants.{BadSizes, UnknownReply}
+use Rattle.session_endings.specs.declared.ending.Ending.{Ending}
+use Rattle.session_endings.specs.declared.ending.Ending.TheVariants.{BadTarget, TargetRefused}
+use Rattle.session_endings.specs.declared.ending.TargetFault.TheVariants.{BadSizes, UnknownReply}
 
 -- Places --------------------------------------------------------------------------------------------------------------
 

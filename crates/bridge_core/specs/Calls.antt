@@ -28,12 +28,12 @@ use Rattle.session_model.specs.Faults.{HasReply, IsKeptFault, IsTargetFault, hea
 use Rattle.session_model.specs.LastWords.{LastWord, last_word_said, last_words, word_bytes, word_side}
 use Rattle.session_model.specs.Saying.{PacketSays, Speaks}
 use Rattle.session_model.specs.States.{id_pending, target_front}
-use Rattle.session_model.specs.declared.ending.ClientFault.TheVariants.{NotAMessage, NotJson}
-use Rattle.session_model.specs.declared.ending.Ending.{Ending}
-use Rattle.session_model.specs.declared.ending.Ending.TheVariants.{BadClient, BadTarget, Done, Flood, NoMemory}
-use Rattle.session_model.specs.declared.ending.Ending.TheVariants.{TargetRefused}
-use Rattle.session_model.specs.declared.ending.TargetFault.TheVariants.{PolicyThread}
-use Rattle.session_model.specs.declared.ending.TargetFault.{TargetFault}
+use Rattle.session_endings.specs.declared.ending.ClientFault.TheVariants.{NotAMessage, NotJson}
+use Rattle.session_endings.specs.declared.ending.Ending.{Ending}
+use Rattle.session_endings.specs.declared.ending.Ending.TheVariants.{BadClient, BadTarget, Done, Flood, NoMemory}
+use Rattle.session_endings.specs.declared.ending.Ending.TheVariants.{TargetRefused}
+use Rattle.session_endings.specs.declared.ending.TargetFault.TheVariants.{PolicyThread}
+use Rattle.session_endings.specs.declared.ending.TargetFault.{TargetFault}
 use Rattle.wire_core.specs.Streams.{Front}
 use Rattle.wire_core.specs.declared.outside.Side.{Side}
 use Rattle.wire_core.specs.declared.outside.Side.TheVariants.{Client}

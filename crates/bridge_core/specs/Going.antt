@@ -14,7 +14,7 @@ use Rattle.bridge_core.specs.Cores.{CoreState, IsReady, Unheard, streams_in, wit
 use Rattle.session_model.specs.LastWords.{LastWord, last_word_said, word_bytes, word_side}
 use Rattle.session_model.specs.Saying.{nth_command, told_bytes}
 use Rattle.session_model.specs.States.{id_pending}
-use Rattle.session_model.specs.declared.ending.Ending.{Ending}
+use Rattle.session_endings.specs.declared.ending.Ending.{Ending}
 use Rattle.talk_plans.specs.Talking.{act_of}
 use Rattle.talk_plans.specs.declared.next.Next.{Next}
 use Rattle.talk_plans.specs.declared.next.Next.TheVariants as nexts

@@ -4,9 +4,9 @@ use Rattle.std.specs.Prelude.{ℕ, ◌≡◌, Bool, Option, None, Some}
 use Rattle.machine_model.specs.State.{Hand, Machine, State}
 use Rattle.machine_model.specs.declared.acts.Effect.{Effect}
 use Rattle.session_model.specs.Faults.{IsKeptFault}
-use Rattle.session_model.specs.declared.ending.Ending.{Ending}
-use Rattle.session_model.specs.declared.ending.Ending.TheVariants.{BadTarget, NoMemory}
-use Rattle.session_model.specs.declared.ending.TargetFault.{TargetFault}
+use Rattle.session_endings.specs.declared.ending.Ending.{Ending}
+use Rattle.session_endings.specs.declared.ending.Ending.TheVariants.{BadTarget, NoMemory}
+use Rattle.session_endings.specs.declared.ending.TargetFault.{TargetFault}
 use Rattle.talk_plans.specs.Talking.{step_of, talk_due}
 use Rattle.talk_plans.specs.declared.next.Next.{Next}
 

@@ -19,8 +19,8 @@ use Rattle.bridge_core.specs.Calls.{TakesPacket}
 use Rattle.bridge_core.specs.Cores.{CoreState, IsSound, with_machine}
 use Rattle.message_bodies.specs.Hearing.{IsBadBody, IsJudged, IsRefused, ReadsComposite}
 use Rattle.bridge_core.specs.Moving.{IsFlight}
-use Rattle.session_model.specs.declared.ending.Ending.{Ending}
-use Rattle.session_model.specs.declared.ending.Ending.TheVariants.{NoMemory}
+use Rattle.session_endings.specs.declared.ending.Ending.{Ending}
+use Rattle.session_endings.specs.declared.ending.Ending.TheVariants.{NoMemory}
 use Rattle.session_facts.specs.Effects.{IsNext}
 
 -- a packet was heard, and the core is sound behind it

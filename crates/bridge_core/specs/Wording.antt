@@ -3,9 +3,9 @@ use Rattle.std.specs.Prelude.{Bool, true, false}
 use Rattle.bridge_core.specs.declared.words.Word.{Word}
 use Rattle.bridge_core.specs.declared.words.Word.TheVariants.{Disposes, Tells}
 use Rattle.session_model.specs.LastWords.{LastWord}
-use Rattle.session_model.specs.declared.ending.Ending.{Ending}
-use Rattle.session_model.specs.declared.ending.Ending.TheVariants.{BadClient, BadTarget, ClientLink, Flood, Idle, Left}
-use Rattle.session_model.specs.declared.ending.Ending.TheVariants.{Spent, TargetLink, TargetRefused}
+use Rattle.session_endings.specs.declared.ending.Ending.{Ending}
+use Rattle.session_endings.specs.declared.ending.Ending.TheVariants.{BadClient, BadTarget, ClientLink, Flood, Idle, Left}
+use Rattle.session_endings.specs.declared.ending.Ending.TheVariants.{Spent, TargetLink, TargetRefused}
 
 -- a last word, as the definitions have it
 abbrev pub word_seen : Word → LastWord

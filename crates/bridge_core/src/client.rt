@@ -6,7 +6,7 @@ ghost use Rattle.bridge_core.specs.Cores.{IsReady, with_machine};
 
 use crate::session::Core;
 use dap_messages::{Incoming, ReadFault, read_request};
-use session_model::{ClientFault, Ending};
+use session_endings::{ClientFault, Ending};
 use std::alloc::Global;
 
 impl Core {

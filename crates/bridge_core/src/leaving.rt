@@ -5,13 +5,13 @@ ghost use Rattle.bridge_core.specs.Calls.{SaysNoMore, SaysWord, words_of};
 ghost use Rattle.bridge_core.specs.Going.{HasNext, IsSaid};
 ghost use Rattle.bridge_core.specs.Wording.{word_seen};
 ghost use Rattle.session_model.specs.LastWords.{LastWord};
-ghost use Rattle.session_model.specs.declared.ending.Ending.{Ending as AnEnding};
+ghost use Rattle.session_endings.specs.declared.ending.Ending.{Ending as AnEnding};
 
 use crate::machine::Machine;
 use crate::sending::disposing;
 use crate::session::{Core, Out};
 use crate::words::{Word, Words};
-use session_model::Ending;
+use session_endings::Ending;
 use std::alloc::Global;
 use wire_core::NoMemory;
 

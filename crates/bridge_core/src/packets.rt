@@ -7,14 +7,14 @@ ghost use Rattle.pending_table.specs.Windows.{place_under};
 ghost use Rattle.bridge_core.specs.Calls.{RefusesPacket, TakesPacket, offset_of, packet_of};
 ghost use Rattle.bridge_core.specs.Cores.{IsReady, with_machine};
 ghost use Rattle.bridge_core.specs.Packets.{Hears, IsSettled, IsTakenIn, IsUnsettled, IsUntaken};
-ghost use Rattle.session_model.specs.declared.ending.Ending.TheVariants.{BadTarget, NoMemory as no_memory};
+ghost use Rattle.session_endings.specs.declared.ending.Ending.TheVariants.{BadTarget, NoMemory as no_memory};
 
 use crate::session::Core;
 use jdwp_packets::Packet;
 use jdwp_values::IdSizes;
 use machine_model::Item;
 use message_bodies::{composite, is_composite, judged, known, serving};
-use session_model::{Ending, TargetFault};
+use session_endings::{Ending, TargetFault};
 use std::alloc::Global;
 use wire_core::Blob;
 

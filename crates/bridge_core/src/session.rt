@@ -3,13 +3,13 @@ ghost use Rattle.std.specs.Prelude.{◌≡◌, ◌<◌, ◌≤◌, length, IfErr
 ghost use Rattle.bridge_core.specs.Calls.{in_phase};
 ghost use Rattle.bridge_core.specs.Cores.{IsReady, fresh_core, with_machine};
 ghost use Rattle.bridge_core.specs.Going.{awaits_nothing, rests};
-ghost use Rattle.session_model.specs.declared.ending.Ending.TheVariants.{Flood as floods};
+ghost use Rattle.session_endings.specs.declared.ending.Ending.TheVariants.{Flood as floods};
 
 use crate::machine::Machine;
 use crate::words::Words;
 use machine_model::Phase;
 use pending_table::Pending;
-use session_model::{Ending, Limits};
+use session_endings::{Ending, Limits};
 use std::alloc::Global;
 use std::marker::Model;
 use wire_core::{Blob, NoMemory, Side};

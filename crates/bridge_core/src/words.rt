@@ -8,7 +8,7 @@ ghost use Rattle.session_model.specs.LastWords.{client_words, end_word, fails_go
 use crate::machine::Machine;
 use dap_messages::{Event, Failure, Outcome, Request, Told};
 use machine_model::Item;
-use session_model::Ending;
+use session_endings::Ending;
 use std::alloc::Global;
 use std::collections::VecDeque;
 use std::marker::Model;

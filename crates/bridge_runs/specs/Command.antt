@@ -19,8 +19,8 @@ use Rattle.wire_core.specs.Output.{Printed}
 use Rattle.wire_core.specs.Outside.{Outside, Connects, FailsToConnect}
 use Rattle.wire_core.specs.declared.outside.Entry.{Entry}
 use Rattle.session_model.specs.Session.{IsSession}
-use Rattle.session_model.specs.declared.ending.Ending.{Ending}
-use Rattle.session_model.specs.declared.ending.Ending.TheVariants.{NoMemory}
+use Rattle.session_endings.specs.declared.ending.Ending.{Ending}
+use Rattle.session_endings.specs.declared.ending.Ending.TheVariants.{NoMemory}
 
 -- a session was served over wires that were opened under these addresses
 pub record Serves (addresses : Addresses) (old new : Outside) (ending : Ending) : Type 0 where

@@ -9,7 +9,7 @@ use crate::script::play;
 use bridge_serve::serve;
 use command_words::{Addresses, Task, WordsFault, read_words};
 use run_outcomes::{Outcome, tell};
-use session_model::{Ending, Limits};
+use session_endings::{Ending, Limits};
 use std::alloc::Global;
 use wire_core::{Files, Output, Wires, Word};
 

@@ -10,7 +10,7 @@ use bridge_serve::serve;
 use file_wires::LogWires;
 use run_outcomes::{Outcome, log_of, read_text, show, troubled};
 use script_text::{SessionLog, read_log};
-use session_model::Limits;
+use session_endings::Limits;
 use std::alloc::Global;
 use wire_core::{Blob, Files, NoMemory, Word};
 

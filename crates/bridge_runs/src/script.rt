@@ -12,7 +12,7 @@ use run_outcomes::{Outcome, log_of, read_text, show, troubled};
 use script_files::read_script;
 use script_rows::Script;
 use script_text::SessionLog;
-use session_model::Limits;
+use session_endings::Limits;
 use std::alloc::Global;
 use wire_core::{Blob, Files, NoMemory, Word};
 

@@ -5,7 +5,7 @@ ghost use Rattle.bridge_serve.specs.Following.{GoesOn, Handles, HandlesLast, IsT
 ghost use Rattle.dap_frames.specs.Frames.{frame_front};
 ghost use Rattle.session_model.specs.Causes.{IsWaiting};
 ghost use Rattle.session_model.specs.States.{target_front};
-ghost use Rattle.session_model.specs.declared.ending.Limits.{Limits};
+ghost use Rattle.session_endings.specs.declared.ending.Limits.{Limits};
 ghost use Rattle.wire_core.specs.Streams.{Front};
 
 use crate::inputs::Inputs;
@@ -13,7 +13,7 @@ use crate::telling::tell;
 use bridge_core::Core;
 use dap_frames::Body;
 use jdwp_packets::Packet;
-use session_model::Ending;
+use session_endings::Ending;
 use std::alloc::Global;
 use wire_core::Wires;
 

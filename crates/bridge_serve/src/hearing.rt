@@ -4,10 +4,10 @@ ghost use Rattle.bridge_serve.specs.Serving.{Keeps};
 ghost use Rattle.bridge_serve.specs.Following.{MayHear, Hears, HearsEnd, client_end, target_end};
 ghost use Rattle.wire_core.specs.Outside.{IsOpen};
 ghost use Rattle.wire_core.specs.declared.outside.Side.TheVariants.{Client};
-ghost use Rattle.session_model.specs.declared.ending.Limits.{Limits};
+ghost use Rattle.session_endings.specs.declared.ending.Limits.{Limits};
 
 use crate::inputs::Inputs;
-use session_model::Ending;
+use session_endings::Ending;
 use wire_core::{Happening, Side, Wires};
 
 /// Waits for what comes next. Bytes are fed to their side's cutter; the client's end and the failure of a link end the

@@ -8,7 +8,7 @@ ghost use Rattle.jdwp_packets.specs.Taking.{IsTaken as IsPacket};
 
 use dap_frames::{Body, Cutter};
 use jdwp_packets::{Packet, PacketCutter};
-use session_model::{ClientFault, Ending, TargetFault};
+use session_endings::{ClientFault, Ending, TargetFault};
 use std::alloc::Global;
 use std::marker::Model;
 

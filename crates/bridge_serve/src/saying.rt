@@ -4,7 +4,7 @@ ghost use Rattle.bridge_serve.specs.Following.{FallsSilent, Says, SaysOne, Speak
 ghost use Rattle.bridge_serve.specs.Names.{NoMemory as no_memory};
 
 use bridge_core::Core;
-use session_model::Ending;
+use session_endings::Ending;
 use std::alloc::Global;
 use wire_core::{NoMemory, Wires};
 

@@ -5,14 +5,14 @@ ghost use Rattle.bridge_serve.specs.Following.{Served, Ran};
 ghost use Rattle.wire_core.specs.Outside.{IsOpen};
 ghost use Rattle.wire_core.specs.declared.outside.Side.TheVariants.{Client, Target};
 ghost use Rattle.session_model.specs.Session.{IsSession};
-ghost use Rattle.session_model.specs.States.{AreLimits};
+ghost use Rattle.session_endings.specs.Limits.{AreLimits};
 
 use crate::handling::handle;
 use crate::hearing::hear;
 use crate::inputs::Inputs;
 use crate::saying::say;
 use bridge_core::Core;
-use session_model::{Ending, Limits};
+use session_endings::{Ending, Limits};
 use std::alloc::Global;
 use wire_core::{NoMemory, Wires};
 

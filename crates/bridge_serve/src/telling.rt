@@ -7,7 +7,7 @@ ghost use Rattle.session_model.specs.Causes.{link_ending};
 ghost use Rattle.session_model.specs.States.{id_pending};
 
 use bridge_core::Core;
-use session_model::Ending;
+use session_endings::Ending;
 use std::alloc::Global;
 use wire_core::{Side, Wires};
 

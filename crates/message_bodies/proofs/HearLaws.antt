@@ -26,12 +26,12 @@ use Rattle.message_bodies.specs.Hearing.{IsRefused, MayBe, MayBeKept, MayBeLeft,
 use Rattle.message_bodies.specs.Hearing.{composite_fault, is_tolerated_asked}
 use Rattle.message_bodies.proofs.PickLaws.{kept_at}
 use Rattle.session_model.specs.Faults.{IsBodyFault, IsCompositeFault, header, numbers_in}
-use Rattle.session_model.specs.declared.ending.Ending.{Ending}
-use Rattle.session_model.specs.declared.ending.Ending.TheVariants.{BadClient, BadTarget, ClientLink, Done, Flood, Idle}
-use Rattle.session_model.specs.declared.ending.Ending.TheVariants.{Left, NoMemory, Spent, TargetLink, TargetRefused}
-use Rattle.session_model.specs.declared.ending.TargetFault.{TargetFault}
-use Rattle.session_model.specs.declared.ending.TargetFault.TheVariants.{BadCount, BadKind, BadPolicy, BadSizes, BadTag}
-use Rattle.session_model.specs.declared.ending.TargetFault.TheVariants.{Short, Trailing}
+use Rattle.session_endings.specs.declared.ending.Ending.{Ending}
+use Rattle.session_endings.specs.declared.ending.Ending.TheVariants.{BadClient, BadTarget, ClientLink, Done, Flood, Idle}
+use Rattle.session_endings.specs.declared.ending.Ending.TheVariants.{Left, NoMemory, Spent, TargetLink, TargetRefused}
+use Rattle.session_endings.specs.declared.ending.TargetFault.{TargetFault}
+use Rattle.session_endings.specs.declared.ending.TargetFault.TheVariants.{BadCount, BadKind, BadPolicy, BadSizes, BadTag}
+use Rattle.session_endings.specs.declared.ending.TargetFault.TheVariants.{Short, Trailing}
 
 -- a fault that was found at a place is that fault, and stands there
 found_at : (P : TargetFault → ℕ → Type 0) {at place : ℕ} {fault : TargetFault} (found : TargetFault)

@@ -22,11 +22,11 @@ use Rattle.machine_model.specs.State.{has_raw}
 use Rattle.machine_model.specs.declared.items.Item.{Item}
 use Rattle.machine_model.specs.declared.items.Item.TheVariants.{Composite as a_composite, Raw as a_raw}
 use Rattle.session_model.specs.Faults.{header, numbers_in}
-use Rattle.session_model.specs.declared.ending.Ending.{Ending}
-use Rattle.session_model.specs.declared.ending.Ending.TheVariants.{BadTarget, NoMemory, TargetRefused}
-use Rattle.session_model.specs.declared.ending.TargetFault.{TargetFault}
-use Rattle.session_model.specs.declared.ending.TargetFault.TheVariants.{BadCount, BadKind, BadPolicy, BadSizes}
-use Rattle.session_model.specs.declared.ending.TargetFault.TheVariants.{BadTag, Short, Trailing}
+use Rattle.session_endings.specs.declared.ending.Ending.{Ending}
+use Rattle.session_endings.specs.declared.ending.Ending.TheVariants.{BadTarget, NoMemory, TargetRefused}
+use Rattle.session_endings.specs.declared.ending.TargetFault.{TargetFault}
+use Rattle.session_endings.specs.declared.ending.TargetFault.TheVariants.{BadCount, BadKind, BadPolicy, BadSizes}
+use Rattle.session_endings.specs.declared.ending.TargetFault.TheVariants.{BadTag, Short, Trailing}
 
 -- it is this ending, unless memory ran out
 abbrev pub MayBe : Ending → Ending → Type 0

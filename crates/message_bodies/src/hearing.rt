@@ -16,7 +16,7 @@ ghost use Rattle.message_bodies.specs.Hearing.{is_essential_asked, is_tolerated_
 ghost use Rattle.message_bodies.specs.Hearing.{HasBadSizes, ReadsComposite, answer_fault, composite_fault};
 ghost use Rattle.session_model.specs.Faults.{header, numbers_in};
 ghost use Rattle.session_model.specs.Saying.{is_composite};
-ghost use Rattle.session_model.specs.declared.ending.Ending.TheVariants.{BadTarget, TargetRefused};
+ghost use Rattle.session_endings.specs.declared.ending.Ending.TheVariants.{BadTarget, TargetRefused};
 ghost use Rattle.jdwp_commands.specs.declared.asked.Replied.TheVariants.{Error as an_error};
 
 use crate::waiting::{first_kept, put_at};
@@ -24,7 +24,7 @@ use jdwp_commands::{Answer, Asked, BodyFault, Effect, Question, Replied, read_an
 use jdwp_events::{Composite, CompositeFault, read_composite};
 use jdwp_values::IdSizes;
 use machine_model::Item;
-use session_model::{Ending, TargetFault};
+use session_endings::{Ending, TargetFault};
 use std::alloc::Global;
 use std::collections::VecDeque;
 

@@ -1,7 +1,7 @@
 //! The lines and the statuses of endings and faults.
 use dap_frames::FrameFault;
 use run_outcomes::{Outcome, tell};
-use session_model::{ClientFault, Ending, TargetFault};
+use session_endings::{ClientFault, Ending, TargetFault};
 use std::alloc::Global;
 use std::test::Fail;
 use wire_core::{List, MemoryOutput, NoMemory};

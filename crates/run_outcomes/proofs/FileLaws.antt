@@ -5,7 +5,7 @@ use Rattle.script_text.specs.declared.log.ScriptTrouble.{ScriptTrouble}
 use Rattle.script_text.specs.declared.log.ScriptTrouble.TheVariants.{At, NoMemory}
 use Rattle.script_text.specs.declared.log.SessionLog.{SessionLog}
 use Rattle.session_model.specs.Session.{IsSession}
-use Rattle.session_model.specs.declared.ending.Ending.{Ending}
+use Rattle.session_endings.specs.declared.ending.Ending.{Ending}
 use Rattle.wire_core.specs.Files.{Store}
 use Rattle.wire_core.specs.Outside.{Outside}
 use Rattle.wire_core.specs.declared.memory.NoMemory.{NoMemory as Refused}

@@ -9,9 +9,9 @@ use Rattle.script_text.specs.declared.log.ScriptTrouble.{ScriptTrouble}
 use Rattle.script_text.specs.declared.log.ScriptTrouble.TheVariants.{At, NoMemory as no_memory}
 use Rattle.script_text.specs.declared.log.SessionLog.{SessionLog}
 use Rattle.session_model.specs.Session.{IsSession}
-use Rattle.session_model.specs.declared.ending.Ending.{Ending}
-use Rattle.session_model.specs.declared.ending.Ending.TheVariants.{NoMemory}
-use Rattle.session_model.specs.declared.ending.Limits.{Limits}
+use Rattle.session_endings.specs.declared.ending.Ending.{Ending}
+use Rattle.session_endings.specs.declared.ending.Ending.TheVariants.{NoMemory}
+use Rattle.session_endings.specs.declared.ending.Limits.{Limits}
 use Rattle.wire_core.specs.Files.{Asks, Reads, Store}
 use Rattle.wire_core.specs.Outside.{Outside}
 use Rattle.wire_core.specs.declared.files.FileRefusal.{FileRefusal}

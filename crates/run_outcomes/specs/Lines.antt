@@ -14,16 +14,16 @@ use Rattle.script_text.specs.declared.log.ScriptFault.TheVariants.{NotUtf8, BadS
 use Rattle.script_text.specs.declared.log.ScriptFault.TheVariants.{RepeatedId, UnknownId, BadMove, AfterEnd}
 use Rattle.script_text.specs.declared.log.ScriptFault.TheVariants.{NotJson as no_json}
 use Rattle.wire_core.specs.Output.{Printed, Appends, FailsToWrite}
-use Rattle.session_model.specs.declared.ending.ClientFault.{ClientFault}
-use Rattle.session_model.specs.declared.ending.ClientFault.TheVariants.{Frame, NotJson, NotAMessage}
-use Rattle.session_model.specs.declared.ending.Ending.{Ending}
-use Rattle.session_model.specs.declared.ending.Ending.TheVariants.{Done, Left, BadClient, BadTarget, ClientLink}
-use Rattle.session_model.specs.declared.ending.Ending.TheVariants.{TargetLink, TargetRefused, Idle, Spent, Flood}
-use Rattle.session_model.specs.declared.ending.Ending.TheVariants.{NoMemory}
-use Rattle.session_model.specs.declared.ending.TargetFault.{TargetFault}
-use Rattle.session_model.specs.declared.ending.TargetFault.TheVariants.{Packet, Short, BadTag, BadCount, BadKind}
-use Rattle.session_model.specs.declared.ending.TargetFault.TheVariants.{BadPolicy, Trailing, BadSizes, PolicyThread}
-use Rattle.session_model.specs.declared.ending.TargetFault.TheVariants.{BadCommand, UnknownReply}
+use Rattle.session_endings.specs.declared.ending.ClientFault.{ClientFault}
+use Rattle.session_endings.specs.declared.ending.ClientFault.TheVariants.{Frame, NotJson, NotAMessage}
+use Rattle.session_endings.specs.declared.ending.Ending.{Ending}
+use Rattle.session_endings.specs.declared.ending.Ending.TheVariants.{Done, Left, BadClient, BadTarget, ClientLink}
+use Rattle.session_endings.specs.declared.ending.Ending.TheVariants.{TargetLink, TargetRefused, Idle, Spent, Flood}
+use Rattle.session_endings.specs.declared.ending.Ending.TheVariants.{NoMemory}
+use Rattle.session_endings.specs.declared.ending.TargetFault.{TargetFault}
+use Rattle.session_endings.specs.declared.ending.TargetFault.TheVariants.{Packet, Short, BadTag, BadCount, BadKind}
+use Rattle.session_endings.specs.declared.ending.TargetFault.TheVariants.{BadPolicy, Trailing, BadSizes, PolicyThread}
+use Rattle.session_endings.specs.declared.ending.TargetFault.TheVariants.{BadCommand, UnknownReply}
 
 -- the name of a fault of a frame
 abbrev pub frame_fault_name : FrameFault → List ℕ

@@ -4,7 +4,7 @@ ghost use Rattle.run_outcomes.specs.FileRuns.{KeepsLog, ReadsText, ShowsLog, tro
 
 use crate::printing::{OUT_OF_MEMORY, Outcome, status_of_ending};
 use script_text::{ScriptTrouble, SessionLog, print_log};
-use session_model::Ending;
+use session_endings::Ending;
 use std::alloc::Global;
 use wire_core::{Blob, Entry, FileRefusal, Files, List, NoMemory, Word};
 

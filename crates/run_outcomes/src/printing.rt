@@ -8,7 +8,7 @@ ghost use Rattle.run_outcomes.specs.Lines.{faulty_line, line_fault_name};
 use dap_frames::FrameFault;
 use jdwp_packets::PacketFault;
 use script_text::ScriptFault;
-use session_model::{ClientFault, Ending, TargetFault};
+use session_endings::{ClientFault, Ending, TargetFault};
 use std::alloc::{AllocError, Global};
 use wire_core::{Blob, OutRefusal, Output};
 

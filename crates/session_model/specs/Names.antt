@@ -32,17 +32,17 @@ pub use Rattle.machine_model.specs.declared.parts.Lookup.{Lookup}
 pub use Rattle.machine_model.specs.declared.parts.Outcome.{Outcome}
 pub use Rattle.machine_model.specs.declared.parts.Outcome.TheVariants.{Success}
 pub use Rattle.machine_model.specs.declared.parts.Part.{Part}
-pub use Rattle.session_model.specs.declared.ending.ClientFault.{ClientFault}
-pub use Rattle.session_model.specs.declared.ending.ClientFault.TheVariants.{Frame as misframed, NotAMessage, NotJson}
-pub use Rattle.session_model.specs.declared.ending.Ending.{Ending}
-pub use Rattle.session_model.specs.declared.ending.Ending.TheVariants.{BadClient, BadTarget, ClientLink, Done, Flood}
-pub use Rattle.session_model.specs.declared.ending.Ending.TheVariants.{Idle, Left, NoMemory, Spent, TargetLink}
-pub use Rattle.session_model.specs.declared.ending.Ending.TheVariants.{TargetRefused}
-pub use Rattle.session_model.specs.declared.ending.Limits.{Limits}
-pub use Rattle.session_model.specs.declared.ending.TargetFault.{TargetFault}
-pub use Rattle.session_model.specs.declared.ending.TargetFault.TheVariants.{BadCommand, BadCount, BadKind, BadPolicy}
-pub use Rattle.session_model.specs.declared.ending.TargetFault.TheVariants.{BadSizes, BadTag, Packet as mispacked}
-pub use Rattle.session_model.specs.declared.ending.TargetFault.TheVariants.{PolicyThread, Short, Trailing, UnknownReply}
+pub use Rattle.session_endings.specs.declared.ending.ClientFault.{ClientFault}
+pub use Rattle.session_endings.specs.declared.ending.ClientFault.TheVariants.{Frame as misframed, NotAMessage, NotJson}
+pub use Rattle.session_endings.specs.declared.ending.Ending.{Ending}
+pub use Rattle.session_endings.specs.declared.ending.Ending.TheVariants.{BadClient, BadTarget, ClientLink, Done, Flood}
+pub use Rattle.session_endings.specs.declared.ending.Ending.TheVariants.{Idle, Left, NoMemory, Spent, TargetLink}
+pub use Rattle.session_endings.specs.declared.ending.Ending.TheVariants.{TargetRefused}
+pub use Rattle.session_endings.specs.declared.ending.Limits.{Limits}
+pub use Rattle.session_endings.specs.declared.ending.TargetFault.{TargetFault}
+pub use Rattle.session_endings.specs.declared.ending.TargetFault.TheVariants.{BadCommand, BadCount, BadKind, BadPolicy}
+pub use Rattle.session_endings.specs.declared.ending.TargetFault.TheVariants.{BadSizes, BadTag, Packet as mispacked}
+pub use Rattle.session_endings.specs.declared.ending.TargetFault.TheVariants.{PolicyThread, Short, Trailing, UnknownReply}
 pub use Rattle.wire_core.specs.declared.outside.Entry.{Entry}
 pub use Rattle.wire_core.specs.declared.outside.Entry.TheVariants.{Failed, In, Out, Quiet, Shut}
 pub use Rattle.wire_core.specs.declared.outside.Side.{Side}

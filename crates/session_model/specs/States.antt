@@ -1,5 +1,5 @@
 -- Where a session stands: in the bytes of its two sides, in the machine, and in its waits.
-use Rattle.std.specs.Prelude.{ℕ, ◌≤◌, ◌<◌, Bool, false, is_some}
+use Rattle.std.specs.Prelude.{ℕ, Bool, false, is_some}
 use Rattle.jdwp_packets.specs.Packets.{Packet}
 use Rattle.jdwp_packets.specs.Receiving.{Received, nothing_received, received_front}
 use Rattle.jdwp_packets.specs.declared.fault.PacketFault.{PacketFault}
@@ -7,7 +7,6 @@ use Rattle.machine_model.specs.Due.{Due, due}
 use Rattle.machine_model.specs.State.{Machine, fresh}
 use Rattle.pending_table.specs.Windows.{Window, id_of, pending_under}
 use Rattle.pending_table.specs.Windows.{fresh as unsent}
-use Rattle.session_model.specs.Names.{Limits}
 use Rattle.wire_core.specs.Streams.{Front, Uncut, past, uncut}
 
 -- Where a session stands in the bytes of its two sides: how many messages the client was told, and the client's bytes
@@ -51,10 +50,3 @@ id_pending window = is_some (pending_under (id_of window.next) window.sent)
 -- what is due
 abbrev pub due_now : SessionState → Due
 due_now s = due (id_pending s.streams.commands) s.machine
-
--- limits that a session can be run with: each is at least 1, and there are at most 2 ^ 40 happenings
-pub record AreLimits (limits : Limits) : Type 0 where
-  pub some_turns : 0 < limits.turns
-  pub few_turns : limits.turns ≤ 1099511627776
-  pub some_quiet : 0 < limits.quiet
-  pub some_waiting : 0 < limits.waiting

@@ -1,5 +1,5 @@
 ghost use Rattle.std.specs.Prelude.{IfOk, IfSome};
-ghost use Rattle.session_model.specs.States.{AreLimits};
+ghost use Rattle.session_endings.specs.Limits.{AreLimits};
 ghost use Rattle.wire_core.specs.MemoryWires.{outside_of};
 ghost use Rattle.wire_core.specs.Outside.{IsOpen};
 ghost use Rattle.wire_core.specs.declared.outside.Side.TheVariants.{Client, Target};
@@ -7,7 +7,7 @@ ghost use Rattle.wire_core.specs.declared.outside.Side.TheVariants.{Client, Targ
 use crate::messages::{add_message, head};
 use crate::stages::stage;
 use bridge_serve::serve;
-use session_model::{Ending, Limits};
+use session_endings::{Ending, Limits};
 use std::alloc::Global;
 use std::test::Fail;
 use wire_core::{Cut, Entry, List, MemoryWires, Side, Step};

@@ -1,4 +1,4 @@
-use session_model::Limits;
+use session_endings::Limits;
 use std::alloc::Global;
 use std::test::Fail;
 use talk_state::key_of;

@@ -16,7 +16,7 @@ pub struct Limits {
 
 impl Limits {
     ghost use Rattle.std.specs.Prelude.{◌≡◌};
-    ghost use Rattle.session_model.specs.States.{AreLimits};
+    ghost use Rattle.session_endings.specs.Limits.{AreLimits};
 
     /// The limits of a session that serves an editor: 2^40 happenings, 43,200,000 waits in vain in a row, which is
     /// one to three days of silence, and 65,536 waiting items.
@@ -92,7 +92,7 @@ pub enum Ending {
 
 impl From<NoMemory> for Ending {
     ghost use Rattle.std.specs.Prelude.{◌≡◌};
-    ghost use Rattle.session_model.specs.declared.ending.Ending.TheVariants.{NoMemory as ends_for_memory};
+    ghost use Rattle.session_endings.specs.declared.ending.Ending.TheVariants.{NoMemory as ends_for_memory};
 
     ghost from_gives = { λ _ ending. ending ≡ ends_for_memory };
 

@@ -1,0 +1,6 @@
+//! How sessions end, and the limits that end them.
+#![tactic(auto)]
+
+mod ending;
+
+pub use ending::{ClientFault, Ending, Limits, TargetFault};
