@@ -42,6 +42,7 @@ ROWS = [
     [(1, PROVED, "session_facts", "the parts of what is known"), (1, PROVED, "look_ups", "what is asked and heard"),
      (1, MODEL, "machine_steps", "what each step keeps"), (1, MODEL, "session_model", "which bytes are a session")],
     [(1.1, MODEL, "machine_model", "what a session does"),
+     (1, PROVED, "target_bodies", "answers, composites"),
      (1, PROVED, "world_model", "the world of a target"), (0.9, PROVED, "pending_table", "pending commands"),
      (0.9, MODEL, "body_faults", "the first wrong part")],
     [(1, PROVED, "jdwp_commands", "commands, and their answers"), (1, PROVED, "wish_sets", "event requests"),

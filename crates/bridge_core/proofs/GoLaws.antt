@@ -24,8 +24,8 @@ use Rattle.bridge_core.specs.Calls.{Finds, Goes, IsIdle, IsOver, Sends, finish_e
 use Rattle.bridge_core.specs.Cores.{CoreState, IsReady, fresh_core, with_machine}
 use Rattle.bridge_core.specs.Going.{Comes, IsSent, IsStep, IsTold, MaySend, is_hidden}
 use Rattle.bridge_core.specs.Names.{Act, Effect, Question, a_question, an_effect}
-use Rattle.message_bodies.specs.Hearing.{MayBe}
-use Rattle.message_bodies.proofs.HearLaws.{may_hold}
+use Rattle.target_bodies.specs.Hearing.{MayBe}
+use Rattle.target_bodies.proofs.HearLaws.{may_hold}
 use Rattle.machine_work.specs.Working.{is_wait, is_work, work}
 use Rattle.machine_work.proofs.FrameLaws.{due_framed}
 use Rattle.bridge_core.proofs.RunLaws.{asks_fits, hand_sized, sends_fits}

@@ -9,7 +9,8 @@ use Rattle.machine_model.specs.Runs.{Allows, Message, Run}
 use Rattle.machine_model.specs.State.{Machine, SizesRead, has_raw, is_gone, is_raw}
 use Rattle.machine_model.specs.declared.items.Item.{Item}
 use Rattle.machine_model.specs.declared.items.Item.TheVariants.{Raw as a_raw}
-use Rattle.message_bodies.specs.Hearing.{AreReadOff, IsBadBody, IsFirstKept, MayBeLeft}
+use Rattle.message_bodies.specs.Hearing.{AreReadOff, IsFirstKept, MayBeLeft}
+use Rattle.target_bodies.specs.Hearing.{IsBadBody}
 use Rattle.bridge_core.specs.Moving.{RefusesKept}
 use Rattle.message_bodies.proofs.HearLaws.{is_composite_fault}
 use Rattle.bridge_core.specs.Calls.{AreRead}

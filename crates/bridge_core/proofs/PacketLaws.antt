@@ -11,7 +11,7 @@ use Rattle.machine_model.specs.State.{Machine, has_raw, is_gone, is_raw, is_some
 use Rattle.bridge_core.specs.Names.{Item, a_composite, a_raw}
 use Rattle.bridge_core.specs.Calls.{AreRead, IsLike, RefusesPacket, TakesPacket}
 use Rattle.bridge_core.specs.Cores.{CoreState, IsReady, session_in, with_machine}
-use Rattle.message_bodies.specs.Hearing.{IsBadBody}
+use Rattle.target_bodies.specs.Hearing.{IsBadBody}
 use Rattle.bridge_core.specs.Packets.{Hears, IsTakenIn, IsUntaken}
 use Rattle.message_bodies.proofs.HearLaws.{is_composite_fault}
 use Rattle.bridge_core.proofs.WindowLaws.{item_aligned}

@@ -31,7 +31,8 @@ use Rattle.bridge_core.proofs.KeptLaws.{read_run}
 use Rattle.message_bodies.proofs.HearLaws.{is_answer_fault}
 use Rattle.bridge_core.proofs.RunLaws.{hand_next, near_late}
 use Rattle.bridge_core.proofs.WindowLaws.{effect_under, found, items_aligned, late_under, none_held, question_under}
-use Rattle.session_model.specs.Faults.{HasReply, IsTargetFault, header}
+use Rattle.session_model.specs.Faults.{HasReply, IsTargetFault}
+use Rattle.target_bodies.specs.Hearing.{header}
 use Rattle.session_model.specs.Saying.{PacketSays, SaysReply}
 use Rattle.session_endings.specs.declared.ending.Ending.{Ending}
 use Rattle.session_endings.specs.declared.ending.Ending.TheVariants.{BadTarget, TargetRefused}

@@ -24,7 +24,8 @@ use Rattle.jdwp_values.specs.declared.sizes.IdSizes.{IdSizes}
 use Rattle.machine_model.specs.declared.items.Item.TheVariants.{Composite as a_composite, Raw as a_raw}
 use Rattle.machine_model.specs.declared.items.Item.{Item}
 use Rattle.machine_model.specs.declared.parts.Finish.{Finish}
-use Rattle.session_model.specs.Faults.{HasReply, IsKeptFault, IsTargetFault, header}
+use Rattle.session_model.specs.Faults.{HasReply, IsKeptFault, IsTargetFault}
+use Rattle.target_bodies.specs.Hearing.{header}
 use Rattle.session_model.specs.LastWords.{LastWord, last_word_said, last_words, word_bytes, word_side}
 use Rattle.session_model.specs.Saying.{PacketSays, Speaks}
 use Rattle.session_model.specs.States.{id_pending, target_front}

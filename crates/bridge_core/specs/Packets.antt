@@ -17,7 +17,8 @@ use Rattle.machine_model.specs.declared.items.Item.TheVariants.{Composite as a_c
 use Rattle.pending_table.specs.Windows.{pending_under, settled}
 use Rattle.bridge_core.specs.Calls.{TakesPacket}
 use Rattle.bridge_core.specs.Cores.{CoreState, IsSound, with_machine}
-use Rattle.message_bodies.specs.Hearing.{IsBadBody, IsJudged, IsRefused, ReadsComposite}
+use Rattle.message_bodies.specs.Hearing.{IsJudged, IsRefused}
+use Rattle.target_bodies.specs.Hearing.{IsBadBody, ReadsComposite}
 use Rattle.bridge_core.specs.Moving.{IsFlight}
 use Rattle.session_endings.specs.declared.ending.Ending.{Ending}
 use Rattle.session_endings.specs.declared.ending.Ending.TheVariants.{NoMemory}

@@ -13,9 +13,10 @@ use crate::session::Core;
 use jdwp_packets::Packet;
 use jdwp_values::IdSizes;
 use machine_model::Item;
-use message_bodies::{composite, is_composite, judged, known, serving};
+use message_bodies::{is_composite, judged, known, serving};
 use session_endings::{Ending, TargetFault};
 use std::alloc::Global;
+use target_bodies::composite;
 use wire_core::Blob;
 
 // The ending by a fault of the target's at an offset.

@@ -4,7 +4,7 @@ ghost use Rattle.jdwp_packets.specs.Packets.{command_packet, handshake, packet_b
 ghost use Rattle.bridge_core.specs.Cores.{IsReady};
 ghost use Rattle.bridge_core.specs.Going.{Comes, IsSent, IsStep, IsTold, MaySend, is_hidden};
 ghost use Rattle.bridge_core.specs.Calls.{Finds, IsIdle, Sends, finish_ending};
-ghost use Rattle.message_bodies.specs.Hearing.{MayBe};
+ghost use Rattle.target_bodies.specs.Hearing.{MayBe};
 ghost use Rattle.wire_core.specs.declared.outside.Side.TheVariants.{Target};
 
 use crate::session::{Core, Out};
@@ -12,11 +12,12 @@ use dap_messages::Told;
 use jdwp_commands::Asked;
 use jdwp_packets::write_command;
 use machine_model::Finish;
-use message_bodies::{bad_body, framed, packed, serving};
+use message_bodies::{framed, packed, serving};
 use session_endings::{Ending, TargetFault};
 use session_facts::wire_effect;
 use std::alloc::Global;
 use talk_plans::Next;
+use target_bodies::bad_body;
 use wire_core::{Blob, NoMemory, Side};
 
 // What goes to the target first (JDWP, JDWP Start Up).

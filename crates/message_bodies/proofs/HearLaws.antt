@@ -5,12 +5,10 @@ use Rattle.std.specs.Prelude.{IfErr, IfOk, Result, ◌<◌, position, set}
 use Rattle.jdwp_commands.specs.Commands.{number_of}
 use Rattle.jdwp_commands.specs.declared.asked.Replied.{Replied}
 use Rattle.jdwp_commands.specs.declared.asked.Replied.TheVariants.{Error as an_error}
-use Rattle.jdwp_commands.specs.Answers.{answer_at}
 use Rattle.jdwp_commands.specs.declared.answer.Answer.{Answer}
 use Rattle.jdwp_commands.specs.declared.asked.Asked.{Asked}
 use Rattle.jdwp_commands.specs.declared.fault.BodyFault.{BodyFault}
 use Rattle.jdwp_commands.specs.declared.fault.BodyFault.TheVariants as body_faults
-use Rattle.jdwp_events.specs.Composites.{composite_at}
 use Rattle.jdwp_events.specs.declared.composite.Composite.{Composite}
 use Rattle.jdwp_events.specs.declared.composite.CompositeFault.{CompositeFault}
 use Rattle.jdwp_events.specs.declared.composite.CompositeFault.TheVariants as composite_faults
@@ -21,17 +19,18 @@ use Rattle.machine_model.specs.Replying.{SizesFor, sizes_of}
 use Rattle.machine_model.specs.State.{Machine, SizesRead, has_raw, is_gone, is_raw, is_some}
 use Rattle.machine_model.specs.declared.items.Item.{Item}
 use Rattle.machine_model.specs.declared.items.Item.TheVariants.{Composite as a_composite, Raw as a_raw}
-use Rattle.message_bodies.specs.Hearing.{AreReadOff, HasBadSizes, IsBadBody, IsJudged, IsReadFirst}
-use Rattle.message_bodies.specs.Hearing.{IsRefused, MayBe, MayBeKept, MayBeLeft, ReadsComposite, answer_fault}
-use Rattle.message_bodies.specs.Hearing.{composite_fault, is_tolerated_asked}
+use Rattle.message_bodies.specs.Hearing.{AreReadOff, HasBadSizes, IsJudged, IsReadFirst, IsRefused, MayBeKept}
+use Rattle.message_bodies.specs.Hearing.{MayBeLeft, is_tolerated_asked}
 use Rattle.message_bodies.proofs.PickLaws.{kept_at}
-use Rattle.session_model.specs.Faults.{IsBodyFault, IsCompositeFault, header, numbers_in}
+use Rattle.session_model.specs.Faults.{IsBodyFault, IsCompositeFault, numbers_in}
 use Rattle.session_endings.specs.declared.ending.Ending.{Ending}
-use Rattle.session_endings.specs.declared.ending.Ending.TheVariants.{BadClient, BadTarget, ClientLink, Done, Flood, Idle}
-use Rattle.session_endings.specs.declared.ending.Ending.TheVariants.{Left, NoMemory, Spent, TargetLink, TargetRefused}
+use Rattle.session_endings.specs.declared.ending.Ending.TheVariants.{BadTarget, TargetRefused}
 use Rattle.session_endings.specs.declared.ending.TargetFault.{TargetFault}
 use Rattle.session_endings.specs.declared.ending.TargetFault.TheVariants.{BadCount, BadKind, BadPolicy, BadSizes, BadTag}
 use Rattle.session_endings.specs.declared.ending.TargetFault.TheVariants.{Short, Trailing}
+use Rattle.target_bodies.specs.Hearing.{IsBadAnswer, IsBadBody, MayBe, ReadsComposite, answer_fault}
+use Rattle.target_bodies.specs.Hearing.{composite_fault, header}
+use Rattle.target_bodies.proofs.HearLaws.{may_hold}
 
 -- a fault that was found at a place is that fault, and stands there
 found_at : (P : TargetFault → ℕ → Type 0) {at place : ℕ} {fault : TargetFault} (found : TargetFault)
@@ -78,19 +77,11 @@ is_answer_fault (body_faults.BadCount at) fault place is =
 is_answer_fault (body_faults.Trailing at) fault place is =
     found_at (IsBodyFault (body_faults.Trailing at)) Trailing is IsBodyFault.trailing
 
--- what holds of want of memory and of an ending holds of what may be it
-pub may_hold : (P : Ending → Type 0) (ending wanted : Ending) → P NoMemory → P wanted → MayBe ending wanted → P ending
-may_hold P NoMemory wanted none is may = none
-may_hold P Done wanted none is may = subst P (sym may) is
-may_hold P Left wanted none is may = subst P (sym may) is
-may_hold P (BadClient fault at) wanted none is may = subst P (sym may) is
-may_hold P (BadTarget fault at id) wanted none is may = subst P (sym may) is
-may_hold P ClientLink wanted none is may = subst P (sym may) is
-may_hold P TargetLink wanted none is may = subst P (sym may) is
-may_hold P (TargetRefused set command code) wanted none is may = subst P (sym may) is
-may_hold P Idle wanted none is may = subst P (sym may) is
-may_hold P Spent wanted none is may = subst P (sym may) is
-may_hold P Flood wanted none is may = subst P (sym may) is
+-- a fault of an answer's body ends the session
+pub answer_ends : {used : IdSizes} {asked : Asked} {body : List ℕ} {at : ℕ} {ending : Ending}
+    → IsBadAnswer used asked body at ending → IsRefused used asked at 0 body ending
+answer_ends IsBadAnswer.no_memory = IsRefused.no_memory
+answer_ends (IsBadAnswer.faulty reads is) = IsRefused.bad_answer reads is
 
 pub bad_sizes_are : (answer : Answer) (at which : ℕ) (ending : Ending)
     → position is_no_size (numbers_in answer) ≡ Some which
@@ -98,21 +89,6 @@ pub bad_sizes_are : (answer : Answer) (at which : ℕ) (ending : Ending)
 bad_sizes_are answer at which ending is may =
     may_hold (HasBadSizes answer at) ending (BadTarget BadSizes (at + header + 4 * which) 0) HasBadSizes.no_memory
     (HasBadSizes.bad_sizes is) may
-
-pub bad_composite : (used : IdSizes) (body : List ℕ) (at place : ℕ) (found : CompositeFault) (fault : TargetFault)
-    (ending : Ending) → composite_fault found ≡ Some (fault, place) → composite_at used body ≡ Err found
-    → MayBe ending (BadTarget fault (at + header + place) 0) → IsBadBody used body at ending
-bad_composite used body at place found fault ending is reads may =
-    may_hold (IsBadBody used body at) ending (BadTarget fault (at + header + place) 0) IsBadBody.no_memory
-    (IsBadBody.faulty reads is) may
-
-pub bad_answer : (used : IdSizes) (asked : Asked) (body : List ℕ) (at place : ℕ) (found : BodyFault)
-    (fault : TargetFault) (ending : Ending) → answer_fault found ≡ Some (fault, place)
-    → answer_at used asked body ≡ Err found → MayBe ending (BadTarget fault (at + header + place) 0)
-    → IsRefused used asked at 0 body ending
-bad_answer used asked body at place found fault ending is reads may =
-    may_hold (IsRefused used asked at 0 body) ending (BadTarget fault (at + header + place) 0) IsRefused.no_memory
-    (IsRefused.bad_answer reads is) may
 
 -- Sizes ---------------------------------------------------------------------------------------------------------------
 

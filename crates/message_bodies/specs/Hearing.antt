@@ -1,6 +1,6 @@
 -- What a packet of the target's says, and how it ends a session: words for the code that judges it.
-use Rattle.std.specs.Prelude.{ℕ, ◌≡◌, ◌<◌, ◌+◌, ◌*◌, ◌==◌, ◌∷◌, ◌++◌, Bool, true, false, cond, List, Ok, Err, None, Some}
-use Rattle.std.specs.Prelude.{Option, position}
+use Rattle.std.specs.Prelude.{ℕ, ◌≡◌, ◌<◌, ◌+◌, ◌*◌, ◌==◌, ◌∷◌, ◌++◌, Bool, true, false, cond, List, Ok, Err, Some}
+use Rattle.std.specs.Prelude.{position}
 use Rattle.jdwp_commands.specs.Answers.{IsAnswerTo, answer_at}
 use Rattle.jdwp_commands.specs.Commands.{number_of}
 use Rattle.jdwp_commands.specs.declared.answer.Answer.{Answer}
@@ -10,60 +10,21 @@ use Rattle.jdwp_commands.specs.declared.asked.Replied.{Replied}
 use Rattle.jdwp_commands.specs.declared.asked.Replied.TheVariants.{Answer as an_answer, Error as an_error}
 use Rattle.jdwp_commands.specs.declared.effect.Effect.TheVariants as effects
 use Rattle.jdwp_commands.specs.declared.fault.BodyFault.{BodyFault}
-use Rattle.jdwp_commands.specs.declared.fault.BodyFault.TheVariants as body_faults
-use Rattle.jdwp_events.specs.Composites.{FitsComposite, composite_at}
 use Rattle.jdwp_events.specs.declared.composite.Composite.{Composite}
-use Rattle.jdwp_events.specs.declared.composite.CompositeFault.{CompositeFault}
-use Rattle.jdwp_events.specs.declared.composite.CompositeFault.TheVariants as composite_faults
 use Rattle.jdwp_values.specs.Sizes.{is_no_size}
 use Rattle.jdwp_values.specs.declared.sizes.IdSizes.{IdSizes}
 use Rattle.machine_model.specs.Replying.{has_good_sizes, is_essential_question}
 use Rattle.machine_model.specs.State.{has_raw}
 use Rattle.machine_model.specs.declared.items.Item.{Item}
 use Rattle.machine_model.specs.declared.items.Item.TheVariants.{Composite as a_composite, Raw as a_raw}
-use Rattle.session_model.specs.Faults.{header, numbers_in}
+use Rattle.session_model.specs.Faults.{numbers_in}
 use Rattle.session_endings.specs.declared.ending.Ending.{Ending}
 use Rattle.session_endings.specs.declared.ending.Ending.TheVariants.{BadTarget, NoMemory, TargetRefused}
 use Rattle.session_endings.specs.declared.ending.TargetFault.{TargetFault}
-use Rattle.session_endings.specs.declared.ending.TargetFault.TheVariants.{BadCount, BadKind, BadPolicy, BadSizes}
-use Rattle.session_endings.specs.declared.ending.TargetFault.TheVariants.{BadTag, Short, Trailing}
-
--- it is this ending, unless memory ran out
-abbrev pub MayBe : Ending → Ending → Type 0
-MayBe NoMemory wanted = Unit {0}
-MayBe ending wanted = ending ≡ wanted
-
--- a fault of a composite's body, and its place in the body; want of memory is none
-abbrev pub composite_fault : CompositeFault → Option (TargetFault × ℕ)
-composite_fault composite_faults.NoMemory = None
-composite_fault (composite_faults.Short place) = Some (Short, place)
-composite_fault (composite_faults.BadKind place) = Some (BadKind, place)
-composite_fault (composite_faults.BadPolicy place) = Some (BadPolicy, place)
-composite_fault (composite_faults.BadCount place) = Some (BadCount, place)
-composite_fault (composite_faults.BadTag place) = Some (BadTag, place)
-composite_fault (composite_faults.Trailing place) = Some (Trailing, place)
-
--- a fault of an answer's body, and its place in the body; a command that is sent is known
-abbrev pub answer_fault : BodyFault → Option (TargetFault × ℕ)
-answer_fault body_faults.NoMemory = None
-answer_fault body_faults.UnknownCommand = None
-answer_fault (body_faults.Short place) = Some (Short, place)
-answer_fault (body_faults.BadTag place) = Some (BadTag, place)
-answer_fault (body_faults.BadCount place) = Some (BadCount, place)
-answer_fault (body_faults.Trailing place) = Some (Trailing, place)
+use Rattle.session_endings.specs.declared.ending.TargetFault.TheVariants.{BadSizes}
+use Rattle.target_bodies.specs.Hearing.{IsBadBody, ReadsComposite, answer_fault, header}
 
 -- Composites ----------------------------------------------------------------------------------------------------------
-
--- the body reads as this composite (JDWP, Event command set, Composite)
-pub record ReadsComposite (used : IdSizes) (body : List ℕ) (composite : Composite) : Type 0 where
-  pub reads : composite_at used body ≡ Ok composite
-  pub fits : FitsComposite used composite
-
--- the body of a composite, whose packet begins at this offset, has a fault
-pub data IsBadBody (used : IdSizes) (body : List ℕ) (at : ℕ) : Ending → Type 0 where
-  no_memory : IsBadBody used body at NoMemory
-  faulty : {found : CompositeFault} {fault : TargetFault} {place : ℕ} → composite_at used body ≡ Err found
-      → composite_fault found ≡ Some (fault, place) → IsBadBody used body at (BadTarget fault (at + header + place) 0)
 
 -- the first of the composites that were kept is read
 pub record IsReadFirst (used : IdSizes) (old new : List Item) : Type 0 where

@@ -1,38 +1,26 @@
 //! What the target's packets say, and how they end a session.
-ghost use Rattle.std.specs.Prelude.{◌≡◌, ◌+◌, ◌<◌, Err, false, true, IfErr, IfOk, MatchOption, OnOk};
-ghost use Rattle.std.specs.Prelude.{position, set, OnErr, ℕ, List, Ok, Some};
-ghost use Rattle.jdwp_commands.specs.Answers.{answer_at};
-ghost use Rattle.jdwp_commands.specs.Bodies.{IsRead as AreReadSo};
-ghost use Rattle.jdwp_commands.specs.declared.asked.Asked.{Asked as AnAsked};
+ghost use Rattle.std.specs.Prelude.{◌≡◌, ◌<◌, false, true, IfErr, IfOk, MatchOption, OnOk};
+ghost use Rattle.std.specs.Prelude.{position, set, OnErr, Some};
 ghost use Rattle.jdwp_commands.specs.Commands.{number_of};
-ghost use Rattle.jdwp_events.specs.Composites.{composite_at, IsRead};
 ghost use Rattle.jdwp_values.specs.Sizes.{is_no_size};
-ghost use Rattle.jdwp_values.specs.declared.sizes.IdSizes.{IdSizes as Sizes};
 ghost use Rattle.machine_model.specs.Replying.{has_good_sizes, is_dead};
 ghost use Rattle.machine_model.specs.State.{has_raw, is_raw};
-ghost use Rattle.message_bodies.specs.Hearing.{AreReadOff, IsBadBody, IsJudged, IsReadFirst, IsRefused};
-ghost use Rattle.message_bodies.specs.Hearing.{MayBe, MayBeKept, MayBeLeft};
+ghost use Rattle.message_bodies.specs.Hearing.{AreReadOff, HasBadSizes, IsJudged, IsReadFirst, IsRefused};
+ghost use Rattle.message_bodies.specs.Hearing.{MayBeKept, MayBeLeft};
 ghost use Rattle.message_bodies.specs.Hearing.{is_essential_asked, is_tolerated_asked};
-ghost use Rattle.message_bodies.specs.Hearing.{HasBadSizes, ReadsComposite, answer_fault, composite_fault};
-ghost use Rattle.session_model.specs.Faults.{header, numbers_in};
+ghost use Rattle.session_model.specs.Faults.{numbers_in};
 ghost use Rattle.session_model.specs.Saying.{is_composite};
-ghost use Rattle.session_endings.specs.declared.ending.Ending.TheVariants.{BadTarget, TargetRefused};
+ghost use Rattle.session_endings.specs.declared.ending.Ending.TheVariants.{TargetRefused};
 ghost use Rattle.jdwp_commands.specs.declared.asked.Replied.TheVariants.{Error as an_error};
 
 use crate::waiting::{first_kept, put_at};
-use jdwp_commands::{Answer, Asked, BodyFault, Effect, Question, Replied, read_answer};
-use jdwp_events::{Composite, CompositeFault, read_composite};
+use jdwp_commands::{Answer, Asked, Effect, Question, Replied};
 use jdwp_values::IdSizes;
 use machine_model::Item;
 use session_endings::{Ending, TargetFault};
 use std::alloc::Global;
 use std::collections::VecDeque;
-
-// How many bytes of a packet stand before its body (JDWP, JDWP Packets).
-const HEADER: u64 = 11;
-
-// A body of so many bytes isn't read.
-const TOO_LONG: usize = 1 << 32;
+use target_bodies::{answer, bad_body, composite, target_refused};
 
 // The error of a target that has ended (JDWP, Error Constants, VM_DEAD).
 const VM_DEAD: u16 = 112;
@@ -47,57 +35,6 @@ pub fn is_composite(set: u8, command: u8) -> bool
     ensures { result ≡ is_composite set command }
 {
     set == EVENT_SET && command == COMPOSITE
-}
-
-/// The ending by a fault at this place of a packet's body. An offset of 2^64 or more takes more memory than there is.
-pub fn bad_body(fault: TargetFault, at: u64, place: u32) -> Ending
-    ensures { MayBe result (BadTarget fault (at + header + place) 0) }
-{
-    match at.checked_add(HEADER + place as u64) {
-        Some(at) => Ending::BadTarget { fault, at, id: 0 },
-        None => Ending::NoMemory,
-    }
-}
-
-// A fault of a composite's body, and its place.
-fn composite_fault(fault: CompositeFault) -> Option<(TargetFault, u32)>
-    ensures { result ≡ composite_fault fault }
-{
-    match fault {
-        CompositeFault::NoMemory => None,
-        CompositeFault::Short { at } => Some((TargetFault::Short, at)),
-        CompositeFault::BadKind { at } => Some((TargetFault::BadKind, at)),
-        CompositeFault::BadPolicy { at } => Some((TargetFault::BadPolicy, at)),
-        CompositeFault::BadCount { at } => Some((TargetFault::BadCount, at)),
-        CompositeFault::BadTag { at } => Some((TargetFault::BadTag, at)),
-        CompositeFault::Trailing { at } => Some((TargetFault::Trailing, at)),
-    }
-}
-
-// How a body that is no composite ends the session.
-#[tactic(auto, using(crate::proofs::HearLaws::bad_composite))]
-fn composite_refused(fault: CompositeFault, at: u64) -> Ending
-    ensures { (used : Sizes) (body : List ℕ) → IsRead (composite_at used body) (Err fault)
-        → IsBadBody used body at result }
-{
-    match composite_fault(fault) {
-        Some((fault, place)) => bad_body(fault, at, place),
-        None => Ending::NoMemory,
-    }
-}
-
-/// Reads a composite, whose packet stands at this offset.
-pub fn composite(alloc: Global, sizes: IdSizes, at: u64, body: &[u8]) -> Result<Composite, Ending>
-    ensures ok { IfOk result (ReadsComposite sizes body.now) }
-    ensures err { IfErr result (IsBadBody sizes body.now at) }
-{
-    if body.len() >= TOO_LONG {
-        return Err(Ending::NoMemory);
-    }
-    match read_composite(alloc, sizes, body) {
-        Ok(composite) => Ok(composite),
-        Err(fault) => Err(composite_refused(fault, at)),
-    }
 }
 
 // Reads the composite that was kept at this place; one whose body has a fault ends the session.
@@ -182,18 +119,6 @@ pub fn is_dead(replied: &Replied) -> bool
     }
 }
 
-// The ending by a refusal.
-fn target_refused(asked: &Asked, error: u16) -> Ending
-    ensures { result ≡ TargetRefused (number_of asked.now).0 (number_of asked.now).1 error }
-{
-    let (set, command) = asked.kind().numbers();
-    Ending::TargetRefused {
-        set,
-        command,
-        code: error,
-    }
-}
-
 // What a reply with an error says.
 fn refused(asked: &Asked, error: u16) -> Result<Replied, Ending>
     ensures ok { IfOk result (λ replied. (is_tolerated_asked asked.now error ≡ true) × (replied ≡ an_error error)) }
@@ -204,20 +129,6 @@ fn refused(asked: &Asked, error: u16) -> Result<Replied, Ending>
         return Ok(Replied::Error(error));
     }
     Err(target_refused(asked, error))
-}
-
-// A fault of an answer's body, and its place; the command is known, so nothing else is wrong with it.
-fn answer_fault(fault: BodyFault) -> Option<(TargetFault, u32)>
-    ensures { result ≡ answer_fault fault }
-{
-    match fault {
-        BodyFault::NoMemory => None,
-        BodyFault::UnknownCommand => None,
-        BodyFault::Short { at } => Some((TargetFault::Short, at)),
-        BodyFault::BadTag { at } => Some((TargetFault::BadTag, at)),
-        BodyFault::BadCount { at } => Some((TargetFault::BadCount, at)),
-        BodyFault::Trailing { at } => Some((TargetFault::Trailing, at)),
-    }
 }
 
 // The first of the sizes of ids in an answer that is none (JDWP, VirtualMachine command set, IDSizes).
@@ -237,18 +148,6 @@ fn bad_size(answer: &Answer) -> Option<u32>
             Err(bad) => Some(bad.0),
         },
         _ => None,
-    }
-}
-
-// How a body that is no answer ends the session.
-#[tactic(auto, using(crate::proofs::HearLaws::bad_answer))]
-fn answer_refused(fault: BodyFault, at: u64) -> Ending
-    ensures { (used : Sizes) (asked : AnAsked) (body : List ℕ) → AreReadSo (answer_at used asked body) (Err fault)
-        → IsRefused used asked at 0 body result }
-{
-    match answer_fault(fault) {
-        Some((fault, place)) => bad_body(fault, at, place),
-        None => Ending::NoMemory,
     }
 }
 
@@ -276,14 +175,11 @@ pub fn judged(
     if error > 0 {
         return refused(asked, error);
     }
-    if body.len() >= TOO_LONG {
-        return Err(Ending::NoMemory);
-    }
-    match read_answer(alloc, sizes, asked, body) {
+    match answer(alloc, sizes, asked, at, body) {
         Ok(answer) => match bad_sizes(&answer, at) {
             None => Ok(Replied::Answer(answer)),
             Some(ending) => Err(ending),
         },
-        Err(fault) => Err(answer_refused(fault, at)),
+        Err(ending) => Err(ending),
     }
 }

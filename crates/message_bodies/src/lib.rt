@@ -7,7 +7,7 @@ mod sizes;
 mod telling;
 mod waiting;
 
-pub use hearing::{bad_body, composite, is_composite, is_dead, judged, read_kept};
+pub use hearing::{is_composite, is_dead, judged, read_kept};
 pub use sizes::{known, serving};
 pub use telling::{framed, packed};
 pub use waiting::{is_disconnect, take_next};

@@ -12,9 +12,10 @@ use Rattle.session_model.specs.Names.{BadTarget, Client, ClientFault, ClientLink
 use Rattle.session_model.specs.Names.{Ending, Entry, Failed, finish_done, finish_one_thread, Flood, Idle, Left, Limits}
 use Rattle.session_model.specs.Names.{PolicyThread, Shut, Side, Spent, Target}
 use Rattle.session_model.specs.Names.{TargetCommand, TargetFault, TargetLink, TargetRefused}
-use Rattle.session_model.specs.Faults.{header, HasReply, IsClientFault, IsKeptFault, IsTargetFault}
+use Rattle.session_model.specs.Faults.{HasReply, IsClientFault, IsKeptFault, IsTargetFault}
 use Rattle.session_model.specs.Saying.{Speaks}
 use Rattle.session_model.specs.States.{SessionState, StreamState, due_now, target_front}
+use Rattle.target_bodies.specs.Hearing.{header}
 use Rattle.wire_core.specs.Outside.{broken_send}
 use Rattle.wire_core.specs.Streams.{Front}
 

@@ -27,6 +27,7 @@ use Rattle.session_model.specs.Names.{misframed, mispacked, NotAMessage, NotJson
 use Rattle.session_model.specs.Names.{TargetCommand, TargetFault, Trailing, UnknownReply}
 use Rattle.session_model.specs.Saying.{is_composite}
 use Rattle.session_model.specs.States.{SessionState, target_front}
+use Rattle.target_bodies.specs.Hearing.{header}
 use Rattle.wire_core.specs.Streams.{Front, Uncut}
 
 -- The client's bytes --------------------------------------------------------------------------------------------------
@@ -42,10 +43,6 @@ pub data IsClientFault (u : Uncut) : ClientFault → ℕ → Type 0 where
       → reading_of frame.body ≡ Err no_message → IsClientFault u NotAMessage (u.at + frame.header)
 
 -- Bodies of the target's ----------------------------------------------------------------------------------------------
-
--- how many bytes of a packet stand before its body (JDWP, JDWP Packets, header)
-abbrev pub header : ℕ
-header = 11
 
 -- a fault of an answer's body, and its place in the body
 pub data IsBodyFault : BodyFault → TargetFault → ℕ → Type 0 where

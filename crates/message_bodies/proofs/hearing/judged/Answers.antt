@@ -1,6 +1,6 @@
 use Rattle.std.proofs.Common.{◌≡◌, arith}
 use Rattle.message_bodies.specs.Hearing.{IsJudged, IsRefused}
-use Rattle.message_bodies.proofs.HearLaws.{refused_ends, refused_says}
+use Rattle.message_bodies.proofs.HearLaws.{answer_ends, refused_ends, refused_says}
 use Rattle.message_bodies.proofs.hearing.judged.Goals as goal
 
 pub returns-then-error-gt0-clause-ok : goal.returns-then-error-gt0-clause-ok
@@ -9,20 +9,17 @@ returns-then-error-gt0-clause-ok c = refused_says _ _ _ _ _ c.if-error-gt0.true 
 pub returns-then-error-gt0-clause-err : goal.returns-then-error-gt0-clause-err
 returns-then-error-gt0-clause-err c = refused_ends _ _ _ _ _ _ c.if-error-gt0.true c.refused.ensures.err
 
-pub returns-then-body-ge-TOO_LONG-clause-err : goal.returns-then-body-ge-TOO_LONG-clause-err
-returns-then-body-ge-TOO_LONG-clause-err c = IsRefused.no_memory
-
 pub returns-in-None-clause-ok : goal.returns-in-None-clause-ok
 returns-in-None-clause-ok c =
     let zero : c.args.error ≡ 0 = omega arith in
-    rw zero (IsJudged.answers c.in-Ok.ensures.exact c.in-Ok.ensures.found.0 c.in-None.ensures)
+    rw zero (IsJudged.answers c.in-Ok.ensures.ok.reads c.in-Ok.ensures.ok.answers c.in-None.ensures)
 
 pub returns-in-Some-clause-err : goal.returns-in-Some-clause-err
 returns-in-Some-clause-err c =
     let zero : c.args.error ≡ 0 = omega arith in
-    rw zero (IsRefused.bad_sizes c.in-Ok.ensures.exact c.in-Some.ensures)
+    rw zero (IsRefused.bad_sizes c.in-Ok.ensures.ok.reads c.in-Some.ensures)
 
 pub returns-in-Err-clause-err : goal.returns-in-Err-clause-err
 returns-in-Err-clause-err c =
     let zero : c.args.error ≡ 0 = omega arith in
-    rw zero (c.answer_refused.ensures c.args.sizes c.args.asked.now c.args.body.now c.in-Err.ensures.exact)
+    rw zero (answer_ends c.in-Err.ensures.err)
