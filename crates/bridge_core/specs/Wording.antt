@@ -4,7 +4,8 @@ use Rattle.bridge_core.specs.declared.words.Word.{Word}
 use Rattle.bridge_core.specs.declared.words.Word.TheVariants.{Disposes, Tells}
 use Rattle.session_model.specs.LastWords.{LastWord}
 use Rattle.session_endings.specs.declared.ending.Ending.{Ending}
-use Rattle.session_endings.specs.declared.ending.Ending.TheVariants.{BadClient, BadTarget, ClientLink, Flood, Idle, Left}
+use Rattle.session_endings.specs.declared.ending.Ending.TheVariants.{BadClient, BadTarget, ClientLink, Flood, Idle}
+use Rattle.session_endings.specs.declared.ending.Ending.TheVariants.{Left}
 use Rattle.session_endings.specs.declared.ending.Ending.TheVariants.{Spent, TargetLink, TargetRefused}
 
 -- a last word, as the definitions have it

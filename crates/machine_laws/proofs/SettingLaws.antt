@@ -35,7 +35,8 @@ use Rattle.machine_steps.specs.Names.{Attach, Attached, Choice, Classes, Command
 use Rattle.machine_steps.specs.Names.{Failure, Finding, Functions, Initialize, Item, Leaves, Lines, ListedBreakpoint}
 use Rattle.machine_steps.specs.Names.{Lookup, Note, Options, Outcome, Part, Phase, Replied, Request, SetBreakpoints}
 use Rattle.machine_steps.specs.Names.{SetExceptionBreakpoints, SetFunctionBreakpoints, Stepped, StopsAt, Success}
-use Rattle.machine_steps.specs.Names.{TargetCommand, TellsNews, Want, Written, a_composite, a_question, a_raw, a_request}
+use Rattle.machine_steps.specs.Names.{TargetCommand, TellsNews, Want, Written, a_composite, a_question, a_raw}
+use Rattle.machine_steps.specs.Names.{a_request}
 use Rattle.machine_steps.specs.Names.{a_response, an_effect, breakpoint_list, class_facts, container_children}
 use Rattle.machine_steps.specs.Names.{exception_text, expression_value, no_value, target_end, thread_frames}
 use Rattle.machine_steps.specs.Names.{variable_write, write_found}

@@ -18,7 +18,8 @@ use Rattle.machine_model.specs.Rows.{chosen, each_told, end_parts, failure_of, g
 use Rattle.machine_model.specs.Rows.{news_of, parts_by, parts_of, refused_with, row_of, stepped_by, told_in, wanting}
 use Rattle.machine_model.specs.Rows.{written_by}
 use Rattle.machine_model.specs.State.{Hand, Machine, State}
-use Rattle.machine_steps.specs.Names.{Attached, Choice, Command, Composite, Decides, Failure, Finding, Fresh, Gone, Item}
+use Rattle.machine_steps.specs.Names.{Attached, Choice, Command, Composite, Decides, Failure, Finding, Fresh, Gone}
+use Rattle.machine_steps.specs.Names.{Item}
 use Rattle.machine_steps.specs.Names.{Leaves, Lookup, News, Part, Phase, Replied, Stepped, TargetCommand, TellsNews}
 use Rattle.machine_steps.specs.Names.{Terminated, Want, Written, a_composite, a_question, a_raw, a_request, an_effect}
 use Rattle.machine_steps.specs.Names.{entry_verified, some_news, target_end, thread_changed, variable_write}

@@ -8,7 +8,8 @@ use Rattle.machine_model.specs.Due.{due}
 use Rattle.machine_model.specs.Leaving.{IsFirst, deed_for}
 use Rattle.machine_model.specs.Runs.{Message, Run}
 use Rattle.machine_model.specs.State.{Hand, Machine}
-use Rattle.machine_steps.specs.Names.{Act, Command, Composite, ConfigurationDone, Continue, Deed, Disconnect, Does, Next}
+use Rattle.machine_steps.specs.Names.{Act, Command, Composite, ConfigurationDone, Continue, Deed, Disconnect, Does}
+use Rattle.machine_steps.specs.Names.{Next}
 use Rattle.machine_steps.specs.Names.{Pause, Request, Resume, SetVariable, StepIn, StepOut, Suspend, Write, Writes}
 use Rattle.machine_steps.specs.Names.{a_composite, of_composite, of_entry, of_stop}
 

@@ -26,7 +26,8 @@ use Rattle.session_model.specs.Faults.{IsBodyFault, IsCompositeFault, numbers_in
 use Rattle.session_endings.specs.declared.ending.Ending.{Ending}
 use Rattle.session_endings.specs.declared.ending.Ending.TheVariants.{BadTarget, TargetRefused}
 use Rattle.session_endings.specs.declared.ending.TargetFault.{TargetFault}
-use Rattle.session_endings.specs.declared.ending.TargetFault.TheVariants.{BadCount, BadKind, BadPolicy, BadSizes, BadTag}
+use Rattle.session_endings.specs.declared.ending.TargetFault.TheVariants.{BadCount, BadKind, BadPolicy, BadSizes}
+use Rattle.session_endings.specs.declared.ending.TargetFault.TheVariants.{BadTag}
 use Rattle.session_endings.specs.declared.ending.TargetFault.TheVariants.{Short, Trailing}
 use Rattle.target_bodies.specs.Hearing.{IsBadAnswer, IsBadBody, MayBe, ReadsComposite, answer_fault}
 use Rattle.target_bodies.specs.Hearing.{composite_fault, header}

@@ -3,19 +3,19 @@ ghost use Rattle.std.specs.Prelude.{◌≡◌, ◌++◌, ◌∷◌, [], false, O
 ghost use Rattle.serde_json.specs.Data.{boolean, string};
 ghost use Rattle.serde_json.specs.View.{view};
 ghost use Rattle.serde_json.specs.Written.{has_float};
-ghost use Rattle.script_rows.specs.Numbers.{natural_data, signed_data, text_data, text_or_null_data};
-ghost use Rattle.script_rows.specs.Values.{array_of, list_data, slot_data, value_data, lines_data};
+ghost use Rattle.line_elements.specs.Numbers.{natural_data, signed_data, text_data, text_or_null_data};
+ghost use Rattle.line_elements.specs.Values.{array_of, list_data, slot_data, value_data, lines_data};
 
 use crate::lists::{lines_value, list_value};
 use crate::parts::{text_or_null_value, text_value};
 use crate::values::tagged_value;
 use jdwp_values::{Line, Value};
-use script_rows::Arguments;
+use line_elements::Arguments;
 use serde_json::{Value as Json, json};
+use slot_values::SlotValue;
 use std::alloc::Global;
 use std::marker::Model;
 use wire_core::{Blob, List, NoMemory};
-use world_model::SlotValue;
 
 /// The elements of a line's array so far. Contracts see their JSON data. Each call adds one; where memory is refused,
 /// `NoMemory` comes, and nothing is said of them any more.
@@ -30,7 +30,7 @@ impl Model for Elements {
     ghost use Rattle.std.specs.Coded.{coded_list};
     ghost use Rattle.serde_json.specs.Data.{Data};
     ghost use Rattle.serde_json.specs.View.{view as seen};
-    ghost use Rattle.script_rows.specs.Codes.{coded_data};
+    ghost use Rattle.line_elements.specs.Codes.{coded_data};
 
     ghost Value = { List Data };
 

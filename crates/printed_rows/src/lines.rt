@@ -3,7 +3,7 @@ ghost use Rattle.std.specs.Prelude.{◌≡◌, ◌++◌, [], ◌∷◌, false, t
 ghost use Rattle.serde_json.specs.View.{view};
 ghost use Rattle.serde_json.specs.Written.{has_float};
 ghost use Rattle.script_rows.specs.Printing.{data_of};
-ghost use Rattle.script_rows.specs.Values.{array_of};
+ghost use Rattle.line_elements.specs.Values.{array_of};
 ghost use Rattle.script_rows.specs.declared.rows.Row.TheVariants as rows;
 ghost use Rattle.script_text.specs.Texts.{line_of};
 
@@ -17,7 +17,7 @@ pub trait ScriptRow {
     ghost use Rattle.std.specs.Prelude.{◌≡◌, [], OnOk};
     ghost use Rattle.script_rows.specs.Plain.{IsPlain};
     ghost use Rattle.script_rows.specs.Printing.{data_of};
-    ghost use Rattle.script_rows.specs.Values.{array_of};
+    ghost use Rattle.line_elements.specs.Values.{array_of};
     ghost use Rattle.script_rows.specs.declared.rows.Row.{Row};
 
     /// The line, as a row.

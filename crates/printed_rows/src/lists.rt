@@ -1,14 +1,14 @@
 //! Lists of a line, and the elements that they have.
 ghost use Rattle.std.specs.Prelude.{◌≡◌, IfOk};
 ghost use Rattle.serde_json.specs.View.{view};
-ghost use Rattle.script_rows.specs.Values.{list_data, lines_data};
+ghost use Rattle.line_elements.specs.Values.{list_data, lines_data};
 
 use crate::values::tagged_value;
 use jdwp_values::{Line, Value};
 use serde_json::{Value as Json, json};
+use slot_values::SlotValue;
 use std::alloc::Global;
 use wire_core::{List, NoMemory};
-use world_model::SlotValue;
 
 /// What a list of a line is made of.
 pub(crate) trait Element {
@@ -24,7 +24,7 @@ pub(crate) trait Element {
 }
 
 impl Element for Value {
-    ghost use Rattle.script_rows.specs.Values.{value_data};
+    ghost use Rattle.line_elements.specs.Values.{value_data};
 
     ghost data_of = { value_data };
 
@@ -34,7 +34,7 @@ impl Element for Value {
 }
 
 impl Element for SlotValue {
-    ghost use Rattle.script_rows.specs.Values.{slot_data};
+    ghost use Rattle.line_elements.specs.Values.{slot_data};
 
     ghost data_of = { slot_data };
 
@@ -46,7 +46,7 @@ impl Element for SlotValue {
 }
 
 impl Element for Line {
-    ghost use Rattle.script_rows.specs.Values.{line_data};
+    ghost use Rattle.line_elements.specs.Values.{line_data};
 
     ghost data_of = { line_data };
 

@@ -2,14 +2,15 @@
 ghost use Rattle.std.specs.Prelude.{◌≡◌, ◌∷◌, [], OnOk};
 ghost use Rattle.script_rows.specs.Printing.{named, move_data};
 ghost use Rattle.script_rows.specs.Rows.{id};
-ghost use Rattle.script_rows.specs.Values.{array_of};
+ghost use Rattle.line_elements.specs.Values.{array_of};
 ghost use Rattle.world_model.specs.declared.moves.Move.TheVariants as moves;
 
 use crate::elements::Elements;
 use crate::lines::ScriptRow;
 use jdwp_values::{ClassId, FieldId, FrameId, MethodId, ObjectId, ThreadId, Value};
+use slot_values::SlotValue;
 use wire_core::{Blob, List, NoMemory};
-use world_model::{Move, SlotValue};
+use world_model::Move;
 
 impl ScriptRow for Move {
     ghost use Rattle.script_rows.specs.declared.rows.Row.TheVariants as rows;

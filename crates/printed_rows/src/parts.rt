@@ -2,8 +2,8 @@
 ghost use Rattle.std.specs.Prelude.{◌≡◌, ◌∷◌, [], IfOk};
 ghost use Rattle.serde_json.specs.View.{view};
 ghost use Rattle.jdwp_values.specs.Tags.{byte_of_tag};
-ghost use Rattle.script_rows.specs.Numbers.{text_data, text_or_null_data};
-ghost use Rattle.script_rows.specs.Values.{side_name};
+ghost use Rattle.line_elements.specs.Numbers.{text_data, text_or_null_data};
+ghost use Rattle.line_elements.specs.Values.{side_name};
 
 use jdwp_values::{Tag, lossy};
 use serde_json::{Value as Json, json};

@@ -3,13 +3,14 @@ ghost use Rattle.std.specs.Prelude.{◌≡◌, ◌∷◌, [], OnOk};
 ghost use Rattle.script_rows.specs.Plain.{IsPlainTurn};
 ghost use Rattle.script_rows.specs.Printing.{named, turn_data};
 ghost use Rattle.script_rows.specs.Rows.{serve_parts};
-ghost use Rattle.script_rows.specs.Values.{array_of};
+ghost use Rattle.line_elements.specs.Values.{array_of};
 ghost use Rattle.script_rows.specs.declared.script.Turn.TheVariants as turns;
 
 use crate::elements::Elements;
 use crate::lines::ScriptRow;
 use crate::parts::side_name;
-use script_rows::{Arguments, Turn};
+use line_elements::Arguments;
+use script_rows::Turn;
 use wire_core::{NoMemory, Text};
 
 impl ScriptRow for Turn {

@@ -1,7 +1,7 @@
 //! A value of the target's program, behind its tag.
 ghost use Rattle.std.specs.Prelude.{◌≡◌, IfOk};
 ghost use Rattle.serde_json.specs.View.{view};
-ghost use Rattle.script_rows.specs.Values.{number_data, value_data};
+ghost use Rattle.line_elements.specs.Values.{number_data, value_data};
 
 use crate::parts::tag_name;
 use jdwp_values::Value;

@@ -27,7 +27,7 @@ use Rattle.jdwp_events.specs.declared.kind.Policy.{Policy}
 use Rattle.wire_core.specs.declared.outside.Side.{Side}
 use Rattle.wire_core.specs.declared.outside.Side.TheVariants.{Client, Target}
 use Rattle.world_model.specs.declared.moves.Move.TheVariants as moves
-use Rattle.world_model.specs.declared.rows.SlotValue.{SlotValue}
+use Rattle.slot_values.specs.declared.slot.SlotValue.{SlotValue}
 use Rattle.serde_json.specs.Data.{Data, null, boolean, number, unsigned, negative, float, string, array, object, depth}
 use Rattle.serde_json.specs.Data.{Items, no_items, item, items_depth}
 use Rattle.serde_json.specs.Find.{as_number, as_object, as_str, as_integer}
@@ -37,19 +37,19 @@ use Rattle.json_lines.specs.Spelled.{IsSpelled, AreSpelled}
 use Rattle.script_rows.specs.declared.rows.Row.{Row}
 use Rattle.script_rows.specs.declared.rows.Row.TheVariants as rows
 use Rattle.script_rows.specs.declared.script.Turn.TheVariants as turns
-use Rattle.script_rows.specs.Numbers.{natural_of, natural_data, signed_within, signed_of, signed_data}
-use Rattle.script_rows.specs.Numbers.{int_of, long_of, index_of, index_data, utf8_text, text_of, text_data}
-use Rattle.script_rows.specs.Numbers.{text_or_null_of, text_or_null_data, version_data}
-use Rattle.script_rows.specs.Values.{array_of, tag_data, class_tag_data, policy_data, side_data, pair_of, each_of}
-use Rattle.script_rows.specs.Values.{list_of, list_data, tagged_of, value_in, value_of, value_data, number_data}
-use Rattle.script_rows.specs.Values.{slot_in}
-use Rattle.script_rows.specs.Values.{slot_of, slot_data, line_in, line_of, line_data, lines_of, lines_data}
-use Rattle.script_rows.specs.Values.{arguments_of}
-use Rattle.script_rows.specs.Values.{tag_in}
-use Rattle.script_rows.specs.Parts.{Part, natural, int, long, index, text, text_or_null, word, truth, class_tag}
-use Rattle.script_rows.specs.Parts.{object_tag}
-use Rattle.script_rows.specs.Parts.{policy, side, value, values as value_list, slots, lines, arguments, version, Of}
-use Rattle.script_rows.specs.Parts.{part_of, part_data, part_at, Holds, From, row_at, row_data}
+use Rattle.line_elements.specs.Numbers.{natural_of, natural_data, signed_within, signed_of, signed_data}
+use Rattle.line_elements.specs.Numbers.{int_of, long_of, index_of, index_data, utf8_text, text_of, text_data}
+use Rattle.line_elements.specs.Numbers.{text_or_null_of, text_or_null_data, version_data}
+use Rattle.line_elements.specs.Values.{array_of, tag_data, class_tag_data, policy_data, side_data, pair_of, each_of}
+use Rattle.line_elements.specs.Values.{list_of, list_data, tagged_of, value_in, value_of, value_data, number_data}
+use Rattle.line_elements.specs.Values.{slot_in}
+use Rattle.line_elements.specs.Values.{slot_of, slot_data, line_in, line_of, line_data, lines_of, lines_data}
+use Rattle.line_elements.specs.Values.{arguments_of}
+use Rattle.line_elements.specs.Values.{tag_in}
+use Rattle.line_elements.specs.Parts.{Part, natural, int, long, index, text, text_or_null, word, truth, class_tag}
+use Rattle.line_elements.specs.Parts.{object_tag}
+use Rattle.line_elements.specs.Parts.{policy, side, value, values as value_list, slots, lines, arguments, version, Of}
+use Rattle.line_elements.specs.Parts.{part_of, part_data, part_at, Holds, From, row_at, row_data}
 use Rattle.script_rows.specs.Plain.{IsPlain}
 use Rattle.script_rows.specs.Printing.{data_of}
 use Rattle.script_rows.specs.Rows.{kind_of, whole, row_in, row_of, as_row}

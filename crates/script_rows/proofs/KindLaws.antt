@@ -17,8 +17,9 @@ use Rattle.script_rows.specs.declared.kinds.TurnKind.TheVariants as turn
 use Rattle.script_rows.specs.declared.rows.Row.{Row}
 use Rattle.script_rows.specs.declared.rows.Row.TheVariants as rows
 use Rattle.script_rows.specs.declared.script.Turn.TheVariants as turns
-use Rattle.script_rows.specs.Values.{array_of}
-use Rattle.script_rows.specs.Parts.{Part, version, side, Of, part_of, part_data, part_at, first_of, Holds, From, row_at, row_data}
+use Rattle.line_elements.specs.Values.{array_of}
+use Rattle.line_elements.specs.Parts.{Part, version, side, Of, part_of, part_data, part_at, first_of, Holds, From}
+use Rattle.line_elements.specs.Parts.{row_at, row_data}
 use Rattle.script_rows.specs.Rows.{kind_of, kind_row, whole, row_in, row_of_items, row_of, as_row}
 use Rattle.script_rows.specs.Rows.{id, sizes_parts, class_parts, class_made, method_parts, method_made, variable_parts}
 use Rattle.script_rows.specs.Rows.{variable_made, field_parts, field_made, object_parts, object_made, array_parts}
@@ -27,7 +28,7 @@ use Rattle.script_rows.specs.Rows.{thread_made, frame_parts, frame_made, begin_p
 use Rattle.script_rows.specs.Rows.{call_parts, call_made, prepare_parts, throw_parts, throw_made, ask_parts, bytes_parts}
 use Rattle.script_rows.specs.Rows.{serve_parts}
 use Rattle.script_rows.specs.Printing.{data_of}
-use Rattle.script_rows.proofs.AgainLaws.{part_again}
+use Rattle.line_elements.proofs.AgainLaws.{part_again}
 
 -- ---- rows of parts
 

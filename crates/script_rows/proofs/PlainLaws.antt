@@ -9,18 +9,19 @@ use Rattle.serde_json.specs.Written.{has_float, items_have_float}
 use Rattle.jdwp_values.specs.declared.class.Line.{Line}
 use Rattle.jdwp_values.specs.declared.value.Value.{Value}
 use Rattle.jdwp_values.specs.declared.value.Value.TheVariants as values
-use Rattle.world_model.specs.declared.rows.SlotValue.{SlotValue}
+use Rattle.slot_values.specs.declared.slot.SlotValue.{SlotValue}
 use Rattle.world_model.specs.declared.moves.Move.{Move}
 use Rattle.world_model.specs.declared.moves.Move.TheVariants as moves
 use Rattle.script_rows.specs.declared.rows.Row.{Row}
 use Rattle.script_rows.specs.declared.rows.Row.TheVariants as rows
 use Rattle.script_rows.specs.declared.script.Turn.{Turn}
 use Rattle.script_rows.specs.declared.script.Turn.TheVariants as turns
-use Rattle.script_rows.specs.Numbers.{natural_data, text_or_null_data}
-use Rattle.script_rows.specs.Values.{number_data, value_data, slot_data, line_data, lines_data}
-use Rattle.script_rows.specs.Parts.{Part, natural, int, long, index, text, text_or_null, word, truth, class_tag, object_tag}
-use Rattle.script_rows.specs.Parts.{policy, side, value, values as value_list, slots, lines, arguments, version, Of}
-use Rattle.script_rows.specs.Parts.{part_data, Holds, row_data}
+use Rattle.line_elements.specs.Numbers.{natural_data, text_or_null_data}
+use Rattle.line_elements.specs.Values.{number_data, value_data, slot_data, line_data, lines_data}
+use Rattle.line_elements.specs.Parts.{Part, natural, int, long, index, text, text_or_null, word, truth, class_tag}
+use Rattle.line_elements.specs.Parts.{object_tag}
+use Rattle.line_elements.specs.Parts.{policy, side, value, values as value_list, slots, lines, arguments, version, Of}
+use Rattle.line_elements.specs.Parts.{part_data, Holds, row_data}
 use Rattle.script_rows.specs.Plain.{IsPlainTurn, IsPlain}
 use Rattle.script_rows.specs.Printing.{move_data, turn_data, data_of, sizes_data}
 use Rattle.script_rows.specs.Rows.{id, class_parts, method_parts, variable_parts, field_parts, object_parts, array_parts}

@@ -2,7 +2,7 @@
 use Rattle.std.proofs.Common.{◌≡◌, true, false, Some, None, Result, Ok, Err, refl}
 use Rattle.serde_json.specs.Data.{Items, no_items, item}
 use Rattle.script_rows.specs.declared.rows.Row.{Row}
-use Rattle.script_rows.specs.Parts.{is_end}
+use Rattle.line_elements.specs.Parts.{is_end}
 use Rattle.script_rows.specs.Rows.{whole}
 
 pub whole_at_end : (row : Row) (items : Items) → is_end items ≡ true → whole row items ≡ Some row

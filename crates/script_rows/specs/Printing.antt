@@ -18,9 +18,9 @@ use Rattle.script_rows.specs.declared.rows.Row.TheVariants as rows
 use Rattle.script_rows.specs.declared.script.Begin.{Begin}
 use Rattle.script_rows.specs.declared.script.Turn.{Turn}
 use Rattle.script_rows.specs.declared.script.Turn.TheVariants as turns
-use Rattle.script_rows.specs.Numbers.{natural_data}
-use Rattle.script_rows.specs.Values.{array_of}
-use Rattle.script_rows.specs.Parts.{Part, version, side, Holds, row_data}
+use Rattle.line_elements.specs.Numbers.{natural_data}
+use Rattle.line_elements.specs.Values.{array_of}
+use Rattle.line_elements.specs.Parts.{Part, version, side, Holds, row_data}
 use Rattle.script_rows.specs.Rows.{id, class_parts, method_parts, variable_parts, field_parts, object_parts, array_parts}
 use Rattle.script_rows.specs.Rows.{string_parts, put_parts, thread_parts, frame_parts, begin_parts, at_parts, call_parts}
 use Rattle.script_rows.specs.Rows.{prepare_parts, throw_parts, ask_parts, bytes_parts, serve_parts}

@@ -28,8 +28,9 @@ use Rattle.script_rows.specs.declared.rows.Row.TheVariants as rows
 use Rattle.script_rows.specs.declared.script.Begin.{Begin}
 use Rattle.script_rows.specs.declared.script.Turn.{Turn}
 use Rattle.script_rows.specs.declared.script.Turn.TheVariants as turns
-use Rattle.script_rows.specs.Parts.{Part, natural, int, long, index, text, text_or_null, word, truth, class_tag, object_tag}
-use Rattle.script_rows.specs.Parts.{policy, side, value, values, slots, lines, arguments, version, From, row_at}
+use Rattle.line_elements.specs.Parts.{Part, natural, int, long, index, text, text_or_null, word, truth, class_tag}
+use Rattle.line_elements.specs.Parts.{object_tag}
+use Rattle.line_elements.specs.Parts.{policy, side, value, values, slots, lines, arguments, version, From, row_at}
 
 -- ---- names
 

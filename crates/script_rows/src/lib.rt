@@ -1,22 +1,14 @@
 //! The lines of a scripted target's script, as typed rows.
 #![tactic(auto)]
 
-mod arguments;
-mod elements;
 mod kinds;
 mod laws;
-mod lists;
 mod move_rows;
-mod numbers;
 mod read;
 mod rows;
 mod script;
-mod shown;
-mod values;
-mod words;
 mod world_rows;
 
-pub use arguments::Arguments;
 pub use laws::{a_printed_row_has_no_float, a_printed_row_is_read_again};
 pub use read::read_row;
 pub use rows::Row;

@@ -1,14 +1,14 @@
 //! Lines of the program and of the schedule.
 ghost use Rattle.std.specs.Prelude.{◌≡◌};
-ghost use Rattle.script_rows.specs.Parts.{row_at, Tells};
+ghost use Rattle.line_elements.specs.Parts.{row_at, Tells};
 ghost use Rattle.script_rows.specs.Rows.{at_parts, at_made, call_parts, call_made, throw_parts, throw_made, move_of};
 ghost use Rattle.script_rows.specs.Rows.{turn_of};
 ghost use Rattle.script_rows.specs.declared.kinds.MoveKind.TheVariants as move;
 
-use crate::elements::{Elements, LineFault};
 use crate::kinds::{MoveKind, TurnKind};
 use crate::script::Turn;
 use jdwp_values::{ClassId, FieldId, FrameId, MethodId, ObjectId, ThreadId};
+use line_elements::{Elements, LineFault};
 use std::alloc::Global;
 use world_model::Move;
 

@@ -2,14 +2,14 @@
 ghost use Rattle.std.specs.Prelude.{◌≡◌, IfOk, option_and_then};
 ghost use Rattle.serde_json.specs.Find.{as_str};
 ghost use Rattle.serde_json.specs.View.{view, items_view};
-ghost use Rattle.script_rows.specs.Parts.{Found, Tells};
+ghost use Rattle.line_elements.specs.Parts.{Found, Tells};
 ghost use Rattle.script_rows.specs.Rows.{kind_of, kind_row, row_in, row_of_items, row_of, whole};
 
-use crate::elements::{Elements, LineFault};
 use crate::kinds::{Kind, kind_of};
 use crate::move_rows::{move_row, turn_row};
 use crate::rows::Row;
 use crate::world_rows::world_row;
+use line_elements::{Elements, LineFault};
 use serde_json::Value;
 use std::alloc::Global;
 use wire_core::NoMemory;

@@ -1,6 +1,6 @@
-use crate::arguments::Arguments;
 use jdwp_events::Policy;
 use jdwp_values::ThreadId;
+use line_elements::Arguments;
 use wire_core::{List, Side, Text};
 use world_model::{Move, World};
 

@@ -1,19 +1,19 @@
 //! Lines of the world.
 ghost use Rattle.std.specs.Prelude.{◌≡◌};
-ghost use Rattle.script_rows.specs.Parts.{row_at, Tells};
+ghost use Rattle.line_elements.specs.Parts.{row_at, Tells};
 ghost use Rattle.script_rows.specs.Rows.{class_parts, class_made, method_parts, method_made, variable_parts};
 ghost use Rattle.script_rows.specs.Rows.{variable_made, field_parts, field_made, object_parts, object_made, array_parts};
 ghost use Rattle.script_rows.specs.Rows.{array_made, string_parts, string_made, put_parts, put_made, thread_parts};
 ghost use Rattle.script_rows.specs.Rows.{thread_made, frame_parts, frame_made, begin_parts, begin_made, world_row};
 ghost use Rattle.script_rows.specs.declared.kinds.WorldKind.TheVariants as world;
 
-use crate::elements::{Elements, LineFault};
 use crate::kinds::WorldKind;
 use crate::rows::Row;
 use crate::script::Begin;
 use jdwp_values::{
     ClassId, Field, FieldId, FrameId, Method, MethodId, ObjectId, ThreadId, Variable,
 };
+use line_elements::{Elements, LineFault};
 use std::alloc::Global;
 use world_model::{
     Put, WorldArray, WorldClass, WorldField, WorldFrame, WorldMethod, WorldObject, WorldString,

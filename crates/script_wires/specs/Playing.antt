@@ -10,7 +10,7 @@ use Rattle.jdwp_events.specs.declared.kind.Policy.{Policy}
 use Rattle.target_server.specs.Courses.{fresh}
 use Rattle.target_server.specs.Hearing.{TargetState}
 use Rattle.target_server.specs.Joints.{Joint, left}
-use Rattle.script_rows.specs.declared.arguments.Arguments.{Arguments}
+use Rattle.line_elements.specs.declared.arguments.Arguments.{Arguments}
 use Rattle.script_rows.specs.declared.script.Begin.{Begin}
 use Rattle.script_rows.specs.declared.script.Script.{Script}
 use Rattle.script_rows.specs.declared.script.Turn.{Turn}

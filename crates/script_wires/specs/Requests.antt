@@ -3,7 +3,7 @@ use Rattle.std.specs.Prelude.{ℕ, List, codes}
 use Rattle.serde_json.specs.Data.{Data, number, unsigned, string, object, no_members, member}
 use Rattle.serde_json.specs.Written.{compact_text}
 use Rattle.dap_frames.specs.Frames.{frame_bytes}
-use Rattle.script_rows.specs.declared.arguments.Arguments.{Arguments}
+use Rattle.line_elements.specs.declared.arguments.Arguments.{Arguments}
 
 -- a request with this sequence number, its members in byte order of their names
 abbrev pub request_data : ℕ → List ℕ → Data → Data

@@ -3,7 +3,7 @@ ghost use Rattle.std.specs.Prelude.{◌≡◌, ◌+◌, ◌≤◌, ◌++◌, [],
 ghost use Rattle.script_wires.specs.Requests.{request_frame};
 
 use crate::requests::request_frame;
-use script_rows::Arguments;
+use line_elements::Arguments;
 use std::alloc::Global;
 use wire_core::{NoMemory, StreamBuffer, Text};
 

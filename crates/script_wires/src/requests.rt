@@ -6,7 +6,7 @@ ghost use Rattle.dap_frames.specs.Frames.{frame_bytes};
 ghost use Rattle.script_wires.specs.Requests.{request_data, request_frame};
 
 use dap_frames::frame;
-use script_rows::Arguments;
+use line_elements::Arguments;
 use serde_json::{Value, json};
 use std::alloc::{AllocError, Global};
 use wire_core::{Blob, NoMemory, Text};

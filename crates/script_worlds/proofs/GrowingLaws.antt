@@ -20,7 +20,7 @@ use Rattle.jdwp_values.specs.Parts.{tag_of_value}
 use Rattle.jdwp_values.specs.Spelling.{FitsValue}
 use Rattle.world_model.specs.declared.rows.Installed.{Installed}
 use Rattle.world_model.specs.declared.rows.Put.{Put}
-use Rattle.world_model.specs.declared.rows.SlotValue.{SlotValue}
+use Rattle.slot_values.specs.declared.slot.SlotValue.{SlotValue}
 use Rattle.world_model.specs.declared.rows.WorldArray.{WorldArray}
 use Rattle.world_model.specs.declared.rows.WorldClass.{WorldClass}
 use Rattle.world_model.specs.declared.rows.WorldField.{WorldField}

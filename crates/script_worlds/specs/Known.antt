@@ -12,7 +12,7 @@ use Rattle.jdwp_values.specs.declared.value.Value.{Value}
 use Rattle.world_model.specs.declared.moves.Move.{Move}
 use Rattle.world_model.specs.declared.moves.Move.TheVariants as moves
 use Rattle.world_model.specs.declared.rows.Put.{Put}
-use Rattle.world_model.specs.declared.rows.SlotValue.{SlotValue}
+use Rattle.slot_values.specs.declared.slot.SlotValue.{SlotValue}
 use Rattle.world_model.specs.declared.rows.WorldArray.{WorldArray}
 use Rattle.world_model.specs.declared.rows.WorldFrame.{WorldFrame}
 use Rattle.world_model.specs.declared.world.World.{World}

@@ -7,7 +7,8 @@ ghost use Rattle.script_worlds.specs.Known.{is_known, is_known_value, are_known_
 use crate::given::{is_frame, is_object, is_thread};
 use crate::kinds::referred;
 use jdwp_values::{FrameId, ObjectId, ThreadId, Value};
-use world_model::{Move, SlotValue, World};
+use slot_values::SlotValue;
+use world_model::{Move, World};
 
 // Whether a thread starts by a move.
 fn starts(id: u64, row: &Move) -> bool

@@ -10,7 +10,8 @@ use crate::known::{
     are_known_slots, is_given_frame, is_given_object, is_given_thread, is_known, is_known_value,
 };
 use jdwp_values::{ClassId, FieldId, MethodId, ObjectId, ThreadId, Value};
-use world_model::{Move, SlotValue, World};
+use slot_values::SlotValue;
+use world_model::{Move, World};
 
 /// Whether a move gives no id that was given before.
 pub fn move_is_new(world: &World, program: &[Move], row: &Move) -> bool

@@ -13,9 +13,10 @@ ghost use Rattle.script_worlds.specs.Shapes.{frame_fits, has_room, move_fits, mo
 use crate::given::{class_in, field_in_object};
 use crate::kinds::{element_kind, kind_in, referred, same_kind};
 use jdwp_values::{ClassId, FieldId, IdSizes, MethodId, ObjectId, Tag, ThreadId, Value};
+use slot_values::SlotValue;
 use world_model::{
-    Move, SlotValue, World, WorldArray, WorldClass, WorldField, WorldFrame, WorldMethod,
-    WorldObject, WorldString, WorldVariable,
+    Move, World, WorldArray, WorldClass, WorldField, WorldFrame, WorldMethod, WorldObject,
+    WorldString, WorldVariable,
 };
 
 // One more than the greatest number that an int has room for.

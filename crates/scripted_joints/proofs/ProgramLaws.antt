@@ -26,7 +26,7 @@ use Rattle.joint_model.specs.Obeying.{Emits, IsTold, Runs, behind, counted, end_
 use Rattle.world_model.specs.declared.moves.Move.{Move}
 use Rattle.world_model.specs.declared.moves.Move.TheVariants as moves
 use Rattle.world_model.specs.declared.rows.Installed.{Installed}
-use Rattle.world_model.specs.declared.rows.SlotValue.{SlotValue}
+use Rattle.slot_values.specs.declared.slot.SlotValue.{SlotValue}
 use Rattle.world_model.specs.declared.rows.WorldClass.{WorldClass}
 use Rattle.world_model.specs.declared.rows.WorldFrame.{WorldFrame}
 use Rattle.world_model.specs.declared.rows.WorldThread.{WorldThread}

@@ -12,7 +12,7 @@ use Rattle.jdwp_events.specs.declared.kind.EventKind.{EventKind}
 use Rattle.jdwp_events.specs.declared.kind.EventKind.TheVariants as kinds
 use Rattle.joint_model.specs.Obeying.{IsTold}
 use Rattle.world_model.specs.declared.rows.Installed.{Installed}
-use Rattle.world_model.specs.declared.rows.SlotValue.{SlotValue}
+use Rattle.slot_values.specs.declared.slot.SlotValue.{SlotValue}
 use Rattle.world_model.specs.declared.rows.WorldFrame.{WorldFrame}
 use Rattle.world_model.specs.declared.world.World.{World}
 use Rattle.world_model.specs.Effects.{is_frame, same_event}

@@ -42,7 +42,8 @@ pub use Rattle.session_endings.specs.declared.ending.Limits.{Limits}
 pub use Rattle.session_endings.specs.declared.ending.TargetFault.{TargetFault}
 pub use Rattle.session_endings.specs.declared.ending.TargetFault.TheVariants.{BadCommand, BadCount, BadKind, BadPolicy}
 pub use Rattle.session_endings.specs.declared.ending.TargetFault.TheVariants.{BadSizes, BadTag, Packet as mispacked}
-pub use Rattle.session_endings.specs.declared.ending.TargetFault.TheVariants.{PolicyThread, Short, Trailing, UnknownReply}
+pub use Rattle.session_endings.specs.declared.ending.TargetFault.TheVariants.{PolicyThread, Short, Trailing}
+pub use Rattle.session_endings.specs.declared.ending.TargetFault.TheVariants.{UnknownReply}
 pub use Rattle.wire_core.specs.declared.outside.Entry.{Entry}
 pub use Rattle.wire_core.specs.declared.outside.Entry.TheVariants.{Failed, In, Out, Quiet, Shut}
 pub use Rattle.wire_core.specs.declared.outside.Side.{Side}

@@ -7,7 +7,8 @@ use Rattle.jdwp_events.specs.Composites.{composite_at}
 use Rattle.jdwp_events.specs.declared.composite.CompositeFault.{CompositeFault}
 use Rattle.jdwp_values.specs.declared.sizes.IdSizes.{IdSizes}
 use Rattle.session_endings.specs.declared.ending.Ending.{Ending}
-use Rattle.session_endings.specs.declared.ending.Ending.TheVariants.{BadClient, BadTarget, ClientLink, Done, Flood, Idle}
+use Rattle.session_endings.specs.declared.ending.Ending.TheVariants.{BadClient, BadTarget, ClientLink, Done, Flood}
+use Rattle.session_endings.specs.declared.ending.Ending.TheVariants.{Idle}
 use Rattle.session_endings.specs.declared.ending.Ending.TheVariants.{Left, NoMemory, Spent, TargetLink, TargetRefused}
 use Rattle.session_endings.specs.declared.ending.TargetFault.{TargetFault}
 use Rattle.target_bodies.specs.Hearing.{IsBadAnswer, IsBadBody, MayBe, answer_fault, composite_fault, header}

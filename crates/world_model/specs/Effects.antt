@@ -19,7 +19,7 @@ use Rattle.jdwp_commands.specs.declared.effect.Effect.{Effect}
 use Rattle.jdwp_commands.specs.declared.effect.Effect.TheVariants as effects
 use Rattle.world_model.specs.declared.rows.Installed.{Installed}
 use Rattle.world_model.specs.declared.rows.Put.{Put}
-use Rattle.world_model.specs.declared.rows.SlotValue.{SlotValue}
+use Rattle.slot_values.specs.declared.slot.SlotValue.{SlotValue}
 use Rattle.world_model.specs.declared.rows.StepStart.{StepStart}
 use Rattle.world_model.specs.declared.rows.WorldArray.{WorldArray}
 use Rattle.world_model.specs.declared.rows.WorldFrame.{WorldFrame}

@@ -21,7 +21,7 @@ use Rattle.world_model.specs.declared.happening.Happening.TheVariants as happeni
 use Rattle.world_model.specs.declared.moves.Move.{Move}
 use Rattle.world_model.specs.declared.moves.Move.TheVariants as moves
 use Rattle.world_model.specs.declared.rows.Put.{Put}
-use Rattle.world_model.specs.declared.rows.SlotValue.{SlotValue}
+use Rattle.slot_values.specs.declared.slot.SlotValue.{SlotValue}
 use Rattle.world_model.specs.declared.rows.WorldField.{WorldField}
 use Rattle.world_model.specs.declared.rows.WorldFrame.{WorldFrame}
 use Rattle.world_model.specs.declared.rows.WorldObject.{WorldObject}

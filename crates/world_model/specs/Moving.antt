@@ -16,7 +16,7 @@ use Rattle.world_model.specs.declared.moves.Move.TheVariants as moves
 use Rattle.world_model.specs.declared.moves.MoveTrouble.{MoveTrouble}
 use Rattle.world_model.specs.declared.moves.MoveTrouble.TheVariants as troubles
 use Rattle.world_model.specs.declared.rows.Put.{Put}
-use Rattle.world_model.specs.declared.rows.SlotValue.{SlotValue}
+use Rattle.slot_values.specs.declared.slot.SlotValue.{SlotValue}
 use Rattle.world_model.specs.declared.rows.WorldClass.{WorldClass}
 use Rattle.world_model.specs.declared.rows.WorldFrame.{WorldFrame}
 use Rattle.world_model.specs.declared.rows.WorldThread.{WorldThread}

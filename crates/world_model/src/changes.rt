@@ -3,9 +3,10 @@ ghost use Rattle.std.specs.Prelude.{◌≡◌, ◌++◌, IfOk, map, set, option_
 ghost use Rattle.world_model.specs.Effects.{same_event, requests_left, steps_left, array_with, slot_with, is_frame};
 ghost use Rattle.world_model.specs.Effects.{frame_with};
 
-use crate::rows::{Installed, SlotValue, StepStart, WorldArray, WorldFrame};
+use crate::rows::{Installed, StepStart, WorldArray, WorldFrame};
 use jdwp_events::{EventKind, Modifier};
 use jdwp_values::{FrameId, ObjectId, ThreadId, Value};
+use slot_values::SlotValue;
 use std::alloc::Global;
 use wire_core::{Blob, List, NoMemory};
 

@@ -16,12 +16,13 @@ use crate::found::Found;
 use crate::kinds::{kind_in, same_kind};
 use crate::moves::Move;
 use crate::objects::{is_there, object_at, reference_in, reference_to};
-use crate::rows::{Put, SlotValue, WorldFrame, WorldObject};
+use crate::rows::{Put, WorldFrame, WorldObject};
 use crate::steps::{frames_under, innermost, line_at};
 use crate::storing::kept_value;
 use crate::threads::is_alive;
 use crate::world::World;
 use jdwp_values::{ClassId, FieldId, FrameId, Location, MethodId, ObjectId, Tag, ThreadId, Value};
+use slot_values::SlotValue;
 
 // One more frame than a thread may have: an int has room for their number.
 const END: usize = 1 << 31;

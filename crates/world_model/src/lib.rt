@@ -35,7 +35,7 @@ pub use move_laws::{
 };
 pub use moves::{Move, MoveTrouble};
 pub use rows::{
-    Installed, Put, SlotValue, StepStart, WorldArray, WorldClass, WorldField, WorldFrame,
-    WorldMethod, WorldObject, WorldString, WorldThread, WorldVariable,
+    Installed, Put, StepStart, WorldArray, WorldClass, WorldField, WorldFrame, WorldMethod,
+    WorldObject, WorldString, WorldThread, WorldVariable,
 };
 pub use world::World;

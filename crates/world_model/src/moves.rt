@@ -5,10 +5,10 @@ ghost use Rattle.world_model.specs.Moving.{count_behind, moved, IsMoved};
 use crate::happening::what_happens;
 use crate::hits::emitted;
 use crate::moving::change;
-use crate::rows::SlotValue;
 use crate::world::World;
 use jdwp_events::{Composite, Policy};
 use jdwp_values::{ClassId, FieldId, FrameId, MethodId, ObjectId, ThreadId, Value};
+use slot_values::SlotValue;
 use std::alloc::Global;
 use wire_core::{Blob, List, NoMemory};
 

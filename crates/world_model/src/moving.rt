@@ -9,11 +9,12 @@ ghost use Rattle.world_model.specs.Storing.{kept_value};
 use crate::changes::is_frame;
 use crate::happening::stored;
 use crate::moves::Move;
-use crate::rows::{SlotValue, WorldClass, WorldFrame, WorldThread};
+use crate::rows::{WorldClass, WorldFrame, WorldThread};
 use crate::steps::innermost;
 use crate::storing::kept_value;
 use crate::world::World;
 use jdwp_values::{ClassId, FieldId, FrameId, MethodId, ObjectId, ThreadId, Value};
+use slot_values::SlotValue;
 use std::alloc::Global;
 use wire_core::{Blob, List, NoMemory};
 

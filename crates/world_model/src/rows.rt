@@ -5,6 +5,7 @@ use jdwp_values::{
     ClassId, Field, FieldId, FrameId, Line, Method, MethodId, ObjectId, Tag, ThreadId, TypeTag,
     Value, Variable,
 };
+use slot_values::SlotValue;
 use wire_core::{Blob, List};
 
 /// A class (JDWP, VirtualMachine command set, AllClasses).
@@ -85,13 +86,6 @@ pub struct Put {
 pub struct WorldThread {
     pub id: ThreadId,
     pub name: Blob,
-}
-
-/// A slot of a frame, with the value of the variable that lies there (JDWP, StackFrame command set, GetValues).
-#[derive(Clone, Copy, Debug, PartialEq, Eq)]
-pub struct SlotValue {
-    pub slot: i32,
-    pub value: Value,
 }
 
 /// A frame of a thread: the method that runs, and the index of its code where it stands, 2^64 - 1 in a native method;

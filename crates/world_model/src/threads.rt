@@ -9,10 +9,11 @@ ghost use Rattle.world_model.specs.Threads.{frames_from, counted, frame_in, fram
 use crate::classes::tag_in;
 use crate::codes::{INVALID_THREAD, NOT_IMPLEMENTED};
 use crate::kinds::is_of_byte;
-use crate::rows::{SlotValue, WorldFrame, WorldThread};
+use crate::rows::{WorldFrame, WorldThread};
 use crate::world::World;
 use jdwp_commands::{Frame, Slot};
 use jdwp_values::{FrameId, Location, ThreadId, Value};
+use slot_values::SlotValue;
 use std::alloc::Global;
 use wire_core::{List, NoMemory};
 

@@ -3,12 +3,13 @@ use jdwp_values::{
     ClassId, Field, FieldId, FrameId, IdSizes, Line, Method, MethodId, ObjectId, Tag, ThreadId,
     TypeTag, Value, Variable,
 };
+use slot_values::SlotValue;
 use std::alloc::Global;
 use std::test::Fail;
 use wire_core::{Blob, List};
 use world_model::{
-    Put, SlotValue, World, WorldArray, WorldClass, WorldField, WorldFrame, WorldMethod,
-    WorldObject, WorldString, WorldThread, WorldVariable,
+    Put, World, WorldArray, WorldClass, WorldField, WorldFrame, WorldMethod, WorldObject,
+    WorldString, WorldThread, WorldVariable,
 };
 
 /// The first word of a text, and what follows it.

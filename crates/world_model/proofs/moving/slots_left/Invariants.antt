@@ -1,6 +1,6 @@
 use Rattle.std.proofs.Common.{◌≡◌, ◌++◌, drop}
 use Rattle.std.specs.Prelude.{filter, not}
-use Rattle.world_model.specs.declared.rows.SlotValue.{SlotValue}
+use Rattle.slot_values.specs.declared.slot.SlotValue.{SlotValue}
 use Rattle.world_model.specs.Moving.{is_named}
 use Rattle.world_model.proofs.moving.slots_left.Given as goal
 

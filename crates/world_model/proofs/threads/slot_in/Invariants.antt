@@ -2,7 +2,7 @@ use Rattle.std.proofs.Common.{◌≡◌, drop}
 use Rattle.std.specs.Prelude.{option_map}
 use Rattle.std.specs.Option.{option_or}
 use Rattle.std.specs.Ordering.{int_eq}
-use Rattle.world_model.specs.declared.rows.SlotValue.{SlotValue}
+use Rattle.slot_values.specs.declared.slot.SlotValue.{SlotValue}
 use Rattle.world_model.specs.Scans.{last_of}
 use Rattle.world_model.proofs.threads.slot_in.Given as goal
 

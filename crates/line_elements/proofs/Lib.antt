@@ -1,0 +1,3 @@
+pub mod AgainLaws
+pub mod NumberLaws
+pub mod PartLaws

@@ -1,0 +1,9 @@
+use Rattle.serde_json.specs.View.{view}
+use Rattle.line_elements.specs.Parts.{index}
+use Rattle.line_elements.proofs.PartLaws.{tells_part}
+use Rattle.line_elements.proofs.elements.Elements.index.Goals as goal
+
+pub returns : goal.returns
+returns c =
+    tells_part index c.args.self.now c.next.new.self (view c.in-Some.value.now) c.index.result c.ok_or.result
+    c.ok_or.ensures.value c.in-Some.ensures c.index.ensures

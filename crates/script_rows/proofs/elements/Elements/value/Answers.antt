@@ -1,9 +1,0 @@
-use Rattle.serde_json.specs.View.{view}
-use Rattle.script_rows.specs.Parts.{value}
-use Rattle.script_rows.proofs.PartLaws.{tells_part}
-use Rattle.script_rows.proofs.elements.Elements.value.Goals as goal
-
-pub returns : goal.returns
-returns c =
-    tells_part value c.args.self.now c.next.new.self (view c.in-Some.value.now) c.value.result c.ok_or.result
-    c.ok_or.ensures.value c.in-Some.ensures c.value.ensures
