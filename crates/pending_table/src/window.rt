@@ -2,7 +2,8 @@ ghost use Rattle.std.specs.Prelude.{◌≡◌, ◌<◌, ◌-◌, ◌^◌, [], Is
 ghost use Rattle.pending_table.specs.Windows.{fresh, id_of, pending_under, place_under, is_full};
 ghost use Rattle.pending_table.specs.Windows.{with_sent, settled};
 
-use crate::place::{Sent, place, put, take_out, waits};
+use crate::place::{MOST, Sent, place, take_out, waits};
+use arrayvec::ArrayVec;
 use jdwp_commands::Asked;
 use std::marker::Model;
 
@@ -16,20 +17,19 @@ pub struct UnknownReply(pub u32);
 /// order in which they were sent. No call takes memory.
 #[derive(Debug, Drop)]
 pub struct Pending {
-    places: [Option<Sent>; 16],
-    count: usize,
+    sent: ArrayVec<Sent, MOST>,
     next: u32,
 }
 
 impl Model for Pending {
     ghost use Rattle.pending_table.specs.Windows.{Window};
-    ghost use Rattle.pending_table.specs.Places.{sent_in, IsTable};
+    ghost use Rattle.pending_table.specs.Places.{sent_in, IsWindow};
 
     ghost Value = { Window };
 
-    ghost view = { λ p. record { sent = sent_in p.places; next = p.next } };
+    ghost view = { λ p. record { sent = sent_in p.sent.items; next = p.next } };
 
-    ghost invariant = { λ p. IsTable p.places p.count p.next };
+    ghost invariant = { λ p. IsWindow p.sent.items p.next };
 }
 
 impl Pending {
@@ -38,11 +38,7 @@ impl Pending {
         ensures { result ≡ fresh }
     {
         Pending {
-            places: [
-                None, None, None, None, None, None, None, None, None, None, None, None, None, None,
-                None, None,
-            ],
-            count: 0,
+            sent: ArrayVec::new(),
             next: 0,
         }
     }
@@ -51,14 +47,14 @@ impl Pending {
     pub fn is_full(&self) -> bool
         ensures { result ≡ is_full self.now }
     {
-        self.count == 16 || waits(&self.places, self.next_id())
+        self.sent.is_full() || waits(self.sent.as_slice(), self.next_id())
     }
 
     /// Whether no command is pending.
     pub fn is_empty(&self) -> bool
         ensures { IsTrue result ↔ (self.now.sent ≡ []) }
     {
-        self.count == 0
+        self.sent.is_empty()
     }
 
     /// The id of the next command: that of the n-th, from 0, is n mod (2^32 - 1) + 1.
@@ -75,8 +71,7 @@ impl Pending {
         ensures sent { self.new ≡ with_sent asked self.old }
     {
         let id = self.next_id();
-        put(&mut self.places, self.count, Sent { id, asked });
-        self.count += 1;
+        self.sent.push(Sent { id, asked });
         self.next = (self.next + 1) % u32::MAX;
         id
     }
@@ -85,7 +80,7 @@ impl Pending {
     pub fn place(&self, id: u32) -> Option<usize>
         ensures { result ≡ place_under id self.now.sent }
     {
-        place(&self.places, id)
+        place(self.sent.as_slice(), id)
     }
 
     /// Takes the command out that a reply of this id answers, and leaves all others; where none is pending under the
@@ -97,13 +92,7 @@ impl Pending {
         ensures err { OnErr result (self.new ≡ self.old) }
         ensures once { pending_under id self.new.sent ≡ None }
     {
-        match take_out(&mut self.places, id) {
-            Some(asked) => {
-                self.count -= 1;
-                Ok(asked)
-            }
-            None => Err(UnknownReply(id)),
-        }
+        take_out(&mut self.sent, id).ok_or(UnknownReply(id))
     }
 
     // A window that goes on behind so many commands.
