@@ -1,9 +1,9 @@
 ;;; batch-session.el --- A session of dap-mode with the bridge, in batch -*- lexical-binding: t -*-
 
 ;;; Commentary:
-;; Attaches to the bridge that listens on BRIDGE_PORT, with breakpoints in examples/shop/Orders.java, which waits for
-;; its debugger.  Stops there, steps, shows variables and evaluates, sets a variable and a field, and goes on to the
-;; end.  Prints what dap-mode knows of each.  `examples/emacs.py' runs this.
+;; Launches examples/shop/Orders.java over the bridge that BRIDGE_PROGRAM names, with breakpoints there.  Stops, steps,
+;; shows variables and evaluates, sets a variable and a field, and goes on to the end.  Prints what dap-mode knows of
+;; each, and what the Java program printed.  `examples/emacs.py' runs this.
 
 ;;; Code:
 (setq debug-on-error nil
@@ -14,12 +14,15 @@
 (package-initialize)
 (defconst batch-session-folder (file-name-directory load-file-name))
 (load (expand-file-name "bridge-dap-mode.el" batch-session-folder) nil t)
+(setq bridge-dap-launcher (append bridge-dap-launcher (list "--program" (getenv "BRIDGE_PROGRAM")))
+      ;; No window shows it in batch.
+      dap-auto-show-output nil)
 (setq dap-breakpoints-file (make-temp-file "bridge-breakpoints"))
 (defconst batch-session-source (expand-file-name "../examples/shop/Orders.java" batch-session-folder))
 
 (defun batch-session-await (test)
-  "Wait until TEST gives a value, at most twenty seconds, and return it."
-  (let ((end (+ (float-time) 20))
+  "Wait until TEST gives a value, at most a minute, and return it."
+  (let ((end (+ (float-time) 60))
         found)
     (while (not (or (setq found (funcall test)) (> (float-time) end)))
       (accept-process-output nil 0.05))
@@ -35,11 +38,9 @@
 
 (defun batch-session-started ()
   "Start a session and return it."
-  (let ((settings (copy-tree (cdr (assoc "Java by the bridge" dap-debug-template-configurations)))))
-    (plist-put settings :debugServer (string-to-number (getenv "BRIDGE_PORT")))
-    (plist-put settings :sourceRoots (vector (expand-file-name "../examples" batch-session-folder)))
-    (dap-start-debugging (funcall (gethash "bridge" dap--debug-providers) settings))
-    (dap--cur-session)))
+  (with-current-buffer (find-file-noselect batch-session-source)
+    (bridge-dap-debug-file))
+  (dap--cur-session))
 
 (defun batch-session-stopped (session)
   "Wait until SESSION shows a frame, print where it and the cursor stand, and return the frame."
@@ -86,7 +87,10 @@
     (batch-session-set session (gethash "variablesReference" shop) "isOpen" "false"))
   (dap-continue session (dap--debug-session-thread-id session))
   (batch-session-await (lambda () (eq (dap--debug-session-state session) 'terminated)))
-  (princ (format "state: %s\n" (dap--debug-session-state session))))
+  (princ (format "state: %s\n" (dap--debug-session-state session)))
+  (with-current-buffer (dap--debug-session-output-buffer session)
+    (dolist (line (split-string (buffer-string) "\n" t))
+      (princ (format "printed: %s\n" line)))))
 (delete-file dap-breakpoints-file)
 
 (provide 'batch-session)

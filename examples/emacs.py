@@ -1,11 +1,9 @@
 #!/usr/bin/env python3
-"""Lets Emacs with dap-mode hold a session in batch, over a Java program that `debug.py` starts.
+"""Lets Emacs with dap-mode hold a session in batch, over a Java program that the launcher starts for it.
 
 Emacs stops examples/shop/Orders.java at a line, shows its variables, sets one, steps, goes on to a second breakpoint,
-sets a field there, and lets the program end (editors/batch-session.el). The status is 0 where it shows what is due and
-the Java program prints what is due. dap-mode closes its link where the end is told, and sends no `disconnect`: the
-bridge says `ended 1 left`, or `ended 5 client link` where Emacs hadn't read all by then. Where there is no JDK, or no
-Emacs with dap-mode, it says `skipped`.
+sets a field there, and lets the program end (editors/batch-session.el). The status is 0 where it shows what is due, and
+what the Java program prints is due, too. Where there is no JDK, or no Emacs with dap-mode, it says `skipped`.
 
 usage: examples/emacs.py [PROGRAM]
 """
@@ -17,15 +15,12 @@ import sys
 from building import PATIENCE, TOP, plainly, program_of
 from first_session import PRINTED, SOURCE
 from java_machine import lacking
-from over_tcp import free_port
 from sessions import line_of
 
 SESSION = os.path.join(TOP, "editors", "batch-session.el")
-LONGEST = 120
+LONGEST = 5 * PATIENCE
 # What the Java program prints: its door is closed before it naps.
-SAID = [line.replace("some naps", "no nap") for line in PRINTED]
-# How both end: the session ends as a link does that is closed, with all that was sent read or not.
-ENDED = [["Java program: ended with status 0", "Session: ended %s" % how] for how in ("1 left", "5 client link")]
+SAID = ["printed: " + line.replace("some naps", "no nap") for line in PRINTED]
 
 
 def has_dap_mode():
@@ -43,45 +38,26 @@ def due():
         line = line_of(SOURCE, text)
         stops.append("stopped: %s, line %d, cursor in Orders.java at line %d" % (name, line, line))
     return [stops[0], 'evaluated: line.thing = "apple"', "set: cost = 1", *stops[1:], "set: isOpen = false",
-            "state: terminated"]
+            "state: terminated", *SAID]
 
 
-def said_by_emacs(port):
+def said_by_emacs(program):
     """What Emacs printed to its standard output, line by line."""
-    told = {**os.environ, "BRIDGE_PORT": str(port)}
-    ran = subprocess.run(["emacs", "--batch", "-l", SESSION], env=told, stdout=subprocess.PIPE,
-                         stderr=subprocess.DEVNULL, text=True, timeout=LONGEST, check=False)
+    ran = subprocess.run(["emacs", "--batch", "-l", SESSION], env={**os.environ, "BRIDGE_PROGRAM": program},
+                         stdout=subprocess.PIPE, stderr=subprocess.DEVNULL, text=True, timeout=LONGEST, check=False)
     return ran.stdout.splitlines()
-
-
-def held(program):
-    """What Emacs said, and what `debug.py` and the Java program did."""
-    port = free_port()
-    words = [sys.executable, os.path.join(TOP, "examples", "debug.py"), "--suspend", "--program", program]
-    words += ["--port", str(port), os.path.join(TOP, "examples", SOURCE)]
-    debug = subprocess.Popen(words, stdout=subprocess.PIPE, text=True)
-    try:
-        for line in debug.stdout:
-            if line.startswith("Editor:"):
-                break
-        debug.stdout.readline()
-        lines = said_by_emacs(port)
-        return lines, debug.communicate(timeout=PATIENCE)[0].splitlines()
-    finally:
-        debug.terminate()
-        debug.wait(PATIENCE)
 
 
 def main():
     why = lacking("java", "javac")
     if why or not has_dap_mode():
-        print("skipped: %s" % (why or "no Emacs with dap-mode"))
+        print("emacs skipped: %s" % (why or "there is no Emacs with dap-mode"))
         return 0
-    lines, rows = held(program_of(sys.argv[1:]))
-    print("\n".join(lines + rows))
+    lines = said_by_emacs(program_of(sys.argv[1:]))
+    print("\n".join(lines))
     compared = [line for line in lines if not line.startswith(("Locals: ", "threads: ", "evaluated: this "))]
     names = [name for line in lines if line.startswith("threads: ") for name in line[len("threads: "):].split(", ")]
-    kept = compared == due() and "main" in names and rows[:-2] == SAID and sorted(rows[-2:]) in ENDED
+    kept = compared == due() and "main" in names
     print("emacs", "kept" if kept else "BROKEN")
     return 0 if kept else 1
 

@@ -74,7 +74,7 @@ def planned(arguments, port, scratch, environment, tell):
 def started(arguments, agent, folder, variables, compile_to):
     """A class, a jar or a source, by the Java machine itself."""
     main, class_path = os.path.expanduser(str(arguments["main"])), joined(arguments, "classPath")
-    path, roots = os.path.join(folder, main), existing(folder, CONVENTIONS + ["src"]) or [folder]
+    path, roots = os.path.join(folder, main), usual_roots(folder)
     if main.endswith(".jar"):
         if not os.path.isfile(path):
             raise Trouble("there is no file %s" % path)
@@ -83,7 +83,7 @@ def started(arguments, agent, folder, variables, compile_to):
         name, root = read_source(path)
         classes = compile_to(path, root, class_path)
         program = ["-cp", os.pathsep.join(filter(None, [classes, class_path])), name]
-        roots = [root, *roots]
+        roots = [root, *(other for other in usual_roots(folder) if other != folder)]
     else:
         program = ["-cp", class_path or ".", main]
     words = [tool("java"), agent, *words_of(arguments, "vmArgs"), *program, *words_of(arguments, "args")]
@@ -93,6 +93,11 @@ def started(arguments, agent, folder, variables, compile_to):
 def joined(arguments, name):
     value = arguments.get(name) or ""
     return value if isinstance(value, str) else os.pathsep.join(str(word) for word in value)
+
+
+def usual_roots(folder):
+    """The roots of a project by the rules of build tools, else `src`, else the folder itself."""
+    return existing(folder, CONVENTIONS) or existing(folder, ["src"]) or [folder]
 
 
 def existing(folder, names):
@@ -130,8 +135,7 @@ def commanded(arguments, agent, folder, variables):
     """Another command that starts a Java machine, which takes the agent from its environment."""
     given = variables.get("JAVA_TOOL_OPTIONS", os.environ.get("JAVA_TOOL_OPTIONS", ""))
     variables = {**variables, "JAVA_TOOL_OPTIONS": ("%s %s" % (given, agent)).strip()}
-    roots = existing(folder, CONVENTIONS + ["src"]) or [folder]
-    return Plan(words_of(arguments, "command"), folder, variables, roots, True)
+    return Plan(words_of(arguments, "command"), folder, variables, usual_roots(folder), True)
 
 
 def tested(arguments, agent, folder, variables, scratch):
