@@ -163,14 +163,16 @@ def build_tool(folder, wrapper, name):
 
 def maven(test, agent, folder, _):
     chosen = ["-Dtest=" + test, "-DfailIfNoTests=false", "-Dsurefire.failIfNoSpecifiedTests=false"] if test else []
-    return [build_tool(folder, "mvnw", "mvn"), "-Dmaven.surefire.debug=" + agent, *chosen, "test"]
+    return [build_tool(folder, "mvnw", "mvn"), "-B", "-Dmaven.surefire.debug=" + agent, *chosen, "test"]
 
 
 def gradle(test, agent, folder, scratch):
     script = os.path.join(scratch, "agent.gradle")
     with open(script, "w", encoding="utf-8") as file:
         file.write(GRADLE % agent)
-    chosen = ["--tests", test.replace("#", ".")] if test else []
+    # A class may be named without its package, which Gradle doesn't take in each version.
+    patterns = [test, *([] if "." in test else ["*." + test])] if test else []
+    chosen = [word for pattern in patterns for word in ("--tests", pattern.replace("#", "."))]
     return [build_tool(folder, "gradlew", "gradle"), "--no-daemon", "-I", script, "test", *chosen]
 
 
