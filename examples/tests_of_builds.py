@@ -3,6 +3,7 @@
 
 The launcher starts the build tool over a copy of examples/kitchen, stops in the class that the test calls, and goes on
 to the end of the build. Then it starts it again, and the launcher is killed in the stop: nothing may be left running.
+Maven itself is stopped, too, in a function.
 What of Debian's packages is wanted: maven libsurefire-java libmaven-resources-plugin-java libmaven-compiler-plugin-java
 gradle junit4. A build tool that isn't there is skipped.
 
@@ -57,6 +58,26 @@ def a_test_is_stopped(kind, program):
             return nothing_is_left(mark)
 
 
+def maven_is_stopped(program):
+    """Maven itself, a program of some thousand classes that another command starts, stops in a function."""
+    with Editor(program) as editor:
+        editor.ask("initialize", {"adapterID": "bridge"})
+        editor.ask("launch", {"command": ["mvn", *BUILDS["maven"][1], "validate"], "cwd": KITCHEN})
+        editor.event("initialized")
+        listed = {"breakpoints": [{"name": "org.apache.maven.DefaultMaven.execute"}]}
+        editor.ask("setFunctionBreakpoints", listed)
+        editor.ask("configurationDone")
+        thread = editor.stop("function breakpoint")
+        frames = editor.frames(thread)
+        has_to_be("the upper frame", frames[0]["name"], "org.apache.maven.DefaultMaven.execute")
+        has_to_be("the lowest", frames[-1]["name"], "org.codehaus.plexus.classworlds.launcher.Launcher.main")
+        has_to_be("what is shown of both", {frame["presentationHint"] for frame in frames}, {"subtle"})
+        editor.ask("setFunctionBreakpoints", {"breakpoints": []})
+        editor.ask("continue", {"threadId": thread})
+        has_to_be("how it ends", editor.ended(), (0, 0, "ended 0 done\n"))
+    return True
+
+
 def main():
     why = lacking("java", "javac")
     cases = []
@@ -66,7 +87,10 @@ def main():
         else:
             cases.append(kind)
     program = program_of(sys.argv[1:]) if cases else None
-    return tried(("a_test_of_%s_is_stopped" % kind, partial(a_test_is_stopped, kind, program)) for kind in cases)
+    calls = [("a_test_of_%s_is_stopped" % kind, partial(a_test_is_stopped, kind, program)) for kind in cases]
+    if "maven" in cases:
+        calls.append((maven_is_stopped.__name__, partial(maven_is_stopped, program)))
+    return tried(calls)
 
 
 if __name__ == "__main__":
