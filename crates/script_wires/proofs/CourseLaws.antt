@@ -13,9 +13,9 @@ use Rattle.script_rows.specs.declared.script.Script.{Script}
 use Rattle.script_rows.specs.declared.script.Turn.{Turn}
 use Rattle.script_rows.specs.declared.script.Turn.TheVariants as lines
 use Rattle.script_wires.specs.Played.{Played, Takes, SendsTo}
-use Rattle.script_wires.specs.Playing.{Playing, beginning, start_of, come, with_lines, piece, closed_by}
+use Rattle.script_wires.specs.Playing.{Playing, beginning, start_of, come, with_lines, piece, closed, closed_by}
 use Rattle.script_wires.specs.Schedules.{ServesAt, MovesOn, ServesIf, MovesIf, Works, Gives, GivesFirst, Settles, Does}
-use Rattle.script_wires.specs.Schedules.{GoesOn, Comes}
+use Rattle.script_wires.specs.Schedules.{GivesIfOpen, GoesOn, Comes}
 
 module _ (begin : TargetState) where
   stays : (old new : Playing) → new ≡ old → Course begin old.target → Course begin new.target
@@ -38,6 +38,11 @@ module _ (begin : TargetState) where
   gives side most old new said g course =
       stays (come side (length (piece most side old)) old) new g.rest
       (came side (length (piece most side old)) old course)
+
+  gives_if_open : (most : ℕ) (old new : Playing) (said : Option Entry) → GivesIfOpen most old said new
+      → Course begin old.target → Course begin new.target
+  gives_if_open most old new said (GivesIfOpen.gives is g) course = gives Client most old new said g course
+  gives_if_open most old new said (GivesIfOpen.passes is none same) course = stays old new same course
 
   works : (moving : Bool) (old new : Playing) → Works moving old new → Course begin old.target → Course begin new.target
   works moving old new (Works.serves s) course = served 0 old new s course
@@ -67,7 +72,7 @@ module _ (begin : TargetState) where
   does [] old new said d course = stays old new d.1 course
   does (lines.Ask command arguments ∷ rest) old new said d course =
       subst (λ (p : Playing). Course begin p.target) (sym d.1) course
-  does (lines.Client most ∷ rest) old new said d course = gives Client most (with_lines rest old) new said d course
+  does (lines.Client most ∷ rest) old new said d course = gives_if_open most (with_lines rest old) new said d course
   does (lines.Target most ∷ rest) old new said d course = gives Target most (with_lines rest old) new said d course
   does (lines.Serve place ∷ rest) old new said d course = serves_if place (with_lines rest old) new d.1 course
   does (lines.Move ∷ rest) old new said d course = moves_if (with_lines rest old) new d.1 course
@@ -108,15 +113,17 @@ module _ (begin : TargetState) where
   sends Client old new bytes same course = stays old new same course
   sends Target old new bytes t course = takes old.target new.target bytes t.takes course
 
-pub played_course : (script : Script) (log : List Entry) (p : Playing) → Played script log p
+pub played_course : (script : Script) (alone : Bool) (log : List Entry) (p : Playing) → Played script alone log p
     → Course (beginning script).target p.target
-played_course script log p Played.begins = Course.begins
-played_course script log p (Played.hears {log = before} {old = old} {entry = entry} played c) =
-    comes (beginning script).target old p entry c (played_course script before old played)
-played_course script log p (Played.sends {log = before} {old = old} side bytes played s) =
-    sends (beginning script).target side old p bytes s (played_course script before old played)
+played_course script alone log p Played.begins = Course.begins
+played_course script alone log p (Played.reaches {old = old} played same) =
+    stays (beginning script).target (closed Client old) p same (played_course script false log old played)
+played_course script alone log p (Played.hears {log = before} {old = old} {entry = entry} played c) =
+    comes (beginning script).target old p entry c (played_course script alone before old played)
+played_course script alone log p (Played.sends {log = before} {old = old} side bytes played s) =
+    sends (beginning script).target side old p bytes s (played_course script alone before old played)
 
-pub played_goes : (script : Script) (log : List Entry) (p : Playing) → Played script log p
+pub played_goes : (script : Script) (alone : Bool) (log : List Entry) (p : Playing) → Played script alone log p
     → Goes (joint_of script.world script.program (start_of script.begin)) p.target.joint
-played_goes script log p played =
-    fresh_leads script.world script.program (start_of script.begin) p.target (played_course script log p played)
+played_goes script alone log p played =
+    fresh_leads script.world script.program (start_of script.begin) p.target (played_course script alone log p played)

@@ -11,7 +11,7 @@ use Rattle.target_server.specs.Joints.{Joint, Serves, Advances, next_move}
 use Rattle.script_rows.specs.declared.script.Turn.{Turn}
 use Rattle.script_rows.specs.declared.script.Turn.TheVariants as lines
 use Rattle.script_wires.specs.Playing.{Playing, with_lines}
-use Rattle.script_wires.specs.Schedules.{ServesAt, MovesOn, ServesIf, MovesIf, Works, GivesFirst, Settles, Does, Steps}
+use Rattle.script_wires.specs.Schedules.{ServesAt, MovesOn, ServesIf, MovesIf, Works, GivesIfOpen, GivesFirst, Settles, Does, Steps}
 
 -- the lines, the unserved commands and the moves that are left
 abbrev pub weight : Playing → ℕ
@@ -107,7 +107,11 @@ does_less (lines.Ask command arguments ∷ rest) old new is does =
     let e = ap weight does.1 in
     let less = lines_less old (lines.Ask command arguments) rest is in
     omega (arith, e, less)
-does_less (lines.Client most ∷ rest) old new is does = absurd (no_some _ does.hears)
+does_less (lines.Client most ∷ rest) old new is (GivesIfOpen.gives is_so gives) = absurd (no_some _ gives.hears)
+does_less (lines.Client most ∷ rest) old new is (GivesIfOpen.passes shut said same) =
+    let e = ap weight same in
+    let less = lines_less old (lines.Client most) rest is in
+    omega (arith, e, less)
 does_less (lines.Target most ∷ rest) old new is does = absurd (no_some _ does.hears)
 does_less (lines.Serve place ∷ rest) old new is does =
     let served = serves_if_less place (with_lines rest old) new does.1 in

@@ -1,5 +1,5 @@
 -- The logs of a script: what comes is what its schedule gives, whatever the bridge sends.
-use Rattle.std.specs.Prelude.{◌≡◌, ℕ, List, [], ◌∷◌, ◌++◌, Some, None}
+use Rattle.std.specs.Prelude.{◌≡◌, ℕ, Bool, false, true, List, [], ◌∷◌, ◌++◌, Some, None}
 use Rattle.wire_core.specs.declared.outside.Side.{Side}
 use Rattle.wire_core.specs.declared.outside.Side.TheVariants.{Client, Target}
 use Rattle.wire_core.specs.declared.outside.Entry.{Entry}
@@ -7,7 +7,7 @@ use Rattle.wire_core.specs.declared.outside.Entry.TheVariants.{Out}
 use Rattle.target_server.specs.declared.trouble.TargetTrouble.{TargetTrouble}
 use Rattle.target_server.specs.Hearing.{TargetState, Feeds, FeedsUpTo}
 use Rattle.script_rows.specs.declared.script.Script.{Script}
-use Rattle.script_wires.specs.Playing.{Playing, beginning}
+use Rattle.script_wires.specs.Playing.{Playing, beginning, closed}
 use Rattle.script_wires.specs.Schedules.{Comes}
 
 -- What the target makes of bytes that the bridge sends it: it takes them, or all up to a trouble. After one it takes no
@@ -27,10 +27,13 @@ abbrev pub SendsTo : Side → Playing → List ℕ → Playing → Type 0
 SendsTo Client old bytes new = new ≡ old
 SendsTo Target old bytes new = TakesIn old bytes new
 
--- the log of a session so far, and where the session stands
-pub data Played (script : Script) : List Entry → Playing → Type 0 where
-  begins : Played script [] (beginning script)
-  hears : {log : List Entry} {old new : Playing} {entry : Entry} → Played script log old → Comes old entry new
-      → Played script (log ++ entry ∷ []) new
-  sends : {log : List Entry} {old new : Playing} (side : Side) (bytes : List ℕ) → Played script log old
-      → SendsTo side old bytes new → Played script (log ++ Out side bytes ∷ []) new
+-- Whether the target alone was reached, the log of a session so far, and where the session stands. Where the target alone
+-- is reached, the client's side is shut with no entry.
+pub data Played (script : Script) : Bool → List Entry → Playing → Type 0 where
+  begins : Played script false [] (beginning script)
+  reaches : {log : List Entry} {old new : Playing} → Played script false log old → new ≡ closed Client old
+      → Played script true log new
+  hears : {alone : Bool} {log : List Entry} {old new : Playing} {entry : Entry} → Played script alone log old
+      → Comes old entry new → Played script alone (log ++ entry ∷ []) new
+  sends : {alone : Bool} {log : List Entry} {old new : Playing} (side : Side) (bytes : List ℕ)
+      → Played script alone log old → SendsTo side old bytes new → Played script alone (log ++ Out side bytes ∷ []) new

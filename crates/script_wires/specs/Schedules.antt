@@ -58,6 +58,11 @@ pub record Gives (side : Side) (most : ℕ) (old : Playing) (said : Option Entry
   pub hears : said ≡ Some (heard side (piece most side old))
   pub rest : new ≡ come side (length (piece most side old)) old
 
+-- the same of the client, while it is there; where its side has ended, the line is passed over
+pub data GivesIfOpen (most : ℕ) (old : Playing) (said : Option Entry) (new : Playing) : Type 0 where
+  gives : old.client_open ≡ true → Gives Client most old said new → GivesIfOpen most old said new
+  passes : old.client_open ≡ false → said ≡ None → new ≡ old → GivesIfOpen most old said new
+
 -- bytes come that are on their way, the client's first
 pub data GivesFirst (old : Playing) (said : Option Entry) (new : Playing) : Type 0 where
   of_client : 0 < length (coming Client old) → Gives Client 65536 old said new → GivesFirst old said new
@@ -79,7 +84,7 @@ pub data Settles (moving : Bool) (rest : List Turn) (old : Playing) (said : Opti
 abbrev pub DoesLine : Turn → List Turn → Playing → Option Entry → Playing → Type 0
 DoesLine (lines.Ask command arguments) rest old said new =
     (said ≡ None) × (new ≡ asked command arguments (with_lines rest old))
-DoesLine (lines.Client most) rest old said new = Gives Client most (with_lines rest old) said new
+DoesLine (lines.Client most) rest old said new = GivesIfOpen most (with_lines rest old) said new
 DoesLine (lines.Target most) rest old said new = Gives Target most (with_lines rest old) said new
 DoesLine (lines.Serve place) rest old said new = (said ≡ None) × ServesIf place (with_lines rest old) new
 DoesLine lines.Move rest old said new = (said ≡ None) × MovesIf (with_lines rest old) new

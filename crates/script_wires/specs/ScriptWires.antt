@@ -2,6 +2,7 @@
 use Rattle.std.specs.Prelude.{ℕ, ◌≡◌, Bool, false, true, ◌⊎◌, List, [], ◌∷◌, Some, Result, Ok, Err}
 use Rattle.wire_core.specs.declared.links.Links.{Links}
 use Rattle.wire_core.specs.declared.outside.Side.{Side}
+use Rattle.wire_core.specs.declared.outside.Side.TheVariants.{Client}
 use Rattle.wire_core.specs.declared.outside.Happening.{Happening}
 use Rattle.wire_core.specs.declared.outside.Happening.TheVariants.{Failed as fails}
 use Rattle.wire_core.specs.declared.outside.Entry.{Entry}
@@ -13,7 +14,7 @@ use Rattle.script_rows.specs.declared.script.Script.{Script}
 use Rattle.script_wires.specs.declared.wires.ScriptWires.{ScriptWires}
 use Rattle.script_wires.specs.Journals.{outside_in}
 use Rattle.script_wires.specs.Played.{Played, SendsTo}
-use Rattle.script_wires.specs.Playing.{Playing, beginning}
+use Rattle.script_wires.specs.Playing.{Playing, beginning, closed}
 use Rattle.script_wires.specs.Plays.{playing}
 use Rattle.script_wires.specs.Schedules.{Comes}
 
@@ -44,11 +45,26 @@ pub record IsNew (script : Script) (w : ScriptWires) : Type 0 where
   pub playing : playing_of w ≡ beginning script
   pub refused : is_refused w ≡ false
 
+-- whether one name was asked for, the target's
+abbrev pub is_alone : List (List ℕ) → Bool
+is_alone [] = false
+is_alone (target ∷ []) = true
+is_alone (listen ∷ target ∷ names) = false
+
 -- the session goes on nowhere
 pub record KeepsPlaying (old new : ScriptWires) : Type 0 where
   pub log : (outside_of new).log ≡ (outside_of old).log
   pub playing : playing_of new ≡ playing_of old
   pub refused : is_refused new ≡ is_refused old
+  pub alone : is_alone (outside_of new).asked ≡ is_alone (outside_of old).asked
+
+-- the client's side is shut, and the session goes on nowhere else
+pub record LeavesClient (old new : ScriptWires) : Type 0 where
+  pub log : (outside_of new).log ≡ (outside_of old).log
+  pub playing : playing_of new ≡ closed Client (playing_of old)
+  pub refused : is_refused new ≡ is_refused old
+  pub was_none : (outside_of old).asked ≡ []
+  pub alone : is_alone (outside_of new).asked ≡ true
 
 -- memory was refused to the wires: a side's link failed, with nothing else logged
 pub record Refuses (old new : ScriptWires) (side : Side) : Type 0 where
@@ -87,6 +103,7 @@ SendsOfScript old new side bytes (Err e) = Refuses old new side
 pub data IsOver (script : Script) : ScriptWires → Type 0 where
   made : {w : ScriptWires} → IsNew script w → IsOver script w
   connects : {old new : ScriptWires} → IsOver script old → KeepsPlaying old new → IsOver script new
+  reaches : {old new : ScriptWires} → IsOver script old → LeavesClient old new → IsOver script new
   hears : {old new : ScriptWires} (buffer : List ℕ) (happening : Happening) → IsOver script old
       → NextOfScript old new buffer happening → IsOver script new
   sends : {old new : ScriptWires} (side : Side) (bytes : List ℕ) (result : Result Unit SendFailed) → IsOver script old
@@ -96,4 +113,8 @@ pub data IsOver (script : Script) : ScriptWires → Type 0 where
 pub record HasPlayed (script : Script) (w : ScriptWires) : Type 0 where
   pub log : List Entry
   pub whole : (outside_of w).log ≡ Some log
-  pub played : Played script log (playing_of w)
+  pub played : Played script (is_alone (outside_of w).asked) log (playing_of w)
+
+-- wires that were over a script are over it still
+abbrev pub StaysOver : ScriptWires → ScriptWires → Type 0
+StaysOver old new = (script : Script) → IsOver script old → IsOver script new

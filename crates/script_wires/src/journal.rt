@@ -4,8 +4,9 @@ ghost use Rattle.std.specs.Prelude.{◌↔◌};
 ghost use Rattle.wire_core.specs.declared.outside.Side.TheVariants.{Client, Target};
 ghost use Rattle.wire_core.specs.declared.outside.Happening.TheVariants.{Failed as fails};
 ghost use Rattle.wire_core.specs.declared.outside.Entry.TheVariants.{Out, Failed};
-ghost use Rattle.wire_core.specs.Outside.{entry_of, Adds, IsOpen, Connects, FailsToConnect, SameWaits};
-ghost use Rattle.wire_core.specs.Links.{is_open_in, open_count, Counts, Keeps, IsWithin};
+ghost use Rattle.wire_core.specs.Outside.{entry_of, Adds, IsOpen, Connects, FailsToConnect, Reaches};
+ghost use Rattle.wire_core.specs.Outside.{FailsToReach, SameWaits};
+ghost use Rattle.wire_core.specs.Links.{is_open_in, open_count, shut_link, Counts, Keeps, IsWithin};
 ghost use Rattle.script_wires.specs.Rooms.{HasRoom, HasRoomLeft};
 
 use std::alloc::Global;
@@ -138,9 +139,50 @@ impl Journal {
             ↔ (IsOpen Client (outside_in self.old) × IsOpen Target (outside_in self.old)) }
         ensures log { (outside_in self.new).log ≡ (outside_in self.old).log }
         ensures links { self.new.links ≡ self.old.links }
+        ensures asked { (outside_in self.new).asked ≡ listen ∷ target ∷ [] }
     {
-        self.asked = Some(Names { listen, target });
+        self.asked = Some(Names {
+            listen: Some(listen),
+            target,
+        });
         if self.links.is_open(Side::Client) && self.links.is_open(Side::Target) {
+            return Ok(());
+        }
+        self.open_faults = raise(self.open_faults);
+        Err(OpenFailed)
+    }
+
+    // Shuts the client's side, which is not logged.
+    fn leave_client(&mut self)
+        ensures log { (outside_in self.new).log ≡ (outside_in self.old).log }
+        ensures waits { SameWaits (outside_in self.old) (outside_in self.new) }
+        ensures client { (outside_in self.new).client ≡ shut_link (outside_in self.old).client }
+        ensures target { (outside_in self.new).target ≡ (outside_in self.old).target }
+        ensures open_faults { (outside_in self.new).open_faults ≡ (outside_in self.old).open_faults }
+    {
+        if self.links.is_open(Side::Client) {
+            self.links = self.links.after(Happening::Shut(Side::Client));
+        }
+    }
+
+    /// Reaches the target alone, under this name: the client's side is shut. It fails exactly where the target's side
+    /// isn't open.
+    pub(crate) fn reach(&mut self, target: Text) -> Result<(), OpenFailed>
+        requires { (outside_in self.old).asked ≡ [] }
+        ensures ok { OnOk result (Reaches (outside_in self.old) (outside_in self.new) target) }
+        ensures err { OnErr result (FailsToReach (outside_in self.old) (outside_in self.new) target) }
+        ensures target_open { IsOk result ↔ IsOpen Target (outside_in self.old) }
+        ensures log { (outside_in self.new).log ≡ (outside_in self.old).log }
+        ensures client { (outside_in self.new).client ≡ shut_link (outside_in self.old).client }
+        ensures same { (outside_in self.new).target ≡ (outside_in self.old).target }
+        ensures asked { (outside_in self.new).asked ≡ target ∷ [] }
+    {
+        self.leave_client();
+        self.asked = Some(Names {
+            listen: None,
+            target,
+        });
+        if self.links.is_open(Side::Target) {
             return Ok(());
         }
         self.open_faults = raise(self.open_faults);

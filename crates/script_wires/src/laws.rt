@@ -1,5 +1,5 @@
 //! What holds of all wires over scripts, whatever is asked of them. Each law is a contract over all scripts.
-ghost use Rattle.std.specs.Prelude.{◌≡◌, false, List};
+ghost use Rattle.std.specs.Prelude.{◌≡◌, Bool, false, List};
 ghost use Rattle.wire_core.specs.declared.outside.Entry.{Entry};
 ghost use Rattle.target_server.specs.Courses.{Goes};
 ghost use Rattle.target_server.specs.Joints.{joint_of};
@@ -17,6 +17,6 @@ pub fn a_log_is_played()
 
 /// In a session of a script the target goes by its moves alone, from the script's world and program.
 pub fn a_played_target_moves()
-    ensures { (script : Script) (log : List Entry) (now : Playing) → Played script log now
+    ensures { (script : Script) (alone : Bool) (log : List Entry) (now : Playing) → Played script alone log now
         → Goes (joint_of script.world script.program (start_of script.begin)) now.target.joint }
 {}

@@ -12,7 +12,7 @@ ghost use Rattle.script_wires.specs.Played.{SendsTo, TakesIn};
 ghost use Rattle.script_wires.specs.Playing.{beginning, start_of, coming, come, heard, with_lines};
 ghost use Rattle.script_wires.specs.Plays.{playing};
 ghost use Rattle.script_wires.specs.Schedules.{Gives, GivesFirst, IsStill, IsIdle, Works, ServesIf, MovesIf, Settles};
-ghost use Rattle.script_wires.specs.Schedules.{Steps, Reaches};
+ghost use Rattle.script_wires.specs.Schedules.{Steps, Reaches, GivesIfOpen};
 
 use crate::client::Client;
 use crate::schedule::Schedule;
@@ -209,6 +209,20 @@ impl Play {
         heard(side, count)
     }
 
+    // The same of the client, while it is there; nothing where its side has ended.
+    fn give_if_open(&mut self, most: u32, links: Links, buffer: &mut [u8]) -> Option<Happening>
+        requires { length buffer.old ≡ 65536 }
+        ensures gives { GivesIfOpen most (playing self.old links) (option_map (entry_of buffer.new) result)
+            (playing self.new links) }
+        ensures possible { IfSome result (IsPossible links 65536) }
+    {
+        if links.is_open(Side::Client) {
+            Some(self.give_some(Side::Client, most, links, buffer))
+        } else {
+            None
+        }
+    }
+
     // Gives the first bytes on their way, the client's before the target's; nothing where there are none.
     fn give_first(&mut self, links: Links, buffer: &mut [u8]) -> Option<Happening>
         requires { length buffer.old ≡ 65536 }
@@ -312,7 +326,7 @@ impl Play {
             Turn::Client(most) => {
                 let most = *most;
                 self.schedule.pass();
-                Ok(Some(self.give_some(Side::Client, most, links, buffer)))
+                Ok(self.give_if_open(most, links, buffer))
             }
             Turn::Target(most) => {
                 let most = *most;

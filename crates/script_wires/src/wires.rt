@@ -1,8 +1,8 @@
 //! Wires that join a bridge to a scripted target.
 ghost use Rattle.std.specs.Prelude.{◌≡◌, ◌<◌, true, [], length, IfOk, IsOk, OnOk, OnErr, Some, ◌↔◌};
 ghost use Rattle.wire_core.specs.declared.outside.Side.TheVariants.{Client, Target};
-ghost use Rattle.wire_core.specs.Outside.{IsOpen, HasOpen, Connects, FailsToConnect, Hears, SameWaits, Sends};
-ghost use Rattle.wire_core.specs.Outside.{FailsToSend};
+ghost use Rattle.wire_core.specs.Outside.{IsOpen, HasOpen, Connects, FailsToConnect, Reaches, FailsToReach};
+ghost use Rattle.wire_core.specs.Outside.{Hears, SameWaits, Sends, FailsToSend};
 ghost use Rattle.wire_core.specs.Links.{is_open_in, first_open, IsPossible};
 
 use crate::journal::Journal;
@@ -98,9 +98,12 @@ impl ScriptWires {
 }
 
 impl Wires for ScriptWires {
-    ghost use Rattle.script_wires.specs.ScriptWires.{outside_of, KeepsPlaying, NextOfScript, SendsOfScript};
+    ghost use Rattle.script_wires.specs.ScriptWires.{outside_of, KeepsPlaying, LeavesClient, NextOfScript, SendsOfScript};
+    ghost use Rattle.script_wires.specs.ScriptWires.{StaysOver};
 
     ghost outside = { outside_of };
+
+    ghost stays = { StaysOver };
 
     // It answers `OpenFailed` exactly where a side isn't open.
     fn connect(&mut self, listen: Text, target: Text) -> Result<(), OpenFailed>
@@ -110,8 +113,22 @@ impl Wires for ScriptWires {
         ensures both_open { IsOk result
             ↔ (IsOpen Client (outside_of self.old) × IsOpen Target (outside_of self.old)) }
         ensures playing { KeepsPlaying self.old self.new }
+        ensures stays { StaysOver self.old self.new }
     {
         self.journal.connect(listen, target)
+    }
+
+    // It answers `OpenFailed` exactly where the target's side isn't open. The client's side is shut in either case, so that
+    // the client's lines are passed over.
+    fn reach(&mut self, target: Text) -> Result<(), OpenFailed>
+        requires { (outside_of self.old).asked ≡ [] }
+        ensures ok { OnOk result (Reaches (outside_of self.old) (outside_of self.new) target) }
+        ensures err { OnErr result (FailsToReach (outside_of self.old) (outside_of self.new) target) }
+        ensures target_open { IsOk result ↔ IsOpen Target (outside_of self.old) }
+        ensures leaves { LeavesClient self.old self.new }
+        ensures stays { StaysOver self.old self.new }
+    {
+        self.journal.reach(target)
     }
 
     fn next(&mut self, buffer: &mut [u8]) -> Happening
@@ -119,6 +136,7 @@ impl Wires for ScriptWires {
         requires some_open { HasOpen (outside_of self.old) }
         ensures hears { Hears (outside_of self.old) (outside_of self.new) buffer.new result }
         ensures comes { NextOfScript self.old self.new buffer.new result }
+        ensures stays { StaysOver self.old self.new }
     {
         self.journal.waits = raise(self.journal.waits);
         match self.hear(buffer) {
@@ -137,6 +155,7 @@ impl Wires for ScriptWires {
         ensures ok { OnOk result (Sends (outside_of self.old) (outside_of self.new) side bytes.now) }
         ensures err { OnErr result (FailsToSend (outside_of self.old) (outside_of self.new) side bytes.now) }
         ensures sends { SendsOfScript self.old self.new side bytes.now result }
+        ensures stays { StaysOver self.old self.new }
     {
         match self.pass_on(side, bytes) {
             Ok(()) => Ok(()),
@@ -146,4 +165,8 @@ impl Wires for ScriptWires {
             }
         }
     }
+
+    ghost stays_so = { λ w script over. over };
+
+    ghost stays_on = { λ u v w a b script over. b script (a script over) };
 }
