@@ -1,7 +1,7 @@
 -- Slots say what is wished: two lists in order that have the same wishes are one.
-use Rattle.std.proofs.Common.{◌≡◌, suc, ◌+◌, ◌<◌, ◌^◌, Bool, true, false, List, [], ◌∷◌, refl, ap, sym, ◌∙◌}
-use Rattle.std.proofs.Common.{subst, length}
-use Rattle.std.specs.Prelude.{◌||◌, ◌&&◌, filter}
+use Rattle.std.proofs.Common.{◌≡◌, Bool, true, false, List, [], ◌∷◌, refl, ap, sym, ◌∙◌}
+use Rattle.std.proofs.Common.{subst}
+use Rattle.std.specs.Prelude.{◌||◌}
 use Rattle.std.specs.List.{AllByRecursion}
 use Rattle.std.specs.List.Sorted.{IsStrictlySortedBy}
 use Rattle.std.specs.Ordering.{is_eq, ordering_reverse}
@@ -9,13 +9,11 @@ use Rattle.std.specs.declared.cmp.Ordering.{Ordering}
 use Rattle.std.specs.declared.cmp.Ordering.TheVariants.{Less, Equal, Greater}
 use Rattle.wish_sets.specs.declared.slot.Slot.{Slot}
 use Rattle.wish_sets.specs.declared.wish.Wish.{Wish}
-use Rattle.wish_sets.specs.Forming.{has_its_slot, AreFormed, IsWider}
-use Rattle.wish_sets.specs.Order.{has_wish, in_order, is_wish, wish_cmp, wish_rank, wish_total}
-use Rattle.wish_sets.specs.Slots.{wishes_in, wanted_slots}
-use Rattle.wish_sets.proofs.OrderLaws.{any-fold, sorted-fold}
-use Rattle.wish_sets.proofs.WishLaws.{alike, equal_is, is_itself}
-use Rattle.wish_sets.proofs.SlotLaws.{wishes_of, has_slot, has-kept}
-use Rattle.wish_sets.proofs.WantedLaws.{requests_wanted, refusals_wanted, wishes_wanted, all_sound_wanted}
+use Rattle.wish_sets.specs.Order.{has_wish, in_order, is_wish, wish_cmp, wish_total}
+use Rattle.wish_sets.specs.Slots.{wishes_in}
+use Rattle.wish_sets.proofs.OrderLaws.{sorted-fold}
+use Rattle.wish_sets.proofs.WishLaws.{equal_is, is_itself}
+use Rattle.wish_sets.proofs.SlotLaws.{wishes_of}
 
 -- Lists in order ------------------------------------------------------------------------------------------------------
 
@@ -75,48 +73,7 @@ same_in_order (x ∷ xs) (y ∷ ys) left right same =
 
 -- What is wished ------------------------------------------------------------------------------------------------------
 
--- those that pass have a slot that passes, where they have one
-has-wanted : (test : Wish → Bool) (slots : List Slot) (wish : Wish)
-    → has_slot (λ slot. slot.wished) (wanted_slots test slots) wish ≡ (test wish && has_its_slot slots wish)
-has-wanted test [] wish = by (test wish)
-  where
-    by : (b : Bool) → false ≡ (b && false)
-    by true = refl
-    by false = refl
-has-wanted test (slot ∷ slots) wish = by (is_wish wish slot.wish) refl (has-wanted test slots wish)
-  where
-    same : (b c : Bool) → (b || (b && c)) ≡ b
-    same true c = refl
-    same false c = refl
-
-    and-true : (b : Bool) → (b && true) ≡ b
-    and-true true = refl
-    and-true false = refl
-
-    and-false : (b : Bool) → (b && false) ≡ false
-    and-false true = refl
-    and-false false = refl
-
-    by : (b : Bool) → is_wish wish slot.wish ≡ b
-        → has_slot (λ slot. slot.wished) (wanted_slots test slots) wish ≡ (test wish && has_its_slot slots wish)
-        → ((test slot.wish && is_wish wish slot.wish) || has_slot (λ slot. slot.wished) (wanted_slots test slots) wish)
-        ≡ (test wish && (is_wish wish slot.wish || has_its_slot slots wish))
-    by true e again =
-        rw (e, ← equal_is wish slot.wish e, again, and-true (test wish)) (same (test wish) (has_its_slot slots wish))
-    by false e again = rw (e, and-false (test slot.wish)) again
-
-has-all : (those : List Wish) (slots : List Slot) → AllByRecursion (λ wish. has_its_slot slots wish ≡ true) those
-    → (wish : Wish) → (has_wish those wish && has_its_slot slots wish) ≡ has_wish those wish
-has-all [] slots all wish = refl
-has-all (one ∷ those) slots all wish =
-    by (is_wish wish one) refl (has_wish those wish) (has_its_slot slots wish) refl (has-all those slots all.1 wish)
-  where
-    by : (a : Bool) → is_wish wish one ≡ a → (b c : Bool) → has_its_slot slots wish ≡ c → (b && c) ≡ b
-        → ((a || b) && c) ≡ (a || b)
-    by true e b c f again = sym f ∙ (ap (has_its_slot slots) (equal_is wish one e) ∙ all.0)
-    by false e b c f again = again
-
-in_order_is : (those : List Wish) → IsStrictlySortedBy wish_cmp (in_order those)
+pub in_order_is : (those : List Wish) → IsStrictlySortedBy wish_cmp (in_order those)
 unfolding IsStrictlySortedBy
 in_order_is those = sorted-fold wish_total [] those tt
 
@@ -130,7 +87,7 @@ behind wish (x ∷ xs) all = one x.wished (behind wish xs all.1)
     one true rest = (all.0, rest)
     one false rest = rest
 
-kept_in_order : (xs : List Slot) → IsStrictlySortedBy wish_cmp (wishes_of xs)
+pub kept_in_order : (xs : List Slot) → IsStrictlySortedBy wish_cmp (wishes_of xs)
     → IsStrictlySortedBy wish_cmp (wishes_in xs)
 unfolding IsStrictlySortedBy
 kept_in_order [] sorted = tt
@@ -140,40 +97,3 @@ kept_in_order (x ∷ xs) sorted = one x.wished (kept_in_order xs sorted.1)
         → IsStrictlySortedBy wish_cmp (wishes_in (record x { wished = b } ∷ xs))
     one true rest = (behind x.wish xs sorted.0, rest)
     one false rest = rest
-
--- slots say what is wished, once each wish has one
-pub wishes_are : (those : List Wish) (slots : List Slot) → IsStrictlySortedBy wish_cmp (wishes_of slots)
-    → AllByRecursion (λ wish. has_its_slot slots wish ≡ true) those
-    → wishes_in (wanted_slots (has_wish those) slots) ≡ in_order those
-wishes_are those slots sorted all =
-    same_in_order (wishes_in (wanted_slots (has_wish those) slots)) (in_order those)
-    (kept_in_order (wanted_slots (has_wish those) slots)
-    (subst (IsStrictlySortedBy wish_cmp) (sym (wishes_wanted (has_wish those) slots)) sorted)) (in_order_is those)
-    (λ wish. has-kept (λ slot. slot.wished) (wanted_slots (has_wish those) slots) wish
-    ∙ (has-wanted (has_wish those) slots wish ∙ (has-all those slots all wish
-    ∙ sym (any-fold wish_cmp (is_wish wish) (alike wish) [] those))))
-
-early_wanted : (test : Wish → Bool) (slots : List Slot) → AllByRecursion (λ slot. wish_rank slot.wish < 4) slots
-    → AllByRecursion (λ slot. wish_rank slot.wish < 4) (wanted_slots test slots)
-early_wanted test [] all = tt
-early_wanted test (slot ∷ slots) all = (all.0, early_wanted test slots all.1)
-
-length_wanted : (test : Wish → Bool) (slots : List Slot) → length (wanted_slots test slots) ≡ length slots
-length_wanted test [] = refl
-length_wanted test (slot ∷ slots) = ap suc (length_wanted test slots)
-
--- slots say which of these are wished
-pub formed : (those : List Wish) (old wide : List Slot) → IsWider old wide
-    → AllByRecursion (λ wish. has_its_slot wide wish ≡ true) those
-    → AreFormed those old (wanted_slots (has_wish those) wide)
-formed those old wide is all = record {
-  wishes = wishes_are those wide is.in_order.sorted all;
-  requests = requests_wanted (has_wish those) wide ∙ is.requests;
-  refusals = refusals_wanted (has_wish those) wide ∙ ap (filter (has_wish those)) is.refusals;
-  in_order = record {
-    sorted = subst (IsStrictlySortedBy wish_cmp) (sym (wishes_wanted (has_wish those) wide)) is.in_order.sorted;
-    early = early_wanted (has_wish those) wide is.in_order.early;
-    sound = all_sound_wanted (has_wish those) wide is.in_order.sound;
-    counted = subst (λ n. n + 5 < 2 ^ 31) (sym (length_wanted (has_wish those) wide)) is.in_order.counted;
-  };
-}

@@ -1,8 +1,8 @@
 -- Each wish that is listed gets its slot, and then slots say what is wished.
 use Rattle.std.proofs.Common.{◌≡◌, ℕ, zero, suc, ◌+◌, ◌<◌, ◌≤◌, ◌^◌, Bool, true, false, List, [], ◌∷◌, ◌++◌, refl, ap}
 use Rattle.std.proofs.Common.{sym}
-use Rattle.std.proofs.Common.{◌∙◌, subst, length, take, drop, get_or, set, Option, Some, None, arith}
-use Rattle.std.specs.Prelude.{◌||◌, ◌&&◌, filter, map, filter_map, fold, is_some}
+use Rattle.std.proofs.Common.{◌∙◌, subst, length, take, get_or, Option, Some, None, arith}
+use Rattle.std.specs.Prelude.{◌||◌, ◌&&◌, filter, map, filter_map, fold, is_some, nat_lt}
 use Rattle.std.specs.BTreeSet.{insert_key}
 use Rattle.std.specs.List.{list_any, AllByRecursion, insert}
 use Rattle.std.specs.List.Sorted.{IsStrictlySortedBy}
@@ -23,10 +23,10 @@ use Rattle.wish_sets.specs.Wanted.{Wanted}
 use Rattle.wish_sets.specs.Wished.{has_entries}
 use Rattle.wish_sets.specs.Kept.{is_sound, listed_wishes}
 use Rattle.wish_sets.specs.Order.{is_wish, wish_cmp, wish_rank, wish_total}
-use Rattle.wish_sets.specs.Slots.{wishes_in, requests_in, refusals_in, new_slot, wanted_slot, wanted_slots}
-use Rattle.wish_sets.proofs.OrderLaws.{any-insert, each-insert, sorted-insert}
+use Rattle.wish_sets.specs.Slots.{wishes_in, requests_in, refusals_in, new_slot, AreWithin}
+use Rattle.wish_sets.proofs.OrderLaws.{any-insert, before_all, each-insert, sorted-insert}
 use Rattle.wish_sets.proofs.WishLaws.{alike, is_itself}
-use Rattle.wish_sets.proofs.SlotLaws.{wishes_of}
+use Rattle.wish_sets.proofs.SlotLaws.{none_behind, wishes_of}
 
 -- the order of two does not matter to whether they are one
 pub is_wish_sym : (a b : Wish) → is_wish a b ≡ is_wish b a
@@ -41,17 +41,6 @@ pub same_package : (name other : List ℕ) → Rattle.std.specs.Prelude.bytes_eq
     ≡ is_wish (wishes.Watch other) (wishes.Watch name)
 same_package name other =
     sym (is_eq-slice_cmp name other) ∙ is_wish_sym (wishes.Watch name) (wishes.Watch other)
-
--- one slot more is wanted
-pub one_wanted : (test : Wish → Bool) (xs : List Slot) (at : ℕ) (d e : Slot) → at < length xs
-    → set (wanted_slots test (take at xs) ++ drop at xs) at
-    (wanted_slot (test (get_or (wanted_slots test (take at xs) ++ drop at xs) at e).wish)
-    (get_or (wanted_slots test (take at xs) ++ drop at xs) at d))
-    ≡ wanted_slots test (take (suc at) xs) ++ drop (suc at) xs
-one_wanted test [] at d e within = absurd (omega (arith, within))
-one_wanted test (x ∷ xs) zero d e within = refl
-one_wanted test (x ∷ xs) (suc at) d e within =
-    ap (λ ys. wanted_slot (test x.wish) x ∷ ys) (one_wanted test xs at d e (omega (arith, within)))
 
 -- A slot is added -----------------------------------------------------------------------------------------------------
 
@@ -95,6 +84,22 @@ module _ (wish : Wish) where
       by Less e again = absurd (cc)
       by Equal e again = refl
       by Greater e again = again e
+
+  -- where there is a place for it, it has no slot
+  pub no_slot_yet : (n : ℕ) (xs : List Slot) (i : ℕ) → IsStrictlySortedBy wish_cmp (wishes_of xs)
+      → new_place n wish xs ≡ Some i → has_its_slot xs wish ≡ false
+  unfolding IsStrictlySortedBy
+  no_slot_yet n [] i sorted e = refl
+  no_slot_yet n (x ∷ xs) i sorted e = by (wish_cmp wish x.wish) refl e (no_slot_yet (n + 1) xs i sorted.1)
+    where
+      by : (o : Ordering) → wish_cmp wish x.wish ≡ o
+          → match_ordering o (Some n) None (new_place (n + 1) wish xs) ≡ Some i
+          → (new_place (n + 1) wish xs ≡ Some i → has_its_slot xs wish ≡ false)
+          → (is_eq o || has_its_slot xs wish) ≡ false
+      by Less f e again =
+          none_behind (λ slot. true) wish xs (before_all wish_total wish x.wish (wishes_of xs) f sorted.0)
+      by Equal f e again = absurd (cc)
+      by Greater f e again = again e
 
   -- what is listed of slots stays, where nothing is listed of the new one
   stays : {K : Type 0} (list : List Slot → List K) → ((xs : List Slot) → list (one ∷ xs) ≡ list xs)
@@ -141,12 +146,17 @@ module _ (wish : Wish) where
   has_now xs = has-with xs wish ∙ rw (is_itself wish) refl
 
   pub wider : (xs : List Slot) → AreInOrder xs → wish_rank wish < 4 → length xs + 6 < 2 ^ 31
-      → IsWider xs (insert_key by_wish xs one)
-  wider xs are early room = record {
+      → has_its_slot xs wish ≡ false → IsWider xs (insert_key by_wish xs one)
+  wider xs are early room fresh = record {
     wishes = stays wishes_in (λ ys. refl) (λ x ys zs e. wished x ys zs e x.wished) xs;
     requests = stays requests_in (λ ys. refl) (λ x ys zs e. requested x ys zs e x.request) xs;
     refusals = stays refusals_in (λ ys. refl) (λ x ys zs e. refused x ys zs e x.refused) xs;
     kept = λ other e. has-with xs other ∙ by (is_wish other wish) (has_its_slot xs other) e;
+    numbers = λ number none all. each-insert by_wish (λ slot. slot.count ≡ number slot.wish) one xs
+        (sym (none wish fresh)) all;
+    flags = λ all. each-insert by_wish (λ slot. slot.wished ≡ nat_lt 0 slot.count) one xs refl all;
+    within = λ other most all. each-insert by_wish (λ slot. is_wish other slot.wish ≡ true → slot.count ≤ most) one xs
+        (λ e. omega arith) all;
     in_order = record {
       sorted = subst (IsStrictlySortedBy wish_cmp) (sym (wishes_with xs))
           (sorted-insert wish_total wish (wishes_of xs) are.sorted);
@@ -181,8 +191,39 @@ wider-trans xs ys zs first second = record {
   requests = second.requests ∙ first.requests;
   refusals = second.refusals ∙ first.refusals;
   kept = λ wish e. second.kept wish (first.kept wish e);
+  numbers = λ number none all. second.numbers number (λ wish e. none wish (lacks wish e))
+      (first.numbers number none all);
+  flags = λ all. second.flags (first.flags all);
+  within = λ wish most all. second.within wish most (first.within wish most all);
   in_order = second.in_order;
 }
+  where
+    lacks : (wish : Wish) → has_its_slot ys wish ≡ false → has_its_slot xs wish ≡ false
+    lacks wish e = by (has_its_slot xs wish) refl
+      where
+        by : (b : Bool) → has_its_slot xs wish ≡ b → b ≡ false
+        by true f = absurd (let h = first.kept wish f in cc)
+        by false f = refl
+
+pub wider-refl : (xs : List Slot) → AreInOrder xs → IsWider xs xs
+wider-refl xs are = record {
+  wishes = refl;
+  requests = refl;
+  refusals = refl;
+  kept = λ wish e. e;
+  numbers = λ number none all. all;
+  flags = λ all. all;
+  within = λ wish most all. all;
+  in_order = are;
+}
+
+one_room : (those : List Wish) (xs ys : List Slot) (at most : ℕ) (d : Wish) → at < length those → IsWider xs ys
+    → AllByRecursion (λ wish. AreWithin wish most xs) (take at those) → AreWithin (get_or those at d) most ys
+    → AllByRecursion (λ wish. AreWithin wish most ys) (take (suc at) those)
+one_room [] xs ys at most d within wide all has = absurd (omega (arith, within))
+one_room (w ∷ those) xs ys zero most d within wide all has = (has, tt)
+one_room (w ∷ those) xs ys (suc at) most d within wide all has =
+    (wide.within w most all.0, one_room those xs ys at most d (omega (arith, within)) wide all.1 has)
 
 -- one wish more has its slot
 pub one_more : (those : List Wish) (xs ys : List Slot) (at : ℕ) (d : Wish) → at < length those → IsWider xs ys
@@ -193,6 +234,14 @@ one_more [] xs ys at d within wide all has = absurd (omega (arith, within))
 one_more (w ∷ those) xs ys zero d within wide all has = (has, tt)
 one_more (w ∷ those) xs ys (suc at) d within wide all has =
     (wide.kept w all.0, one_more those xs ys at d (omega (arith, within)) wide all.1 has)
+
+-- one wish more has room
+pub room_more : (those : List Wish) (xs ys zs : List Slot) (at most : ℕ) (d : Wish) → at < length those → IsWider xs ys
+    → AllByRecursion (λ wish. AreWithin wish most xs) (take at those) → d ≡ get_or those at d → zs ≡ ys
+    → AreWithin d most zs → AllByRecursion (λ wish. AreWithin wish most ys) (take (suc at) those)
+room_more those xs ys zs at most d within wide all e f has =
+    one_room those xs ys at most d within wide all
+    (subst (λ wish. AreWithin wish most ys) e (subst (AreWithin d most) f has))
 
 -- What is listed ------------------------------------------------------------------------------------------------------
 

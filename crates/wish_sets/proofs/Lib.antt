@@ -19,6 +19,9 @@ pub mod ThrownLaws
 pub mod StepLaws
 pub mod StepKept
 pub mod FormingLaws
+pub mod CountLaws
+pub mod ShareLaws
+pub mod ShiftLaws
 pub mod FormedLaws
 pub mod FormedKept
 pub mod StandingLaws
@@ -28,5 +31,4 @@ pub mod SortedLaws
 pub mod BoundLaws
 pub mod OwnerLaws
 pub mod FileLaws
-pub mod RisingLaws
 pub mod AlikeLaws

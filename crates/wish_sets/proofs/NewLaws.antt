@@ -1,8 +1,11 @@
 -- What is kept before anything was asked for.
-use Rattle.std.proofs.Common.{true, false, [], ◌∷◌, refl, arith}
+use Rattle.std.proofs.Common.{◌≡◌, ◌<◌, true, false, [], ◌∷◌, refl, arith}
 use Rattle.std.specs.List.Sorted.{IsStrictlySortedBy}
 use Rattle.wish_sets.specs.declared.wish.Wish.TheVariants as wishes
 use Rattle.wish_sets.specs.declared.wish.Depth.TheVariants.{Into, Over}
+use Rattle.wish_sets.specs.declared.wish.Wish.{Wish}
+use Rattle.wish_sets.specs.Counts.{wishers, AreCounts}
+use Rattle.wish_sets.specs.Forming.{has_its_slot}
 use Rattle.wish_sets.specs.Kept.{fixed_slots, AreKept}
 use Rattle.wish_sets.specs.Slots.{new_slot}
 use Rattle.wish_sets.specs.Wanted.{nothing_wanted}
@@ -40,3 +43,20 @@ new_kept = record {
   sound = (refl, (refl, (refl, (refl, (refl, (refl, (refl, tt)))))));
   counted = omega arith;
 }
+
+-- nothing is counted but the starts and ends of threads
+pub new_counts : AreCounts nothing_wanted (new_slot wishes.ThreadStart true ∷ new_slot wishes.ThreadDeath true ∷ [])
+new_counts = record {
+  slotted = each;
+  numbers = (refl, (refl, tt));
+  wished = (refl, (refl, tt));
+}
+  where
+    each : (wish : Wish) → 0 < wishers wish nothing_wanted
+        → has_its_slot (new_slot wishes.ThreadStart true ∷ new_slot wishes.ThreadDeath true ∷ []) wish ≡ true
+    each wishes.ThreadStart above = refl
+    each wishes.ThreadDeath above = refl
+    each (wishes.Watch path) above = absurd (let h : 0 < 0 = above in omega (arith, h))
+    each (wishes.Stop at) above = absurd (let h : 0 < 0 = above in omega (arith, h))
+    each (wishes.Thrown caught uncaught) above = absurd (let h : 0 < 0 = above in omega (arith, h))
+    each (wishes.Step thread depth) above = absurd (let h : 0 < 0 = above in omega (arith, h))

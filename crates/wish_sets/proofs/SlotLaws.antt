@@ -74,7 +74,7 @@ or-false true = refl
 or-false false = refl
 
 -- what is before all has no slot among them
-none_behind : (test : Slot → Bool) (wish : Wish) (slots : List Slot)
+pub none_behind : (test : Slot → Bool) (wish : Wish) (slots : List Slot)
     → AllByRecursion (λ other. wish_cmp wish other ≡ Less) (wishes_of slots) → has_slot test slots wish ≡ false
 none_behind test wish [] all = refl
 none_behind test wish (slot ∷ slots) all =

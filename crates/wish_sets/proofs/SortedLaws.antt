@@ -1,8 +1,8 @@
 -- Slots in wish order: a wish has one at most, at the place to which those before it lead.
 use Rattle.std.proofs.Common.{◌≡◌, ℕ, zero, suc, ◌+◌, ◌<◌, ◌≤◌, Bool, true, false, cond, List, [], ◌∷◌, ◌++◌, refl, ap}
 use Rattle.std.proofs.Common.{sym, ◌∙◌, subst, length, get_or, Option, Some, None, arith, slice_get}
-use Rattle.std.specs.Prelude.{◌||◌, find, is_some, map}
-use Rattle.std.specs.List.{list_any, AllByRecursion}
+use Rattle.std.specs.Prelude.{find, is_some, map}
+use Rattle.std.specs.List.{position_from, AllByRecursion}
 use Rattle.std.specs.List.Sorted.{IsStrictlySortedBy}
 use Rattle.std.specs.Ordering.{is_eq, is_lt, match_ordering, ordering_reverse}
 use Rattle.std.specs.declared.cmp.Ordering.{Ordering}
@@ -140,6 +140,46 @@ module _ (wish : Wish) where
       (λ k d after inside. above (suc k) d (omega (arith, after)) (omega (arith, inside)))
       ∙ ap (λ place. place_for place (slice_get slots n)) here)
 
+  -- the place of its slot, by what stands at the place to which those before it lead
+  abbrev pub its_place : ℕ → Option Slot → Option ℕ
+  its_place place None = None
+  its_place place (Some slot) = cond (is_its slot) (Some place) None
+
+  none_placed : (n : ℕ) (first : Wish) (slots : List Slot) → wish_cmp wish first ≡ Less
+      → AllByRecursion (λ y. wish_cmp first y ≡ Less) (map (λ slot. slot.wish) slots)
+      → position_from is_its n slots ≡ None
+  none_placed n first [] e all = refl
+  none_placed n first (slot ∷ slots) e all =
+      rw (differs wish slot.wish (wish_total.trans wish first slot.wish e all.0))
+      (none_placed (n + 1) first slots e all.1)
+
+  pub stands_at : (from : ℕ) (slots : List Slot) (n : ℕ) → AreSorted slots
+      → ((k : ℕ) (d : Slot) → k < n → k < length slots → is_before (get_or slots k d) ≡ true)
+      → ((k : ℕ) (d : Slot) → n ≤ k → k < length slots → is_before (get_or slots k d) ≡ false)
+      → position_from is_its from slots ≡ its_place (from + n) (slice_get slots n)
+  unfolding IsStrictlySortedBy
+  stands_at from [] n sorted below above = refl
+  stands_at from (slot ∷ slots) zero sorted below above =
+      by (is_its slot) refl
+    where
+      here : from ≡ from + 0
+      here = omega arith
+
+      by : (b : Bool) → is_its slot ≡ b
+          → cond b (Some from) (position_from is_its (from + 1) slots) ≡ cond b (Some (from + 0)) None
+      by true e = ap Some here
+      by false e =
+          none_placed (from + 1) slot.wish slots (more slot.wish wish (above 0 slot (omega arith) (omega arith)) e)
+          sorted.0
+  stands_at from (slot ∷ slots) (suc n) sorted below above =
+      let less = is_less (wish_cmp slot.wish wish) (below 0 slot (omega arith) (omega arith)) in
+      let here : from + 1 + n ≡ from + suc n = omega arith in
+      rw (differs_back slot.wish wish less)
+      (stands_at (from + 1) slots n sorted.1
+      (λ k d before within. below (suc k) d (omega (arith, before)) (omega (arith, within)))
+      (λ k d after within. above (suc k) d (omega (arith, after)) (omega (arith, within)))
+      ∙ ap (λ place. its_place place (slice_get slots n)) here)
+
   -- What stands in its slot -------------------------------------------------------------------------------------------
 
   none_installed : (slots : List Slot) → find is_its slots ≡ None → is_installed (requests_in slots) wish ≡ false
@@ -165,7 +205,7 @@ module _ (wish : Wish) where
       by false f e true again = rw f (again e)
 
   -- behind the slot of the wish there is none of it
-  one_only : (slot : Slot) (slots : List Slot) → is_its slot ≡ true
+  pub one_only : (slot : Slot) (slots : List Slot) → is_its slot ≡ true
       → AllByRecursion (λ y. wish_cmp slot.wish y ≡ Less) (map (λ slot. slot.wish) slots) → find is_its slots ≡ None
   one_only slot [] e all = refl
   one_only slot (other ∷ slots) e all =

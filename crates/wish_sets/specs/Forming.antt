@@ -1,5 +1,5 @@
 -- What is wished is formed afresh: which wishes are listed, and the slots that they get.
-use Rattle.std.specs.Prelude.{◌≡◌, ℕ, ◌+◌, ◌<◌, ◌^◌, Bool, true, List, [], ◌∷◌, map, filter, length, Option, Some, None}
+use Rattle.std.specs.Prelude.{◌≡◌, ℕ, ◌+◌, ◌<◌, ◌^◌, Bool, true, false, List, [], ◌∷◌, map, filter, length, Option, Some, None}
 use Rattle.std.specs.List.{list_any, AllByRecursion}
 use Rattle.std.specs.List.Sorted.{IsStrictlySortedBy}
 use Rattle.std.specs.Ordering.{match_ordering}
@@ -12,7 +12,7 @@ use Rattle.wish_sets.specs.declared.wish.Wish.TheVariants as wishes
 use Rattle.wish_sets.specs.Kept.{is_sound}
 use Rattle.wish_sets.specs.Names.{key_parts, has_class, package_named, package_name}
 use Rattle.wish_sets.specs.Order.{has_wish, in_order, is_wish, wish_cmp, wish_rank}
-use Rattle.wish_sets.specs.Slots.{wishes_in, requests_in, refusals_in}
+use Rattle.wish_sets.specs.Slots.{wishes_in, requests_in, refusals_in, AreNumbered, AreFlagged, AreWithin}
 use Rattle.wish_sets.specs.Wished.{has_entries, wished}
 use Rattle.wish_sets.specs.Wishes.{Wishes, is_surplus}
 
@@ -47,12 +47,16 @@ pub record AreInOrder (slots : List Slot) : Type 0 where
   pub sound : AllByRecursion (λ slot. is_sound slot ≡ true) slots
   pub counted : length slots + 5 < 2 ^ 31
 
--- Slots were added, of wishes that neither stand nor were refused: nothing else changes.
+-- Slots were added, of wishes that no entry wishes yet and that neither stand nor were refused: nothing else changes.
 pub record IsWider (old new : List Slot) : Type 0 where
   pub wishes : wishes_in new ≡ wishes_in old
   pub requests : requests_in new ≡ requests_in old
   pub refusals : refusals_in new ≡ refusals_in old
   pub kept : (wish : Wish) → has_its_slot old wish ≡ true → has_its_slot new wish ≡ true
+  pub numbers : (number : Wish → ℕ) → ((wish : Wish) → has_its_slot old wish ≡ false → number wish ≡ 0)
+      → AreNumbered number old → AreNumbered number new
+  pub flags : AreFlagged old → AreFlagged new
+  pub within : (wish : Wish) (most : ℕ) → AreWithin wish most old → AreWithin wish most new
   pub in_order : AreInOrder new
 
 -- Slots say which of these wishes are wished: each of them, and no others.

@@ -10,6 +10,7 @@ pub mod Slots
 pub mod Cursors
 pub mod Kept
 pub mod Forming
+pub mod Counts
 pub mod Tables
 pub mod Entries
 pub mod Bounds

@@ -1,6 +1,8 @@
--- What is kept of each wish: whether it is wished, the id of its request, and whether it was refused.
-use Rattle.std.specs.Prelude.{ℕ, ◌+◌, ◌&&◌, not, Bool, true, false, if◌then◌else◌, List, [], ◌∷◌, map}
-use Rattle.std.specs.Prelude.{filter, filter_map, Option, Some, None, option_map, is_some, Result, Ok, Err}
+-- What is kept of each wish: how many entries wish it, whether it is wished, the id of its request, and whether it was
+-- refused.
+use Rattle.std.specs.Prelude.{◌≡◌, ◌≤◌, ℕ, ◌+◌, ◌&&◌, not, nat_lt, Bool, true, false, if◌then◌else◌, List, [], ◌∷◌}
+use Rattle.std.specs.Prelude.{map, filter, filter_map, Option, Some, None, option_map, is_some, Result, Ok, Err}
+use Rattle.std.specs.List.{AllByRecursion}
 use Rattle.jdwp_events.specs.declared.kind.EventKind.{EventKind}
 use Rattle.wish_sets.specs.declared.change.Change.{Change}
 use Rattle.wish_sets.specs.declared.change.Change.TheVariants as changes
@@ -8,6 +10,7 @@ use Rattle.wish_sets.specs.declared.change.Settled.{Settled}
 use Rattle.wish_sets.specs.declared.change.Settled.TheVariants as outcomes
 use Rattle.wish_sets.specs.declared.slot.Slot.{Slot}
 use Rattle.wish_sets.specs.declared.wish.Wish.{Wish}
+use Rattle.wish_sets.specs.Order.{bit, is_wish}
 use Rattle.wish_sets.specs.Wishes.{EventRequest, WishChange, clears, sets, is_request, owner_of}
 
 -- those that are wished
@@ -28,7 +31,8 @@ refusals_in slots = map (λ slot. slot.wish) (filter (λ slot. slot.refused) slo
 
 -- one that neither stands nor was refused
 abbrev pub new_slot : Wish → Bool → Slot
-new_slot wish wished = record { wish = wish; wished = wished; request = None; refused = false }
+new_slot wish wished =
+    record { wish = wish; count = bit wished; wished = wished; request = None; refused = false }
 
 -- it is wished from now on, or isn't
 abbrev pub wanted_slot : Bool → Slot → Slot
@@ -37,6 +41,23 @@ wanted_slot wished slot = record slot { wished = wished; refused = slot.refused 
 -- those that pass a test are wished from now on, and no others
 abbrev pub wanted_slots : (Wish → Bool) → List Slot → List Slot
 wanted_slots test slots = map (λ slot. wanted_slot (test slot.wish) slot) slots
+
+-- so many entries wish it: it is wished where there is one, and what isn't wished wasn't refused
+abbrev pub counted_slot : ℕ → Slot → Slot
+counted_slot number slot =
+    record slot { count = number; wished = nat_lt 0 number; refused = slot.refused && nat_lt 0 number }
+
+-- the number of each slot is that of its wish
+abbrev pub AreNumbered : (Wish → ℕ) → List Slot → Type 0
+AreNumbered number slots = AllByRecursion (λ slot. slot.count ≡ number slot.wish) slots
+
+-- a slot is wished just where its number isn't 0
+abbrev pub AreFlagged : List Slot → Type 0
+AreFlagged slots = AllByRecursion (λ slot. slot.wished ≡ nat_lt 0 slot.count) slots
+
+-- so many entries at most wish a wish that has a slot
+abbrev pub AreWithin : Wish → ℕ → List Slot → Type 0
+AreWithin wish most slots = AllByRecursion (λ slot. is_wish wish slot.wish ≡ true → slot.count ≤ most) slots
 
 -- it has to be cleared: it is installed, and not wished
 abbrev pub is_late : Slot → Bool

@@ -3,12 +3,14 @@ ghost use Rattle.std.specs.Prelude.{◌≡◌, ◌↔◌, [], IsTrue, OnOk};
 ghost use Rattle.class_tables.specs.Facts.{same_class};
 ghost use Rattle.class_tables.specs.Lookups.{found_in};
 ghost use Rattle.class_tables.specs.Tables.{put};
+ghost use Rattle.wish_sets.specs.Counts.{AreEarly, IsTold};
 ghost use Rattle.wish_sets.specs.Tables.{all_known, put_back, undone};
-ghost use Rattle.wish_sets.specs.Wanted.{class_found, put_known};
+ghost use Rattle.wish_sets.specs.Wanted.{class_found, nothing_wanted, put_known};
 
 use crate::facts::KnownClass;
 use crate::learnt::class_found;
 use crate::same::is_found;
+use crate::share::{Entries, Shift, add_class_share, add_known_share};
 use class_tables::Classes;
 use indexmap::IndexMap;
 use jdwp_values::ClassId;
@@ -69,14 +71,21 @@ fn replace(
     Ok(())
 }
 
-// Makes a class known, if something is new of it. Where memory is refused nothing changes.
+// Makes a class known, if something is new of it, and adds what is wished more and less by it. Where memory is refused
+// nothing else changes.
 fn know(
     known: &mut IndexMap<ClassId, KnownClass>,
     replaced: &mut Vec<Replaced>,
+    shift: &mut Shift,
     alloc: Global,
     classes: &Classes,
     class: ClassId,
+    entries: Entries<'_>,
 ) -> Result<(), NoMemory>
+    ensures early { OnOk result (AreEarly shift.old.added.items → AreEarly shift.new.added.items) }
+    ensures shift { OnOk result (IsTold (record nothing_wanted { lists = entries.entry.lists.now; functions = entries.entry.functions.now })
+        known.old.entries known.new.entries shift.old.added.items shift.new.added.items
+        shift.old.taken.items shift.new.taken.items) }
     ensures ok { OnOk result (known.new.entries
         ≡ put_known class (class_found (found_in classes.now) class) known.old.entries) }
     ensures back { undone replaced.new.items known.new.entries ≡ undone replaced.old.items known.old.entries }
@@ -87,22 +96,31 @@ fn know(
     let Some(facts) = class_found(alloc, classes, class)? else {
         return Ok(());
     };
+    add_known_share(&mut shift.taken, alloc, entries, class, known.get(&class))?;
+    add_class_share(&mut shift.added, alloc, entries, class, &facts)?;
     replace(known, replaced, class, facts)
 }
 
-/// Makes classes known, one after the other, and keeps what they replace. Where memory is refused some may be known.
+/// Makes classes known, one after the other, keeps what they replace, and adds what is wished more and less by them.
+/// Where memory is refused some may be known.
 pub(crate) fn know_all(
     known: &mut IndexMap<ClassId, KnownClass>,
     replaced: &mut Vec<Replaced>,
+    shift: &mut Shift,
     alloc: Global,
     classes: &Classes,
     those: &[ClassId],
+    entries: Entries<'_>,
 ) -> Result<(), NoMemory>
+    ensures early { OnOk result (AreEarly shift.old.added.items → AreEarly shift.new.added.items) }
+    ensures shift { OnOk result (IsTold (record nothing_wanted { lists = entries.entry.lists.now; functions = entries.entry.functions.now })
+        known.old.entries known.new.entries shift.old.added.items shift.new.added.items
+        shift.old.taken.items shift.new.taken.items) }
     ensures ok { OnOk result (known.new.entries ≡ all_known (found_in classes.now) those.now known.old.entries) }
     ensures back { undone replaced.new.items known.new.entries ≡ undone replaced.old.items known.old.entries }
 {
     for class in those {
-        know(known, replaced, alloc, classes, *class)?;
+        know(known, replaced, shift, alloc, classes, *class, entries)?;
     }
     Ok(())
 }

@@ -4,6 +4,7 @@
 mod asked;
 mod bound;
 mod change;
+mod counts;
 mod cursor;
 mod entry;
 mod facts;
@@ -16,6 +17,7 @@ mod names;
 mod owners;
 mod place;
 mod same;
+mod share;
 mod slot;
 mod spelling;
 mod standing;

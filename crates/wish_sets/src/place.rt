@@ -4,7 +4,9 @@ ghost use Rattle.class_tables.specs.Views.{binding_entries};
 ghost use Rattle.wish_sets.specs.Places.{line_location, line_locations, entry_places, list_places, is_of_key, key_of};
 ghost use Rattle.wish_sets.specs.Places.{code_start, method_location, function_locations, function_places, places_in};
 ghost use Rattle.wish_sets.specs.Places.{location_at, places};
+ghost use Rattle.wish_sets.specs.Counts.{function_places_in, list_places_in};
 ghost use Rattle.wish_sets.specs.Kept.{wanted_by};
+ghost use Rattle.wish_sets.specs.Wanted.{nothing_wanted};
 
 use crate::entry::{FunctionEntry, LineEntry};
 use crate::facts::{KnownClass, KnownMethod};
@@ -12,6 +14,7 @@ use crate::names::{key_file, key_package, method_named};
 use crate::spelling::names_class;
 use crate::wants::Wants;
 use class_tables::{line_start, package_in};
+use indexmap::IndexMap;
 use jdwp_values::{ClassId, Line, LineTable, Location, MethodId};
 use std::alloc::Global;
 use wire_core::{List, NoMemory, Text};
@@ -100,15 +103,15 @@ fn add_list_places(
     places: &mut List<Place>,
     class: ClassId,
     facts: &KnownClass,
-    list: &(Text, List<LineEntry>),
+    key: &Text,
+    entries: &[LineEntry],
 ) -> Result<(), NoMemory>
-    ensures { OnOk result (places.new ≡ places.old ++ list_places class facts.now list.now) }
+    ensures { OnOk result (places.new ≡ places.old ++ list_places class facts.now (key.now, entries.now)) }
 {
-    let (key, entries) = list;
     if !is_of_key(key, facts) {
         return Ok(());
     }
-    for entry in entries.as_slice() {
+    for entry in entries {
         add_entry_places(places, class, facts, *entry)?;
     }
     Ok(())
@@ -124,7 +127,7 @@ fn add_lists_places(
     ensures { OnOk result (places.new ≡ places.old ++ flat_map (list_places class facts.now) lists.now) }
 {
     for list in lists {
-        add_list_places(places, class, facts, list)?;
+        add_list_places(places, class, facts, &list.0, list.1.as_slice())?;
     }
     Ok(())
 }
@@ -195,20 +198,22 @@ fn add_functions_places(
     Ok(())
 }
 
-// Adds those in a class, none before it is prepared.
-fn add_class_places(
+/// Adds those in a class, none before it is prepared.
+pub(crate) fn add_class_places(
     places: &mut List<Place>,
-    wants: &Wants,
+    lists: &[(Text, List<LineEntry>)],
+    functions: &[FunctionEntry],
     class: ClassId,
     facts: &KnownClass,
 ) -> Result<(), NoMemory>
-    ensures { OnOk result (places.new ≡ places.old ++ places_in (wanted_by wants.now) (class, facts.now)) }
+    ensures { OnOk result (places.new ≡ places.old
+        ++ places_in (record nothing_wanted { lists = lists.now; functions = functions.now }) (class, facts.now)) }
 {
     if !facts.prepared {
         return Ok(());
     }
-    add_lists_places(places, class, facts, &wants.lists)?;
-    add_functions_places(places, class, facts, wants.functions.as_slice())
+    add_lists_places(places, class, facts, lists)?;
+    add_functions_places(places, class, facts, functions)
 }
 
 // Adds those in the class at a place, if there is one.
@@ -219,7 +224,13 @@ fn add_places_at(places: &mut List<Place>, wants: &Wants, at: usize) -> Result<(
     let Some((class, facts)) = wants.classes.get_index(at) else {
         return Ok(());
     };
-    add_class_places(places, wants, *class, facts)?;
+    add_class_places(
+        places,
+        &wants.lists,
+        wants.functions.as_slice(),
+        *class,
+        facts,
+    )?;
     Ok(())
 }
 
@@ -230,6 +241,106 @@ pub(crate) fn places(alloc: Global, wants: &Wants) -> Result<List<Place>, NoMemo
     let mut found = List::new(alloc);
     for at in 0..wants.classes.len() {
         add_places_at(&mut found, wants, at)?;
+    }
+    Ok(found)
+}
+
+// Adds those of a list in the class at a place, if there is one.
+fn add_list_places_at(
+    places: &mut List<Place>,
+    classes: &IndexMap<ClassId, KnownClass>,
+    at: usize,
+    key: &Text,
+    entries: &[LineEntry],
+) -> Result<(), NoMemory>
+    ensures { OnOk result
+        (places.new ++ flat_map (list_places_in (key.now, entries.now)) (drop (suc at) classes.now.entries)
+        ≡ places.old ++ flat_map (list_places_in (key.now, entries.now)) (drop at classes.now.entries)) }
+{
+    let Some((class, facts)) = classes.get_index(at) else {
+        return Ok(());
+    };
+    add_list_places_in(places, *class, facts, key, entries)?;
+    Ok(())
+}
+
+// Adds those of a list in a class, none before it is prepared.
+fn add_list_places_in(
+    places: &mut List<Place>,
+    class: ClassId,
+    facts: &KnownClass,
+    key: &Text,
+    entries: &[LineEntry],
+) -> Result<(), NoMemory>
+    ensures { OnOk result (places.new ≡ places.old ++ list_places_in (key.now, entries.now) (class, facts.now)) }
+{
+    if !facts.prepared {
+        return Ok(());
+    }
+    add_list_places(places, class, facts, key, entries)
+}
+
+/// The places of a list, class by class; `NoMemory` comes where memory is refused.
+pub(crate) fn list_places(
+    alloc: Global,
+    classes: &IndexMap<ClassId, KnownClass>,
+    key: &Text,
+    entries: &[LineEntry],
+) -> Result<List<Place>, NoMemory>
+    ensures { IfOk result (λ found.
+        found ≡ flat_map (list_places_in (key.now, entries.now)) classes.now.entries) }
+{
+    let mut found = List::new(alloc);
+    for at in 0..classes.len() {
+        add_list_places_at(&mut found, classes, at, key, entries)?;
+    }
+    Ok(found)
+}
+
+// Adds those of functions in a class, none before it is prepared.
+fn add_functions_places_in(
+    places: &mut List<Place>,
+    class: ClassId,
+    facts: &KnownClass,
+    functions: &[FunctionEntry],
+) -> Result<(), NoMemory>
+    ensures { OnOk result (places.new ≡ places.old ++ function_places_in functions.now (class, facts.now)) }
+{
+    if !facts.prepared {
+        return Ok(());
+    }
+    add_functions_places(places, class, facts, functions)
+}
+
+// Adds those of functions in the class at a place, if there is one.
+fn add_functions_places_at(
+    places: &mut List<Place>,
+    classes: &IndexMap<ClassId, KnownClass>,
+    at: usize,
+    functions: &[FunctionEntry],
+) -> Result<(), NoMemory>
+    ensures { OnOk result
+        (places.new ++ flat_map (function_places_in functions.now) (drop (suc at) classes.now.entries)
+        ≡ places.old ++ flat_map (function_places_in functions.now) (drop at classes.now.entries)) }
+{
+    let Some((class, facts)) = classes.get_index(at) else {
+        return Ok(());
+    };
+    add_functions_places_in(places, *class, facts, functions)?;
+    Ok(())
+}
+
+/// The places of functions, class by class; `NoMemory` comes where memory is refused.
+pub(crate) fn functions_places(
+    alloc: Global,
+    classes: &IndexMap<ClassId, KnownClass>,
+    functions: &[FunctionEntry],
+) -> Result<List<Place>, NoMemory>
+    ensures { IfOk result (λ found. found ≡ flat_map (function_places_in functions.now) classes.now.entries) }
+{
+    let mut found = List::new(alloc);
+    for at in 0..classes.len() {
+        add_functions_places_at(&mut found, classes, at, functions)?;
     }
     Ok(found)
 }

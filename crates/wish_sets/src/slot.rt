@@ -1,20 +1,21 @@
 //! A wish, and how it stands.
-ghost use Rattle.std.specs.Prelude.{◌≡◌, ◌+◌, ◌<◌, ◌≤◌, ◌^◌, ◌++◌, if◌then◌else◌, drop, is_some, length, IfSome, IfOk};
+ghost use Rattle.std.specs.Prelude.{◌≡◌, ◌+◌, ◌-◌, ◌<◌, ◌≤◌, ◌^◌, ◌++◌, if◌then◌else◌, drop, is_some, length, IfSome, IfOk};
 ghost use Rattle.std.specs.List.{list_any, position_from};
 ghost use Rattle.std.specs.Result.{result_map_both};
 ghost use Rattle.wish_sets.specs.Cursors.{IsPast, NoneBefore};
 ghost use Rattle.wish_sets.specs.Slots.{is_late, is_unset, awaits, marked, with_first, wanted_slot, late_from};
-ghost use Rattle.wish_sets.specs.Slots.{unset_from, change_shown, place_shown, new_slot};
+ghost use Rattle.wish_sets.specs.Slots.{unset_from, change_shown, place_shown, new_slot, counted_slot};
 
 use crate::change::{Change, Settled};
 use crate::cursor::{Cursor, onward};
-use crate::wish::Wish;
+use crate::wish::{Wish, bit};
 
-/// A wish that is wished, installed, or may be: whether it is wished, the id of its request where it is installed, and
-/// whether it was refused.
+/// A wish that is wished, installed, or may be: how many entries wish it, whether it is wished, the id of its request
+/// where it is installed, and whether it was refused. Exceptions and steps aren't counted.
 #[derive(Drop)]
 pub(crate) struct Slot {
     pub(crate) wish: Wish,
+    pub(crate) count: u64,
     pub(crate) wished: bool,
     pub(crate) request: Option<u32>,
     pub(crate) refused: bool,
@@ -27,6 +28,7 @@ impl Slot {
     {
         Slot {
             wish,
+            count: u64::from(bit(wished)),
             wished,
             request: None,
             refused: false,
@@ -39,6 +41,29 @@ impl Slot {
     {
         self.wished = wished;
         self.refused = self.refused && wished;
+    }
+
+    // So many entries wish it.
+    fn set_count(&mut self, count: u64)
+        ensures { self.new ≡ counted_slot count self.old }
+    {
+        self.count = count;
+        self.want(count > 0);
+    }
+
+    /// One entry more wishes it.
+    pub(crate) fn raise(&mut self)
+        requires { self.old.count + 1 < 2 ^ 64 }
+        ensures { self.new ≡ counted_slot (self.old.count + 1) self.old }
+    {
+        self.set_count(self.count + 1);
+    }
+
+    /// One entry less wishes it, where there was one; where none is left it is wished no longer.
+    pub(crate) fn lower(&mut self)
+        ensures { self.new ≡ counted_slot (self.old.count - 1) self.old }
+    {
+        self.set_count(self.count.saturating_sub(1));
     }
 
     /// It has to be cleared: it is installed, and not wished.

@@ -20,8 +20,8 @@ use std::alloc::Global;
 use std::cmp::Ordering;
 use wire_core::{List, NoMemory};
 
-// The slot of a wish, where it has one.
-fn slot_of<'a>(slots: &'a [Slot], wish: &Wish) -> Option<&'a Slot>
+/// The slot of a wish, where it has one.
+pub(crate) fn slot_of<'a>(slots: &'a [Slot], wish: &Wish) -> Option<&'a Slot>
     requires { AreSorted slots.now }
     ensures { option_copied result ≡ find (λ slot. is_wish wish.now slot.wish) slots.now }
 {

@@ -225,8 +225,8 @@ fn location_numbers(at: &Location) -> [u64; 4]
     [at.class.0, at.method.0, at.index, u64::from(at.tag.byte())]
 }
 
-// 1 where it is so.
-fn bit(flag: bool) -> u8
+/// 1 where it is so.
+pub(crate) fn bit(flag: bool) -> u8
     ensures { result ≡ bit flag }
 {
     if flag { 1 } else { 0 }

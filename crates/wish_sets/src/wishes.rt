@@ -20,6 +20,7 @@ use crate::fixed::{fixed_slots, want_step, want_thrown};
 use crate::forming::form;
 use crate::known::{is_nothing, know_all, put_back};
 use crate::owners::{Owners, owner};
+use crate::share::{Entries, Shift, functions_shift, lines_shift};
 use crate::slot::{Slot, late, settle, unset};
 use crate::standing::{entries_at, entry_state};
 use crate::table::{put_at, take_back};
@@ -55,6 +56,7 @@ impl Model for Wishes {
     ghost use Rattle.wish_sets.specs.Bounds.{IsBound};
     ghost use Rattle.wish_sets.specs.Cursors.{IsPast};
     ghost use Rattle.wish_sets.specs.Owners.{AreOwned};
+    ghost use Rattle.wish_sets.specs.Counts.{AreCounts};
 
     ghost Value = { WhatStands };
 
@@ -62,7 +64,7 @@ impl Model for Wishes {
 
     ghost invariant = { λ w. AreKept (wanted_by w.wants) w.slots.items w.fixed
         × IsBound (wanted_by w.wants) w.bound × IsPast w.cursor w.slots.items
-        × AreOwned w.owners w.slots.items };
+        × AreOwned w.owners w.slots.items × AreCounts (wanted_by w.wants) w.slots.items };
 }
 
 impl Wishes {
@@ -127,6 +129,7 @@ impl Wishes {
         ensures err { OnErr result (self.new ≡ self.old) }
     {
         let at = list_at(&self.wants.lists, &key);
+        let shift = lines_shift(alloc, &self.wants, at, &key, entries.as_slice())?;
         let before = put_at(&mut self.wants.lists, at, key, entries)?;
         if let Err(refused) = form(
             &mut self.slots,
@@ -135,6 +138,7 @@ impl Wishes {
             &mut self.cursor,
             alloc,
             &self.wants,
+            &shift,
         ) {
             take_back(&mut self.wants.lists, at, before);
             return Err(refused);
@@ -153,6 +157,7 @@ impl Wishes {
         ensures bound { OnOk result (wished_or_installed self.new < 2 ^ 31) }
         ensures err { OnErr result (self.new ≡ self.old) }
     {
+        let shift = functions_shift(alloc, &self.wants, entries.as_slice())?;
         let before = mem::replace(&mut self.wants.functions, entries);
         if let Err(refused) = form(
             &mut self.slots,
@@ -161,6 +166,7 @@ impl Wishes {
             &mut self.cursor,
             alloc,
             &self.wants,
+            &shift,
         ) {
             self.wants.functions = before;
             return Err(refused);
@@ -202,12 +208,19 @@ impl Wishes {
         ensures err { OnErr result (self.new ≡ self.old) }
     {
         let mut replaced = Vec::new(alloc);
+        let mut shift = Shift::new(alloc);
+        let entries = Entries {
+            lists: &self.wants.lists,
+            functions: self.wants.functions.as_slice(),
+        };
         let told = know_all(
             &mut self.wants.classes,
             &mut replaced,
+            &mut shift,
             alloc,
             classes,
             those,
+            entries,
         );
         if let Err(refused) = told {
             put_back(&mut self.wants.classes, replaced);
@@ -223,6 +236,7 @@ impl Wishes {
             &mut self.cursor,
             alloc,
             &self.wants,
+            &shift,
         ) {
             put_back(&mut self.wants.classes, replaced);
             return Err(refused);

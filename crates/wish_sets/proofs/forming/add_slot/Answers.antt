@@ -1,6 +1,6 @@
 -- The slot stands at its place.
 use Rattle.std.proofs.Common.{◌≡◌, ◌+◌, ◌<◌, ◌^◌, length, sym, ap, ◌∙◌, Some, arith}
-use Rattle.wish_sets.proofs.FormingLaws.{at_its_place, has_a_place, has_now, wider}
+use Rattle.wish_sets.proofs.FormingLaws.{at_its_place, has_a_place, has_now, no_slot_yet, wider}
 use Rattle.wish_sets.proofs.forming.add_slot.Goals as goal
 
 pub returns-in_default-clause-ok : goal.returns-in_default-clause-ok
@@ -22,7 +22,8 @@ returns-clause-wider c =
     ) in
     rw c.in_ok-insert.ensures.items (rw c.new.ensures (rw c.in_ok-copy.ensures
     (rw (at_its_place c.args.wish.now 0 c.args.slots.now.items c.in-Some.at (sym place ∙ ap Some here))
-    (wider c.args.wish.now c.args.slots.now.items c.requires.in_order c.requires.early room))))
+    (wider c.args.wish.now c.args.slots.now.items c.requires.in_order c.requires.early room
+    (no_slot_yet c.args.wish.now 0 c.args.slots.now.items c.in-Some.at c.requires.in_order.sorted (sym place))))))
 
 pub returns-clause-ok : goal.returns-clause-ok
 returns-clause-ok c =

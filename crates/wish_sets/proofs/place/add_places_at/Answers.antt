@@ -15,7 +15,7 @@ pub returns : goal.returns
 returns c =
     let those = places_in (wanted_by c.args.wants.now) in
     let rest = drop (suc c.args.at) c.args.wants.now.classes.entries in
-    rw c.in_ok-add_class_places.ensures
+    rw (c.in_ok-add_class_places.ensures, c.deref.ensures.value, c.as_slice.ensures)
     (append_assoc c.args.places.now (those (c.in-Some.class.now, c.in-Some.facts.now)) (flat_map those rest)
     ∙ ap (λ all. c.args.places.now ++ flat_map those all)
     (sym (drop_one c.args.wants.now.classes.entries c.args.at (c.in-Some.class.now, c.in-Some.facts.now)

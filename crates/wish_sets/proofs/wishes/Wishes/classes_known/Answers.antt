@@ -2,18 +2,21 @@
 use Rattle.std.proofs.Common.{◌++◌, ◌∙◌, ap, sym, subst, refl, ◌<◌, ◌^◌}
 use Rattle.class_tables.specs.Lookups.{found_in}
 use Rattle.wish_sets.specs.Bounds.{IsBound}
+use Rattle.wish_sets.specs.Counts.{AreEarly}
 use Rattle.wish_sets.specs.Forming.{wished_or_installed}
 use Rattle.wish_sets.specs.Kept.{wanted_by, wishes_by}
 use Rattle.wish_sets.specs.Wishes.{rewished}
 use Rattle.wish_sets.proofs.FormedKept.{in_order_now, wider_kept, wider_is, formed_kept, formed_is, few_wishes}
 use Rattle.wish_sets.proofs.FormedKept.{nothing_else}
+use Rattle.wish_sets.proofs.ShareLaws.{classes_are}
+use Rattle.wish_sets.proofs.ShiftLaws.{shifted_counts, shifted_formed, wider_counts}
 use Rattle.wish_sets.proofs.TakenLaws.{known_is}
 use Rattle.wish_sets.proofs.wishes.Wishes.classes_known.Goals as goal
 
 pub returns-then-is_nothing-clause-ok : goal.returns-then-is_nothing-clause-ok
 returns-then-is_nothing-clause-ok c =
     let before = wishes_by c.self.inside.wants (c.self.inside.slots.items ++ c.self.inside.fixed) in
-    let nothing = rw c.deref.ensures.value at c.is_nothing.ensures.0 c.if-is_nothing.true in
+    let nothing = rw c.deref-2.ensures.value at c.is_nothing.ensures.0 c.if-is_nothing.true in
     let same = rw (c.new-replaced.ensures.items, nothing) at c.know_all-told.ensures.back in
     rw (← c.self.view_is)
     (ap (λ classes. record before { wanted = record (wanted_by c.self.inside.wants) { classes = classes } }) same
@@ -26,17 +29,20 @@ returns-then-is_nothing-clause-ok c =
 pub returns-then-is_nothing-clause-bound : goal.returns-then-is_nothing-clause-bound
 returns-then-is_nothing-clause-bound c =
     let before = wishes_by c.self.inside.wants (c.self.inside.slots.items ++ c.self.inside.fixed) in
-    let nothing = rw c.deref.ensures.value at c.is_nothing.ensures.0 c.if-is_nothing.true in
+    let nothing = rw c.deref-2.ensures.value at c.is_nothing.ensures.0 c.if-is_nothing.true in
     let same = rw (c.new-replaced.ensures.items, nothing) at c.know_all-told.ensures.back in
     subst (λ classes. wished_or_installed (record before {
       wanted = record (wanted_by c.self.inside.wants) { classes = classes };
     }) < 2 ^ 31) (sym same)
     (few_wishes c.self.inside.wants c.self.inside.slots.items c.self.inside.fixed c.self.invariant.0)
 
-pub form-requires : goal.form-requires
-form-requires c =
+pub form-requires-clause-in_order : goal.form-requires-clause-in_order
+form-requires-clause-in_order c =
     in_order_now c.self.inside.wants c.self.inside.wants refl refl refl c.self.inside.slots.items c.self.inside.fixed
     c.self.invariant.0
+
+pub form-requires-clause-early : goal.form-requires-clause-early
+form-requires-clause-early c = c.in_default.ensures.early (subst AreEarly (sym c.new-shift.ensures.added) tt)
 
 pub invariant_of-self-in-Err-form : goal.invariant_of-self-in-Err-form
 invariant_of-self-in-Err-form c =
@@ -48,6 +54,8 @@ invariant_of-self-in-Err-form c =
       subst (IsBound (wanted_by c.self.inside.wants)) (sym c.in-Err-form.ensures.same) c.self.invariant.1,
       c.in-Err-form.ensures.past,
       c.in-Err-form.ensures.owned,
+      wider_counts (wanted_by c.self.inside.wants) c.self.inside.slots.items c.form.new.slots.items c.self.invariant.4
+          c.in-Err-form.ensures.err,
     )
 
 pub returns-in-Err-form-clause-err : goal.returns-in-Err-form-clause-err
@@ -59,30 +67,59 @@ returns-in-Err-form-clause-err c =
     ∙ c.self.view_is)
 
 pub invariant_of-self-in_default-form : goal.invariant_of-self-in_default-form
-invariant_of-self-in_default-form c = (
-  formed_kept c.self.inside.wants (record c.self.inside.wants { classes = c.know_all-told.new.known }) refl refl refl
-      c.self.inside.slots.items c.self.inside.fixed c.self.invariant.0 c.form.new.slots.items
-      c.in_default-form.ensures.ok,
-  c.in_default-form.ensures.places,
-  c.in_default-form.ensures.past,
-  c.in_default-form.ensures.owned,
-)
+invariant_of-self-in_default-form c =
+    let wants = c.self.inside.wants in
+    let slots = c.self.inside.slots.items in
+    let fixed = c.self.inside.fixed in
+    let added = c.know_all-told.new.shift.added.items in
+    let taken = c.know_all-told.new.shift.taken.items in
+    let shift = classes_are (wanted_by wants) _ _ c.know_all-told.new.known.entries added taken _ _ c.deref.ensures.value
+    c.as_slice.ensures c.in_default.ensures.shift c.new-shift.ensures.added c.new-shift.ensures.taken in
+    let after = record wants { classes = c.know_all-told.new.known } in
+    let ordered = in_order_now wants wants refl refl refl slots fixed c.self.invariant.0 in
+    let formed = shifted_formed (wanted_by wants) (wanted_by after) added taken slots c.form.new.slots.items ordered
+    c.self.invariant.4 shift c.in_default-form.ensures.ok in (
+      formed_kept wants after refl refl refl slots fixed c.self.invariant.0 c.form.new.slots.items formed,
+      c.in_default-form.ensures.places,
+      c.in_default-form.ensures.past,
+      c.in_default-form.ensures.owned,
+      shifted_counts (wanted_by wants) (wanted_by after) added taken slots c.form.new.slots.items ordered
+          c.self.invariant.4 shift c.in_default-form.ensures.ok,
+    )
 
 pub returns-clause-ok : goal.returns-clause-ok
 returns-clause-ok c =
-    let before = wishes_by c.self.inside.wants (c.self.inside.slots.items ++ c.self.inside.fixed) in
+    let wants = c.self.inside.wants in
+    let slots = c.self.inside.slots.items in
+    let fixed = c.self.inside.fixed in
+    let added = c.know_all-told.new.shift.added.items in
+    let taken = c.know_all-told.new.shift.taken.items in
+    let shift = classes_are (wanted_by wants) _ _ c.know_all-told.new.known.entries added taken _ _ c.deref.ensures.value
+    c.as_slice.ensures c.in_default.ensures.shift c.new-shift.ensures.added c.new-shift.ensures.taken in
+    let after = record wants { classes = c.know_all-told.new.known } in
+    let ordered = in_order_now wants wants refl refl refl slots fixed c.self.invariant.0 in
+    let formed = shifted_formed (wanted_by wants) (wanted_by after) added taken slots c.form.new.slots.items ordered
+    c.self.invariant.4 shift c.in_default-form.ensures.ok in
+    let before = wishes_by wants (slots ++ fixed) in
     rw (← c.self.view_is)
-    (formed_is c.self.inside.wants (record c.self.inside.wants { classes = c.know_all-told.new.known }) refl refl refl
-    c.self.inside.slots.items c.self.inside.fixed c.self.invariant.0 c.form.new.slots.items c.in_default-form.ensures.ok
-    ∙ (ap (λ classes. rewished (record (wanted_by c.self.inside.wants) { classes = classes }) before)
+    (formed_is wants after refl refl refl slots fixed c.self.invariant.0 c.form.new.slots.items formed
+    ∙ (ap (λ classes. rewished (record (wanted_by wants) { classes = classes }) before)
     c.in_default.ensures.ok
     ∙ ap (λ wanted. rewished wanted before)
-    (sym (known_is (found_in c.args.classes.now) c.args.those.now (wanted_by c.self.inside.wants)))))
+    (sym (known_is (found_in c.args.classes.now) c.args.those.now (wanted_by wants)))))
 
 pub returns-clause-bound : goal.returns-clause-bound
 returns-clause-bound c =
-    few_wishes (record c.self.inside.wants { classes = c.know_all-told.new.known }) c.form.new.slots.items
-    c.self.inside.fixed
-    (formed_kept c.self.inside.wants (record c.self.inside.wants { classes = c.know_all-told.new.known }) refl refl refl
-    c.self.inside.slots.items c.self.inside.fixed c.self.invariant.0 c.form.new.slots.items
-    c.in_default-form.ensures.ok)
+    let wants = c.self.inside.wants in
+    let slots = c.self.inside.slots.items in
+    let fixed = c.self.inside.fixed in
+    let added = c.know_all-told.new.shift.added.items in
+    let taken = c.know_all-told.new.shift.taken.items in
+    let shift = classes_are (wanted_by wants) _ _ c.know_all-told.new.known.entries added taken _ _ c.deref.ensures.value
+    c.as_slice.ensures c.in_default.ensures.shift c.new-shift.ensures.added c.new-shift.ensures.taken in
+    let after = record wants { classes = c.know_all-told.new.known } in
+    let ordered = in_order_now wants wants refl refl refl slots fixed c.self.invariant.0 in
+    let formed = shifted_formed (wanted_by wants) (wanted_by after) added taken slots c.form.new.slots.items ordered
+    c.self.invariant.4 shift c.in_default-form.ensures.ok in
+    few_wishes after c.form.new.slots.items fixed
+    (formed_kept wants after refl refl refl slots fixed c.self.invariant.0 c.form.new.slots.items formed)

@@ -9,6 +9,11 @@ invariant_of-self c = (
   c.self.invariant.1,
   c.self.invariant.2,
   c.self.invariant.3,
+  record {
+    slotted = c.self.invariant.4.slotted;
+    numbers = c.self.invariant.4.numbers;
+    wished = c.self.invariant.4.wished;
+  },
 )
 
 pub returns : goal.returns

@@ -4,6 +4,7 @@ use Rattle.wish_sets.specs.Kept.{wanted_by, wishes_by}
 use Rattle.wish_sets.specs.Owners.{AreOwned}
 use Rattle.wish_sets.specs.Slots.{awaits, marked}
 use Rattle.wish_sets.proofs.FirstLaws.{changed-append}
+use Rattle.wish_sets.proofs.ShiftLaws.{counts_marked}
 use Rattle.wish_sets.proofs.MarkedLaws.{kept_marked, quiet_is, settled_is}
 use Rattle.wish_sets.proofs.OwnerLaws.{changed_within, elsewhere, found_still}
 use Rattle.wish_sets.proofs.wishes.Wishes.settled.Goals as goal
@@ -25,6 +26,8 @@ invariant_of-self c =
           ∙ elsewhere (awaits c.args.outcome) (marked c.args.outcome) c.self.inside.slots.items
           c.settle-found.result place c.settle-found.ensures.place other)
           (c.self.invariant.3 whole place))),
+      rw c.settle-found.ensures.slots
+          (counts_marked (wanted_by c.self.inside.wants) c.args.outcome c.self.inside.slots.items c.self.invariant.4),
     )
 
 pub keep-requires : goal.keep-requires

@@ -3,7 +3,7 @@ use Rattle.std.specs.Prelude.{map}
 use Rattle.wish_sets.specs.declared.place.Place.{Place}
 use Rattle.wish_sets.specs.declared.wish.Wish.{Wish}
 use Rattle.wish_sets.specs.declared.wish.Wish.TheVariants as wishes
-use Rattle.wish_sets.proofs.forming.add_stops.Given as goal
+use Rattle.wish_sets.proofs.share.add_stops.Given as goal
 
 -- a breakpoint
 abbrev stop : Place → Wish

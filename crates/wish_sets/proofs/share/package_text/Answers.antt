@@ -3,7 +3,7 @@ use Rattle.std.proofs.Common.{◌∙◌, subst}
 use Rattle.std.specs.Prelude.{IsUtf8}
 use Rattle.std.proofs.lemmas.Result.{IfOk-weaker}
 use Rattle.jdwp_values.proofs.LossyLaws.{itself}
-use Rattle.wish_sets.proofs.forming.package_text.Goals as goal
+use Rattle.wish_sets.proofs.share.package_text.Goals as goal
 
 pub returns : goal.returns
 returns c =
