@@ -1,7 +1,7 @@
 -- What is wanted is the sum of its parts: how often each wish is wished changes by the share of a list, of the functions
 -- or of a class.
 use Rattle.std.proofs.Common.{◌≡◌, ℕ, zero, suc, ◌+◌, Bool, true, false, cond, List, [], ◌∷◌, ◌++◌, refl, ap, sym, ◌∙◌, subst}
-use Rattle.std.proofs.Common.{Option, Some, None, get_or, arith}
+use Rattle.std.proofs.Common.{Option, Some, None, get_or, arith, length, length-append}
 use Rattle.std.specs.Prelude.{◌||◌, bytes_eq, filter, flat_map, map, nat_lt}
 use Rattle.std.specs.List.{position_from}
 use Rattle.std.specs.Map.{lookup}
@@ -416,7 +416,53 @@ function_share_early classes functions =
 -- nothing is known that wasn't
 pub told_same : (wanted : Wanted) (known : List (ClassId × KnownClass)) (added taken : List Wish)
     → IsTold wanted known known added added taken taken
-told_same wanted known added taken = record { numbers = λ wish. refl }
+told_same wanted known added taken = record {
+  numbers = λ wish. refl;
+  more = omega arith;
+  less = omega arith;
+  same = λ e f. refl;
+}
+
+-- what adds nothing is nothing
+nothing_more : (those more : List Wish) → length (those ++ more) ≡ length those → more ≡ []
+nothing_more those [] e = refl
+nothing_more those (wish ∷ more) e =
+    absurd (let all = length-append those (wish ∷ more) in omega (arith, e, all))
+
+no_places : (those : List Place) → stops_at those ≡ [] → those ≡ []
+no_places [] e = refl
+no_places (place ∷ those) e = absurd (cc)
+
+no_share : (wanted : Wanted) (class : ClassId) (o : Option KnownClass) → option_share wanted class o ≡ []
+    → (before : KnownClass) → o ≡ Some before → places_in wanted (class, before) ≡ []
+no_share wanted class None e before f = absurd (cc)
+no_share wanted class (Some facts) e before f =
+    let is : facts ≡ before = cc in
+    ap (λ (k : KnownClass). places_in wanted (class, k)) (sym is) ∙ no_places (places_in wanted (class, facts)) e
+
+-- a class without places takes the place of one without places
+put_nothing : (wanted : Wanted) (class : ClassId) (facts : KnownClass) → places_in wanted (class, facts) ≡ []
+    → (known : List (ClassId × KnownClass))
+    → ((before : KnownClass) → lookup (same_class class) known ≡ Some before → places_in wanted (class, before) ≡ [])
+    → flat_map (places_in wanted) (put same_class class facts known) ≡ flat_map (places_in wanted) known
+put_nothing wanted class facts none [] old = rw none refl
+put_nothing wanted class facts none (entry ∷ known) old =
+    by (same_class class entry.0) refl old (put_nothing wanted class facts none known)
+  where
+    by : (b : Bool) → same_class class entry.0 ≡ b
+        → ((before : KnownClass) → cond b (Some entry.1) (lookup (same_class class) known) ≡ Some before
+        → places_in wanted (class, before) ≡ [])
+        → (((before : KnownClass) → lookup (same_class class) known ≡ Some before
+        → places_in wanted (class, before) ≡ [])
+        → flat_map (places_in wanted) (put same_class class facts known) ≡ flat_map (places_in wanted) known)
+        → flat_map (places_in wanted) (cond b ((entry.0, facts) ∷ known) (entry ∷ put same_class class facts known))
+        ≡ flat_map (places_in wanted) (entry ∷ known)
+    by true e old again =
+        let is : class ≡ entry.0 = exact_class class entry.0 e in
+        ap (λ those. those ++ flat_map (places_in wanted) known)
+        (ap (λ c. places_in wanted (c, facts)) (sym is)
+        ∙ (none ∙ (sym (old entry.1 refl) ∙ ap (λ c. places_in wanted (c, entry.1)) is)))
+    by false e old again = ap (λ those. places_in wanted entry ++ those) (again old)
 
 -- one class is
 pub told_one : (wanted : Wanted) (class : ClassId) (facts : KnownClass) (known : List (ClassId × KnownClass))
@@ -429,6 +475,13 @@ told_one wanted class facts known added taken = record {
       let a = times-append wish added (class_share wanted (class, facts)) in
       let b = times-append wish taken (option_share wanted class (lookup (same_class class) known)) in
       omega (arith, law, a, b);
+  more = let all = length-append added (class_share wanted (class, facts)) in omega (arith, all);
+  less = let all = length-append taken (option_share wanted class (lookup (same_class class) known)) in
+      omega (arith, all);
+  same = λ e f. put_nothing wanted class facts
+      (no_places (places_in wanted (class, facts)) (nothing_more added (class_share wanted (class, facts)) e)) known
+      (no_share wanted class (lookup (same_class class) known)
+      (nothing_more taken (option_share wanted class (lookup (same_class class) known)) f));
 }
 
 -- one after the other
@@ -436,6 +489,10 @@ pub told-trans : (wanted : Wanted) (first second third : List (ClassId × KnownC
     → IsTold wanted first second a b t u → IsTold wanted second third b c u v → IsTold wanted first third a c t v
 told-trans wanted first second third a b c t u v one other = record {
   numbers = λ wish. let x = one.numbers wish in let y = other.numbers wish in omega (arith, x, y);
+  more = omega (arith, one.more, other.more);
+  less = omega (arith, one.less, other.less);
+  same = λ e f. other.same (omega (arith, e, one.more, other.more)) (omega (arith, f, one.less, other.less))
+      ∙ one.same (omega (arith, e, one.more, other.more)) (omega (arith, f, one.less, other.less));
 }
 
 pub class_share_early : (wanted : Wanted) (class : ClassId × KnownClass) (those : List Wish) → AreEarly those
@@ -478,3 +535,17 @@ classes_are wanted lists functions known added taken before_added before_taken e
       let b = ap (times wish) none_taken in
       classes_shift wish wanted known added taken (omega (arith, law, a, b));
 }
+
+-- classes without places change no place
+pub places_stay : (wanted : Wanted) (lists : List (List ℕ × List LineEntry)) (functions : List FunctionEntry)
+    (known : List (ClassId × KnownClass)) (added taken before_added before_taken : List Wish) → lists ≡ wanted.lists
+    → functions ≡ wanted.functions
+    → IsTold (record nothing_wanted { lists = lists; functions = functions }) wanted.classes known before_added added
+    before_taken taken → before_added ≡ [] → before_taken ≡ [] → added ≡ [] → taken ≡ []
+    → places (record wanted { classes = known }) ≡ places wanted
+places_stay wanted lists functions known added taken before_added before_taken e f told none no_less nothing nothing_less =
+    let now = subst (λ ls. IsTold (record nothing_wanted { lists = ls; functions = functions }) wanted.classes known
+    before_added added before_taken taken) e told in
+    let both = subst (λ fs. IsTold (record nothing_wanted { lists = wanted.lists; functions = fs }) wanted.classes
+    known before_added added before_taken taken) f now in
+    both.same (ap length (nothing ∙ sym none)) (ap length (nothing_less ∙ sym no_less))

@@ -20,6 +20,7 @@ use Rattle.wish_sets.proofs.CountLaws.{requests_renumbered, refusals_renumbered,
 use Rattle.wish_sets.proofs.CountLaws.{length_renumbered, numbers_renumbered, flags_renumbered, slots_renumbered}
 use Rattle.wish_sets.proofs.CountLaws.{has_renumbered}
 use Rattle.wish_sets.proofs.FirstLaws.{each_changed}
+use Rattle.wish_sets.proofs.FormingLaws.{wider-refl}
 use Rattle.wish_sets.proofs.FormedLaws.{same_in_order, in_order_is, kept_in_order}
 use Rattle.wish_sets.proofs.KeptLaws.{each-both, each-map}
 use Rattle.wish_sets.proofs.OrderLaws.{any-fold}
@@ -193,4 +194,16 @@ counts_marked wanted outcome slots counts = record {
       (λ slot e. marked_number outcome (λ wish. wishers wish wanted) slot) slots counts.numbers;
   wished = each_changed (awaits outcome) (marked outcome) (λ slot. slot.wished ≡ nat_lt 0 slot.count)
       (λ slot e. marked_flag outcome slot) slots counts.wished;
+}
+
+-- Nothing changes ----------------------------------------------------------------------------------------------------
+
+-- nothing is wished more or less
+pub shifted_nothing : (added taken : List Wish) (slots : List Slot) → AreInOrder slots → added ≡ [] → taken ≡ []
+    → IsShifted added taken slots slots
+shifted_nothing added taken slots ordered e f = record {
+  wide = slots;
+  wider = wider-refl slots ordered;
+  slotted = subst (AllByRecursion (λ wish. has_its_slot slots wish ≡ true)) (sym e) tt;
+  numbers = rw (e, f) refl;
 }

@@ -1,5 +1,5 @@
 -- How many entries wish each event request: a plain scan of all that they wish, and the numbers that slots have.
-use Rattle.std.specs.Prelude.{◌≡◌, ℕ, suc, ◌+◌, ◌-◌, ◌<◌, true, if◌then◌else◌, List, [], ◌∷◌, ◌++◌, map, flat_map}
+use Rattle.std.specs.Prelude.{◌≡◌, ℕ, suc, ◌+◌, ◌-◌, ◌<◌, ◌≤◌, length, true, if◌then◌else◌, List, [], ◌∷◌, ◌++◌, map, flat_map}
 use Rattle.std.specs.Prelude.{Option, Some, None}
 use Rattle.std.specs.List.{AllByRecursion}
 use Rattle.jdwp_values.specs.declared.id.ClassId.{ClassId}
@@ -106,11 +106,16 @@ class_stops wanted classes = stops_at (flat_map (places_in wanted) classes)
 abbrev pub AreEarly : List Wish → Type 0
 AreEarly those = AllByRecursion (λ wish. wish_rank wish < 4) those
 
--- Classes were made known: what is wished more and less by them is added to what was.
+-- Classes were made known: what is wished more and less by them is added to what was. Where nothing is, all places are
+-- where they were.
 pub record IsTold (wanted : Wanted) (old new : List (ClassId × KnownClass)) (added_before added taken_before
     taken : List Wish) : Type 0 where
   pub numbers : (wish : Wish) → times wish (class_stops wanted new) + times wish taken + times wish added_before
       ≡ times wish (class_stops wanted old) + times wish taken_before + times wish added
+  pub more : length added_before ≤ length added
+  pub less : length taken_before ≤ length taken
+  pub same : length added ≡ length added_before → length taken ≡ length taken_before
+      → flat_map (places_in wanted) new ≡ flat_map (places_in wanted) old
 
 -- Numbers that change -------------------------------------------------------------------------------------------------
 

@@ -1,5 +1,5 @@
 //! What a list, the functions and a class wish, each by itself, so that what is wished changes by these parts.
-ghost use Rattle.std.specs.Prelude.{◌≡◌, ◌++◌, [], Some, bytes_eq, map, IfOk, OnOk, option_copied};
+ghost use Rattle.std.specs.Prelude.{◌≡◌, ◌↔◌, ◌++◌, [], IsTrue, Some, bytes_eq, map, IfOk, OnOk, option_copied};
 ghost use Rattle.std.specs.List.{position_from};
 ghost use Rattle.std.specs.Map.{lookup};
 ghost use Rattle.wish_sets.specs.Counts.{class_share, function_share, list_entry_watches, list_share, listed_share};
@@ -44,6 +44,13 @@ impl Shift {
             added: Vec::new(alloc),
             taken: Vec::new(alloc),
         }
+    }
+
+    /// Nothing is wished more or less.
+    pub(crate) fn is_nothing(&self) -> bool
+        ensures { IsTrue result ↔ ((self.now.added.items ≡ []) × (self.now.taken.items ≡ [])) }
+    {
+        self.added.is_empty() && self.taken.is_empty()
     }
 }
 

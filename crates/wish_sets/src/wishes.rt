@@ -229,6 +229,10 @@ impl Wishes {
         if is_nothing(&replaced) {
             return Ok(());
         }
+        // Most classes have no place at which an entry is bound: then all that is wished stays as it is.
+        if shift.is_nothing() {
+            return Ok(());
+        }
         if let Err(refused) = form(
             &mut self.slots,
             &mut self.bound,
