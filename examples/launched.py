@@ -77,7 +77,7 @@ def kinds_of_programs_are_launched(program, classes):
             for name in os.listdir(os.path.join(classes, "town")):
                 file.write(os.path.join(classes, "town", name), "town/" + name)
         java = [tool("java"), "-cp", classes, "town.Town"]
-        for arguments in (launch(classes), {"main": jar, "sourceRoots": ROOTS}, {"command": java, "cwd": folder},
+        for arguments in (launch(classes), {"main": jar, "sourceRoots": ROOTS}, {"run": java, "cwd": folder},
                           {"main": STREET, "classPath": classes}):
             with Editor(program) as editor:
                 editor.begin("launch", arguments)
@@ -94,21 +94,20 @@ def a_program_that_does_not_start_is_told_so(program, classes):
         with open(source, "w", encoding="utf-8") as file:
             file.write("class Wrong { int number = none; }\n")
         for arguments, text in (
-            ({}, "`launch` wants `main`, `test` or `command`"),
+            ({}, "`launch` wants `main`, `test` or `run`"),
             ({"main": source}, "Wrong.java wasn't compiled"),
             ({"main": "none.jar"}, "there is no file"),
             ({"main": "A", "cwd": "/none"}, "there is no folder /none"),
             ({"test": "", "cwd": folder}, "has no pom.xml and no build.gradle"),
-            ({"command": ["/none"]}, "can't be started"),
-            ({"command": ["true"]}, "ended before a Java machine of it could be debugged"),
+            ({"run": ["/none"]}, "can't be started"),
+            ({"run": ["true"]}, "ended before a Java machine of it could be debugged"),
         ):
             with Editor(program) as editor:
                 editor.ask("initialize", {"adapterID": "bridge"})
                 said = editor.tried("launch", arguments)
                 has_to_be("the failure of %s: %r" % (arguments, said), (said["success"], text in said["message"]),
                           (False, True))
-                editor.ask("disconnect")
-                # The launcher can be asked again, so its status is that of the last bridge, of which there was none.
+                editor.event("terminated")
                 has_to_be("its status", editor.process.wait(PATIENCE), 2)
     with Editor("/none") as editor:
         said = editor.tried("initialize", {"adapterID": "bridge"})
@@ -117,7 +116,8 @@ def a_program_that_does_not_start_is_told_so(program, classes):
         editor.ask("initialize", {"adapterID": "bridge"})
         said = editor.tried("attach", {"target": "127.0.0.1:%d" % free_port(), "sourceRoots": ROOTS})
         has_to_be("whether `attach` succeeds", said["success"], False)
-        has_to_be("how it ends", editor.left(), (7, "ended 7 not opened\n"))
+        ended = editor.process.wait(PATIENCE), editor.process.stderr.read()
+        has_to_be("how it ends", ended, (7, b"ended 7 not opened\n"))
     return True
 
 
@@ -131,6 +131,24 @@ def the_end_is_told_behind_all_that_was_printed(program, classes):
                                          and each["body"]["category"] == "stderr"], ["walked\n"])
         editor.event("terminated")
         has_to_be("how the launcher ends", editor.left(), (0, ENDED))
+    return True
+
+
+def a_program_is_stopped_as_it_begins(program, classes):
+    functions = {"breakpoints": [{"name": "town.House.area"}]}
+    with Editor(program) as editor:
+        editor.ask("initialize", {"adapterID": "bridge"})
+        editor.ask("launch", launch(classes, stopOnEntry=True))
+        editor.event("initialized")
+        has_to_be("a function's id", editor.ask("setFunctionBreakpoints", functions)["breakpoints"][0]["id"], 1)
+        editor.ask("configurationDone")
+        thread = editor.stop("entry")
+        has_to_be("where it stops", editor.frames(thread)[0]["name"], "town.Town.main")
+        editor.ask("setBreakpoints", {"source": {"path": ROOM}, "breakpoints": [{"line": line(ROOM, "return length")}]})
+        editor.ask("continue", {"threadId": thread})
+        body = editor.event("stopped", "terminated")
+        has_to_be("the next stop", (body["reason"], body["hitBreakpointIds"]), ("function breakpoint", [1]))
+        has_to_be("how it ends", editor.left(), (0, ENDED))
     return True
 
 
@@ -298,7 +316,7 @@ def java_machines_of_a_command_are_one_session(program, classes):
     with Editor(program) as editor:
         command = ["sh", "-c", "%s && %s && exit 5" % (java, java)]
         lines = (line(STREET, "Cupboards.look()"), line(STREET, "the end of the street"))
-        editor.begin("launch", {"command": command, "sourceRoots": ROOTS}, [(STREET, lines)])
+        editor.begin("launch", {"run": command, "sourceRoots": ROOTS}, [(STREET, lines)])
         for ids in ([1], [2], [1], [2]):
             body = editor.event("stopped", "terminated")
             has_to_be("the breakpoint", body.get("hitBreakpointIds"), ids)
@@ -315,7 +333,6 @@ def a_relay_adds_nothing(program, _):
             has_to_be("what it can", editor.ask("initialize", {"adapterID": "bridge"}), CAPABILITIES)
             said = editor.tried("attach", {"sourceRoots": []})
             has_to_be("a failure of the bridge", said["body"]["error"]["format"], "badArguments sourceRoots")
-        with Editor(program, "--target", target, script=os.path.join(EDITORS, "relay.py")) as editor:
             editor.begin("attach", {"sourceRoots": [TOP]})
             has_to_be("a thread", "first worker" in [each["name"] for each in editor.ask("threads")["threads"]], True)
             has_to_be("how it ends", editor.left(), (0, ENDED))
@@ -388,7 +405,8 @@ def a_kill_leaves_nothing(name, moment, program, classes):
 
 
 CASES = (kinds_of_programs_are_launched, a_program_that_does_not_start_is_told_so,
-         the_end_is_told_behind_all_that_was_printed, frames_show_the_file_of_their_root,
+         the_end_is_told_behind_all_that_was_printed, a_program_is_stopped_as_it_begins,
+         frames_show_the_file_of_their_root,
          steps_go_on_out_of_the_library, a_pause_ends_a_step, fractions_are_shown_in_decimal,
          collections_show_their_elements, numbers_are_right_over_1000_requests, sessions_follow_each_other_at_a_port,
          java_machines_of_a_command_are_one_session, a_relay_adds_nothing)

@@ -62,7 +62,7 @@ def maven_is_stopped(program):
     """Maven itself, a program of some thousand classes that another command starts, stops in a function."""
     with Editor(program) as editor:
         editor.ask("initialize", {"adapterID": "bridge"})
-        editor.ask("launch", {"command": ["mvn", *BUILDS["maven"][1], "validate"], "cwd": KITCHEN})
+        editor.ask("launch", {"run": ["mvn", *BUILDS["maven"][1], "validate"], "cwd": KITCHEN})
         editor.event("initialized")
         listed = {"breakpoints": [{"name": "org.apache.maven.DefaultMaven.execute"}]}
         editor.ask("setFunctionBreakpoints", listed)

@@ -1,5 +1,5 @@
 """What an editor has set of breakpoints, so that a second bridge is told the same, and their ids."""
-from .wire import request
+from .wire import arguments_of, request
 
 LISTED = ("setBreakpoints", "setFunctionBreakpoints", "setExceptionBreakpoints")
 
@@ -41,14 +41,28 @@ class Lists:
             self.known[number] = self.last
         return self.known[number]
 
+    def entering(self, message, name):
+        """A list of functions with one more, at its end."""
+        arguments = dict(arguments_of(message))
+        given = arguments.get("breakpoints")
+        arguments["breakpoints"] = [*(given if isinstance(given, list) else []), {"name": name}]
+        return request("setFunctionBreakpoints", arguments)
+
+    def functions(self):
+        """The functions as the editor has set them: a generator, as the next one."""
+        key = "setFunctionBreakpoints", None
+        return self.relisted(key, (yield request(key[0], self.arguments.get(key) or {"breakpoints": []})))
+
+    def relisted(self, key, said):
+        """The breakpoints of a list that was told again, with the ids under which the editor knows them."""
+        found = ((said.get("body") or {}).get("breakpoints") or []) if said.get("success") else []
+        self.known.update((each["id"], known) for each, known in zip(found, self.ids.get(key, [])) if "id" in each)
+        return [self.named(breakpoint) for breakpoint in found]
+
     def again(self):
         """Tells a second bridge all lists: a generator that gives the requests, and is sent the responses. Gives the
         breakpoints as they stand there."""
         self.known, listed = {}, []
-        for (command, path), arguments in list(self.arguments.items()):
-            said = yield request(command, arguments)
-            found = ((said.get("body") or {}).get("breakpoints") or []) if said.get("success") else []
-            ids = self.ids.get((command, path), [])
-            self.known.update((each["id"], known) for each, known in zip(found, ids) if "id" in each)
-            listed += [self.named(breakpoint) for breakpoint in found]
+        for key, arguments in list(self.arguments.items()):
+            listed += self.relisted(key, (yield request(key[0], arguments)))
         return listed

@@ -7,6 +7,7 @@ import shutil
 import subprocess
 import threading
 import time
+import zipfile
 from collections import namedtuple
 from functools import partial
 
@@ -30,8 +31,8 @@ GRADLE = """allprojects {
 """
 
 # What is run, where, with which variables, and the roots of its sources. One that runs on behind its Java machine may
-# start another.
-Plan = namedtuple("Plan", "words folder variables roots has_more")
+# start another; of the others the class is named that begins.
+Plan = namedtuple("Plan", "words folder variables roots has_more main", defaults=(None,))
 
 
 def words_of(arguments, name):
@@ -61,12 +62,12 @@ def planned(arguments, port, scratch, environment, tell):
         raise Trouble("there is no folder %s" % folder)
     variables = {str(name): str(value) for name, value in (arguments.get("env") or {}).items() if value is not None}
     agent = AGENT % port
-    if arguments.get("command"):
+    if arguments.get("run"):
         return commanded(arguments, agent, folder, variables)
     if "test" in arguments:
         return tested(arguments, agent, folder, variables, scratch)
     if not arguments.get("main"):
-        raise Trouble("`launch` wants `main`, `test` or `command`: docs/EDITORS.md says what they name")
+        raise Trouble("`launch` wants `main`, `test` or `run`: docs/EDITORS.md says what they name")
     compile_to = partial(compile_source, scratch, environment, tell)
     return started(arguments, agent, folder, variables, compile_to)
 
@@ -78,16 +79,26 @@ def started(arguments, agent, folder, variables, compile_to):
     if main.endswith(".jar"):
         if not os.path.isfile(path):
             raise Trouble("there is no file %s" % path)
-        program = ["-jar", path]
+        program, name = ["-jar", path], class_of_jar(path)
     elif main.endswith(".java"):
         name, root = read_source(path)
         classes = compile_to(path, root, class_path)
         program = ["-cp", os.pathsep.join(filter(None, [classes, class_path])), name]
         roots = [root, *(other for other in usual_roots(folder) if other != folder)]
     else:
-        program = ["-cp", class_path or ".", main]
+        program, name = ["-cp", class_path or ".", main], main
     words = [tool("java"), agent, *words_of(arguments, "vmArgs"), *program, *words_of(arguments, "args")]
-    return Plan(words, folder, variables, roots, False)
+    return Plan(words, folder, variables, roots, False, name)
+
+
+def class_of_jar(path):
+    """The class with which a jar begins, where its manifest names one."""
+    try:
+        with zipfile.ZipFile(path) as file:
+            lines = file.read("META-INF/MANIFEST.MF").decode(errors="replace").replace("\r\n ", "").splitlines()
+    except (KeyError, OSError, zipfile.BadZipFile):
+        return None
+    return next((line.partition(":")[2].strip() for line in lines if line.startswith("Main-Class:")), None)
 
 
 def joined(arguments, name):
@@ -135,7 +146,7 @@ def commanded(arguments, agent, folder, variables):
     """Another command that starts a Java machine, which takes the agent from its environment."""
     given = variables.get("JAVA_TOOL_OPTIONS", os.environ.get("JAVA_TOOL_OPTIONS", ""))
     variables = {**variables, "JAVA_TOOL_OPTIONS": ("%s %s" % (given, agent)).strip()}
-    return Plan(words_of(arguments, "command"), folder, variables, usual_roots(folder), True)
+    return Plan(words_of(arguments, "run"), folder, variables, usual_roots(folder), True)
 
 
 def tested(arguments, agent, folder, variables, scratch):

@@ -28,8 +28,8 @@ SETTLE = 2
 # With these the stop is over.
 RESUMES = ("continue", "next", "stepIn", "stepOut", "configurationDone")
 # What of a `launch` or an `attach` is for the launcher alone.
-OWN = ("main", "test", "command", "build", "buildArgs", "args", "vmArgs", "classPath", "cwd", "env", "target",
-       "findSources", "stepFilters", "decimals", "collections")
+OWN = ("main", "test", "run", "build", "buildArgs", "args", "vmArgs", "classPath", "cwd", "env", "target",
+       "stopOnEntry", "findSources", "stepFilters", "decimals", "collections")
 
 
 class Session:
@@ -43,9 +43,10 @@ class Session:
         self.asking, self.task, self.awaited = None, None, None
         self.hello = None
         self.bridge, self.program, self.port, self.scratch, self.worker = None, None, None, None, None
-        self.attached, self.is_ready, self.is_told_of_the_end, self.is_over = False, False, False, False
+        self.attached, self.is_told_of_the_end, self.is_over = False, False, False
         self.status, self.ended_with = None, None
-        self.lists, self.stepping = Lists(), None
+        # The function in which the program is stopped as it begins, until it is.
+        self.lists, self.stepping, self.entry = Lists(), None, None
         self.choose({})
 
     def choose(self, arguments):
@@ -234,21 +235,23 @@ class Session:
         yield from self.begun(message, self.launched)
 
     def begun(self, message, begin):
-        """Begins a session by this call, and answers how that went."""
+        """Begins a session by this call, and answers how that went. Where there is no bridge then, the session ends:
+        some editors would wait for more."""
         arguments = arguments_of(message)
         try:
             if self.attached:
                 said = yield request("attach", arguments)
             else:
                 self.choose(arguments)
-                said = yield from begin(arguments)
+                said = yield from self.asked_to_attach(arguments) if self.bridge else begin(arguments)
                 self.attached = bool(said.get("success"))
+            self.answer(message, said)
+            if self.attached and said.get("success"):
+                self.writer.send(event("initialized"))
         except (Trouble, OSError) as trouble:
-            self.status = getattr(trouble, "status", 2)
-            said = failed(str(trouble))
-        self.answer(message, said)
-        if not self.attached:
-            self.let_go()
+            self.answer(message, failed(str(trouble)))
+            self.writer.send(event("terminated"))
+            self.status, self.is_over = getattr(trouble, "status", 2), True
 
     def attached_to(self, arguments):
         target = str(arguments.get("target") or self.chosen.target or "")
@@ -267,14 +270,24 @@ class Session:
         listens = yield from self.worked(partial(self.program.listens, self.port, lambda: self.is_over))
         if not listens:
             raise Trouble("the program ended before a Java machine of it could be debugged: see what it printed")
-        return (yield from self.greeted("127.0.0.1:%d" % self.port, arguments))
+        said = yield from self.greeted("127.0.0.1:%d" % self.port, arguments)
+        if said.get("success") and arguments.get("stopOnEntry") and plan.main:
+            # The editor sets its breakpoints in that stop, if not before.
+            self.entry = plan.main + ".main"
+            yield self.lists.entering({}, self.entry)
+            yield request("configurationDone")
+        return said
 
     def greeted(self, target, arguments):
-        """Starts the bridge, and gives its response to `attach`."""
+        """Starts a bridge, and gives its response to `attach`."""
         start = partial(Bridge, self.chosen.program, target, self.keeper.environment())
         self.bridge = yield from self.worked(start)
         self.bridge.listen(self.tell)
         yield request("initialize", self.hello)
+        return (yield from self.asked_to_attach(arguments))
+
+    def asked_to_attach(self, arguments):
+        """The bridge's response to `attach` with these arguments, but for those of the launcher."""
         rest = {name: value for name, value in arguments.items() if name not in OWN}
         if self.sources.roots and not self.chosen.plain:
             rest["sourceRoots"] = self.sources.roots
@@ -292,7 +305,12 @@ class Session:
 
     def listed(self, message):
         key = self.lists.asked(message)
-        said = yield message
+        if self.entry and key[0] == "setFunctionBreakpoints":
+            said = yield self.lists.entering(message, self.entry)
+            if said.get("success"):
+                said = {**said, "body": {"breakpoints": said["body"]["breakpoints"][:-1]}}
+        else:
+            said = yield message
         self.answer(message, self.lists.told(key, said))
 
     def stack_trace(self, message):
@@ -332,6 +350,11 @@ class Session:
         if stepping and (body.get("reason"), body.get("threadId")) == ("step", stepping.thread):
             self.waiting.appendleft((None, self.stepped(stepping, message)))
             return
+        if self.entry and body.get("reason") == "function breakpoint":
+            self.entry = None
+            self.waiting.appendleft((None, self.lists.functions()))
+            body = {name: value for name, value in body.items() if name != "hitBreakpointIds"}
+            message = {**message, "body": {**body, "reason": "entry"}}
         if "hitBreakpointIds" in body:
             ids = [self.lists.id_of(number) for number in body["hitBreakpointIds"]]
             message = {**message, "body": {**body, "hitBreakpointIds": ids}}
@@ -353,10 +376,7 @@ class Session:
         self.writer.send(message)
 
     def initialized(self, message):
-        """Told once: what the editor sets then, a second bridge is told by the launcher."""
-        if not self.is_ready:
-            self.is_ready = True
-            self.writer.send(message)
+        """Told by the launcher behind its answer, and once: what the editor sets then a second bridge is told again."""
 
     def terminated(self, message):
         """The Java machine has ended. The editor is told so once the program has, since it may leave then."""
