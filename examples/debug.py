@@ -26,6 +26,7 @@ import re
 import shutil
 import socket
 import subprocess
+import sys
 import tempfile
 import time
 
@@ -45,6 +46,7 @@ UNPROVED = ["rt", "try", "--seconds", "86400", "--"]
 HOME = os.path.join(CRATES, "bridge_cmd")
 # How long the bridge may take to be compiled and to listen, in seconds, where it runs unproved.
 COMPILED = 900
+LATE = "  If Java writes `Debugger failed to attach`, the editor came late: that does no harm, and it may still attach"
 # The line that names a Java source's package.
 PACKAGE = re.compile(r"^\s*package\s+([\w.]+)\s*;", re.MULTILINE)
 
@@ -160,15 +162,20 @@ def is_opened(bridge, port, patience):
 
 
 def bridged(words, port, patience, java, running):
-    """The bridge, once it listens at the port. It is started again until the Java machine listens, too."""
+    """The bridge, once it listens at the port. It is started again until the Java machine listens, too. What the kit
+    says of one that runs unproved is shown only where it doesn't come to listen."""
+    log = running.enter_context(tempfile.TemporaryFile())
     until = time.monotonic() + PATIENCE
     while True:
-        bridge = subprocess.Popen(words, stdin=subprocess.DEVNULL, stdout=subprocess.PIPE, text=True, cwd=HOME)
+        bridge = subprocess.Popen(words, stdin=subprocess.DEVNULL, stdout=subprocess.PIPE, stderr=log, text=True,
+                                  cwd=HOME)
         running.callback(end, bridge)
         if is_opened(bridge, port, patience):
             return bridge
         said = bridge.communicate()[0].strip()
         if bridge.returncode != NOT_OPENED:
+            log.seek(0)
+            sys.stderr.write(log.read().decode(errors="replace"))
             stop("the bridge ended with status %d: %s" % (bridge.returncode, said or "it printed no line"))
         if java.poll() is not None:
             stop("the Java program ended with status %d, before the bridge reached it" % java.returncode)
@@ -216,6 +223,7 @@ def run(chosen, folder, running):
     words = [*command, "serve", "--listen", "127.0.0.1:%d" % port, "--target", "127.0.0.1:%d" % target]
     bridge = bridged(words, port, patience, java, running)
     print("Java program: %s, process %d%s" % (name, java.pid, ", waits for its debugger" if chosen.suspend else ""))
+    print(LATE)
     print("Editor: attach to the debug adapter at 127.0.0.1, port %d, with the arguments" % port)
     print("  " + json.dumps({"sourceRoots": [os.path.abspath(root) for root in roots]}), flush=True)
     return watched(bridge, java)

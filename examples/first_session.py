@@ -7,9 +7,10 @@ exception and into a function, pauses it, and lets it end. So each request that 
 once. What is shown is printed. The status is 0 where each answer, and all that the Java program prints, is as is due.
 Where there is no JDK, or none with an agent for JDWP, it says so in one line, and its status is 0.
 
-usage: examples/first_session.py [PROGRAM]
+usage: examples/first_session.py [PROGRAM | --unproved]
 
-Without a word it takes the program of this repository, and builds it where it isn't built yet.
+Without a word it takes the program of this repository, and builds it where it isn't built yet. With --unproved it takes
+the bridge as it stands, with no proof of it, which is compiled in two to three minutes.
 """
 import json
 import os
@@ -179,21 +180,24 @@ def go_on(session, main):
     has_to_be("continue", session.ask("continue", {"threadId": main}), RUNS_ON)
 
 
-def started(program):
-    """`debug.py` with the Java program, the port for an editor, and the arguments of its `attach`."""
-    words = [os.path.join(TOP, "examples", "debug.py"), "--suspend", "--program", program]
+def started(bridge):
+    """`debug.py` with the Java program, the port for an editor, and the arguments of its `attach`. It takes these words
+    for the bridge."""
+    words = [os.path.join(TOP, "examples", "debug.py"), "--suspend", *bridge]
     debug = subprocess.Popen([sys.executable, *words, os.path.join(TOP, "examples", SOURCE)], stdout=subprocess.PIPE,
                              encoding="utf-8")
     for said in debug.stdout:
+        if said.startswith("The bridge is compiled"):
+            print(said, end="", flush=True)
         if said.startswith("Editor:"):
             port = int(said.split(" port ")[1].split(",")[0])
             return debug, port, json.loads(debug.stdout.readline())
     raise EOFError("debug.py ended with status %d" % debug.wait())
 
 
-def is_kept(program):
+def is_kept(bridge):
     """Whether the session goes as is due, and the Java program prints what is due."""
-    debug, port, arguments = started(program)
+    debug, port, arguments = started(bridge)
     try:
         played(port, arguments)
         said, _ = debug.communicate(timeout=PATIENCE)
@@ -212,7 +216,9 @@ def main():
     if why:
         print("first session skipped: %s" % why)
         return 0
-    return tried([("first_session", partial(is_kept, program_as_it_is(sys.argv[1:])))])
+    is_unproved = sys.argv[1:] == ["--unproved"]
+    bridge = sys.argv[1:] if is_unproved else ["--program", program_as_it_is(sys.argv[1:])]
+    return tried([("first_session", partial(is_kept, bridge))])
 
 
 if __name__ == "__main__":

@@ -144,6 +144,8 @@ def a_program_is_stopped_as_it_begins(program, classes):
         editor.ask("configurationDone")
         thread = editor.stop("entry")
         has_to_be("where it stops", editor.frames(thread)[0]["name"], "town.Town.main")
+        told = [each["event"] for each in editor.events]
+        has_to_be("whether a breakpoint is told that the editor doesn't know", "breakpoint" in told, False)
         editor.ask("setBreakpoints", {"source": {"path": ROOM}, "breakpoints": [{"line": line(ROOM, "return length")}]})
         editor.ask("continue", {"threadId": thread})
         body = editor.event("stopped", "terminated")

@@ -12,6 +12,8 @@ class Lists:
         self.ids = {}
         self.known = {}
         self.last = 0
+        # The bridge's id of the function in which the program is stopped as it begins.
+        self.entry = None
 
     def asked(self, message):
         """Keeps a list that is asked for, and gives the key under which it is kept."""
@@ -47,6 +49,14 @@ class Lists:
         given = arguments.get("breakpoints")
         arguments["breakpoints"] = [*(given if isinstance(given, list) else []), {"name": name}]
         return request("setFunctionBreakpoints", arguments)
+
+    def entered(self, said):
+        """The response to such a list, without that one, whose id is kept."""
+        listed = (said.get("body") or {}).get("breakpoints") if said.get("success") else None
+        if not listed:
+            return said
+        self.entry = listed[-1].get("id")
+        return {**said, "body": {**said["body"], "breakpoints": listed[:-1]}}
 
     def functions(self):
         """The functions as the editor has set them: a generator, as the next one."""

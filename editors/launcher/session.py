@@ -274,7 +274,7 @@ class Session:
         if said.get("success") and arguments.get("stopOnEntry") and plan.main:
             # The editor sets its breakpoints in that stop, if not before.
             self.entry = plan.main + ".main"
-            yield self.lists.entering({}, self.entry)
+            self.lists.entered((yield self.lists.entering({}, self.entry)))
             yield request("configurationDone")
         return said
 
@@ -306,9 +306,7 @@ class Session:
     def listed(self, message):
         key = self.lists.asked(message)
         if self.entry and key[0] == "setFunctionBreakpoints":
-            said = yield self.lists.entering(message, self.entry)
-            if said.get("success"):
-                said = {**said, "body": {"breakpoints": said["body"]["breakpoints"][:-1]}}
+            said = self.lists.entered((yield self.lists.entering(message, self.entry)))
         else:
             said = yield message
         self.answer(message, self.lists.told(key, said))
@@ -372,6 +370,8 @@ class Session:
     def breakpoint(self, message):
         body = message.get("body") or {}
         if isinstance(body.get("breakpoint"), dict):
+            if body["breakpoint"].get("id") == self.lists.entry:
+                return
             message = {**message, "body": {**body, "breakpoint": self.lists.named(body["breakpoint"])}}
         self.writer.send(message)
 
