@@ -30,6 +30,7 @@ pub(crate) fn handle<W: Wires>(
     ensures waits { OnOk result
         ((limits : Limits) → core.old.limit ≡ limits.waiting → IsWaiting limits (session_in core.new inputs.new)) }
     ensures err { IfErr result (Stops (W.outside wires.old) (W.outside wires.new) core.old core.new inputs.old) }
+    ensures stays { W.stays wires.old wires.new }
 {
     take_end(alloc, wires, inputs, core)?;
     take_greeting(alloc, wires, inputs, core)?;
@@ -49,6 +50,7 @@ fn take_end<W: Wires>(
         (GoesOn (W.outside wires.old) (W.outside wires.new) core.old core.new inputs.old inputs.new) }
     ensures not_ended { OnOk result (inputs.new.ended ≡ false) }
     ensures err { IfErr result (Stops (W.outside wires.old) (W.outside wires.new) core.old core.new inputs.old) }
+    ensures stays { W.stays wires.old wires.new }
 {
     if !inputs.ended {
         return Ok(());
@@ -71,6 +73,7 @@ fn take_greeting<W: Wires>(
         (GoesOn (W.outside wires.old) (W.outside wires.new) core.old core.new inputs.now inputs.now) }
     ensures taken_up { OnOk result (IsTakenUp core.new inputs.now) }
     ensures err { IfErr result (Stops (W.outside wires.old) (W.outside wires.new) core.old core.new inputs.now) }
+    ensures stays { W.stays wires.old wires.new }
 {
     if core.is_greeted() || !inputs.packets.is_greeted() {
         return Ok(());
@@ -93,6 +96,7 @@ fn take_packets<W: Wires>(
     ensures taken_up { OnOk result (IsTakenUp core.new inputs.new) }
     ensures no_packet { OnOk result (target_front (streams_in core.new inputs.new) ≡ Front.waits) }
     ensures err { IfErr result (Stops (W.outside wires.old) (W.outside wires.new) core.old core.new inputs.old) }
+    ensures stays { W.stays wires.old wires.new }
 {
     while take_packet(alloc, wires, inputs, core)? {}
     Ok(())
@@ -114,6 +118,7 @@ fn take_packet<W: Wires>(
         → length inputs.new.target.stream.pending < length inputs.old.target.stream.pending }
     ensures no_packet { result ≡ Ok false → target_front (streams_in core.new inputs.new) ≡ Front.waits }
     ensures err { IfErr result (Stops (W.outside wires.old) (W.outside wires.new) core.old core.new inputs.old) }
+    ensures stays { W.stays wires.old wires.new }
 {
     let Some(packet) = inputs.next_packet()? else {
         return Ok(false);
@@ -137,6 +142,7 @@ fn hear_packet<W: Wires>(
         (HandlesLast (TakesPacket core.old (offset_of packet.entry) (packet_of packet.entry))
         (RefusesPacket core.old (offset_of packet.entry) (packet_of packet.entry))
         (W.outside wires.old) (W.outside wires.new) core.new) }
+    ensures stays { W.stays wires.old wires.new }
 {
     core.target_packet(alloc, packet)?;
     tell(alloc, wires, core)
@@ -157,6 +163,7 @@ fn take_bodies<W: Wires>(
     ensures waits { OnOk result
         ((limits : Limits) → core.old.limit ≡ limits.waiting → IsWaiting limits (session_in core.new inputs.new)) }
     ensures err { IfErr result (Stops (W.outside wires.old) (W.outside wires.new) core.old core.new inputs.old) }
+    ensures stays { W.stays wires.old wires.new }
 {
     while take_body(alloc, wires, inputs, core)? {}
     Ok(())
@@ -180,6 +187,7 @@ fn take_body<W: Wires>(
     ensures taken_up { OnOk result (IsTakenUp core.new inputs.new) }
     ensures target { OnOk result (inputs.new.target ≡ inputs.old.target) }
     ensures err { IfErr result (Stops (W.outside wires.old) (W.outside wires.new) core.old core.new inputs.old) }
+    ensures stays { W.stays wires.old wires.new }
 {
     if core.is_closing() {
         return Ok(false);
@@ -204,6 +212,7 @@ fn hear_body<W: Wires>(
     ensures err { IfErr result
         (HandlesLast (Takes core.old body.entry.bytes.now) (Refuses core.old body.entry.bytes.now body.entry.at)
         (W.outside wires.old) (W.outside wires.new) core.new) }
+    ensures stays { W.stays wires.old wires.new }
 {
     core.client_body(alloc, body.at, body.bytes)?;
     tell(alloc, wires, core)

@@ -32,6 +32,7 @@ pub(crate) fn hear<W: Wires>(
     ensures err { IfErr result
         (λ ending. (limits : Limits) (core : CoreState) → MayHear limits (W.outside wires.old) core inputs.old
         → HearsEnd limits (W.outside wires.old) (W.outside wires.new) core inputs.old ending) }
+    ensures stays { W.stays wires.old wires.new }
 {
     let quiets = inputs.quiets;
     inputs.quiets = 0;

@@ -12,7 +12,8 @@ use wire_core::{NoMemory, Wires};
 /// nothing is said.
 pub(crate) fn say<W: Wires>(alloc: Global, wires: &mut W, core: &mut Core, ending: Ending) -> Ending
     requires { lacks_memory ending ≡ false → Speakable (W.outside wires.old) (words_left ending core.old) }
-    ensures { Says (W.outside wires.old) (W.outside wires.new) core.old ending result }
+    ensures says { Says (W.outside wires.old) (W.outside wires.new) core.old ending result }
+    ensures stays { W.stays wires.old wires.new }
 {
     if lacks_memory(&ending) {
         return ending;
@@ -40,6 +41,7 @@ fn say_all<W: Wires>(
     requires open { Speakable (W.outside wires.old) (words_left ending.now core.old) }
     ensures ok { OnOk result (FallsSilent (W.outside wires.old) (W.outside wires.new) core.old ending.now ending.now) }
     ensures err { OnErr result (FallsSilent (W.outside wires.old) (W.outside wires.new) core.old ending.now no_memory) }
+    ensures stays { W.stays wires.old wires.new }
 {
     while say_next(alloc, wires, core, ending)? {}
     Ok(())
@@ -60,6 +62,7 @@ fn say_next<W: Wires>(
     ensures silent { result ≡ Ok false
         → FallsSilent (W.outside wires.old) (W.outside wires.new) core.old ending.now ending.now }
     ensures err { OnErr result (FallsSilent (W.outside wires.old) (W.outside wires.new) core.old ending.now no_memory) }
+    ensures stays { W.stays wires.old wires.new }
 {
     match core.last_words(alloc, ending) {
         Ok(Some(out)) => match wires.send(out.side, out.bytes.as_slice()) {

@@ -34,6 +34,9 @@ pub fn serve<W: Wires>(alloc: Global, limits: &Limits, wires: &mut W) -> Ending
     ensures keeps { Keeps limits.now.turns (W.outside wires.old) (W.outside wires.new) }
     ensures blames { Blames (W.outside wires.old) (W.outside wires.new) result }
     ensures idles { Idles limits.now (W.outside wires.old) (W.outside wires.new) result }
+
+    // What else the wires keep through each of their calls holds between those before the session and those behind it.
+    ensures stays { W.stays wires.old wires.new }
 {
     match Core::new(alloc, limits) {
         Ok(core) => serve_with(alloc, limits, wires, core),
@@ -47,7 +50,8 @@ fn serve_with<W: Wires>(alloc: Global, limits: &Limits, wires: &mut W, core: Cor
     requires target_open { IsOpen Target (W.outside wires.old) }
     requires limits { AreLimits limits.now }
     requires fresh { core ≡ fresh_core limits.now.waiting }
-    ensures { Served (W.outside wires.old) (W.outside wires.new) limits.now result }
+    ensures served { Served (W.outside wires.old) (W.outside wires.new) limits.now result }
+    ensures stays { W.stays wires.old wires.new }
 {
     let mut core = core;
     let ending = run(alloc, limits, wires, &mut core);
@@ -62,7 +66,8 @@ fn run<W: Wires>(alloc: Global, limits: &Limits, wires: &mut W, core: &mut Core)
     requires target_open { IsOpen Target (W.outside wires.old) }
     requires limits { AreLimits limits.now }
     requires fresh { core.old ≡ fresh_core limits.now.waiting }
-    ensures { Ran limits.now (W.outside wires.old) (W.outside wires.new) core.new result }
+    ensures ran { Ran limits.now (W.outside wires.old) (W.outside wires.new) core.new result }
+    ensures stays { W.stays wires.old wires.new }
 {
     match take_turns(alloc, limits, wires, core) {
         Ok(()) => Ending::Spent,
@@ -82,6 +87,7 @@ fn take_turns<W: Wires>(
     requires fresh { core.old ≡ fresh_core limits.now.waiting }
     ensures ok { OnOk result (Ran limits.now (W.outside wires.old) (W.outside wires.new) core.new Ending.Spent) }
     ensures err { IfErr result (Ran limits.now (W.outside wires.old) (W.outside wires.new) core.new) }
+    ensures stays { W.stays wires.old wires.new }
 {
     let mut inputs = Inputs::new(alloc);
     let mut buffer = zeros(alloc, PIECE)?;

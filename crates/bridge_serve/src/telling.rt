@@ -17,6 +17,7 @@ pub(crate) fn tell<W: Wires>(alloc: Global, wires: &mut W, core: &mut Core) -> R
     ensures ok { OnOk result (CoreGoesOn (W.outside wires.old) (W.outside wires.new) core.old core.new) }
     ensures nothing_due { OnOk result ((due (id_pending core.new.commands) core.new.machine).act ≡ Act.Waits) }
     ensures err { IfErr result (CoreStops (W.outside wires.old) (W.outside wires.new) core.old core.new) }
+    ensures stays { W.stays wires.old wires.new }
 {
     while tell_next(alloc, wires, core)? {}
     Ok(())
@@ -29,6 +30,7 @@ fn tell_next<W: Wires>(alloc: Global, wires: &mut W, core: &mut Core) -> Result<
     ensures more { result ≡ Ok true → work core.new.machine < work core.old.machine }
     ensures nothing_due { result ≡ Ok false → (due (id_pending core.new.commands) core.new.machine).act ≡ Act.Waits }
     ensures err { IfErr result (CoreStops (W.outside wires.old) (W.outside wires.new) core.old core.new) }
+    ensures stays { W.stays wires.old wires.new }
 {
     let before = core.phase();
     match core.out(alloc) {

@@ -6,8 +6,12 @@ use Rattle.bridge_serve.proofs.Taking.{stays, on_and_on, on_and_stops}
 use Rattle.bridge_serve.proofs.handling.take_bodies.Goals as goal
 
 pub loop-init : goal.loop-init
-loop-init g c =
-    record { goes_on = stays _ _ _ c.requires.ready; taken_up = c.requires.taken_up; no_packet = c.requires.no_packet }
+loop-init g c = record {
+  goes_on = stays _ _ _ c.requires.ready;
+  taken_up = c.requires.taken_up;
+  no_packet = c.requires.no_packet;
+  stays = g.met.W.Wires.stays_so c.args.wires.now;
+}
 
 pub take_body-requires-clause-ready : goal.take_body-requires-clause-ready
 take_body-requires-clause-ready g c = c.loop.invariant.goes_on.may_take
@@ -19,6 +23,7 @@ loop-preserved g c = record {
   no_packet =
       ap (λ (r : Received). received_front r.greeted r.stream.pending) c.in_ok-take_body.ensures.target ∙
       c.loop.invariant.no_packet;
+  stays = g.met.W.Wires.stays_on _ _ _ c.loop.invariant.stays c.in_ok-take_body.ensures.stays;
 }
 
 pub returns-in_err-take_body-clause-err : goal.returns-in_err-take_body-clause-err

@@ -13,6 +13,7 @@ invariant-loop g l =
       goes_on : GoesOn (outside l.initial.wires) (outside l.wires) l.initial.core l.core l.initial.inputs l.inputs;
       taken_up : IsTakenUp l.core l.inputs;
       no_packet : target_front (streams_in l.core l.inputs) ≡ Front.waits;
+      stays : g.W.Wires.stays l.initial.wires l.wires;
     }
 
 -- each body takes bytes

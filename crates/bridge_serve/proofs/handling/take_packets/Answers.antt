@@ -3,7 +3,11 @@ use Rattle.bridge_serve.proofs.Taking.{stays, on_and_on, on_and_stops}
 use Rattle.bridge_serve.proofs.handling.take_packets.Goals as goal
 
 pub loop-init : goal.loop-init
-loop-init g c = record { goes_on = stays _ _ _ c.requires.ready; taken_up = c.requires.taken_up }
+loop-init g c = record {
+  goes_on = stays _ _ _ c.requires.ready;
+  taken_up = c.requires.taken_up;
+  stays = g.met.W.Wires.stays_so c.args.wires.now;
+}
 
 pub take_packet-requires-clause-ready : goal.take_packet-requires-clause-ready
 take_packet-requires-clause-ready g c = c.loop.invariant.goes_on.may_take
@@ -12,6 +16,7 @@ pub loop-preserved : goal.loop-preserved
 loop-preserved g c = record {
   goes_on = on_and_on _ _ _ _ _ _ _ _ _ c.loop.invariant.goes_on c.in_ok-take_packet.ensures.ok;
   taken_up = c.in_ok-take_packet.ensures.taken_up;
+  stays = g.met.W.Wires.stays_on _ _ _ c.loop.invariant.stays c.in_ok-take_packet.ensures.stays;
 }
 
 pub returns-in_err-take_packet-clause-err : goal.returns-in_err-take_packet-clause-err

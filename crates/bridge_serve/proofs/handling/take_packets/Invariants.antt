@@ -9,6 +9,7 @@ invariant-loop g l =
     record {
       goes_on : GoesOn (outside l.initial.wires) (outside l.wires) l.initial.core l.core l.initial.inputs l.inputs;
       taken_up : IsTakenUp l.core l.inputs;
+      stays : g.W.Wires.stays l.initial.wires l.wires;
     }
 
 -- each packet takes bytes

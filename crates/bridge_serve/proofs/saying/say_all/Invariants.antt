@@ -7,7 +7,10 @@ use Rattle.bridge_serve.proofs.saying.say_all.Given as goal
 abbrev pub invariant-loop : goal.invariant-loop
 invariant-loop g l =
     let outside = g.W.Wires.outside in
-    SaysOne (outside l.initial.wires) (outside l.wires) l.initial.core l.core l.ending
+    record {
+      says : SaysOne (outside l.initial.wires) (outside l.wires) l.initial.core l.core l.ending;
+      stays : g.W.Wires.stays l.initial.wires l.wires;
+    }
 
 -- each takes one
 abbrev pub decreases-loop : goal.decreases-loop

@@ -17,6 +17,7 @@ loop-turn-init g c = record {
   client_small = rw c.new-inputs.ensures (omega arith);
   target_small = rw c.new-inputs.ensures (omega arith);
   room = c.in_ok-buffer.ensures;
+  stays = g.met.W.Wires.stays_so c.args.wires.now;
 }
 
 pub hear-requires-clause-is_open : goal.hear-requires-clause-is_open
@@ -95,6 +96,7 @@ loop-turn-preserved g c =
       client_small = omega (arith, same_client, client, client_grows);
       target_small = omega (arith, same_target, target, target_grows);
       room = now.room;
+      stays = g.met.W.Wires.stays_on _ _ _ (g.met.W.Wires.stays_on _ _ _ now.stays heard.stays) handled.stays;
     }
 
 pub returns-clause-ok : goal.returns-clause-ok

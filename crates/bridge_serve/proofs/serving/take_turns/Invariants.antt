@@ -14,4 +14,5 @@ invariant-loop-turn g l =
       client_small : client_end l.inputs ≤ l._turn * 65536;
       target_small : target_end l.inputs ≤ l._turn * 65536;
       room : vec_len l.buffer ≡ 65536;
+      stays : g.W.Wires.stays l.initial.wires l.wires;
     }

@@ -6,7 +6,10 @@ use Rattle.bridge_serve.proofs.telling.tell.Given as goal
 abbrev pub invariant-loop : goal.invariant-loop
 invariant-loop g l =
     let outside = g.W.Wires.outside in
-    CoreGoesOn (outside l.initial.wires) (outside l.wires) l.initial.core l.core
+    record {
+      goes_on : CoreGoesOn (outside l.initial.wires) (outside l.wires) l.initial.core l.core;
+      stays : g.W.Wires.stays l.initial.wires l.wires;
+    }
 
 -- each message lessens what the machine can still do by itself
 abbrev pub decreases-loop : goal.decreases-loop
