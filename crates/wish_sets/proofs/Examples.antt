@@ -14,6 +14,7 @@ use Rattle.wish_sets.specs.declared.facts.KnownClass.{KnownClass}
 use Rattle.wish_sets.specs.declared.facts.KnownMethod.{KnownMethod}
 use Rattle.wish_sets.specs.declared.wish.Depth.TheVariants.{Over}
 use Rattle.wish_sets.specs.declared.wish.Wish.TheVariants as wishes
+use Rattle.wish_sets.specs.Counts.{wishers}
 use Rattle.wish_sets.specs.Entries.{state_of, entries_at, verified}
 use Rattle.wish_sets.specs.Wanted.{Wanted}
 use Rattle.wish_sets.specs.Wished.{wished, is_listed, is_named}
@@ -65,6 +66,24 @@ all_is_wished : wished shop ≡ wishes.ThreadStart ∷ wishes.ThreadDeath ∷ wi
     ∷ wishes.Thrown false true ∷ wishes.Step (record { 0 = 6 }) Over ∷ []
 unfolding wished lossy lossy_after is_utf8 chars encode
 all_is_wished = refl
+
+-- How many entries wish each: the package by three lines and a function, and the breakpoint by line 3 and the function. A
+-- line with a condition, or without code, wishes its package alone; the native method has no breakpoint.
+four_wish_the_package : wishers (wishes.Watch []) shop ≡ 4
+unfolding lossy lossy_after is_utf8 chars encode
+four_wish_the_package = refl
+
+two_wish_the_breakpoint : wishers (wishes.Stop start) shop ≡ 2
+unfolding lossy lossy_after is_utf8 chars encode
+two_wish_the_breakpoint = refl
+
+none_wishes_another : wishers (wishes.Stop (record start { index = 5 })) shop ≡ 0
+unfolding lossy lossy_after is_utf8 chars encode
+none_wishes_another = refl
+
+one_wishes_the_starts : wishers wishes.ThreadStart shop ≡ 1
+unfolding lossy lossy_after is_utf8 chars encode
+one_wishes_the_starts = refl
 
 -- a class that isn't prepared binds nothing
 nothing_before_it_is_prepared :

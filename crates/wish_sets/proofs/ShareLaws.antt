@@ -1,6 +1,6 @@
 -- What is wanted is the sum of its parts: how often each wish is wished changes by the share of a list, of the functions
 -- or of a class.
-use Rattle.std.proofs.Common.{◌≡◌, ℕ, zero, suc, ◌+◌, Bool, true, false, cond, List, [], ◌∷◌, ◌++◌, refl, ap, sym, ◌∙◌, subst}
+use Rattle.std.proofs.Common.{◌≡◌, ℕ, zero, suc, ◌+◌, ◌<◌, Bool, true, false, cond, List, [], ◌∷◌, ◌++◌, refl, ap, sym, ◌∙◌, subst}
 use Rattle.std.proofs.Common.{Option, Some, None, get_or, arith, length, length-append}
 use Rattle.std.specs.Prelude.{◌||◌, bytes_eq, filter, flat_map, map, nat_lt}
 use Rattle.std.specs.List.{position_from}
@@ -10,6 +10,7 @@ use Rattle.std.proofs.lemmas.Slice.Eq.{bytes_eq-Decides}
 use Rattle.class_tables.specs.Facts.{same_class}
 use Rattle.class_tables.specs.Tables.{put}
 use Rattle.jdwp_values.specs.declared.id.ClassId.{ClassId}
+use Rattle.jdwp_values.specs.declared.location.Location.{Location}
 use Rattle.wish_sets.specs.declared.entry.FunctionEntry.{FunctionEntry}
 use Rattle.wish_sets.specs.declared.entry.LineEntry.{LineEntry}
 use Rattle.wish_sets.specs.declared.facts.KnownClass.{KnownClass}
@@ -21,15 +22,18 @@ use Rattle.wish_sets.specs.Counts.{class_stops, AreEarly, IsShift, IsTold}
 use Rattle.wish_sets.specs.Forming.{list_watches, function_watches}
 use Rattle.wish_sets.specs.Kept.{listed_wishes}
 use Rattle.wish_sets.specs.Names.{has_class, key_parts, package_name, package_named}
-use Rattle.wish_sets.specs.Order.{has_wish, is_wish}
+use Rattle.wish_sets.specs.Order.{has_wish, is_wish, wish_cmp, wish_rank}
 use Rattle.wish_sets.specs.Places.{Place, list_places, function_places, places_in, places}
 use Rattle.wish_sets.specs.Wanted.{Wanted, nothing_wanted, with_lines, with_functions}
-use Rattle.wish_sets.specs.Wished.{has_entries}
+use Rattle.wish_sets.specs.Wished.{has_entries, wished}
 use Rattle.wish_sets.proofs.CountLaws.{times-append, times-has}
 use Rattle.wish_sets.proofs.FirstLaws.{place_above}
 use Rattle.wish_sets.proofs.FormingLaws.{listed_are}
 use Rattle.wish_sets.proofs.KeptLaws.{Early, each-append}
+use Rattle.wish_sets.proofs.OrderLaws.{any-fold}
+use Rattle.wish_sets.proofs.WantedLaws.{has_early}
 use Rattle.wish_sets.proofs.WatchLaws.{has-append}
+use Rattle.wish_sets.proofs.WishLaws.{alike}
 
 -- Values under keys ---------------------------------------------------------------------------------------------------
 
@@ -549,3 +553,61 @@ places_stay wanted lists functions known added taken before_added before_taken e
     let both = subst (λ fs. IsTold (record nothing_wanted { lists = wanted.lists; functions = fs }) wanted.classes
     known before_added added before_taken taken) f now in
     both.same (ap length (nothing ∙ sym none)) (ap length (nothing_less ∙ sym no_less))
+
+-- Other words for how many --------------------------------------------------------------------------------------------
+
+-- what is wished is wished by an entry, but exceptions and the step
+pub wished_counted : (wanted : Wanted) (wish : Wish) → wish_rank wish < 4
+    → has_wish (wished wanted) wish ≡ nat_lt 0 (wishers wish wanted)
+wished_counted wanted wish early =
+    has_early wanted wish early
+    ∙ (any-fold wish_cmp (is_wish wish) (alike wish) [] (listed_wishes wanted) ∙ listed_counted wanted wish)
+
+module _ (at : Location) where
+  abbrev is_there : Place → Bool
+  is_there place = is_wish (wishes.Stop at) (wishes.Stop place.at)
+
+  no_watch : (watch : List ℕ) (entries : List LineEntry)
+      → times (wishes.Stop at) (map (λ (entry : LineEntry). wishes.Watch watch) entries) ≡ 0
+  no_watch watch [] = refl
+  no_watch watch (entry ∷ entries) = no_watch watch entries
+
+  no_list_watch : (lists : List (List ℕ × List LineEntry))
+      → times (wishes.Stop at) (flat_map list_entry_watches lists) ≡ 0
+  no_list_watch [] = refl
+  no_list_watch (list ∷ lists) =
+      let all = times-append (wishes.Stop at) (list_entry_watches list) (flat_map list_entry_watches lists) in
+      let here = no_watch (package_name (key_parts list.0).package_path) list.1 in
+      let rest = no_list_watch lists in
+      omega (arith, all, here, rest)
+
+  no_function_watch : (functions : List FunctionEntry) → times (wishes.Stop at) (function_watches functions) ≡ 0
+  no_function_watch [] = refl
+  no_function_watch (entry ∷ functions) = by (has_class entry.name) (no_function_watch functions)
+    where
+      by : (b : Bool) → times (wishes.Stop at) (function_watches functions) ≡ 0
+          → times (wishes.Stop at) (map (λ (entry : FunctionEntry). wishes.Watch (package_named entry.name))
+          (cond b (entry ∷ filter (λ (entry : FunctionEntry). has_class entry.name) functions)
+          (filter (λ (entry : FunctionEntry). has_class entry.name) functions))) ≡ 0
+      by true e = e
+      by false e = e
+
+  stops_counted : (those : List Place) → times (wishes.Stop at) (stops_at those) ≡ length (filter is_there those)
+  stops_counted [] = refl
+  stops_counted (place ∷ those) = by (is_there place) (stops_counted those)
+    where
+      by : (b : Bool) → times (wishes.Stop at) (stops_at those) ≡ length (filter is_there those)
+          → cond b (suc (times (wishes.Stop at) (stops_at those))) (times (wishes.Stop at) (stops_at those))
+          ≡ length (cond b (place ∷ filter is_there those) (filter is_there those))
+      by true e = ap suc e
+      by false e = e
+
+  -- a breakpoint is wished at each place that is there
+  pub places_counted : (wanted : Wanted) → wishers (wishes.Stop at) wanted ≡ length (filter is_there (places wanted))
+  places_counted wanted =
+      let all = wishers_are (wishes.Stop at) wanted in
+      let front : times (wishes.Stop at) (wishes.ThreadStart ∷ wishes.ThreadDeath ∷ []) ≡ 0 = refl in
+      let lists = no_list_watch wanted.lists in
+      let functions = no_function_watch wanted.functions in
+      let stops = stops_counted (places wanted) in
+      omega (arith, all, front, lists, functions, stops)

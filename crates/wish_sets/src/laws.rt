@@ -1,12 +1,15 @@
 //! What holds of all that may be wanted and of all that may come of a change. Each law is a contract over all of them.
-ghost use Rattle.std.specs.Prelude.{◌≡◌, ◌&&◌, suc, not, Some, None, List, ℕ, true, false, Bool};
+ghost use Rattle.std.specs.Prelude.{◌≡◌, ◌<◌, ◌&&◌, suc, not, nat_lt, length, filter, Some, None, List, ℕ, true, false, Bool};
 ghost use Rattle.std.specs.List.{list_any};
 ghost use Rattle.std.specs.List.Sorted.{IsStrictlySortedBy};
 ghost use Rattle.wish_sets.specs.declared.change.Settled.{Settled};
 ghost use Rattle.wish_sets.specs.declared.wish.Wish.{Wish};
 ghost use Rattle.wish_sets.specs.declared.wish.Wish.TheVariants as wishes;
 ghost use Rattle.wish_sets.specs.Names.{package_name};
-ghost use Rattle.wish_sets.specs.Order.{has_wish, is_wish, wish_cmp};
+ghost use Rattle.jdwp_values.specs.declared.location.Location.{Location};
+ghost use Rattle.wish_sets.specs.Counts.{wishers};
+ghost use Rattle.wish_sets.specs.Order.{has_wish, is_wish, wish_cmp, wish_rank};
+ghost use Rattle.wish_sets.specs.Places.{places};
 ghost use Rattle.wish_sets.specs.Tidy.{IsTidy, IsNewSet, changes_left};
 ghost use Rattle.wish_sets.specs.Wanted.{Wanted};
 ghost use Rattle.wish_sets.specs.Wished.{wished, all_wished, is_watched};
@@ -21,6 +24,15 @@ pub fn each_wish_is_wished_once()
     ensures starts { (wanted : Wanted) → has_wish (wished wanted) wishes.ThreadStart ≡ true }
     ensures ends { (wanted : Wanted) → has_wish (wished wanted) wishes.ThreadDeath ≡ true }
     ensures one { (a b : Wish) → is_wish a b ≡ true → a ≡ b }
+{}
+
+/// A wish but exceptions and steps is wished just where an entry wishes it. A breakpoint is wished by each entry as often
+/// as it is bound there.
+pub fn each_wish_is_wished_by_its_entries()
+    ensures wished { (wanted : Wanted) (wish : Wish) → wish_rank wish < 4
+        → has_wish (wished wanted) wish ≡ nat_lt 0 (wishers wish wanted) }
+    ensures stops { (wanted : Wanted) (at : Location) → wishers (wishes.Stop at) wanted
+        ≡ length (filter (λ place. is_wish (wishes.Stop at) (wishes.Stop place.at)) (places wanted)) }
 {}
 
 /// A package is watched, by the path that a signature has, just where its classes are wished as they are prepared.

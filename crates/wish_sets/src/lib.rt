@@ -32,8 +32,8 @@ pub use entry::{EntryAt, EntryState, FunctionEntry, LineEntry, VerifiedEntry};
 pub use facts::{KnownClass, KnownMethod};
 pub use laws::{
     a_package_is_watched_where_it_is_wished, a_refusal_is_kept_while_it_is_wished,
-    changes_lead_to_what_is_wished, each_wish_is_wished_once, the_next_change_is_new,
-    what_stands_is_tidy,
+    changes_lead_to_what_is_wished, each_wish_is_wished_by_its_entries, each_wish_is_wished_once,
+    the_next_change_is_new, what_stands_is_tidy,
 };
 pub use names::{key_file, key_package};
 pub use wish::{Depth, StepWish, Wish};
