@@ -1,8 +1,9 @@
 //! Runs the program on its words.
-ghost use Rattle.std.specs.Prelude.{◌≡◌, ℕ, List, []};
+ghost use Rattle.std.specs.Prelude.{◌≡◌, []};
+ghost use Rattle.std.specs.List.{AllByRecursion};
 ghost use Rattle.bridge_runs.specs.Command.{Does, Runs};
-ghost use Rattle.command_words.specs.Words.{IsValue, Names, replay_words, script_words, serve_words};
-ghost use Rattle.command_words.specs.declared.words.Task.TheVariants.{Serve, Script, Replay};
+ghost use Rattle.command_words.specs.Words.{IsValue, Names, said, usage_words};
+ghost use Rattle.command_words.specs.declared.words.Task.{Task as TheTask};
 
 use crate::replay::replay;
 use crate::script::play;
@@ -31,11 +32,8 @@ pub fn bridge_main<W: Wires, F: Files, O: Output>(
         (record { wires = W.outside wires.old; files = F.store files.old; printed = O.printed out.old })
         (record { wires = W.outside wires.new; files = F.store files.new; printed = O.printed out.new }) result }
 
-    // The words in the forms of the usage are taken, for all values that are not empty and don't begin with a hyphen.
-    ensures serve_usage { (listen target : List ℕ) → IsValue listen → IsValue target
-        → Names (serve_words listen target) (Serve (record { listen = listen; target = target })) }
-    ensures script_usage { (file : List ℕ) → IsValue file → Names (script_words file) (Script file) }
-    ensures replay_usage { (log : List ℕ) → IsValue log → Names (replay_words log) (Replay log) }
+    // The words of each task in the form of the usage line are taken, where no value is empty or begins with a hyphen.
+    ensures usage { (task : TheTask) → AllByRecursion IsValue (said task).1 → Names (usage_words task) task }
 {
     let outcome = run(alloc, words, wires, files);
     tell(alloc, outcome, out)

@@ -1,2 +1,2 @@
+pub mod ArgLaws
 pub mod WordLaws
-pub mod OptionLaws

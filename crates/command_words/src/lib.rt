@@ -1,6 +1,8 @@
 //! The words of the program: which task they ask for, as `clap` reads them.
 #![tactic(auto)]
 
+mod forms;
 mod words;
 
+pub use forms::usage;
 pub use words::{Addresses, Task, WordsFault, read_words};

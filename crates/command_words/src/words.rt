@@ -1,11 +1,12 @@
 //! Reads the words of the program.
 ghost use Rattle.std.specs.Prelude.{◌≡◌, ℕ, List, true, is_some, map, codes, IfOk, Some};
-ghost use Rattle.clap.specs.Words.{FailsBy, first_value, found_of, kind_of};
+ghost use Rattle.clap.specs.Words.{FailsBy, first_value, found_of, kind_of, rule_of};
 ghost use Rattle.clap.specs.declared.error.kind.ErrorKind.TheVariants.{OutOfMemory};
-ghost use Rattle.command_words.specs.Words.{IsBare, Reads, ReadsFile, ReadsServe, file_fault, file_value};
-ghost use Rattle.command_words.specs.Words.{serve_fault, serve_value};
+ghost use Rattle.command_words.specs.Forms.{form_fault, form_given, form_of, rule_of_part};
+ghost use Rattle.command_words.specs.Words.{HasAll, IsBare, IsTask, Reads, ReadsBehind};
 ghost use Rattle.command_words.specs.declared.words.WordsFault.TheVariants.{NoMemory as out_of_memory, Refused};
 
+use crate::forms::{KINDS, Kind, Part, form_of, kind_in};
 use clap::error::ErrorKind;
 use clap::{Arg, ArgAction, ArgMatches, Command, Error};
 use std::alloc::{AllocError, Global};
@@ -63,52 +64,38 @@ pub fn read_words(alloc: Global, words: &[Word]) -> Result<Task, WordsFault>
     ensures { Reads words.now result }
 {
     match words {
-        [name, rest @ ..] => {
-            if name.as_str() == "serve" {
-                match read_serve(alloc, rest) {
-                    Ok(addresses) => Ok(Task::Serve(addresses)),
-                    Err(fault) => Err(fault),
-                }
-            } else if name.as_str() == "script" {
-                match read_file(alloc, "script", rest) {
-                    Ok(file) => Ok(Task::Script(file)),
-                    Err(fault) => Err(fault),
-                }
-            } else if name.as_str() == "replay" {
-                match read_file(alloc, "replay", rest) {
-                    Ok(file) => Ok(Task::Replay(file)),
-                    Err(fault) => Err(fault),
-                }
-            } else {
-                Err(WordsFault::Refused)
-            }
-        }
+        [name, rest @ ..] => match kind_in(&KINDS, name.as_str()) {
+            Some(kind) => read_behind(alloc, *kind, rest),
+            None => Err(WordsFault::Refused),
+        },
         [] => Err(WordsFault::Refused),
     }
 }
 
-fn read_serve(alloc: Global, words: &[Word]) -> Result<Addresses, WordsFault>
-    ensures { ReadsServe words.now result }
+// Reads the words behind the name of a command.
+fn read_behind(alloc: Global, kind: Kind, words: &[Word]) -> Result<Task, WordsFault>
+    ensures { ReadsBehind kind words.now result }
 {
     let texts = texts_of(alloc, words)?;
-    match serve_matches(alloc, texts.as_slice()) {
-        Ok(matches) => Ok(Addresses {
-            listen: value_of(alloc, &matches, "listen")?,
-            target: value_of(alloc, &matches, "target")?,
-        }),
+    match matches_of(alloc, kind, texts.as_slice()) {
+        Ok(matches) => Ok(task_of(alloc, kind, &matches)?),
         Err(error) => Err(fault_of(&error)),
     }
 }
 
-// Reads the words behind the name of a command that is given a file.
-fn read_file(alloc: Global, name: &str, words: &[Word]) -> Result<Word, WordsFault>
-    ensures { ReadsFile name.now words.now result }
+// The task of a command that was given what it has to be given.
+fn task_of(alloc: Global, kind: Kind, matches: &ArgMatches) -> Result<Task, NoMemory>
+    requires { HasAll kind (first_value (found_of matches.now)) }
+    ensures { IfOk result (λ task. IsTask kind (first_value (found_of matches.now)) task) }
 {
-    let texts = texts_of(alloc, words)?;
-    match file_matches(alloc, name, texts.as_slice()) {
-        Ok(matches) => Ok(value_of(alloc, &matches, "file")?),
-        Err(error) => Err(fault_of(&error)),
-    }
+    Ok(match kind {
+        Kind::Serve => Task::Serve(Addresses {
+            listen: value_of(alloc, matches, "listen")?,
+            target: value_of(alloc, matches, "target")?,
+        }),
+        Kind::Script => Task::Script(value_of(alloc, matches, "file")?),
+        Kind::Replay => Task::Replay(value_of(alloc, matches, "file")?),
+    })
 }
 
 fn texts_of<'a>(alloc: Global, words: &'a [Word]) -> Result<Vec<&'a str>, AllocError>
@@ -121,45 +108,38 @@ fn texts_of<'a>(alloc: Global, words: &'a [Word]) -> Result<Vec<&'a str>, AllocE
     Ok(texts)
 }
 
-// `serve` as `clap` reads it: one simple command, whose two options have to be there.
-fn serve_matches<'a>(alloc: Global, words: &'a [&'a str]) -> Result<ArgMatches<'a>, Error>
-    ensures kinds { FailsBy (serve_fault (map (λ word. word.now) words.entry.now)) result }
-    ensures values { IfOk result (λ matches. (option : List ℕ)
-        → first_value (found_of matches) option ≡ serve_value option (map (λ word. word.now) words.entry.now)) }
-    ensures listen { IfOk result (λ matches. is_some (first_value (found_of matches) (codes "listen")) ≡ true) }
-    ensures target { IfOk result (λ matches. is_some (first_value (found_of matches) (codes "target")) ≡ true) }
+// A command, as `clap` reads it: one simple command, whose values all have to be there.
+fn matches_of<'a>(alloc: Global, kind: Kind, words: &'a [&'a str]) -> Result<ArgMatches<'a>, Error>
+    ensures kinds { FailsBy (form_fault (form_of kind) (map (λ word. word.now) words.entry.now)) result }
+    ensures values { IfOk result (λ matches. first_value (found_of matches)
+        ≡ form_given (form_of kind) (map (λ word. word.now) words.entry.now)) }
+    ensures given { IfOk result (λ matches. HasAll kind (first_value (found_of matches))) }
 {
-    let listen = Arg::new(alloc, "listen")
-        .long("listen")
-        .action(ArgAction::Set)
-        .required(true);
-    let target = Arg::new(alloc, "target")
-        .long("target")
-        .action(ArgAction::Set)
-        .required(true);
-    let serve = bare_command(alloc, "serve");
-    let listening = serve.arg(listen)?;
-    let command = listening.arg(target)?;
+    let (name, parts) = form_of(kind);
+    let bare = bare_command(alloc, name);
+    let command = bare.args(args_of(alloc, parts)?)?;
     command.try_get_matches_from(words)
 }
 
-// A command that is given a file, as `clap` reads it: one simple command, with one value that has to be there.
-fn file_matches<'a>(
-    alloc: Global,
-    name: &'a str,
-    words: &'a [&'a str],
-) -> Result<ArgMatches<'a>, Error>
-    ensures kinds { FailsBy (file_fault name.entry.now (map (λ word. word.now) words.entry.now)) result }
-    ensures values { IfOk result (λ matches. (value : List ℕ) → first_value (found_of matches) value
-        ≡ file_value name.entry.now value (map (λ word. word.now) words.entry.now)) }
-    ensures file { IfOk result (λ matches. is_some (first_value (found_of matches) (codes "file")) ≡ true) }
+// Values that have to be there, as `clap` knows them.
+fn args_of<'a>(alloc: Global, parts: &'a [Part<'a>]) -> Result<Vec<Arg<'a>>, AllocError>
+    ensures { IfOk result (λ args. map rule_of args.items ≡ map rule_of_part parts.entry.now) }
 {
-    let file = Arg::new(alloc, "file")
-        .action(ArgAction::Set)
-        .required(true);
-    let bare = bare_command(alloc, name);
-    let command = bare.arg(file)?;
-    command.try_get_matches_from(words)
+    let mut args = Vec::new(alloc);
+    for part in parts {
+        args.push(arg_of(alloc, *part))?;
+    }
+    Ok(args)
+}
+
+fn arg_of<'a>(alloc: Global, part: Part<'a>) -> Arg<'a>
+    ensures { rule_of result ≡ rule_of_part part.entry }
+{
+    let arg = match part {
+        Part::Option(name) => Arg::new(alloc, name).long(name),
+        Part::Value(name) => Arg::new(alloc, name),
+    };
+    arg.action(ArgAction::Set).required(true)
 }
 
 // A command without the flags for help and version, which is given just the words behind its name.

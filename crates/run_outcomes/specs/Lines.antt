@@ -3,6 +3,7 @@ use Rattle.std.specs.Prelude.{ℕ, ◌≡◌, Bool, true, false, if◌then◌els
 use Rattle.run_outcomes.specs.declared.printing.Outcome.{Outcome}
 use Rattle.run_outcomes.specs.declared.printing.Outcome.TheVariants.{Misused, NotOpened, NotRead, BadLine, Logged, Ended}
 use Rattle.run_outcomes.specs.declared.printing.Outcome.TheVariants.{TooLong as too_long}
+use Rattle.command_words.specs.Forms.{usage_line}
 use Rattle.dap_frames.specs.declared.fault.FrameFault.{FrameFault}
 use Rattle.dap_frames.specs.declared.fault.FrameFault.TheVariants.{NoLength, TwoLengths, BadLength, TooLong}
 use Rattle.dap_frames.specs.declared.fault.FrameFault.TheVariants.{HeaderTooLong, BadHeader}
@@ -138,7 +139,7 @@ faulty_line line kind =
 
 -- what is printed of an outcome
 unfoldable pub text_of : Outcome → List ℕ
-text_of Misused = codes "usage: bridge serve --listen A --target B, script FILE, replay LOG\n"
+text_of Misused = usage_line
 text_of NotOpened = codes "ended 7 not opened\n"
 text_of NotRead = codes "ended 8 file\n"
 text_of too_long = codes "ended 10 script line 0 TooLong\n"

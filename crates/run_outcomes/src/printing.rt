@@ -5,6 +5,7 @@ ghost use Rattle.run_outcomes.specs.Lines.{client_fault_line, client_fault_name,
 ghost use Rattle.run_outcomes.specs.Lines.{target_fault_name, packet_fault_name, is_unknown_reply, refused_line};
 ghost use Rattle.run_outcomes.specs.Lines.{faulty_line, line_fault_name};
 
+use command_words::usage;
 use dap_frames::FrameFault;
 use jdwp_packets::PacketFault;
 use script_text::ScriptFault;
@@ -37,11 +38,7 @@ pub fn tell<O: Output>(alloc: Global, outcome: Outcome, out: &mut O) -> u8
     ensures { Prints (O.printed out.old) (O.printed out.new) (text_of outcome) (status_of outcome) result }
 {
     match outcome {
-        Outcome::Misused => print_line(
-            out,
-            "usage: bridge serve --listen A --target B, script FILE, replay LOG\n",
-            2,
-        ),
+        Outcome::Misused => print_line(out, usage(), 2),
         Outcome::NotOpened => print_line(out, "ended 7 not opened\n", 7),
         Outcome::NotRead => print_line(out, "ended 8 file\n", 8),
         Outcome::TooLong => print_line(out, "ended 10 script line 0 TooLong\n", 10),

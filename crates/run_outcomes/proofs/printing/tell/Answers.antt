@@ -3,7 +3,7 @@ use Rattle.run_outcomes.proofs.printing.tell.Goals as goal
 
 pub returns-in-Misused : goal.returns-in-Misused
 unfolding text_of
-returns-in-Misused g c = rw c.in-Misused.is c.print_line.ensures
+returns-in-Misused g c = rw c.in-Misused.is (rw c.usage.ensures at c.print_line.ensures)
 
 pub returns-in-NotOpened : goal.returns-in-NotOpened
 unfolding text_of
