@@ -101,12 +101,15 @@ def a_program_that_does_not_start_is_told_so(program, classes):
             ({"test": "", "cwd": folder}, "has no pom.xml and no build.gradle"),
             ({"run": ["/none"]}, "can't be started"),
             ({"run": ["true"]}, "ended before a Java machine of it could be debugged"),
+            ({"run": ["sh", "-c", "echo its last words"]}, "ended before a Java machine of it could be debugged"),
         ):
             with Editor(program) as editor:
                 editor.ask("initialize", {"adapterID": "bridge"})
                 said = editor.tried("launch", arguments)
                 has_to_be("the failure of %s: %r" % (arguments, said), (said["success"], text in said["message"]),
                           (False, True))
+                if "run" in arguments and len(arguments["run"]) > 1:
+                    has_to_be("what it printed", editor.printed(), "its last words\n")
                 editor.event("terminated")
                 has_to_be("its status", editor.process.wait(PATIENCE), 2)
     with Editor("/none") as editor:

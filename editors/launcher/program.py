@@ -234,10 +234,14 @@ class Program:
 
     def wait(self):
         """Tells the end, once all is told that was printed. What another process prints later isn't waited for."""
+        status = self.finish()
+        self.tell("program_end", self, status if status >= 0 else 128 - status)
+
+    def finish(self):
         status = self.process.wait()
         for reader in self.readers:
             reader.join(1)
-        self.tell("program_end", self, status if status >= 0 else 128 - status)
+        return status
 
     def listens(self, port, is_over):
         """Waits until a Java machine of it listens for a debugger at this port; whether it does."""

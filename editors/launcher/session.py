@@ -25,6 +25,8 @@ from .wire import EditorGone, Unreadable, arguments_of, event, failed, request, 
 WORK = object()
 # How long the end of a program may take behind that of its Java machine, where it is that machine, in seconds.
 SETTLE = 2
+# How many pieces of output wait for the editor at most.
+PIECES = 64
 # With these the stop is over.
 RESUMES = ("continue", "next", "stepIn", "stepOut", "configurationDone")
 # What of a `launch` or an `attach` is for the launcher alone.
@@ -37,7 +39,7 @@ class Session:
 
     def __init__(self, reader, writer, chosen, keeper):
         self.reader, self.writer, self.chosen, self.keeper = reader, writer, chosen, keeper
-        self.happenings = queue.SimpleQueue()
+        self.happenings, self.room = queue.SimpleQueue(), threading.Semaphore(PIECES)
         # The requests that wait for their turn, with what serves each, and the one in hand, and what that waits for.
         self.waiting = deque()
         self.asking, self.task, self.awaited = None, None, None
@@ -64,6 +66,9 @@ class Session:
     # What happens, told by the threads and taken up in this one.
 
     def tell(self, name, *details):
+        if name == "output":
+            # A program that prints faster than the editor reads has to wait.
+            self.room.acquire()
         self.happenings.put((name, details))
 
     def run(self):
@@ -152,6 +157,10 @@ class Session:
             self.step(result)
 
     def on_output(self, category, text):
+        self.room.release()
+        self.show(category, text)
+
+    def show(self, category, text):
         if text:
             self.writer.send(event("output", {"category": category, "output": text}))
 
@@ -269,6 +278,7 @@ class Session:
         self.program = Program(plan, self.keeper.environment(plan.variables), self.tell)
         listens = yield from self.worked(partial(self.program.listens, self.port, lambda: self.is_over))
         if not listens:
+            yield from self.worked(self.program.finish)
             raise Trouble("the program ended before a Java machine of it could be debugged: see what it printed")
         said = yield from self.greeted("127.0.0.1:%d" % self.port, arguments)
         if said.get("success") and arguments.get("stopOnEntry") and plan.main:
@@ -413,7 +423,7 @@ class Session:
                 self.writer.send(event("breakpoint", {"reason": "changed", "breakpoint": breakpoint}))
             yield request("configurationDone")
         except Trouble as trouble:
-            self.on_output("stderr", "%s\n" % trouble)
+            self.show("stderr", "%s\n" % trouble)
             self.tell_end()
 
     def tell_end(self):
