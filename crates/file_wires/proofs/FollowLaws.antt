@@ -1,28 +1,32 @@
--- What came and what is still to come stay what the text says.
+-- What came and what is still to come stay what the entries say.
 use Rattle.std.proofs.Common.{◌≡◌, ◌∙◌, ℕ, Bool, true, false, List, [], ◌∷◌, ◌++◌, length, map, refl, sym, ap, ap₂}
-use Rattle.std.proofs.Common.{subst, inl, inr, true≢false, Option, Some, None, Ok}
+use Rattle.std.proofs.Common.{append-nil, subst, inl, inr, true≢false, Option, Some, None, Result, Ok, Err}
 use Rattle.std.proofs.Math.Seq.{take-append_seam}
-use Rattle.std.specs.Prelude.{flat_map, take, unwrap_or}
-use Rattle.script_text.specs.Reading.{reading_of}
-use Rattle.script_text.specs.declared.log.SessionLog.{SessionLog}
+use Rattle.std.proofs.lemmas.List.Elements.{filter-append}
+use Rattle.std.specs.Prelude.{OnErr, OnOk, flat_map, take, unwrap_or}
+use Rattle.script_wires.specs.ScriptWires.{is_alone}
 use Rattle.wire_core.specs.Links.{Counts as CountsLinks, is_open_in, first_open}
 use Rattle.wire_core.specs.Log.{entries}
-use Rattle.wire_core.specs.MemoryWires.{Gives, IsNew, NextInMemory}
-use Rattle.wire_core.specs.MemoryWires.{is_refused, outside_of, steps_of}
-use Rattle.wire_core.specs.Outside.{Adds, HasOpen, Hears, Link, Outside, entry_of}
+use Rattle.wire_core.specs.MemoryWires.{CountsSend, Gives, IsNew, KeepsScript, KeepsSends, LogsSend, NextInMemory}
+use Rattle.wire_core.specs.MemoryWires.{SendsBy, SendsInMemory, ShutsClient, is_refused, outside_of, sends_to, steps_of}
+use Rattle.wire_core.specs.Outside.{Adds, Connects, FailsToConnect, FailsToReach, HasOpen, Hears, Link, Outside, Reaches}
+use Rattle.wire_core.specs.Outside.{entry_of}
+use Rattle.wire_core.specs.Script.{kept_of}
 use Rattle.wire_core.specs.declared.memory_wires.MemoryWires.{MemoryWires}
+use Rattle.wire_core.specs.declared.outside.OpenFailed.{OpenFailed}
+use Rattle.wire_core.specs.declared.outside.SendFailed.{SendFailed}
+use Rattle.wire_core.specs.declared.outside.Side.{Side}
 use Rattle.wire_core.specs.declared.outside.Side.TheVariants.{Client, Target}
 use Rattle.wire_core.specs.declared.outside.Happening.{Happening}
 use Rattle.wire_core.specs.declared.outside.Happening.TheVariants.{Bytes as came_bytes, Shut as came_end}
 use Rattle.wire_core.specs.declared.outside.Happening.TheVariants.{Failed as came_failure, Quiet as came_nothing}
 use Rattle.wire_core.specs.declared.outside.Entry.{Entry}
 use Rattle.wire_core.specs.declared.outside.Entry.TheVariants.{In, Out, Shut as ends, Failed as fails, Quiet as nothing}
+use Rattle.wire_core.specs.declared.script.Cut.{Cut}
 use Rattle.wire_core.specs.declared.script.Step.{Step}
-use Rattle.file_wires.specs.Course.{Sides, both_open, came, course}
-use Rattle.file_wires.specs.LogWires.{Follows, FollowsAny, ahead, entries_read, entry_of_step, sides_of, steps_for}
-use Rattle.file_wires.specs.Told.{asked_with, told_with}
+use Rattle.file_wires.specs.Course.{Sides, both_open, came, course, is_coming}
+use Rattle.file_wires.specs.LogWires.{Follows, IsReplay, ahead, entry_of_step, sides_of, steps_for}
 use Rattle.file_wires.proofs.CourseLaws.{FitsIn, came_more, comes_in, course_of_came, next_comes, sides_behind}
-use Rattle.file_wires.proofs.ToldLaws.{told_text}
 
 -- which sides are open by what both links tell
 abbrev sides_by : Link → Link → Sides
@@ -58,10 +62,10 @@ log_grew : (old new : MemoryWires) (more : List Entry) → Adds (outside_of old)
     → entries new.log ≡ entries old.log ++ more
 log_grew old new more h = ap (λ log. unwrap_or log []) h
 
-gives_on : (text : List ℕ) (old new : MemoryWires) (buffer : List ℕ) (h : Happening) → length buffer ≡ 65536
+gives_on : (log : List Entry) (old new : MemoryWires) (buffer : List ℕ) (h : Happening) → length buffer ≡ 65536
     → HasOpen (outside_of old) → Hears (outside_of old) (outside_of new) buffer h → Gives old new buffer h
-    → Follows text old → Follows text new
-gives_on text old new buffer h room opened heard gave follows not_refused =
+    → Follows log old → Follows log new
+gives_on log old new buffer h room opened heard gave follows both not_refused =
     let comes = next_comes old.links (steps_of old) buffer h (first_is_open old opened)
     (fits_in (outside_of old) (outside_of new) buffer h heard) (rw room at gave.comes) in
     let left : ahead new ≡ course (sides_behind h (sides_of (outside_of old)))
@@ -74,16 +78,94 @@ gives_on text old new buffer h room opened heard gave follows not_refused =
     ap (λ log. came log ++ ahead new) grew
     ∙ came_more (entries old.log) (entry_of buffer h) (ahead new) (comes_in buffer h)
     ∙ ap (λ xs. came (entries old.log) ++ xs) (sym step)
-    ∙ follows (sym gave.refused ∙ not_refused)
+    ∙ follows (sym (ap is_alone gave.links.asked) ∙ both) (sym gave.refused ∙ not_refused)
 
-pub follows_next : (text : Option (List ℕ)) (old new : MemoryWires) (buffer : List ℕ) (h : Happening)
+follows_next : (log : List Entry) (old new : MemoryWires) (buffer : List ℕ) (h : Happening)
     → length buffer ≡ 65536 → HasOpen (outside_of old) → Hears (outside_of old) (outside_of new) buffer h
-    → NextInMemory old new buffer h → FollowsAny text old → FollowsAny text new
-follows_next None old new buffer h room opened heard next follows = tt
-follows_next (Some text) old new buffer h room opened heard (inl gave) follows =
-    gives_on text old new buffer h room opened heard gave follows
-follows_next (Some text) old new buffer h room opened heard (inr withheld) follows =
-    λ not_refused. absurd (true≢false (sym withheld.refuses.refused ∙ not_refused))
+    → NextInMemory old new buffer h → Follows log old → Follows log new
+follows_next log old new buffer h room opened heard (inl gave) follows =
+    gives_on log old new buffer h room opened heard gave follows
+follows_next log old new buffer h room opened heard (inr withheld) follows =
+    λ both not_refused. absurd (true≢false (sym withheld.refuses.refused ∙ not_refused))
+
+-- wires that waited replay what they replayed
+pub replays_next : (log : List Entry) (old new : MemoryWires) (buffer : List ℕ) (h : Happening)
+    → length buffer ≡ 65536 → HasOpen (outside_of old) → Hears (outside_of old) (outside_of new) buffer h
+    → NextInMemory old new buffer h → KeepsSends old new → IsReplay log old → IsReplay log new
+replays_next log old new buffer h room opened heard next sends replay = record {
+  uncut = sends.failing ∙ replay.uncut;
+  follows = follows_next log old new buffer h room opened heard next replay.follows;
+}
+
+-- what went out is nothing that came
+came_out : (log : List Entry) (side : Side) (bytes : List ℕ) → came (log ++ Out side bytes ∷ []) ≡ came log
+came_out log side bytes = filter-append is_coming log (Out side bytes ∷ []) ∙ append-nil (came log)
+
+-- where no side closed and no step was given, as much is still to come
+same_ahead : (old new : MemoryWires) → (outside_of new).client ≡ (outside_of old).client
+    → (outside_of new).target ≡ (outside_of old).target → steps_of new ≡ steps_of old → ahead new ≡ ahead old
+same_ahead old new client target steps =
+    ap₂ (λ sides left. course sides (map entry_of_step left)) (ap₂ sides_by client target) steps
+
+sends_all : (log : List Entry) (old new : MemoryWires) (side : Side) (bytes : List ℕ) → LogsSend old new side bytes
+    → Follows log old → Follows log new
+sends_all log old new side bytes sent follows both not_refused =
+    ap₂ (λ xs ys. xs ++ ys)
+    (ap came (log_grew old new (Out side bytes ∷ []) sent.log) ∙ came_out (entries old.log) side bytes)
+    (same_ahead old new sent.links.client sent.links.target sent.steps)
+    ∙ follows (sym (ap is_alone sent.links.asked) ∙ both) (sym sent.refused ∙ not_refused)
+
+follows_send : (log : List Entry) (old new : MemoryWires) (side : Side) (bytes : List ℕ) (result : Result Unit SendFailed)
+    → SendsBy None old new side bytes result → Follows log old → Follows log new
+follows_send log old new side bytes (Ok u) sends follows = sends_all log old new side bytes sends follows
+follows_send log old new side bytes (Err e) refuses follows =
+    λ both not_refused. absurd (true≢false (sym refuses.1.refused ∙ not_refused))
+
+-- wires that sent replay what they replayed
+pub replays_send : (log : List Entry) (old new : MemoryWires) (side : Side) (bytes : List ℕ)
+    (result : Result Unit SendFailed) → SendsInMemory old new side bytes result → CountsSend old new side
+    → IsReplay log old → IsReplay log new
+replays_send log old new side bytes result sends counts replay = record {
+  uncut = counts.failing ∙ replay.uncut;
+  follows = follows_send log old new side bytes result
+      (subst (λ (cuts : List Cut). SendsBy (kept_of side (sends_to side old) cuts) old new side bytes result)
+      replay.uncut sends) replay.follows;
+}
+
+-- opening logs nothing
+opens_none : (o p : Outside) (listen target : List ℕ) (result : Result Unit OpenFailed)
+    → OnOk result (Connects o p listen target) → OnErr result (FailsToConnect o p listen target) → Adds o p []
+opens_none o p listen target (Ok u) ok err = ok.log
+opens_none o p listen target (Err e) ok err = err.log
+
+-- wires that were opened replay what they replayed
+pub replays_connect : (log : List Entry) (old new : MemoryWires) (listen target : List ℕ) (result : Result Unit OpenFailed)
+    → (outside_of old).asked ≡ [] → OnOk result (Connects (outside_of old) (outside_of new) listen target)
+    → OnErr result (FailsToConnect (outside_of old) (outside_of new) listen target) → KeepsScript old new
+    → IsReplay log old → IsReplay log new
+replays_connect log old new listen target result none ok err keeps replay = record {
+  uncut = keeps.sends.failing ∙ replay.uncut;
+  follows = λ both not_refused.
+      ap₂ (λ xs ys. came xs ++ ys)
+      (log_grew old new [] (opens_none (outside_of old) (outside_of new) listen target result ok err)
+      ∙ append-nil (entries old.log))
+      (same_ahead old new keeps.client keeps.target keeps.steps)
+      ∙ replay.follows (ap is_alone none) (sym keeps.refused ∙ not_refused);
+}
+
+-- nothing is said of wires that reached the target alone
+alone_follows : (log : List Entry) (w : MemoryWires) (target : List ℕ) → (outside_of w).asked ≡ target ∷ []
+    → Follows log w
+alone_follows log w target asked = λ both not_refused. absurd (true≢false (sym (ap is_alone asked) ∙ both))
+
+pub replays_reach : (log : List Entry) (old new : MemoryWires) (target : List ℕ) (result : Result Unit OpenFailed)
+    → OnOk result (Reaches (outside_of old) (outside_of new) target)
+    → OnErr result (FailsToReach (outside_of old) (outside_of new) target) → OnOk result (ShutsClient old new)
+    → OnErr result (KeepsScript old new) → IsReplay log old → IsReplay log new
+replays_reach log old new target (Ok u) ok err shuts keeps replay =
+    record { uncut = shuts.sends.failing ∙ replay.uncut; follows = alone_follows log new target ok.asked }
+replays_reach log old new target (Err e) ok err shuts keeps replay =
+    record { uncut = keeps.sends.failing ∙ replay.uncut; follows = alone_follows log new target err.asked }
 
 -- the steps give what came
 steps_give : (log : List Entry) → map entry_of_step (flat_map steps_for log) ≡ came log
@@ -95,38 +177,31 @@ steps_give (fails side ∷ log) = ap (λ xs. fails side ∷ xs) (steps_give log)
 steps_give (nothing ∷ log) = ap (λ xs. nothing ∷ xs) (steps_give log)
 
 -- new wires have given nothing yet
-pub follows_new : (text : List ℕ) (log : SessionLog) (w : MemoryWires) (steps : List Step)
-    → reading_of text ≡ Ok log → steps ≡ flat_map steps_for log.entries → IsNew w steps [] true
-    → FollowsAny (Some text) w
-follows_new text log w steps read given fresh not_refused =
-    let empty : entries w.log ≡ [] = ap (λ log. unwrap_or log []) fresh.log in
-    let sides : sides_of (outside_of w) ≡ both_open =
-    ap₂ sides_by fresh.links.0 fresh.links.1 in
-    ap₂ (λ log s. came log ++ course s (map entry_of_step (steps_of w))) empty sides
-    ∙ ap (λ steps. course both_open (map entry_of_step steps)) fresh.steps
-    ∙ ap (λ steps. course both_open (map entry_of_step steps)) given
-    ∙ ap (course both_open) (steps_give log.entries)
-    ∙ course_of_came both_open log.entries
-    ∙ ap (λ r. course both_open (entries_read r)) (sym read)
+pub replays_new : (log : List Entry) (w : MemoryWires) (steps : List Step) (cuts : List Cut)
+    → steps ≡ flat_map steps_for log → cuts ≡ [] → IsNew w steps cuts true → IsReplay log w
+replays_new log w steps cuts given none fresh = record {
+  uncut = fresh.failing ∙ none;
+  follows = λ both not_refused.
+      let empty : entries w.log ≡ [] = ap (λ log. unwrap_or log []) fresh.log in
+      let sides : sides_of (outside_of w) ≡ both_open =
+      ap₂ sides_by fresh.links.0 fresh.links.1 in
+      ap₂ (λ log s. came log ++ course s (map entry_of_step (steps_of w))) empty sides
+      ∙ ap (λ steps. course both_open (map entry_of_step steps)) fresh.steps
+      ∙ ap (λ steps. course both_open (map entry_of_step steps)) given
+      ∙ ap (course both_open) (steps_give log)
+      ∙ course_of_came both_open log;
+}
 
 -- ---- what the wires tell in the end
 
--- wires that tell this text follow it
-follows_told : (text : List ℕ) (told : Option (List ℕ)) (w : MemoryWires)
-    → asked_with told (outside_of w).asked ≡ text ∷ [] → FollowsAny told w → Follows text w
-follows_told text told w asked follows = subst (λ t. FollowsAny t w) (told_text text told w.asked asked) follows
-
--- what came is the front of what the text says
-pub came_in_order : (text : List ℕ) (read : SessionLog) (told : Option (List ℕ)) (w : MemoryWires) (log : List Entry)
-    → reading_of text ≡ Ok read → asked_with told (outside_of w).asked ≡ text ∷ [] → FollowsAny told w
-    → is_refused w ≡ false → (told_with told (outside_of w)).log ≡ Some log
-    → came log ≡ take (length (came log)) (course both_open read.entries)
-came_in_order text read told w log is asked follows not_refused kept =
+-- what came is the front of what the entries say
+pub came_in_order : (told : List Entry) (w : MemoryWires) (log : List Entry) → IsReplay told w
+    → is_alone (outside_of w).asked ≡ false → is_refused w ≡ false → (outside_of w).log ≡ Some log
+    → came log ≡ take (length (came log)) (course both_open told)
+came_in_order told w log replay both not_refused kept =
     let same : entries w.log ≡ log = ap (λ log. unwrap_or log []) kept in
-    let all : came (entries w.log) ++ ahead w ≡ course both_open (entries_read (reading_of text)) =
-    follows_told text told w asked follows not_refused in
-    let front : take (length (came (entries w.log))) (course both_open read.entries) ≡ came (entries w.log) =
-    ap (λ r. take (length (came (entries w.log))) (course both_open (entries_read r))) (sym is)
-    ∙ ap (take (length (came (entries w.log)))) (sym all)
+    let all : came (entries w.log) ++ ahead w ≡ course both_open told = replay.follows both not_refused in
+    let front : take (length (came (entries w.log))) (course both_open told) ≡ came (entries w.log) =
+    ap (take (length (came (entries w.log)))) (sym all)
     ∙ take-append_seam (came (entries w.log)) (ahead w) in
-    subst (λ es. came es ≡ take (length (came es)) (course both_open read.entries)) same (sym front)
+    subst (λ es. came es ≡ take (length (came es)) (course both_open told)) same (sym front)

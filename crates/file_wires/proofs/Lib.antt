@@ -1,4 +1,3 @@
-pub mod ToldLaws
 pub mod CourseLaws
 pub mod FollowLaws
 pub mod PlayedLaws

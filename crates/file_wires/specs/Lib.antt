@@ -1,4 +1,3 @@
-pub mod Told
 pub mod Course
 pub mod LogWires
 pub mod PlayedWires

@@ -1,8 +1,6 @@
 -- Wires that replay a session log: what they tell, and what is left of the log.
-use Rattle.std.specs.Prelude.{ℕ, ◌≡◌, ◌++◌, false, List, [], ◌∷◌, map, Option, Some, None, Result, Ok, Err}
-use Rattle.script_text.specs.Reading.{reading_of}
-use Rattle.script_text.specs.declared.log.ScriptTrouble.{ScriptTrouble}
-use Rattle.script_text.specs.declared.log.SessionLog.{SessionLog}
+use Rattle.std.specs.Prelude.{◌≡◌, ◌++◌, Bool, false, List, [], ◌∷◌, map}
+use Rattle.script_wires.specs.ScriptWires.{is_alone}
 use Rattle.wire_core.specs.Log.{entries}
 use Rattle.wire_core.specs.MemoryWires.{failing_of, is_refused, outside_of, steps_of}
 use Rattle.wire_core.specs.Outside.{Outside}
@@ -12,6 +10,7 @@ use Rattle.wire_core.specs.declared.outside.Entry.TheVariants.{In, Out, Shut as 
 use Rattle.wire_core.specs.declared.script.Step.{Step}
 use Rattle.wire_core.specs.declared.script.Step.TheVariants.{Bytes, Shut, Failed, Quiet}
 use Rattle.file_wires.specs.Course.{Sides, both_open, came, course}
+use Rattle.file_wires.specs.declared.log_wires.LogWires.{LogWires}
 
 -- which sides are open
 abbrev pub sides_of : Outside → Sides
@@ -36,22 +35,29 @@ steps_for nothing = Quiet ∷ []
 abbrev pub ahead : MemoryWires → List Entry
 ahead w = course (sides_of (outside_of w)) (map entry_of_step (steps_of w))
 
--- the entries of the log that was read
-abbrev pub entries_read : Result SessionLog ScriptTrouble → List Entry
-entries_read (Ok log) = log.entries
-entries_read (Err trouble) = []
+-- Where both sides were asked for, or none, what came and what is still to come are the course of these entries, unless
+-- memory was refused.
+abbrev pub Follows : List Entry → MemoryWires → Type 0
+Follows log w = is_alone (outside_of w).asked ≡ false → is_refused w ≡ false
+    → came (entries w.log) ++ ahead w ≡ course both_open log
 
--- what came and what is still to come are the course of the log that this text is, unless memory was refused
-abbrev pub Follows : List ℕ → MemoryWires → Type 0
-Follows text w = is_refused w ≡ false
-    → came (entries w.log) ++ ahead w ≡ course both_open (entries_read (reading_of text))
-
--- wires that replay a text follow it
-abbrev pub FollowsAny : Option (List ℕ) → MemoryWires → Type 0
-FollowsAny None w = Unit {0}
-FollowsAny (Some text) w = Follows text w
-
--- wires that replay a text: no send is told to fail, and they follow the text
-pub record IsReplay (text : Option (List ℕ)) (w : MemoryWires) : Type 0 where
+-- wires that replay entries: no send is told to fail, and they follow the entries
+pub record IsReplay (log : List Entry) (w : MemoryWires) : Type 0 where
   pub uncut : failing_of w ≡ []
-  pub follows : FollowsAny text w
+  pub follows : Follows log w
+
+-- what the wires tell of themselves
+abbrev pub told_by : LogWires → Outside
+told_by w = outside_of w.wires
+
+-- whether the target alone was asked for
+abbrev pub is_reached : LogWires → Bool
+is_reached w = is_alone (told_by w).asked
+
+-- the wires were made over this log, whatever was asked of them
+abbrev pub IsReplayOf : List Entry → LogWires → Type 0
+IsReplayOf log w = IsReplay log w.wires
+
+-- what they were made over they are over still
+abbrev pub StaysReplay : LogWires → LogWires → Type 0
+StaysReplay old new = (log : List Entry) → IsReplayOf log old → IsReplayOf log new

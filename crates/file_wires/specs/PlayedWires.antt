@@ -1,22 +1,30 @@
--- Wires that play a script: they are over the script that the text is which they keep.
-use Rattle.std.specs.Prelude.{ℕ, ◌≡◌, List, Option, Some, None, Ok}
-use Rattle.script_files.specs.Reading.{script_of}
+-- Wires that play a script.
+use Rattle.std.specs.Prelude.{◌≡◌, Bool, false, List}
 use Rattle.script_rows.specs.declared.script.Script.{Script}
-use Rattle.script_wires.specs.declared.wires.ScriptWires.{ScriptWires}
+use Rattle.script_wires.specs.ScriptWires.{IsOver, StaysOver, is_alone, outside_of}
 use Rattle.script_wires.specs.Played.{Played}
 use Rattle.script_wires.specs.Playing.{Playing}
-use Rattle.script_wires.specs.ScriptWires.{IsOver}
+use Rattle.wire_core.specs.Outside.{Outside}
 use Rattle.wire_core.specs.declared.outside.Entry.{Entry}
+use Rattle.file_wires.specs.declared.played_wires.PlayedWires.{PlayedWires}
 
--- the wires were made over the script that a text is, whatever was asked of them
-abbrev pub IsOverText : List ℕ → ScriptWires → Type 0
-IsOverText text w = (script : Script) → script_of text ≡ Ok script → IsOver script w
+-- what the wires tell of themselves
+abbrev pub told_by : PlayedWires → Outside
+told_by w = outside_of w.wires
 
-abbrev pub IsOverAny : Option (List ℕ) → ScriptWires → Type 0
-IsOverAny None w = Unit {0}
-IsOverAny (Some text) w = IsOverText text w
+-- whether the target alone was asked for
+abbrev pub is_reached : PlayedWires → Bool
+is_reached w = is_alone (told_by w).asked
+
+-- the wires were made over this script, whatever was asked of them
+abbrev pub IsPlayOf : Script → PlayedWires → Type 0
+IsPlayOf script w = IsOver script w.wires
+
+-- what they were made over they are over still
+abbrev pub StaysPlay : PlayedWires → PlayedWires → Type 0
+StaysPlay old new = StaysOver old.wires new.wires
 
 -- a log is one of a script, whatever the bridge sent in it
 pub record IsLogOf (script : Script) (log : List Entry) : Type 0 where
   pub now : Playing
-  pub played : Played script log now
+  pub played : Played script false log now

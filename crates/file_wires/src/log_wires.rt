@@ -1,69 +1,51 @@
 //! Wires that give what came in a session log once more.
-ghost use Rattle.std.specs.Prelude.{◌≡◌, ℕ, List, [], ◌∷◌, ◌++◌, flat_map, length, take, Ok, Some, IfOk, OnOk};
-ghost use Rattle.script_text.specs.Reading.{reading_of};
-ghost use Rattle.script_text.specs.declared.log.SessionLog.{SessionLog as TheLog};
+ghost use Rattle.std.specs.Prelude.{◌≡◌, List, [], ◌++◌, false, flat_map, length, take, Some, IfOk, OnOk};
 ghost use Rattle.wire_core.specs.Outside.{IsOpen};
+ghost use Rattle.wire_core.specs.declared.outside.Entry.{Entry as TheEntry};
 ghost use Rattle.wire_core.specs.declared.outside.Side.TheVariants.{Client, Target};
 ghost use Rattle.file_wires.specs.Course.{both_open, came, course};
 ghost use Rattle.file_wires.specs.LogWires.{steps_for};
 
 use script_text::SessionLog;
 use std::alloc::Global;
-use std::marker::Model;
 use wire_core::{
     Blob, Entry, Happening, List, MemoryWires, NoMemory, OpenFailed, SendFailed, Side, Step, Text,
     Wires,
 };
 
-/// Wires in memory that give the bytes, ends, failures and waits in vain of a session log, in order. They keep the text
-/// of that log, and tell it in place of the names that they were asked to open: so whoever runs a session over them
-/// knows that the log which it made is of this text. Contracts see what they tell of themselves.
+/// Wires in memory that give the bytes, ends, failures and waits in vain of a session log, in order. What they were made
+/// over they are over still, whatever was asked of them: so whoever runs a session over them knows that the log which it
+/// made is of that log.
 #[derive(Drop)]
 pub struct LogWires {
-    text: Option<Blob>,
     wires: MemoryWires,
 }
 
-impl Model for LogWires {
-    ghost use Rattle.wire_core.specs.Outside.{Outside};
-
-    ghost Value = { Outside };
-
-    ghost use Rattle.wire_core.specs.MemoryWires.{outside_of};
-    ghost use Rattle.file_wires.specs.LogWires.{IsReplay};
-    ghost use Rattle.file_wires.specs.Told.{told_with};
-
-    ghost view = { λ w. told_with w.text (outside_of w.wires) };
-
-    ghost invariant = { λ w. IsReplay w.text w.wires };
-}
-
 impl LogWires {
-    /// Wires with both sides open that replay the log of a text; `NoMemory` comes where memory is refused.
-    pub fn new(alloc: Global, text: Blob, log: &SessionLog) -> Result<LogWires, NoMemory>
-        requires { reading_of text ≡ Ok log.now }
-        ensures text { IfOk result (λ w. w.asked ≡ text ∷ []) }
-        ensures log { IfOk result (λ w. w.log ≡ Some []) }
-        ensures client { IfOk result (λ w. IsOpen Client w) }
-        ensures target { IfOk result (λ w. IsOpen Target w) }
+    ghost use Rattle.file_wires.specs.LogWires.{told_by, is_reached, IsReplayOf};
+
+    /// Wires with both sides open that replay a log; `NoMemory` comes where memory is refused.
+    pub fn new(alloc: Global, log: &SessionLog) -> Result<LogWires, NoMemory>
+        ensures replays { IfOk result (IsReplayOf log.now.entries) }
+        ensures asked { IfOk result (λ w. (told_by w).asked ≡ []) }
+        ensures log { IfOk result (λ w. (told_by w).log ≡ Some []) }
+        ensures client { IfOk result (λ w. IsOpen Client (told_by w)) }
+        ensures target { IfOk result (λ w. IsOpen Target (told_by w)) }
     {
         let steps = steps_of(alloc, log.entries.as_slice())?;
         let wires = MemoryWires::new(alloc, steps, List::new(alloc))?;
-        Ok(LogWires {
-            text: Some(text),
-            wires,
-        })
+        Ok(LogWires { wires })
     }
 
     /// Lets the wires go.
     pub fn finish(self) {}
 
     /// What came and went so far; `NoMemory` comes where memory was refused to the wires, so that a link failed. What
-    /// came are the first of what the log of the text has.
+    /// came are the first of what the log has that they were made over, unless the target alone was reached.
     pub fn entries(&self) -> Result<&[Entry], NoMemory>
-        ensures whole { IfOk result (λ log. self.now.log ≡ Some log.now) }
-        ensures in_order { IfOk result (λ log. (text : List ℕ) (read : TheLog) → self.now.asked ≡ text ∷ []
-            → reading_of text ≡ Ok read → came log.now ≡ take (length (came log.now)) (course both_open read.entries)) }
+        ensures whole { IfOk result (λ log. (told_by self.now).log ≡ Some log.now) }
+        ensures in_order { IfOk result (λ log. (told : List TheEntry) → IsReplayOf told self.now
+            → is_reached self.now ≡ false → came log.now ≡ take (length (came log.now)) (course both_open told)) }
     {
         if self.wires.refused() {
             return Err(NoMemory);
@@ -100,10 +82,19 @@ fn add_step(alloc: Global, steps: &mut List<Step>, entry: &Entry) -> Result<(), 
 }
 
 impl Wires for LogWires {
-    ghost outside = { λ w. w };
+    ghost use Rattle.file_wires.specs.LogWires.{told_by, StaysReplay};
+
+    ghost outside = { told_by };
+
+    ghost stays = { StaysReplay };
 
     fn connect(&mut self, listen: Text, target: Text) -> Result<(), OpenFailed> {
         self.wires.connect(listen, target)
+    }
+
+    // It answers `OpenFailed` exactly where the target's side isn't open. The client's entries are passed over then.
+    fn reach(&mut self, target: Text) -> Result<(), OpenFailed> {
+        self.wires.reach(target)
     }
 
     fn next(&mut self, buffer: &mut [u8]) -> Happening {
@@ -113,4 +104,8 @@ impl Wires for LogWires {
     fn send(&mut self, side: Side, bytes: &[u8]) -> Result<(), SendFailed> {
         self.wires.send(side, bytes)
     }
+
+    ghost stays_so = { λ w log replay. replay };
+
+    ghost stays_on = { λ u v w a b log replay. b log (a log replay) };
 }

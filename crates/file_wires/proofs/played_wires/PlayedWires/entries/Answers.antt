@@ -1,9 +1,7 @@
-use Rattle.std.proofs.Common.{◌∙◌, ap, sym}
-use Rattle.wire_core.specs.Outside.{Outside}
-use Rattle.file_wires.proofs.PlayedLaws.{log_of_told}
+use Rattle.std.proofs.Common.{◌∙◌, sym}
+use Rattle.file_wires.proofs.PlayedLaws.{log_of_over}
 use Rattle.file_wires.proofs.played_wires.PlayedWires.entries.Goals as goal
 
 pub returns-clause-played : goal.returns-clause-played
-returns-clause-played c = λ text script asked is.
-    log_of_told text script c.self.inside.text c.self.inside.wires _ (ap (λ (o : Outside). o.asked) c.self.view_is ∙ asked) is c.self.invariant
-    (sym c.refused.ensures ∙ c.if-refused.false) c.log.ensures
+returns-clause-played c = λ script over both.
+    log_of_over script c.args.self.now.wires _ over (sym c.refused.ensures ∙ c.if-refused.false) both c.log.ensures
