@@ -151,10 +151,38 @@ fn what_was_sent_arrives(rt: HostRuntime) -> Result<(), Fail> {
     Ok(())
 }
 
+// Wires that reached the target at this address, and no client.
+fn reached(rt: &HostRuntime, target: SocketAddr) -> Result<Running<TcpWires<&HostRuntime>>, Fail> {
+    let target = Text::from_string(target.to_string(rt.alloc())?);
+    let mut wires = TcpWires::new(rt);
+    match wires.reach(target) {
+        Ok(()) => Ok(Running::reached(rt.alloc(), wires)?),
+        Err(_) => Err("not reached".into()),
+    }
+}
+
+#[test]
+fn a_target_is_reached_alone(rt: HostRuntime) -> Result<(), Fail> {
+    let dialled = TcpListener::bind(&rt, "127.0.0.1:0")?;
+    let mut running = reached(&rt, dialled.local_addr()?)?;
+    let target = shaken(&mut running, &dialled)?;
+    assert_eq!(rt;
+        hear(&mut running),
+        Some(Happening::Bytes(Side::Target, 14))
+    );
+    assert!(rt; !running.send(Side::Client, b"de"));
+    drop(target);
+    assert_eq!(rt; hear(&mut running), Some(Happening::Shut(Side::Target)));
+    assert_eq!(rt; running.next(), None);
+    Ok(())
+}
+
 #[test]
 fn a_name_that_the_system_refuses_is_a_fault(rt: HostRuntime) -> Result<(), Fail> {
     let listen = Text::from_str(rt.alloc(), "127.0.0.1:0")?;
     let target = Text::from_str(rt.alloc(), "no port")?;
+    let alone = Text::from_str(rt.alloc(), "no port")?;
     assert_eq!(rt; TcpWires::new(&rt).connect(listen, target), Err(OpenFailed));
+    assert_eq!(rt; TcpWires::new(&rt).reach(alone), Err(OpenFailed));
     Ok(())
 }

@@ -2,7 +2,7 @@ use crate::files::{file_read, file_written};
 use crate::links::{links_told, other_side, raised, sides_told};
 use crate::streams::stream_told;
 use crate::texts::{bytes_read, text_kept};
-use crate::wires::{closed_told, heard_told, sent_told};
+use crate::wires::{closed_told, heard_told, reached_told, sent_told};
 use std::alloc::Global;
 use std::test::Fail;
 
@@ -50,7 +50,8 @@ fn told(alloc: Global, word: &str, about: &str) -> Result<String, Fail> {
         "write-failing" => file_written(alloc, about, true),
         "hear" => heard_told(alloc, about),
         "send" => sent_told(alloc, about),
-        "closed" => closed_told(alloc),
+        "reach" => reached_told(alloc, about),
+        "closed" => closed_told(alloc, about),
         _ => Err("a row that asks nothing".into()),
     }
 }

@@ -32,6 +32,19 @@ impl<W: Wires + Drop> Running<W> {
         })
     }
 
+    /// Runs wires that have reached the target alone just now.
+    pub(crate) fn reached(alloc: Global, wires: W) -> Result<Running<W>, NoMemory>
+        requires { IsOpen Target (W.outside wires) }
+    {
+        let buffer = vec![in alloc; 0; 65_536]?;
+        Ok(Running {
+            wires,
+            client: false,
+            target: true,
+            buffer,
+        })
+    }
+
     /// What comes next, while a side is open.
     pub(crate) fn next(&mut self) -> Option<Happening> {
         if !self.client && !self.target {

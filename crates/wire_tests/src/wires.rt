@@ -3,12 +3,19 @@ use crate::rows::{check, head};
 use crate::running::Running;
 use std::alloc::Global;
 use std::test::Fail;
-use wire_core::{Cut, List, MemoryWires, Names, NoMemory, Side, Step, Text, Wires};
+use wire_core::{Cut, List, MemoryWires, NoMemory, Side, Step, Text, Wires};
+
+const LISTEN: &str = "localhost:4711";
+
+const TARGET: &str = "localhost:5005";
 
 // What comes of these steps until both sides are closed, how many entries are logged, and whether memory was refused.
 const STEPS: &str = "
 hear client abc; target ; quiet; target zeros; failed target; target x; shut target => Bytes(Client, 3); Quiet; Bytes(Target, 65536); Bytes(Target, 2); Failed(Target); Shut(Client); 6 false
 hear  => Shut(Client); Shut(Target); 2 false
+# no client is there, and its steps are passed over
+reach client abc; target x; shut client; quiet; failed client; shut target; quiet => Bytes(Target, 1); Quiet; Shut(Target); 3 false
+reach  => Shut(Target); 1 false
 ";
 
 #[test]
@@ -29,6 +36,7 @@ fn a_send_fails_where_a_cut_names_it(rt: HostRuntime) -> Result<(), Fail> {
 
 const CLOSED: &str = "
 closed => Err(OpenFailed) Log { entries: [] }
+closed alone => Err(OpenFailed) Log { entries: [] }
 ";
 
 #[test]
@@ -47,6 +55,22 @@ pub(crate) fn heard_told(alloc: Global, steps: &str) -> Result<String, Fail> {
 fn scripted(alloc: Global, steps: List<Step>) -> Result<Running<MemoryWires>, Fail> {
     let wires = MemoryWires::new(alloc, steps, List::new(alloc))?;
     Ok(Running::new(alloc, wires)?)
+}
+
+pub(crate) fn reached_told(alloc: Global, steps: &str) -> Result<String, Fail> {
+    let mut running = reached(alloc, steps_of(alloc, steps)?)?;
+    let told = heard(alloc, &mut running);
+    drop(running);
+    told
+}
+
+// Wires that reached the target alone.
+fn reached(alloc: Global, steps: List<Step>) -> Result<Running<MemoryWires>, Fail> {
+    let mut wires = MemoryWires::new(alloc, steps, List::new(alloc))?;
+    match wires.reach(Text::from_str(alloc, TARGET)?) {
+        Ok(()) => Ok(Running::reached(alloc, wires)?),
+        Err(_) => Err("not reached".into()),
+    }
 }
 
 fn heard(alloc: Global, running: &mut Running<MemoryWires>) -> Result<String, Fail> {
@@ -116,19 +140,13 @@ fn sent(alloc: Global, running: &mut Running<MemoryWires>, sends: &str) -> Resul
 
 // Wires that were connected, with a cut of each side.
 fn connected(alloc: Global) -> Result<Running<MemoryWires>, Fail> {
-    let names = names(alloc)?;
+    let listen = Text::from_str(alloc, LISTEN)?;
+    let target = Text::from_str(alloc, TARGET)?;
     let mut wires = MemoryWires::new(alloc, List::new(alloc), cuts(alloc)?)?;
-    match wires.connect(names.listen, names.target) {
+    match wires.connect(listen, target) {
         Ok(()) => Ok(Running::new(alloc, wires)?),
         Err(_) => Err("not connected".into()),
     }
-}
-
-fn names(alloc: Global) -> Result<Names, Fail> {
-    Ok(Names {
-        listen: Text::from_str(alloc, "localhost:4711")?,
-        target: Text::from_str(alloc, "localhost:5005")?,
-    })
 }
 
 fn cuts(alloc: Global) -> Result<List<Cut>, NoMemory> {
@@ -145,10 +163,14 @@ fn cuts(alloc: Global) -> Result<List<Cut>, NoMemory> {
     List::from_slice(alloc, &[client, target])
 }
 
-pub(crate) fn closed_told(alloc: Global) -> Result<String, Fail> {
-    let names = names(alloc)?;
+pub(crate) fn closed_told(alloc: Global, what: &str) -> Result<String, Fail> {
+    let target = Text::from_str(alloc, TARGET)?;
     let mut wires = MemoryWires::closed(alloc);
-    let opened = wires.connect(names.listen, names.target);
+    let opened = if what == "alone" {
+        wires.reach(target)
+    } else {
+        wires.connect(Text::from_str(alloc, LISTEN)?, target)
+    };
     let log = log_text(alloc, &wires);
     drop(wires);
     let log = log?;
