@@ -1,7 +1,7 @@
 //! Replays a session log.
-ghost use Rattle.std.specs.Prelude.{◌≡◌, ◌∷◌, ℕ, List, [], IfOk, Ok, Some};
-ghost use Rattle.script_text.specs.Reading.{reading_of};
-ghost use Rattle.script_text.specs.declared.log.SessionLog.{SessionLog as TheLog};
+ghost use Rattle.std.specs.Prelude.{◌≡◌, List, [], IfOk, Some};
+ghost use Rattle.file_wires.specs.LogWires.{told_by, IsReplayOf};
+ghost use Rattle.wire_core.specs.declared.outside.Entry.{Entry};
 ghost use Rattle.wire_core.specs.Outside.{IsOpen};
 ghost use Rattle.wire_core.specs.declared.outside.Side.TheVariants.{Client, Target};
 ghost use Rattle.bridge_runs.specs.Command.{IsServedAgain, Replays};
@@ -12,7 +12,7 @@ use run_outcomes::{Outcome, log_of, read_text, show, troubled};
 use script_text::{SessionLog, read_log};
 use session_endings::Limits;
 use std::alloc::Global;
-use wire_core::{Blob, Files, NoMemory, Word};
+use wire_core::{Files, NoMemory, Word};
 
 /// Replays the session log in a file: what came of the outside in it comes once more, and a session is served over that.
 /// The outcome has the log of this session, as text; or it says why there is none.
@@ -22,7 +22,7 @@ pub fn replay<F: Files>(alloc: Global, name: Word, files: &mut F) -> Outcome
 {
     match read_text(alloc, name, files) {
         Ok(text) => match read_log(alloc, text.as_slice()) {
-            Ok(log) => show(alloc, served_again(alloc, text, &log)),
+            Ok(log) => show(alloc, served_again(alloc, &log)),
             Err(trouble) => troubled(trouble),
         },
         Err(outcome) => outcome,
@@ -30,23 +30,22 @@ pub fn replay<F: Files>(alloc: Global, name: Word, files: &mut F) -> Outcome
 }
 
 // Serves a session over what came in a log, and gives the log of that session.
-fn served_again(alloc: Global, text: Blob, log: &SessionLog) -> Result<SessionLog, NoMemory>
-    requires { reading_of text ≡ Ok log.now }
+fn served_again(alloc: Global, log: &SessionLog) -> Result<SessionLog, NoMemory>
     ensures { IfOk result (IsServedAgain log.now.entries) }
 {
-    let mut wires = LogWires::new(alloc, text, log)?;
+    let mut wires = LogWires::new(alloc, log)?;
     let log = served_over(alloc, &mut wires);
     wires.finish();
     log
 }
 
-// Serves a session over wires that replay the log of a text, and gives the log of that session.
+// Serves a session over wires that replay a log, and gives the log of that session.
 fn served_over(alloc: Global, wires: &mut LogWires) -> Result<SessionLog, NoMemory>
-    requires log { wires.old.log ≡ Some [] }
-    requires client { IsOpen Client wires.old }
-    requires target { IsOpen Target wires.old }
-    ensures { (text : List ℕ) (log : TheLog) → wires.old.asked ≡ text ∷ [] → reading_of text ≡ Ok log
-        → IfOk result (IsServedAgain log.entries) }
+    requires asked { (told_by wires.old).asked ≡ [] }
+    requires log { (told_by wires.old).log ≡ Some [] }
+    requires client { IsOpen Client (told_by wires.old) }
+    requires target { IsOpen Target (told_by wires.old) }
+    ensures { (told : List Entry) → IsReplayOf told wires.old → IfOk result (IsServedAgain told) }
 {
     let ending = serve(alloc, &Limits::standard(), wires);
     log_of(alloc, ending, wires.entries()?)

@@ -1,6 +1,6 @@
 //! Plays a script.
-ghost use Rattle.std.specs.Prelude.{◌≡◌, ◌∷◌, ℕ, List, [], IfOk, Ok, Some};
-ghost use Rattle.script_files.specs.Reading.{script_of};
+ghost use Rattle.std.specs.Prelude.{◌≡◌, [], IfOk, Some};
+ghost use Rattle.file_wires.specs.PlayedWires.{told_by, IsPlayOf};
 ghost use Rattle.script_rows.specs.declared.script.Script.{Script as TheScript};
 ghost use Rattle.wire_core.specs.Outside.{IsOpen};
 ghost use Rattle.wire_core.specs.declared.outside.Side.TheVariants.{Client, Target};
@@ -14,7 +14,7 @@ use script_rows::Script;
 use script_text::SessionLog;
 use session_endings::Limits;
 use std::alloc::Global;
-use wire_core::{Blob, Files, NoMemory, Word};
+use wire_core::{Files, NoMemory, Word};
 
 /// Plays the script in a file: a session is served between its client and its target. The outcome has the log of this
 /// session, as text; or it says why there is none.
@@ -24,7 +24,7 @@ pub fn play<F: Files>(alloc: Global, name: Word, files: &mut F) -> Outcome
 {
     match read_text(alloc, name, files) {
         Ok(text) => match read_script(alloc, text.as_slice()) {
-            Ok(script) => show(alloc, served_of(alloc, text, script)),
+            Ok(script) => show(alloc, served_of(alloc, script)),
             Err(trouble) => troubled(trouble),
         },
         Err(outcome) => outcome,
@@ -32,23 +32,22 @@ pub fn play<F: Files>(alloc: Global, name: Word, files: &mut F) -> Outcome
 }
 
 // Serves a session over the wires of a script, and gives the log of that session.
-fn served_of(alloc: Global, text: Blob, script: Script) -> Result<SessionLog, NoMemory>
-    requires { script_of text ≡ Ok script }
+fn served_of(alloc: Global, script: Script) -> Result<SessionLog, NoMemory>
     ensures { IfOk result (IsServedOf script) }
 {
-    let mut wires = PlayedWires::new(alloc, text, script)?;
+    let mut wires = PlayedWires::new(alloc, script)?;
     let log = served_over(alloc, &mut wires);
     wires.finish();
     log
 }
 
-// Serves a session over wires that play the script of a text, and gives the log of that session.
+// Serves a session over wires that play a script, and gives the log of that session.
 fn served_over(alloc: Global, wires: &mut PlayedWires) -> Result<SessionLog, NoMemory>
-    requires log { wires.old.log ≡ Some [] }
-    requires client { IsOpen Client wires.old }
-    requires target { IsOpen Target wires.old }
-    ensures { (text : List ℕ) (script : TheScript) → wires.old.asked ≡ text ∷ [] → script_of text ≡ Ok script
-        → IfOk result (IsServedOf script) }
+    requires asked { (told_by wires.old).asked ≡ [] }
+    requires log { (told_by wires.old).log ≡ Some [] }
+    requires client { IsOpen Client (told_by wires.old) }
+    requires target { IsOpen Target (told_by wires.old) }
+    ensures { (script : TheScript) → IsPlayOf script wires.old → IfOk result (IsServedOf script) }
 {
     let ending = serve(alloc, &Limits::standard(), wires);
     log_of(alloc, ending, wires.entries()?)

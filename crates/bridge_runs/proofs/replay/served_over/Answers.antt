@@ -1,15 +1,15 @@
-use Rattle.std.proofs.Common.{◌≡◌, ◌∙◌, [], ◌∷◌}
+use Rattle.std.proofs.Common.{refl}
 use Rattle.std.proofs.lemmas.Result.{IfOk-weaker}
 use Rattle.run_outcomes.proofs.FileLaws.{logged_of}
 use Rattle.bridge_runs.proofs.replay.served_over.Goals as goal
 
--- the wires told the text before the session, and so they tell it behind it
+-- what the wires were made over they are over behind the session, too
 pub returns : goal.returns
-returns c text read told is =
-    let last = c.serve-ending.new.wires in
-    let asked : last.asked ≡ text ∷ [] = c.serve-ending.ensures.keeps.asked ∙ told in
+returns c told replay =
     IfOk-weaker c.log_of.result _ _ (λ log kept. record {
       logged = logged_of _ _ _ _ log (rw c.standard.ensures.values at c.serve-ending.ensures.session)
           c.requires.log c.in_ok-entries.ensures.whole kept;
-      in_order = rw kept.entries_are (c.in_ok-entries.ensures.in_order text read asked is);
+      in_order = rw kept.entries_are
+          (c.in_ok-entries.ensures.in_order told (c.serve-ending.ensures.stays told replay)
+          (rw (c.serve-ending.ensures.keeps.asked, c.requires.asked) refl));
     }) c.log_of.ensures

@@ -1,15 +1,15 @@
-use Rattle.std.proofs.Common.{◌≡◌, ◌∙◌, [], ◌∷◌}
+use Rattle.std.proofs.Common.{refl}
 use Rattle.std.proofs.lemmas.Result.{IfOk-weaker}
 use Rattle.run_outcomes.proofs.FileLaws.{logged_of}
 use Rattle.bridge_runs.proofs.script.served_over.Goals as goal
 
--- the wires told the text before the session, and so they tell it behind it
+-- what the wires were made over they are over behind the session, too
 pub returns : goal.returns
-returns c text script told is =
-    let last = c.serve-ending.new.wires in
-    let asked : last.asked ≡ text ∷ [] = c.serve-ending.ensures.keeps.asked ∙ told in
+returns c script over =
     IfOk-weaker c.log_of.result _ _ (λ log kept. record {
       logged = logged_of _ _ _ _ log (rw c.standard.ensures.values at c.serve-ending.ensures.session)
           c.requires.log c.in_ok-entries.ensures.whole kept;
-      of_script = rw kept.entries_are (c.in_ok-entries.ensures.played text script asked is);
+      of_script = rw kept.entries_are
+          (c.in_ok-entries.ensures.played script (c.serve-ending.ensures.stays script over)
+          (rw (c.serve-ending.ensures.keeps.asked, c.requires.asked) refl));
     }) c.log_of.ensures
