@@ -67,8 +67,8 @@ all_is_wished : wished shop ≡ wishes.ThreadStart ∷ wishes.ThreadDeath ∷ wi
 unfolding wished lossy lossy_after is_utf8 chars encode
 all_is_wished = refl
 
--- How many entries wish each: the package by three lines and a function, and the breakpoint by line 3 and the function. A
--- line with a condition, or without code, wishes its package alone; the native method has no breakpoint.
+-- How many entries wish each: the package by three lines and a function, and the breakpoint by line 3 and the
+-- function. A line with a condition, or without code, wishes its package alone; the native method has no breakpoint.
 four_wish_the_package : wishers (wishes.Watch []) shop ≡ 4
 unfolding lossy lossy_after is_utf8 chars encode
 four_wish_the_package = refl

@@ -1,5 +1,5 @@
--- What is wanted is the sum of its parts: how often each wish is wished changes by the share of a list, of the functions
--- or of a class.
+-- What is wanted is the sum of its parts: how often each wish is wished changes by the share of a list, of the
+-- functions or of a class.
 use Rattle.std.proofs.Common.{◌≡◌, ℕ, zero, suc, ◌+◌, ◌<◌, Bool, true, false, cond, List, [], ◌∷◌, ◌++◌, refl, ap, sym, ◌∙◌, subst}
 use Rattle.std.proofs.Common.{Option, Some, None, get_or, arith, length, length-append}
 use Rattle.std.specs.Prelude.{◌||◌, bytes_eq, filter, flat_map, map, nat_lt}

@@ -41,8 +41,8 @@ times wish (other ∷ those) = if is_wish wish other then suc (times wish those)
 abbrev pub wishers : Wish → Wanted → ℕ
 wishers wish wanted = times wish (entry_wishes wanted)
 
--- The numbers that are kept: each wish that an entry wishes has a slot; the number of a slot is that of a plain scan; and
--- what has the number 0 isn't wished.
+-- The numbers that are kept: each wish that an entry wishes has a slot; the number of a slot is that of a plain scan;
+-- and what has the number 0 isn't wished.
 pub record AreCounts (wanted : Wanted) (slots : List Slot) : Type 0 where
   pub slotted : (wish : Wish) → 0 < wishers wish wanted → has_its_slot slots wish ≡ true
   pub numbers : AreNumbered (λ wish. wishers wish wanted) slots

@@ -81,7 +81,7 @@ fn add_slot(slots: &mut Vec<Slot>, alloc: Global, wish: &Wish) -> Result<(), NoM
     Ok(())
 }
 
-// Each of these wishes gets a slot, and so many entries may wish it still. Where memory is refused some may have theirs.
+// Each of these wishes gets a slot, and so many entries may wish it still. Where memory is refused some may have one.
 fn add_slots(slots: &mut Vec<Slot>, alloc: Global, those: &[Wish]) -> Result<(), NoMemory>
     requires in_order { AreInOrder slots.old.items }
     requires early { AllByRecursion (λ wish. wish_rank wish < 4) those.now }
@@ -100,8 +100,8 @@ fn add_slots(slots: &mut Vec<Slot>, alloc: Global, those: &[Wish]) -> Result<(),
 }
 
 // Slots say what is wished but exceptions and the step, by what is wished more and less, and the places of all entries
-// are kept. Where memory is refused, or where there would be too many slots, the places stay, and nothing else than before
-// is wished: what wants memory is done first, and what is wished less is counted no longer at the end.
+// are kept. Where memory is refused, or where there would be too many slots, the places stay, and nothing else than
+// before is wished: what wants memory is done first, and what is wished less is counted no longer at the end.
 fn form_slots(
     slots: &mut Vec<Slot>,
     bound: &mut Bound,

@@ -83,8 +83,8 @@ fn know(
     entries: Entries<'_>,
 ) -> Result<(), NoMemory>
     ensures early { OnOk result (AreEarly shift.old.added.items → AreEarly shift.new.added.items) }
-    ensures shift { OnOk result (IsTold (record nothing_wanted { lists = entries.entry.lists.now; functions = entries.entry.functions.now })
-        known.old.entries known.new.entries shift.old.added.items shift.new.added.items
+    ensures shift { OnOk result (IsTold
+        (record nothing_wanted { lists = entries.entry.lists.now; functions = entries.entry.functions.now }) known.old.entries known.new.entries shift.old.added.items shift.new.added.items
         shift.old.taken.items shift.new.taken.items) }
     ensures ok { OnOk result (known.new.entries
         ≡ put_known class (class_found (found_in classes.now) class) known.old.entries) }
@@ -113,8 +113,8 @@ pub(crate) fn know_all(
     entries: Entries<'_>,
 ) -> Result<(), NoMemory>
     ensures early { OnOk result (AreEarly shift.old.added.items → AreEarly shift.new.added.items) }
-    ensures shift { OnOk result (IsTold (record nothing_wanted { lists = entries.entry.lists.now; functions = entries.entry.functions.now })
-        known.old.entries known.new.entries shift.old.added.items shift.new.added.items
+    ensures shift { OnOk result (IsTold
+        (record nothing_wanted { lists = entries.entry.lists.now; functions = entries.entry.functions.now }) known.old.entries known.new.entries shift.old.added.items shift.new.added.items
         shift.old.taken.items shift.new.taken.items) }
     ensures ok { OnOk result (known.new.entries ≡ all_known (found_in classes.now) those.now known.old.entries) }
     ensures back { undone replaced.new.items known.new.entries ≡ undone replaced.old.items known.old.entries }

@@ -26,8 +26,8 @@ pub fn each_wish_is_wished_once()
     ensures one { (a b : Wish) → is_wish a b ≡ true → a ≡ b }
 {}
 
-/// A wish but exceptions and steps is wished just where an entry wishes it. A breakpoint is wished by each entry as often
-/// as it is bound there.
+/// A wish but exceptions and steps is wished just where an entry wishes it. A breakpoint is wished by each entry as
+/// often as it is bound there.
 pub fn each_wish_is_wished_by_its_entries()
     ensures wished { (wanted : Wanted) (wish : Wish) → wish_rank wish < 4
         → has_wish (wished wanted) wish ≡ nat_lt 0 (wishers wish wanted) }

@@ -143,7 +143,8 @@ pub(crate) fn add_class_share(
     facts: &KnownClass,
 ) -> Result<(), NoMemory>
     ensures { OnOk result (found.new.items ≡ found.old.items
-        ++ class_share (record nothing_wanted { lists = entries.entry.lists.now; functions = entries.entry.functions.now })
+        ++ class_share
+        (record nothing_wanted { lists = entries.entry.lists.now; functions = entries.entry.functions.now })
         (class, facts.now)) }
 {
     let mut places = List::new(alloc);
@@ -160,7 +161,8 @@ pub(crate) fn add_known_share(
     facts: Option<&KnownClass>,
 ) -> Result<(), NoMemory>
     ensures { OnOk result (found.new.items ≡ found.old.items
-        ++ option_share (record nothing_wanted { lists = entries.entry.lists.now; functions = entries.entry.functions.now }) class
+        ++ option_share
+        (record nothing_wanted { lists = entries.entry.lists.now; functions = entries.entry.functions.now }) class
         (option_copied facts.entry)) }
 {
     match facts {
