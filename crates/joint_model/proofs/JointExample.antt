@@ -180,6 +180,7 @@ unfolding IsDistinct
 sound requests next count hold = record {
   program = record {
     classes = tt;
+    no_null = tt;
     class_sizes = tt;
     chains = tt;
     methods = tt;

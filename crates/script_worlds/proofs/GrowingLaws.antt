@@ -215,7 +215,7 @@ more_methods w row = record {
 pub empty_grows : (sizes : IdSizes) → IsGrowing (empty_world sizes)
 unfolding IsDistinct
 empty_grows sizes = record {
-  own = record { classes = tt; class_sizes = tt; methods = tt; method_sizes = tt; fields = tt; field_sizes = tt };
+  own = record { classes = tt; no_null = tt; class_sizes = tt; methods = tt; method_sizes = tt; fields = tt; field_sizes = tt };
   objects = tt;
   object_sizes = tt;
   puts = tt;
@@ -234,8 +234,11 @@ pub class_grows : (w : World) (row : WorldClass) → IsGrowing w → class_fits 
 class_grows w row g fit new = record {
   own = record {
     classes = new_id (λ (r : WorldClass). r.id.0) w.classes row g.own.classes new;
+    no_null = all_push (λ (r : WorldClass). 0 < r.id.0) w.classes row g.own.no_null
+        (ltb-true 0 row.id.0 (first_of (nat_lt 0 row.id.0) _ fit));
     class_sizes = all_push (λ (r : WorldClass). IsOfSize w.sizes.class r.id.0) w.classes row g.own.class_sizes
-        (size_is w.sizes.class row.id.0 (first_of (fits w.sizes.class row.id.0) (fits w.sizes.class row.above.0) fit));
+        (size_is w.sizes.class row.id.0 (first_of (fits w.sizes.class row.id.0) (fits w.sizes.class row.above.0)
+        (second_of (nat_lt 0 row.id.0) _ fit)));
     methods = g.own.methods;
     method_sizes = g.own.method_sizes;
     fields = g.own.fields;
@@ -259,6 +262,7 @@ pub method_grows : (w : World) (row : WorldMethod) → IsGrowing w → method_fi
 method_grows w row g fit new = record {
   own = record {
     classes = g.own.classes;
+    no_null = g.own.no_null;
     class_sizes = g.own.class_sizes;
     methods = new_member (λ (r : WorldMethod). (r.class.0, r.method.id.0)) w.methods row g.own.methods new;
     method_sizes = all_push (λ (r : WorldMethod). IsOfSize w.sizes.method r.method.id.0) w.methods row
@@ -295,6 +299,7 @@ pub variable_grows : (w : World) (row : WorldVariable) → IsGrowing w → IsGro
 variable_grows w row g = record {
   own = record {
     classes = g.own.classes;
+    no_null = g.own.no_null;
     class_sizes = g.own.class_sizes;
     methods = g.own.methods;
     method_sizes = g.own.method_sizes;
@@ -338,6 +343,7 @@ pub field_grows : (w : World) (row : WorldField) → IsGrowing w → field_fits 
 field_grows w row g fit new = record {
   own = record {
     classes = g.own.classes;
+    no_null = g.own.no_null;
     class_sizes = g.own.class_sizes;
     methods = g.own.methods;
     method_sizes = g.own.method_sizes;
@@ -367,6 +373,7 @@ same_own : (w new : World) → IsGrowing w → new.sizes ≡ w.sizes → new.cla
     → new.fields ≡ w.fields → HasOwnIds (program_of new)
 same_own w new g sizes classes methods fields = record {
   classes = subst (λ rows. IsDistinct nat_eq (map (λ (r : WorldClass). r.id.0) rows)) (sym classes) g.own.classes;
+  no_null = rw (classes) g.own.no_null;
   class_sizes = rw (sizes, classes) g.own.class_sizes;
   methods = subst (λ rows. IsDistinct same_member (map (λ (r : WorldMethod). (r.class.0, r.method.id.0)) rows))
       (sym methods) g.own.methods;
@@ -619,6 +626,7 @@ pub whole_is_sound : (w : World) → IsGrowing w → HasChains w → IsSound w
 whole_is_sound w g chains = record {
   program = record {
     classes = g.own.classes;
+    no_null = g.own.no_null;
     class_sizes = g.own.class_sizes;
     chains = chains;
     methods = g.own.methods;

@@ -75,10 +75,11 @@ with_frame w row = record w { frames = w.frames ++ row ∷ [] }
 
 -- What holds of it ---------------------------------------------------------------------------------------------------
 
--- Classes, methods and fields have ids of their own, which fit their sizes. Whether chains of classes end is said of a
--- whole world alone, since a class may stand before the one above it.
+-- Classes, methods and fields have ids of their own, which fit their sizes, and no class has the id of null. Whether
+-- chains of classes end is said of a whole world alone, since a class may stand before the one above it.
 pub record HasOwnIds (program : Program) : Type 0 where
   pub classes : IsDistinct nat_eq (map (λ row. row.id.0) program.classes)
+  pub no_null : AllByRecursion (λ row. 0 < row.id.0) program.classes
   pub class_sizes : AllByRecursion (λ row. IsOfSize program.sizes.class row.id.0) program.classes
   pub methods : IsDistinct same_member (map (λ row. (row.class.0, row.method.id.0)) program.methods)
   pub method_sizes : AllByRecursion (λ row. IsOfSize program.sizes.method row.method.id.0) program.methods

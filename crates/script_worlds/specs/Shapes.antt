@@ -54,8 +54,9 @@ abbrev pub are_of_kind : Option Tag → List Value → Bool
 are_of_kind None values = false
 are_of_kind (Some kind) values = list_all (λ value. same_kind kind (tag_of_value value)) values
 
+-- a class's ids, of which its own isn't that of null (JDWP, Detailed Command Information, common data types, objectID)
 abbrev pub class_fits : IdSizes → WorldClass → Bool
-class_fits sizes row = fits sizes.class row.id.0 && fits sizes.class row.above.0
+class_fits sizes row = nat_lt 0 row.id.0 && (fits sizes.class row.id.0 && fits sizes.class row.above.0)
 
 abbrev pub method_fits : IdSizes → WorldMethod → Bool
 method_fits sizes row = place_fits sizes row.class row.method.id

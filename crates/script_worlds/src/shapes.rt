@@ -90,11 +90,11 @@ fn are_of_kind(kind: Option<Tag>, values: &[Value]) -> bool
     }
 }
 
-/// Whether the ids of a class fit their sizes.
+/// Whether the ids of a class fit their sizes, and its own isn't that of null.
 pub fn class_fits(sizes: IdSizes, row: &WorldClass) -> bool
     ensures { result ≡ class_fits sizes row.now }
 {
-    fits(sizes.class, row.id.0) && fits(sizes.class, row.above.0)
+    0 < row.id.0 && (fits(sizes.class, row.id.0) && fits(sizes.class, row.above.0))
 }
 
 /// Whether the ids of a method fit their sizes.

@@ -8,6 +8,8 @@ use Rattle.std.proofs.lemmas.Bool.{ltb-true, leb-true}
 use Rattle.std.proofs.lemmas.Iterator.Adapters.{position_from-zero}
 use Rattle.std.proofs.lemmas.List.Folds.{list_any-append}
 use Rattle.jdwp_events.specs.declared.composite.Composite.{Composite}
+use Rattle.jdwp_events.specs.declared.kind.Policy.{Policy}
+use Rattle.jdwp_events.specs.declared.kind.Policy.TheVariants as policies
 use Rattle.jdwp_values.specs.declared.id.ThreadId.{ThreadId}
 use Rattle.jdwp_values.specs.declared.sizes.IdSizes.{IdSizes}
 use Rattle.world_model.specs.declared.moves.Move.{Move}
@@ -36,6 +38,7 @@ use Rattle.script_worlds.specs.Given.{is_class, is_method, is_field, is_object, 
 use Rattle.script_worlds.specs.Growing.{IsGrowing, HasChains}
 use Rattle.script_worlds.specs.Known.{is_known_value, frame_is_known}
 use Rattle.script_worlds.specs.Shapes.{array_fits, has_elements, field_value_fits, is_for_field, frame_fits, has_room}
+use Rattle.script_worlds.specs.Shapes.{thread_fits}
 use Rattle.script_worlds.proofs.GrowingLaws.{empty_grows, class_grows, method_grows, variable_grows, field_grows}
 use Rattle.script_worlds.proofs.GrowingLaws.{object_grows, array_grows, string_grows, put_grows, thread_grows}
 use Rattle.script_worlds.proofs.GrowingLaws.{frame_grows, whole_is_sound}
@@ -46,7 +49,7 @@ use Rattle.target_scripts.specs.Adding.{unless_faulty}
 use Rattle.target_scripts.specs.Chains.{is_open, goes_on, first_open, line_of_class, chain_fault}
 use Rattle.target_scripts.specs.Fit.{AreMade, HasBegun, IsFit, Leads, IsSoundSoFar}
 use Rattle.target_scripts.specs.Judging.{rank, may_follow, row_fits, row_is_new, row_is_known, unless, fault_of}
-use Rattle.target_scripts.specs.Judging.{array_stands, frame_stands, put_stands}
+use Rattle.target_scripts.specs.Judging.{array_stands, frame_stands, may_begin, put_stands}
 
 -- A row without a fault ----------------------------------------------------------------------------------------------
 
@@ -97,7 +100,7 @@ KeepsThreads old new = (thread : ThreadId) → is_thread old thread ≡ true →
 still_begun : (old new : World) (begin : Option Begin) → KeepsThreads old new → HasBegun old begin
     → HasBegun new begin
 still_begun old new None keeps h = tt
-still_begun old new (Some begin) keeps h = keeps begin.thread h
+still_begun old new (Some begin) keeps h = (keeps begin.thread h.0, h.1)
 
 lead_by_none : (old now : World) (program : List Move) (row : Row) → program ≡ [] → Leads old program now
     → Leads (with_row old row) program (with_row now row)
@@ -259,13 +262,20 @@ frame_added b row s fair =
     in_world_sound b (rows.Frame row) s fair (omega arith) (λ thread h. h)
     (frame_sound b row s fair)
 
+never_one : (policy : Policy) → may_begin policy ≡ true → policy ≡ policies.EventThread → ⊥
+never_one policy may one = let never : false ≡ true = ap may_begin (sym one) ∙ may in cc
+
 begin_added : (b : Building) (start : Begin) → IsSoundSoFar b → HasNoFault b (rows.Begin start) → IfSound (added b (rows.Begin start))
 unfolding added row_fits row_is_new row_is_known
 begin_added b start s fair =
     let order = in_order b.last 12 fair.order in
     record {
       world = s.world;
-      begin = fair.known;
+      begin = (
+        fair.known,
+        never_one start.policy
+            (second_of (thread_fits b.script.world.sizes start.thread) (may_begin start.policy) fair.fits),
+      );
       moves = s.moves;
       first = λ early. s.first (omega (arith, order));
     }

@@ -1,6 +1,7 @@
 -- What the parts of a script are to a target: the world that it begins in, the moves of its program and its start.
 use Rattle.std.specs.Prelude.{◌≡◌, ℕ, ◌<◌, true, false, List, [], ◌∷◌, Option, Some, None, Ok}
 use Rattle.jdwp_events.specs.declared.composite.Composite.{Composite}
+use Rattle.jdwp_events.specs.declared.kind.Policy.TheVariants.{EventThread}
 use Rattle.script_rows.specs.declared.script.Begin.{Begin}
 use Rattle.script_rows.specs.declared.script.Script.{Script}
 use Rattle.script_worlds.specs.Given.{is_thread}
@@ -17,13 +18,13 @@ AreMade w [] = Unit {0}
 AreMade w (next ∷ rest) =
     (made : World × Option Composite) × (moved w next ≡ Ok made) × IsSound made.0 × AreMade made.0 rest
 
--- a start names a thread of the world
+-- a start names a thread of the world, and suspends all threads or none (JDWP, Event command set, Composite, VMStart)
 abbrev pub HasBegun : World → Option Begin → Type 0
 HasBegun w None = Unit {0}
-HasBegun w (Some begin) = is_thread w begin.thread ≡ true
+HasBegun w (Some begin) = (is_thread w begin.thread ≡ true) × (begin.policy ≡ EventThread → ⊥)
 
 -- The world is sound and its target has not ended; no request stands and nothing is suspended; each move can be made,
--- and leaves it sound; the start names a thread.
+-- and leaves it sound; the start names a thread, and isn't told under EVENT_THREAD.
 pub record IsFit (s : Script) : Type 0 where
   pub sound : IsSound s.world
   pub requests : s.world.requests ≡ []

@@ -1,6 +1,8 @@
 -- Which rows may follow those before them: the first fault that a row has.
 use Rattle.std.specs.Prelude.{ℕ, nat_lt, nat_le, Bool, true, false, not, ◌==◌, ◌&&◌, if◌then◌else◌, Option, Some, None}
 use Rattle.std.specs.Prelude.{List, [], ◌∷◌}
+use Rattle.jdwp_events.specs.declared.kind.Policy.{Policy}
+use Rattle.jdwp_events.specs.declared.kind.Policy.TheVariants as policies
 use Rattle.jdwp_values.specs.declared.id.ObjectId.{ObjectId}
 use Rattle.script_rows.specs.declared.rows.Row.{Row}
 use Rattle.script_rows.specs.declared.rows.Row.TheVariants as rows
@@ -59,11 +61,17 @@ put_stands w row =
 unfoldable pub frame_stands : World → WorldFrame → Bool
 frame_stands w row = frame_fits w.sizes row && has_room w row.thread
 
+-- a start suspends all threads or none (JDWP, Event command set, Composite, VMStart)
+abbrev pub may_begin : Policy → Bool
+may_begin policies.NoThread = true
+may_begin policies.EventThread = false
+may_begin policies.All = true
+
 -- a value that is stored is of its field's kind
 unfoldable pub move_stands : World → Move → Bool
 move_stands w row = move_fits w.sizes row && move_is_of_kind w row
 
--- ids fit the sizes, and values are of the kinds that were given
+-- ids fit the sizes, values are of the kinds that were given, and a start has a policy that it may have
 unfoldable pub row_fits : World → Row → Bool
 row_fits w (rows.Head known) = true
 row_fits w (rows.Sizes sizes) = true
@@ -77,7 +85,7 @@ row_fits w (rows.Text row) = string_fits w.sizes row
 row_fits w (rows.Put row) = put_stands w row
 row_fits w (rows.Thread row) = thread_fits w.sizes row.id
 row_fits w (rows.Frame row) = frame_stands w row
-row_fits w (rows.Begin begin) = thread_fits w.sizes begin.thread
+row_fits w (rows.Begin begin) = thread_fits w.sizes begin.thread && may_begin begin.policy
 row_fits w (rows.Move row) = move_stands w row
 row_fits w (rows.Turn turn) = true
 row_fits w rows.End = true

@@ -1,9 +1,10 @@
 //! Which rows may follow those before them.
 ghost use Rattle.std.specs.Prelude.{◌≡◌};
 ghost use Rattle.target_scripts.specs.Judging.{rank, may_follow, row_fits, row_is_new, row_is_known, id_fault, fault_of};
-ghost use Rattle.target_scripts.specs.Judging.{array_stands, put_stands, frame_stands, move_stands};
+ghost use Rattle.target_scripts.specs.Judging.{array_stands, put_stands, frame_stands, may_begin, move_stands};
 
 use crate::building::Building;
+use jdwp_events::Policy;
 use jdwp_values::ObjectId;
 use script_rows::{Row, Script};
 use script_text::ScriptFault;
@@ -79,7 +80,19 @@ fn move_stands(world: &World, row: &Move) -> bool
     move_fits(world.sizes, row) && move_is_of_kind(world, row)
 }
 
-// Whether the ids of a row fit their sizes, and its values are of the kinds that were given.
+// Whether a start may have this policy.
+fn may_begin(policy: Policy) -> bool
+    ensures { result ≡ may_begin policy }
+{
+    match policy {
+        Policy::NoThread => true,
+        Policy::EventThread => false,
+        Policy::All => true,
+    }
+}
+
+// Whether the ids of a row fit their sizes, its values are of the kinds that were given, and a start has a policy that
+// it may have.
 #[tactic(auto, unfolding(crate::specs::Judging::row_fits))]
 fn row_fits(world: &World, row: &Row) -> bool
     ensures { result ≡ row_fits world.now row.now }
@@ -96,7 +109,7 @@ fn row_fits(world: &World, row: &Row) -> bool
         Row::Put(row) => put_stands(world, row),
         Row::Thread(row) => thread_fits(sizes, row.id),
         Row::Frame(row) => frame_stands(world, row),
-        Row::Begin(begin) => thread_fits(sizes, begin.thread),
+        Row::Begin(begin) => thread_fits(sizes, begin.thread) && may_begin(begin.policy),
         Row::Move(row) => move_stands(world, row),
         _ => true,
     }

@@ -10,3 +10,4 @@ pub mod MoveLaws
 pub mod WatchLaws
 pub mod FrameLaws
 pub mod MoveSound
+pub mod ListedLaws

@@ -175,6 +175,7 @@ module _ (w : World) (threads : List WorldThread) where
   same_program : IsProgram (program_of w) → IsProgram other
   same_program p = record {
     classes = p.classes;
+    no_null = p.no_null;
     class_sizes = p.class_sizes;
     chains = p.chains;
     methods = p.methods;
@@ -346,6 +347,12 @@ module _ (class : ClassId) where
   ready_sizes size (row ∷ rows) h =
       (subst (IsOfSize size) (sym (ready_at (λ r. r.id.0) (λ r. refl) row)) h.0, ready_sizes size rows h.1)
 
+  ready_no_null : (rows : List WorldClass) → AllByRecursion (λ (row : WorldClass). 0 < row.id.0) rows
+      → AllByRecursion (λ (row : WorldClass). 0 < row.id.0) (map ready rows)
+  ready_no_null [] h = tt
+  ready_no_null (row ∷ rows) h =
+      (subst (λ n. 0 < n) (sym (ready_at (λ r. r.id.0) (λ r. refl) row)) h.0, ready_no_null rows h.1)
+
   ready_found : (id : ClassId) (rows : List WorldClass) → find (λ (row : WorldClass). nat_eq row.id.0 id.0) (map ready rows)
       ≡ option_map ready (find (λ (row : WorldClass). nat_eq row.id.0 id.0) rows)
   ready_found id [] = refl
@@ -422,6 +429,7 @@ module _ (class : ClassId) where
   prepare_sound w s = record {
     program = record {
       classes = subst (IsDistinct nat_eq) (sym (ready_ids w.classes)) s.program.classes;
+      no_null = ready_no_null w.classes s.program.no_null;
       class_sizes = ready_sizes w.sizes.class w.classes s.program.class_sizes;
       chains = ready_chains w.classes w.classes s.program.chains;
       methods = s.program.methods;

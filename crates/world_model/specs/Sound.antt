@@ -36,9 +36,11 @@ ends (step ∷ steps) classes class =
     if class.0 == 0 then true
     else option_map_or (λ row. ends steps classes row.above) (find (λ row. row.id.0 == class.0) classes) false
 
--- Classes, methods and fields have ids of their own, which fit their sizes; chains of classes end.
+-- Classes, methods and fields have ids of their own, which fit their sizes; chains of classes end. No class has the id
+-- of null (JDWP, Detailed Command Information, common data types, objectID).
 pub record IsProgram (program : Program) : Type 0 where
   pub classes : IsDistinct nat_eq (map (λ row. row.id.0) program.classes)
+  pub no_null : AllByRecursion (λ row. 0 < row.id.0) program.classes
   pub class_sizes : AllByRecursion (λ row. IsOfSize program.sizes.class row.id.0) program.classes
   pub chains : AllByRecursion (λ row. ends program.classes program.classes row.id ≡ true) program.classes
   pub methods : IsDistinct same_member (map (λ row. (row.class.0, row.method.id.0)) program.methods)

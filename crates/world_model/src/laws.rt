@@ -1,9 +1,13 @@
 //! What holds of each reply and of each command.
 ghost use Rattle.std.specs.Prelude.{◌≡◌, ℕ, true, false, Some};
 ghost use Rattle.jdwp_commands.specs.declared.asked.Replied.{Replied};
-ghost use Rattle.jdwp_commands.specs.declared.asked.Replied.TheVariants.{Error as an_error};
+ghost use Rattle.std.specs.List.{AllByRecursion};
+ghost use Rattle.jdwp_commands.specs.declared.answer.Answer.TheVariants as answers;
+ghost use Rattle.jdwp_commands.specs.declared.asked.Replied.TheVariants.{Answer as an_answer, Error as an_error};
 ghost use Rattle.jdwp_commands.specs.declared.effect.Effect.{Effect};
 ghost use Rattle.jdwp_commands.specs.declared.question.Question.{Question};
+ghost use Rattle.jdwp_commands.specs.declared.question.Question.TheVariants as questions;
+ghost use Rattle.world_model.specs.declared.rows.WorldClass.{WorldClass};
 ghost use Rattle.world_model.specs.declared.world.World.{World};
 ghost use Rattle.world_model.specs.Codes.{vm_dead};
 ghost use Rattle.world_model.specs.Effects.{applied};
@@ -38,4 +42,12 @@ pub fn values_stay_unless_one_is_put()
 pub fn a_sound_world_stays_sound()
     ensures { (w now : World) (effect : Effect) (replied : Replied) → IsSound w
         → applied w effect ≡ Some (now, replied) → IsSound now }
+{}
+
+/// Asked for the signature of a class that it lists, a sound world replies the one that it lists for that class: none of
+/// its classes is taken for another one, or for the class of all threads, which has the id 0 (JDWP, VirtualMachine
+/// command set, AllClasses; JDWP, ReferenceType command set, Signature).
+pub fn a_listed_class_has_the_signature_that_is_listed()
+    ensures { (w : World) → IsSound w → w.dead ≡ false → AllByRecursion (λ (row : WorldClass).
+        reply_of w (questions.Signature row.id) ≡ an_answer (answers.Signature row.signature)) w.classes }
 {}

@@ -25,8 +25,9 @@ mod threads;
 mod world;
 
 pub use laws::{
-    a_sound_world_stays_sound, a_target_that_has_ended_says_so, the_program_stays,
-    values_stay_unless_one_is_put, what_is_refused_changes_nothing,
+    a_listed_class_has_the_signature_that_is_listed, a_sound_world_stays_sound,
+    a_target_that_has_ended_says_so, the_program_stays, values_stay_unless_one_is_put,
+    what_is_refused_changes_nothing,
 };
 pub use move_laws::{
     a_move_suspends_as_its_events_say, a_sound_world_stays_sound_as_it_moves,
