@@ -30,11 +30,13 @@ pub fn a_script_without_a_fault_is_fit_for_a_target()
 /// or all is, where its thread's id fits (JDWP, Detailed Command Information, common data types, objectID; JDWP, Event
 /// command set, Composite, VMStart).
 pub fn what_no_target_tells_is_no_row()
-    ensures null { (b : Building) (row : WorldClass) → row.id.0 ≡ 0 → fault_of b (rows.Class row) ≡ Some faults.BadShape }
+    ensures null { (b : Building) (row : WorldClass) → row.id.0 ≡ 0
+        → fault_of b (rows.Class row) ≡ Some faults.BadShape }
     ensures one { (b : Building) (thread : ThreadId)
         → fault_of b (rows.Begin (record { thread = thread; policy = policies.EventThread })) ≡ Some faults.BadShape }
     ensures none { (w : World) (thread : ThreadId)
-        → row_fits w (rows.Begin (record { thread = thread; policy = policies.NoThread })) ≡ thread_fits w.sizes thread }
+        → row_fits w (rows.Begin (record { thread = thread; policy = policies.NoThread }))
+        ≡ thread_fits w.sizes thread }
     ensures all { (w : World) (thread : ThreadId)
         → row_fits w (rows.Begin (record { thread = thread; policy = policies.All })) ≡ thread_fits w.sizes thread }
 {}
