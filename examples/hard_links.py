@@ -11,6 +11,8 @@
 - The end of the session at a fault of the target, while the client goes on sending: the client is told.
 - The last command to a target that goes on sending: it comes, and the link ends without a reset.
 - Peers that neither close their links nor say more behind the end of the session: the program ends all the same.
+- Links on which nothing comes for some seconds, also once the target has ended: the program takes next to no time of a
+  processor meanwhile.
 - Words that aren't UTF-8, and a word too many: the usage line.
 - A standard output that takes only the front of the line: its status.
 - A standard stream that is closed: nothing is opened.
@@ -39,6 +41,9 @@ TERMINATED = b'{"event":"terminated","seq":2,"type":"event"}'
 DISPOSE = struct.pack(">IIBBB", 11, 4, 0, 1, 6)
 # how many bytes of a line a file takes that takes no more
 FRONT = 5
+# how many seconds nothing comes, and how many of them a program that waits may take of a processor
+SILENCE = 3
+IDLE = 0.3
 
 
 def two_requests(client, by=None):
@@ -151,6 +156,31 @@ def peers_that_stay(bridge):
     client = attached(bridge)
     client.stream.sendall(b"\r")
     return bridge.status() == 3 and receive(bridge.target, len(DISPOSE)) == DISPOSE
+
+
+def silent_links(bridge):
+    client = attached(bridge)
+    is_calm = is_idle(bridge.process)
+    bridge.target.close()
+    client.receive()
+    is_calm = is_idle(bridge.process) and is_calm
+    client.send(request(3, "disconnect"))
+    client.receive()
+    return is_calm and bridge.status() == 0
+
+
+def is_idle(process):
+    """Whether a process takes next to no time of a processor while nothing comes."""
+    before = processor_time(process)
+    time.sleep(SILENCE)
+    return processor_time(process) - before < IDLE
+
+
+def processor_time(process):
+    """How many seconds of a processor a process took so far (proc(5), utime and stime)."""
+    with open("/proc/%d/stat" % process.pid, encoding="ascii") as file:
+        fields = file.read().rpartition(")")[2].split()
+    return (int(fields[11]) + int(fields[12])) / os.sysconf("SC_CLK_TCK")
 
 
 def attached(bridge):
@@ -270,7 +300,7 @@ def is_usage(command):
 
 
 LINKS = (late_client, probed_port, silent_connections, late_speaker, reset_by_target, byte_by_byte,
-         long_messages, more_behind_disconnect, end_under_load, last_command, peers_that_stay)
+         long_messages, more_behind_disconnect, end_under_load, last_command, peers_that_stay, silent_links)
 ALONE = (words_of_other_bytes, one_word_more, cut_line, closed_input, closed_output, closed_error,
          in_the_background)
 
