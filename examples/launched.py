@@ -18,6 +18,7 @@ import socket
 import subprocess
 import sys
 import tempfile
+import threading
 import time
 import zipfile
 from functools import partial
@@ -330,6 +331,27 @@ def java_machines_of_a_command_are_one_session(program, classes):
     return True
 
 
+def a_target_that_goes_is_told(program, _):
+    """One that takes each link and closes it, as a forwarding does behind which nobody listens."""
+    with socket.create_server(("127.0.0.1", 0)) as listener, Editor(program) as editor:
+        threading.Thread(target=close_links, args=(listener,), daemon=True).start()
+        editor.ask("initialize", {"adapterID": "bridge"})
+        target = "127.0.0.1:%d" % listener.getsockname()[1]
+        said = editor.tried("attach", {"target": target, "sourceRoots": ROOTS})
+        has_to_be("the failure", (said["success"], said["message"]), (False, "targetGone"))
+        has_to_be("the event behind it", editor.event("terminated"), {})
+        has_to_be("how it ends", editor.left(), (0, ENDED))
+    return True
+
+
+def close_links(listener):
+    try:
+        while True:
+            listener.accept()[0].close()
+    except OSError:
+        pass
+
+
 def a_relay_adds_nothing(program, _):
     with tempfile.TemporaryDirectory() as folder, JavaProgram(compiled_from(folder)) as java:
         java.wait_until_up()
@@ -414,7 +436,7 @@ CASES = (kinds_of_programs_are_launched, a_program_that_does_not_start_is_told_s
          frames_show_the_file_of_their_root,
          steps_go_on_out_of_the_library, a_pause_ends_a_step, fractions_are_shown_in_decimal,
          collections_show_their_elements, numbers_are_right_over_1000_requests, sessions_follow_each_other_at_a_port,
-         java_machines_of_a_command_are_one_session, a_relay_adds_nothing)
+         java_machines_of_a_command_are_one_session, a_target_that_goes_is_told, a_relay_adds_nothing)
 MOMENTS = ("begun", "starting", "attached", "stopped", "running")
 
 

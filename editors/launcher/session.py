@@ -149,7 +149,8 @@ class Session:
             self.status = bridge.end()
             if self.task and self.awaited is not WORK:
                 self.step(failed("targetGone", 10))
-            self.tell_end()
+            if self.attached:
+                self.tell_end()
             self.is_over = True
 
     def on_worked(self, *result):
@@ -390,7 +391,7 @@ class Session:
 
     def terminated(self, message):
         """The Java machine has ended. The editor is told so once the program has, since it may leave then."""
-        if not self.program or self.ended_with is not None:
+        if not self.program or not self.attached or self.ended_with is not None:
             self.tell_end()
             return
         self.program.is_left = True
@@ -428,7 +429,7 @@ class Session:
 
     def tell_end(self):
         """Tells the end of the program, and that of the session, once."""
-        if self.is_told_of_the_end or not self.attached:
+        if self.is_told_of_the_end:
             return
         self.is_told_of_the_end = True
         if self.ended_with is not None:
