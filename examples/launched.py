@@ -101,6 +101,8 @@ def a_program_that_does_not_start_is_told_so(program, classes):
             ({"main": "A", "cwd": "/none"}, "there is no folder /none"),
             ({"test": "", "cwd": folder}, "has no pom.xml and no build.gradle"),
             ({"run": ["/none"]}, "can't be started"),
+            ({"main": "A", "env": 5}, "has no attribute"),
+            ({"main": "A", "args": 5}, "args has to be a list of words"),
             ({"run": ["true"]}, "ended before a Java machine of it could be debugged"),
             ({"run": ["sh", "-c", "echo its last words"]}, "ended before a Java machine of it could be debugged"),
         ):

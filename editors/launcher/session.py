@@ -59,7 +59,7 @@ class Session:
         self.sources = Sources(roots if is_good else [])
         self.finds_sources = chosen("findSources")
         patterns = chosen("stepFilters")
-        patterns = LIBRARY if patterns is True else patterns or []
+        patterns = patterns if isinstance(patterns, list) else LIBRARY if patterns else []
         self.filters = Filters([str(pattern) for pattern in patterns], self.sources) if patterns else None
         self.views = Views(chosen("decimals"), chosen("collections"))
 
@@ -210,8 +210,9 @@ class Session:
                 self.tell("worked", call(), None)
             except Trouble as trouble:
                 self.tell("worked", None, trouble)
-            except OSError as trouble:
-                self.tell("worked", None, Trouble(str(trouble)))
+            except (OSError, ValueError, TypeError, AttributeError, LookupError) as trouble:
+                # The system refuses something, or an argument isn't what it has to be.
+                self.tell("worked", None, Trouble(str(trouble) or type(trouble).__name__))
 
         self.worker = threading.Thread(target=run, daemon=True)
         self.worker.start()
