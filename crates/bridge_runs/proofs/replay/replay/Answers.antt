@@ -7,10 +7,10 @@ returns-in-Ok-read_log g c =
     OfFile.has_log (text_read _ _ _ _ c.in-Ok.ensures) (rw c.as_slice.ensures at c.in-Ok-read_log.ensures)
     (printed_of _ _ _ c.served_again.ensures c.show.ensures)
 
-pub returns-in-Err-read_log : goal.returns-in-Err-read_log
-returns-in-Err-read_log g c =
+pub returns-in-Ok : goal.returns-in-Ok
+returns-in-Ok g c =
     rw c.troubled.ensures (troubled_file _ _ _ _ _ _ _ (text_read _ _ _ _ c.in-Ok.ensures)
     (rw c.as_slice.ensures at c.in-Err-read_log.ensures))
 
-pub returns-in-Err : goal.returns-in-Err
-returns-in-Err g c = OfFile.has_no_text c.in-Err.ensures
+pub returns : goal.returns
+returns g c = OfFile.has_no_text c.in-Err.ensures
