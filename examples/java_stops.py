@@ -103,7 +103,7 @@ def a_class_of_many_loaders(java, bridge, session):
         printed += java.heard(0.1)
         has_to_be("what is printed before the line", printed, copy * b"a copy\n")
         if copy % 2 == 0:
-            pause_behind_continue(session, number)
+            has_to_be("hits in the stop", pause_behind_continue(session, number), [])
             printed += stands_still(java)
         go_on(session, number)
         has_to_be("events in the stop", session.waiting, [])
@@ -134,7 +134,9 @@ def pause_among_hits(java, bridge, session):
     while len(numbers) < 2 * ROUNDS:
         numbers.append(hit(session, [1]))
         if len(numbers) < ROUNDS:
-            pause_behind_continue(session, numbers[-1])
+            told = pause_behind_continue(session, numbers[-1])
+            numbers += told
+            within += len(told)
             printed += java.heard(0.02)
             has_to_be("as many lines as were let go, or fewer", printed.count(b"\n") <= len(numbers), True)
         go_on(session, numbers[-1])
@@ -313,12 +315,14 @@ def both_were_there(numbers, printed):
 
 
 def pause_behind_continue(session, number):
-    """Lets the Java program run on, and pauses it, in one piece: so the pause comes before what happens meanwhile."""
+    """Lets the Java program run on, and pauses it, in one piece: so the pause comes before what happens meanwhile.
+    Gives the threads of the hits that were told in the stop before."""
     asked = {"threadId": number}
     said = session.ask_all([("continue", asked), ("pause", asked)])
     has_to_be("continue and pause", said, [RUNS_ON, succeeded()])
-    has_to_be("events before their responses", session.waiting, [])
+    told = [hit(session, [1]) for _ in range(len(session.waiting))]
     has_to_be("the event behind them", session.event(), stopped(number))
+    return told
 
 
 def frame(number, printed):
