@@ -10,7 +10,8 @@ usage: editors/launch.py [--target HOST:PORT] [--listen PORT] [--plain] [--progr
   --target HOST:PORT   where the Java machine of an `attach` listens, where the request doesn't say so
   --listen PORT        serves editors that connect to this port of this machine, one session after another
   --plain              hands on what both say, and adds nothing to it
-  --program PROGRAM    a built bridge; without it crates/bridge_cmd/out/bridge_cmd of this repository
+  --program PROGRAM    a built bridge; without it the one of this repository, crates/bridge_cmd/out/bridge_cmd, or where
+                       there is none the one beside it that isn't proved
 """
 import argparse
 import os
@@ -18,7 +19,7 @@ import signal
 import socket
 import sys
 
-from launcher.bridge import PROGRAM
+from launcher.bridge import PROGRAM, UNPROVED
 from launcher.keeper import Keeper
 from launcher.session import Session
 from launcher.wire import EditorGone, Reader, Writer
@@ -36,8 +37,14 @@ def options(words):
     parser.add_argument("--target")
     parser.add_argument("--listen", type=int)
     parser.add_argument("--plain", action="store_true")
-    parser.add_argument("--program", default=PROGRAM)
-    return parser.parse_args(words)
+    parser.add_argument("--program")
+    chosen = parser.parse_args(words)
+    if not chosen.program:
+        chosen.program = PROGRAM
+        if os.path.isfile(UNPROVED) and not os.path.isfile(PROGRAM):
+            chosen.program = UNPROVED
+            print("launch.py: the bridge that runs is not proved", file=sys.stderr)
+    return chosen
 
 
 def to_editor(piece):

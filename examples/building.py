@@ -4,8 +4,10 @@ Each trouble is said in one line, and ends the script with status 2.
 """
 import os
 import re
+import shlex
 import shutil
 import signal
+import socket
 import subprocess
 import sys
 import tempfile
@@ -16,6 +18,10 @@ from crate_list import CRATES, PARTS, TOP, copy_crates, crates_below, listed_cra
 NAME = os.path.basename(sys.argv[0])
 PROGRAM = os.path.join(CRATES, "bridge_cmd", "out", "bridge_cmd")
 LOG = os.path.join(TOP, "build.log")
+# The bridge as it stands, with no proof of it: what runs it, and what that runs.
+UNPROVED = os.path.join(CRATES, "bridge_cmd", "out", "unproved")
+# How long it may take to be compiled, in seconds.
+COMPILED = 3600
 USAGE = "usage: bridge serve --listen A --target B, script FILE, replay LOG\n"
 PATIENCE = 60
 # What may go wrong around a script, and in what it compares.
@@ -65,7 +71,10 @@ def tried(cases):
 
 
 def program_of(words):
-    """The program that the first word names; without a word, the one that is built here."""
+    """The program that the first word names, or the one that stands here unproved; without a word, the one that is
+    built here."""
+    if words[:1] == ["--unproved"]:
+        return unproved()
     return checked(os.path.abspath(words[0])) if words else built()
 
 
@@ -91,11 +100,9 @@ def checked(path):
 
 def built():
     """Gives the path of the program. Proves and builds it first, unless it is newer than all that it is made from."""
-    crates = ["bridge_cmd", *crates_below("bridge_cmd", listed_crates())]
-    if is_built(crates):
+    if is_built(PROGRAM):
         return checked(PROGRAM)
-    if not shutil.which("rt"):
-        stop("there is no command rt in the path: README.md says under Set up what the Rattle kit is")
+    demand_kit()
     print("Proving and building the program: %d crates, one line each." % len(crates))
     print("README.md says under Set up how long it takes from nothing. Later only what changed is proved again.")
     print("What the prover says goes to %s" % LOG, flush=True)
@@ -112,11 +119,17 @@ def built():
     return PROGRAM
 
 
-def is_built(crates):
-    """Whether the program is there, and newer than all that a proof of these crates reads."""
-    if not os.path.isfile(PROGRAM):
+def demand_kit():
+    if not shutil.which("rt"):
+        stop("there is no command rt in the path: README.md says under Set up what the Rattle kit is")
+
+
+def is_built(program):
+    """Whether the program is there, and newer than all that a proof of its crates reads."""
+    if not os.path.isfile(program):
         return False
-    made = os.path.getmtime(PROGRAM)
+    made = os.path.getmtime(program)
+    crates = ["bridge_cmd", *crates_below("bridge_cmd", listed_crates())]
     walks = (walk for crate in crates for part in PARTS for walk in os.walk(os.path.join(CRATES, crate, part)))
     read = [os.path.join(folder, file) for folder, _, files in walks for file in (".", *files)]
     read += [os.path.join(TOP, file) for file in ("crates.txt", "HANDLES")]
@@ -142,6 +155,66 @@ def prove(folder, start):
             raise
     if run.returncode:
         stop("rt ci ended with status %d; %s says why" % (run.returncode, LOG))
+
+
+def unproved():
+    """Gives the path of the bridge as it stands, with no proof of it. Compiles it first, unless it is newer than all
+    that it is made from. Each access to memory is checked as it runs."""
+    if is_built(UNPROVED):
+        return checked(UNPROVED)
+    demand_kit()
+    print("The bridge is compiled, unproved: this takes two to three minutes, or more on a busy machine", flush=True)
+    begun = time.time()
+    with socket.create_server(("127.0.0.1", 0)) as target, tempfile.TemporaryFile() as log:
+        place = "127.0.0.1:%d" % target.getsockname()[1]
+        words = ["rt", "try", "--seconds", str(COMPILED), "--", "serve", "--listen", "127.0.0.1:0", "--target", place]
+        with subprocess.Popen(words, cwd=os.path.join(CRATES, "bridge_cmd"), stdin=subprocess.DEVNULL, stdout=log,
+                              stderr=log) as run:
+            try:
+                keep(*running(run, target, place.encode()))
+            except EOFError:
+                log.seek(0)
+                sys.stderr.write(log.read().decode(errors="replace"))
+                stop("the bridge wasn't compiled")
+            finally:
+                run.terminate()
+    os.utime(UNPROVED, (begun, begun))
+    return checked(UNPROVED)
+
+
+def running(run, target, place):
+    """What runs the bridge that the kit has compiled, before the bridge's own words, and in which folder: known once it
+    dials its target, which has this place."""
+    target.settimeout(1)
+    while True:
+        try:
+            target.accept()[0].close()
+            break
+        except socket.timeout:
+            if run.poll() is not None:
+                raise EOFError from None
+    for number in filter(str.isdigit, os.listdir("/proc")):
+        try:
+            with open("/proc/%s/cmdline" % number, "rb") as file:
+                words = file.read().split(b"\0")
+            folder = os.readlink("/proc/%s/cwd" % number)
+        except OSError:
+            continue
+        if place in words and words[words.index(b"serve") - 1].startswith(folder.encode() + b"/"):
+            return [os.fsdecode(word) for word in words[: words.index(b"serve")]]
+    raise EOFError
+
+
+def keep(*words):
+    """Keeps a copy of the program that these words run, and a script that runs it as they do."""
+    copy = UNPROVED + ".program"
+    os.makedirs(os.path.dirname(copy), exist_ok=True)
+    shutil.copy(words[-1], copy + ".new")
+    os.replace(copy + ".new", copy)
+    with open(UNPROVED + ".new", "w", encoding="utf-8") as file:
+        file.write("#!/bin/sh\nexec %s \"$@\"\n" % shlex.join([*words[:-1], copy]))
+    os.chmod(UNPROVED + ".new", 0o755)
+    os.replace(UNPROVED + ".new", UNPROVED)
 
 
 def minutes(seconds):

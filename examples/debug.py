@@ -15,22 +15,20 @@ usage: examples/debug.py [--suspend] [--port N] [--class-path PATH] [--sources F
                       file has its own
   --sources FOLDER    a root of sources, once or more; without it the current folder, or the root of a .java file
   --program PROGRAM   a built bridge; without it the one of this repository, which is built where it isn't yet
-  --unproved          the bridge of this repository as it stands, with no proof of it: it is compiled each time, in two
-                      to three minutes, and each access to memory is checked
+  --unproved          the bridge of this repository as it stands, with no proof of it: it is compiled the first time, in
+                      two to three minutes, and each access to memory is checked
 """
 import argparse
 import contextlib
 import json
 import os
 import re
-import shutil
 import socket
 import subprocess
-import sys
 import tempfile
 import time
 
-from building import CRATES, PATIENCE, plainly, program_as_it_is, stop
+from building import PATIENCE, plainly, program_as_it_is, stop
 from java_machine import AGENT, tool
 from over_tcp import free_port
 
@@ -40,12 +38,6 @@ LEAVE = 5
 SETTLE = 3
 # The status of a bridge that didn't reach its target.
 NOT_OPENED = 7
-# What runs the bridge unproved, for a day.
-UNPROVED = ["rt", "try", "--seconds", "86400", "--"]
-# The folder of the bridge's crate, where it is run.
-HOME = os.path.join(CRATES, "bridge_cmd")
-# How long the bridge may take to be compiled and to listen, in seconds, where it runs unproved.
-COMPILED = 900
 LATE = "  If Java writes `Debugger failed to attach`, the editor came late: that does no harm, and it may still attach"
 # The line that names a Java source's package.
 PACKAGE = re.compile(r"^\s*package\s+([\w.]+)\s*;", re.MULTILINE)
@@ -135,19 +127,9 @@ def checked_port(port):
     return port or free_port()
 
 
-def bridge_command(chosen):
-    """What runs the bridge, and how long it may take to listen."""
-    if chosen.unproved:
-        if not shutil.which("rt"):
-            stop("there is no command rt in the path: README.md says under Set up what the Rattle kit is")
-        print("The bridge is compiled, unproved: this takes two to three minutes", flush=True)
-        return UNPROVED, COMPILED
-    return [program_as_it_is([chosen.program] if chosen.program else [])], SETTLE
-
-
-def is_opened(bridge, port, patience):
+def is_opened(bridge, port):
     """Whether the bridge reached its target, which it dials before it listens; where it didn't, it ends at once."""
-    until = time.monotonic() + patience
+    until = time.monotonic() + SETTLE
     while bridge.poll() is None and time.monotonic() < until:
         try:
             socket.create_connection(("127.0.0.1", port), PATIENCE).close()
@@ -161,21 +143,16 @@ def is_opened(bridge, port, patience):
     return bridge.returncode != NOT_OPENED and bridge.stdout.buffer.peek().startswith(b"ended ")
 
 
-def bridged(words, port, patience, java, running):
-    """The bridge, once it listens at the port. It is started again until the Java machine listens, too. What the kit
-    says of one that runs unproved is shown only where it doesn't come to listen."""
-    log = running.enter_context(tempfile.TemporaryFile())
+def bridged(words, port, java, running):
+    """The bridge, once it listens at the port. It is started again until the Java machine listens, too."""
     until = time.monotonic() + PATIENCE
     while True:
-        bridge = subprocess.Popen(words, stdin=subprocess.DEVNULL, stdout=subprocess.PIPE, stderr=log, text=True,
-                                  cwd=HOME)
+        bridge = subprocess.Popen(words, stdin=subprocess.DEVNULL, stdout=subprocess.PIPE, text=True)
         running.callback(end, bridge)
-        if is_opened(bridge, port, patience):
+        if is_opened(bridge, port):
             return bridge
         said = bridge.communicate()[0].strip()
         if bridge.returncode != NOT_OPENED:
-            log.seek(0)
-            sys.stderr.write(log.read().decode(errors="replace"))
             stop("the bridge ended with status %d: %s" % (bridge.returncode, said or "it printed no line"))
         if java.poll() is not None:
             stop("the Java program ended with status %d, before the bridge reached it" % java.returncode)
@@ -215,13 +192,14 @@ def run(chosen, folder, running):
     """Starts all that is asked for, and gives the bridge's status at its end."""
     java_tool, port = jdk_tool("java"), checked_port(chosen.port)
     name, program, roots = java_program(chosen, folder)
-    command, patience = bridge_command(chosen)
+    program_words = ["--unproved"] if chosen.unproved else [chosen.program] if chosen.program else []
+    bridge_program = program_as_it_is(program_words)
     target = free_port()
     agent = AGENT % ("y" if chosen.suspend else "n", target)
     java = subprocess.Popen([java_tool, agent, *program, *chosen.words])
     running.callback(end, java)
-    words = [*command, "serve", "--listen", "127.0.0.1:%d" % port, "--target", "127.0.0.1:%d" % target]
-    bridge = bridged(words, port, patience, java, running)
+    words = [bridge_program, "serve", "--listen", "127.0.0.1:%d" % port, "--target", "127.0.0.1:%d" % target]
+    bridge = bridged(words, port, java, running)
     print("Java program: %s, process %d%s" % (name, java.pid, ", waits for its debugger" if chosen.suspend else ""))
     print(LATE)
     print("Editor: attach to the debug adapter at 127.0.0.1, port %d, with the arguments" % port)

@@ -10,7 +10,7 @@ Where there is no JDK, or none with an agent for JDWP, it says so in one line, a
 usage: examples/first_session.py [PROGRAM | --unproved]
 
 Without a word it takes the program of this repository, and builds it where it isn't built yet. With --unproved it takes
-the bridge as it stands, with no proof of it, which is compiled in two to three minutes.
+the bridge as it stands, with no proof of it, which is compiled the first time, in two to three minutes.
 """
 import json
 import os
@@ -180,24 +180,21 @@ def go_on(session, main):
     has_to_be("continue", session.ask("continue", {"threadId": main}), RUNS_ON)
 
 
-def started(bridge):
-    """`debug.py` with the Java program, the port for an editor, and the arguments of its `attach`. It takes these words
-    for the bridge."""
-    words = [os.path.join(TOP, "examples", "debug.py"), "--suspend", *bridge]
+def started(program):
+    """`debug.py` with the Java program, the port for an editor, and the arguments of its `attach`."""
+    words = [os.path.join(TOP, "examples", "debug.py"), "--suspend", "--program", program]
     debug = subprocess.Popen([sys.executable, *words, os.path.join(TOP, "examples", SOURCE)], stdout=subprocess.PIPE,
                              encoding="utf-8")
     for said in debug.stdout:
-        if said.startswith("The bridge is compiled"):
-            print(said, end="", flush=True)
         if said.startswith("Editor:"):
             port = int(said.split(" port ")[1].split(",")[0])
             return debug, port, json.loads(debug.stdout.readline())
     raise EOFError("debug.py ended with status %d" % debug.wait())
 
 
-def is_kept(bridge):
+def is_kept(program):
     """Whether the session goes as is due, and the Java program prints what is due."""
-    debug, port, arguments = started(bridge)
+    debug, port, arguments = started(program)
     try:
         played(port, arguments)
         said, _ = debug.communicate(timeout=PATIENCE)
@@ -216,9 +213,7 @@ def main():
     if why:
         print("first session skipped: %s" % why)
         return 0
-    is_unproved = sys.argv[1:] == ["--unproved"]
-    bridge = sys.argv[1:] if is_unproved else ["--program", program_as_it_is(sys.argv[1:])]
-    return tried([("first_session", partial(is_kept, bridge))])
+    return tried([("first_session", partial(is_kept, program_as_it_is(sys.argv[1:])))])
 
 
 if __name__ == "__main__":

@@ -9,7 +9,8 @@ import time
 from .wire import Reader, Unreadable, Writer, request
 
 TOP = os.path.dirname(os.path.dirname(os.path.dirname(os.path.abspath(__file__))))
-PROGRAM = os.path.join(TOP, "crates", "bridge_cmd", "out", "bridge_cmd")
+# The built bridge, and the one that is kept without proof, by `examples/first_session.py --unproved`.
+PROGRAM, UNPROVED = (os.path.join(TOP, "crates", "bridge_cmd", "out", name) for name in ("bridge_cmd", "unproved"))
 # The status of a bridge that didn't reach its target.
 NOT_OPENED = 7
 # How long a bridge may take to listen, and to end behind its session, in seconds.
