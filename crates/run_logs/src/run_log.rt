@@ -55,12 +55,13 @@ impl RunLog {
         self.quiets < MOST_QUIETS
     }
 
-    /// Makes room for so many entries; where memory is refused all stays.
+    /// Makes room for so many entries. `NoMemory` comes where it isn't there and memory is refused; then all stays.
     pub fn reserve(&mut self, room: usize) -> Result<(), NoMemory>
         ensures entries { self.new.entries ≡ self.old.entries }
         ensures ok { OnOk result (room ≤ self.new.room) }
         ensures kept { self.old.room ≤ self.new.room }
         ensures err { OnErr result (self.new ≡ self.old) }
+        ensures succeeds { room ≤ self.old.room → IsOk result }
     {
         self.runs.reserve(room)?;
         Ok(())
