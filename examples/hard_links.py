@@ -39,6 +39,8 @@ from over_tcp import INITIALIZED, DISCONNECTED, Bridge, Client, dial, request, u
 
 TERMINATED = b'{"event":"terminated","seq":2,"type":"event"}'
 DISPOSE = struct.pack(">IIBBB", 11, 4, 0, 1, 6)
+# The header of a composite of 48 MiB, which isn't whole before all else is over.
+LONG_COMPOSITE = struct.pack(">IIBBB", 48 * 1024 * 1024, 1, 0, 64, 100)
 # how many bytes of a line a file takes that takes no more
 FRONT = 5
 # how many seconds nothing comes, and how many of them a program that waits may take of a processor
@@ -142,7 +144,7 @@ def end_under_load(bridge):
 def last_command(bridge):
     client = attached(bridge)
     is_gone = threading.Event()
-    load = threading.Thread(target=send_until, args=(bridge.target, is_gone, b"\x03\0\0\0 "))
+    load = threading.Thread(target=send_until, args=(bridge.target, is_gone, LONG_COMPOSITE))
     load.start()
     client.close()
     time.sleep(0.3)
