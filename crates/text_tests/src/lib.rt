@@ -1,4 +1,4 @@
-//! Expressions, frames, packets and logs by rows of text: tests and nothing else. A crate with tests is proved a second
+//! Expressions, rules, frames, packets and logs by rows of text: tests and nothing else. A crate with tests is proved a second
 //! time with them, so the crates below have none of their own.
 #![tactic(auto)]
 
@@ -14,5 +14,7 @@ mod packet_feed;
 mod packets;
 #[cfg(test)]
 mod rows;
+#[cfg(test)]
+mod rules;
 #[cfg(test)]
 mod scripts;

@@ -1,0 +1,4 @@
+pub mod Grammar
+pub mod Judging
+pub mod Laws
+pub mod Rendering
