@@ -200,13 +200,15 @@ def steps_go_on_out_of_the_library(program, classes):
 
 
 def a_pause_ends_a_step(program, classes):
-    with Editor(program) as editor:
-        stopped(editor, launch(classes, "60000"), STREET, "Thread.sleep")
-        thread = next(each["id"] for each in editor.ask("threads")["threads"] if each["name"] == "main")
-        editor.ask("stepIn", {"threadId": thread})
-        time.sleep(0.5)
-        editor.ask("pause", {"threadId": thread})
-        has_to_be("the thread of the stop", editor.stop("pause"), thread)
+    """Also one that comes while the launcher looks where the step has led."""
+    for delay in (0, 0.01, 0.03, 1):
+        with Editor(program) as editor:
+            stopped(editor, launch(classes, "60000"), STREET, "Thread.sleep")
+            thread = next(each["id"] for each in editor.ask("threads")["threads"] if each["name"] == "main")
+            editor.send("stepIn", {"threadId": thread})
+            time.sleep(delay)
+            editor.ask("pause", {"threadId": thread})
+            has_to_be("the thread of the stop", editor.stop("pause"), thread)
     return True
 
 

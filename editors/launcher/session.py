@@ -49,6 +49,8 @@ class Session:
         self.status, self.ended_with = None, None
         # The function in which the program is stopped as it begins, until it is.
         self.lists, self.stepping, self.entry = Lists(), None, None
+        # Whether a step's stop is looked at that the editor isn't told of yet, and whether it has asked for one since.
+        self.is_held, self.is_paused = False, False
         self.choose({})
 
     def choose(self, arguments):
@@ -349,6 +351,12 @@ class Session:
             self.stepping = Stepping(thread, start) if start and not self.filters.leaves(start[0]) else None
         self.answer(message, said)
 
+    def pause(self, message):
+        """A `pause`. In a stop the bridge tells of none: so where the editor doesn't know of that, it is told."""
+        said = yield message
+        self.is_paused = self.is_held and bool(said.get("success"))
+        self.answer(message, said)
+
     def upper_frame(self, thread):
         return request("stackTrace", {"threadId": thread, "startFrame": 0, "levels": 1})
 
@@ -358,6 +366,7 @@ class Session:
         body, stepping = message.get("body") or {}, self.stepping
         self.stepping = None
         if stepping and (body.get("reason"), body.get("threadId")) == ("step", stepping.thread):
+            self.is_held = True
             self.waiting.appendleft((None, self.stepped(stepping, message)))
             return
         if self.entry and body.get("reason") == "function breakpoint":
@@ -374,7 +383,11 @@ class Session:
         """Goes on with a step that has ended in the library, or tells of its end."""
         end = top((yield self.upper_frame(stepping.thread)))
         command = end and stepping.next_step(end, self.filters)
-        if command and (yield request(command, {"threadId": stepping.thread})).get("success"):
+        self.is_held = False
+        if self.is_paused:
+            self.is_paused = False
+            self.writer.send({**message, "body": {**message["body"], "reason": "pause"}})
+        elif command and (yield request(command, {"threadId": stepping.thread})).get("success"):
             self.stepping = stepping
         else:
             self.writer.send(message)
@@ -463,6 +476,6 @@ class Session:
 SERVED = {"initialize": Session.initialize, "launch": Session.launch, "attach": Session.attach,
           "disconnect": Session.disconnect, "stackTrace": Session.stack_trace, "variables": Session.variables,
           "setVariable": Session.set_variable, "evaluate": Session.evaluate, "stepIn": Session.step_in,
-          **{name: Session.listed for name in LISTED}}
+          "pause": Session.pause, **{name: Session.listed for name in LISTED}}
 EVENTS = {"stopped": Session.stopped, "breakpoint": Session.breakpoint, "initialized": Session.initialized,
           "terminated": Session.terminated}
