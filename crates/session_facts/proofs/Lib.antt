@@ -1,6 +1,9 @@
+pub mod AlikeLaws
 pub mod BoundLaws
 pub mod EachLaws
 pub mod EffectLaws
 pub mod OpenLaws
 pub mod ReferenceLemmas
 pub mod ThreadLaws
+pub mod ToldLaws
+pub mod WalkLaws

@@ -12,6 +12,7 @@ use Rattle.class_tables.specs.Views.{Key, key_from, key_in}
 use Rattle.class_tables.specs.declared.loaded.Loaded.{Loaded}
 use Rattle.class_tables.proofs.TableLaws.{under-put}
 use Rattle.jdwp_commands.specs.declared.answer.Answer.{Answer}
+use Rattle.jdwp_commands.specs.declared.answer.Answer.TheVariants as answers
 use Rattle.jdwp_commands.specs.declared.question.Question.{Question}
 use Rattle.jdwp_commands.specs.declared.question.Question.TheVariants as questions
 use Rattle.jdwp_values.specs.declared.class.LineTable.{LineTable}
@@ -23,7 +24,9 @@ use Rattle.machine_model.specs.Classes.{counts, is_keyed}
 use Rattle.machine_model.specs.Facts.{lines_in, methods_in, source_in}
 use Rattle.machine_model.specs.Plans.{Sight}
 use Rattle.machine_model.specs.Replying.{knows_fact, learnt, with_heard}
+use Rattle.machine_model.specs.State.{is_empty}
 use Rattle.machine_model.specs.declared.acts.Sent.{Sent}
+use Rattle.session_facts.proofs.AlikeLaws.{AreAlike, open_alike}
 use Rattle.session_facts.specs.ClassPlanning.{all_found, all_lacking, bound_need, class_need, keyed_need, lines_lacking}
 use Rattle.session_facts.specs.ClassPlanning.{methods_need}
 use Rattle.session_facts.specs.ClassPlanning.{signed_need, source_need, source_heard, methods_heard, watched_by}
@@ -31,7 +34,7 @@ use Rattle.session_facts.specs.ClassPlanning.{watched_in}
 use Rattle.session_facts.specs.OpenClasses.{AreLeft, AreOpen, bound_standing, class_standing, keyed_standing, kept_by}
 use Rattle.session_facts.specs.OpenClasses.{lines_standing}
 use Rattle.session_facts.specs.OpenClasses.{may_be_found, may_lack, methods_standing, signed_standing, source_standing}
-use Rattle.session_facts.specs.OpenClasses.{stays_open, unlisted_by, unnamed_by}
+use Rattle.session_facts.specs.OpenClasses.{standing_so, stays_open, unlisted_by, unnamed_by}
 use Rattle.session_facts.specs.declared.open_classes.OpenClasses.{OpenClasses}
 use Rattle.session_facts.specs.declared.open_classes.Standing.{Standing}
 use Rattle.session_facts.specs.declared.open_classes.Standing.TheVariants.{Passed, Open}
@@ -262,9 +265,20 @@ pub all_left : (needed : ClassId → Bool) (all : List ClassId)
     → AreLeft needed all (flat_map (λ class. kept_by (needed class) class) all)
 all_left needed all = record { keeps = needed; are = refl; needless = λ class h. h }
 
+-- where none is left that lacks something, none of all is
+pub none_lack : (wanted : Wanted) (known : Lookups) (open_ones : OpenClasses) → AreOpen wanted known open_ones
+    → is_empty open_ones.lacking ≡ true → open_ones.lacking ≡ standing_so may_lack wanted known known.order
+none_lack wanted known open_ones are none = by open_ones.lacking none are.lacking
+  where
+    by : (left : List ClassId) → is_empty left ≡ true
+        → AreLeft (λ class. may_lack (class_standing wanted known class)) known.order left
+        → left ≡ standing_so may_lack wanted known known.order
+    by [] e left = needed_left (λ class. may_lack (class_standing wanted known class)) known.order [] left
+    by (class ∷ others) e left = absurd cc
+
 -- A fact that wasn't known is learnt ----------------------------------------------------------------------------------
 
-one_class : (a b : ClassId) → same_class a b ≡ true → a ≡ b
+pub one_class : (a b : ClassId) → same_class a b ≡ true → a ≡ b
 one_class a b e = let n : a.0 ≡ b.0 = eqb-true a.0 b.0 e in λ i. record { 0 = n i }
 
 one_method : (a b : MethodOf) → same_method a b ≡ true → a ≡ b
@@ -273,6 +287,13 @@ one_method a b e =
     let class : a.0 ≡ b.0 = one_class a.0 b.0 two.0 in
     let method : a.1.0 ≡ b.1.0 = eqb-true a.1.0 b.1.0 two.1 in
     λ i. (class i, record { 0 = method i })
+
+-- a question for a fact that decides how a class stands
+abbrev is_of_class : Question → Bool
+is_of_class (questions.SourceFile class) = true
+is_of_class (questions.Methods class) = true
+is_of_class (questions.LineTable class method) = true
+is_of_class _ = false
 
 module _ (P : Standing → Bool) (at_open : P Open ≡ true) (wanted : Wanted) (known : Known) where
   -- the source of a class
@@ -420,31 +441,33 @@ module _ (P : Standing → Bool) (at_open : P Open ≡ true) (wanted : Wanted) (
 
   -- any of these
   stays_out : (question : Question) (heard : Option Answer) (other : ClassId)
-      → stays_open (found_in known) question ≡ true
+      → is_of_class question ≡ true → knows_fact question known ≡ false
       → P (class_standing wanted (found_in known) other) ≡ false
       → P (class_standing wanted (found_in (with_heard question heard known)) other) ≡ false
-  stays_out (questions.SourceFile class) heard other stays out =
-      source_stays class (source_in heard) other stays out
-  stays_out (questions.Methods class) heard other stays out =
-      methods_stay class (methods_in heard) other stays out
-  stays_out (questions.LineTable class method) heard other stays out =
+  stays_out (questions.SourceFile class) heard other is new out = source_stays class (source_in heard) other
+      (by (under same_class class known.sources) new) out
+    where
+      by : (found : Option (Option (List ℕ))) → is_some (option_map (option_map answers.SourceFile) found) ≡ false
+          → is_none found ≡ true
+      by None h = refl
+      by (Some source) h = absurd cc
+  stays_out (questions.Methods class) heard other is new out = methods_stay class (methods_in heard) other
+      (by (under same_class class known.methods) new) out
+    where
+      by : (found : Option (List Method))
+          → is_some (option_map (λ (methods : List Method). Some (answers.Methods methods)) found) ≡ false
+          → is_none found ≡ true
+      by None h = refl
+      by (Some methods) h = absurd cc
+  stays_out (questions.LineTable class method) heard other is new out =
       lines_stay class method (lines_in heard) other out
-  stays_out question heard other stays out = absurd cc
-
--- the classes that are known stay the same
-same_order : (known : Known) (question : Question) (heard : Option Answer)
-    → stays_open (found_in known) question ≡ true
-    → (found_in (with_heard question heard known)).order ≡ (found_in known).order
-same_order known (questions.SourceFile class) heard stays = refl
-same_order known (questions.Methods class) heard stays = refl
-same_order known (questions.LineTable class method) heard stays = refl
-same_order known question heard stays = absurd cc
+  stays_out question heard other is new out = absurd cc
 
 heard_open : (wanted : Wanted) (known : Known) (question : Question) (heard : Option Answer)
-    (open_ones : OpenClasses) → stays_open (found_in known) question ≡ true
+    (open_ones : OpenClasses) → is_of_class question ≡ true → knows_fact question known ≡ false
+    → (found_in (with_heard question heard known)).order ≡ (found_in known).order
     → AreOpen wanted (found_in known) open_ones → AreOpen wanted (found_in (with_heard question heard known)) open_ones
-heard_open wanted known question heard open_ones stays are =
-    let same = same_order known question heard stays in
+heard_open wanted known question heard open_ones is new same are =
     let later = found_in (with_heard question heard known) in
     record {
       lacking = subst (λ (order : List ClassId).
@@ -452,31 +475,55 @@ heard_open wanted known question heard open_ones stays are =
             keeps = are.lacking.keeps;
             are = are.lacking.are;
             needless = λ class out.
-                stays_out may_lack refl wanted known question heard class stays (are.lacking.needless class out);
+                stays_out may_lack refl wanted known question heard class is new (are.lacking.needless class out);
           });
       found = subst (λ (order : List ClassId).
           AreLeft (λ class. may_be_found (class_standing wanted later class)) order open_ones.found) (sym same) (record {
             keeps = are.found.keeps;
             are = are.found.are;
             needless = λ class out.
-                stays_out may_be_found refl wanted known question heard class stays (are.found.needless class out);
+                stays_out may_be_found refl wanted known question heard class is new (are.found.needless class out);
           });
     }
 
--- what is known isn't learnt again
+-- what is known isn't learnt again, and other facts don't matter
 pub stay_open : (wanted : Wanted) (known : Known) (question : Question) (heard : Option Answer)
-    (open_ones : OpenClasses) → stays_open (found_in known) question ≡ true
+    (open_ones : OpenClasses) → stays_open question ≡ true
     → AreOpen wanted (found_in known) open_ones → AreOpen wanted (found_in (learnt question heard known)) open_ones
-stay_open wanted known question heard open_ones stays are = by_known (knows_fact question known)
+stay_open wanted known question heard open_ones stays are = by_known (knows_fact question known) refl
   where
-    by_known : (knows : Bool)
+    beside : (after : Known) → AreAlike wanted wanted (found_in known) (found_in after)
+        → (found_in after).loaded ≡ (found_in known).loaded → (found_in after).order ≡ (found_in known).order
+        → AreOpen wanted (found_in after) open_ones
+    beside after alike loaded order =
+        open_alike wanted wanted (found_in known) (found_in after) alike loaded order open_ones are
+
+    by_question : (question : Question) → stays_open question ≡ true → knows_fact question known ≡ false
+        → AreOpen wanted (found_in (with_heard question heard known)) open_ones
+    by_question questions.AllClasses h new = absurd cc
+    by_question (questions.SourceFile class) h new =
+        heard_open wanted known (questions.SourceFile class) heard open_ones refl new refl are
+    by_question (questions.Methods class) h new =
+        heard_open wanted known (questions.Methods class) heard open_ones refl new refl are
+    by_question (questions.LineTable class method) h new =
+        heard_open wanted known (questions.LineTable class method) heard open_ones refl new refl are
+    by_question (questions.Fields class) h new = beside (with_heard (questions.Fields class) heard known)
+        (record { lists = refl; functions = refl; source = refl; methods = refl; lines = refl }) refl refl
+    by_question (questions.Superclass class) h new = beside (with_heard (questions.Superclass class) heard known)
+        (record { lists = refl; functions = refl; source = refl; methods = refl; lines = refl }) refl refl
+    by_question (questions.VariableTable class method) h new =
+        beside (with_heard (questions.VariableTable class method) heard known)
+        (record { lists = refl; functions = refl; source = refl; methods = refl; lines = refl }) refl refl
+    by_question question h new = are
+
+    by_known : (knows : Bool) → knows_fact question known ≡ knows
         → AreOpen wanted (found_in (cond knows known (with_heard question heard known))) open_ones
-    by_known true = are
-    by_known false = heard_open wanted known question heard open_ones stays are
+    by_known true is = are
+    by_known false is = by_question question stays is
 
 -- where they were found out
 pub stay_found_out : (wanted : Wanted) (known later : Known) (question : Question) (heard : Option Answer)
-    (held : Option OpenClasses) → later ≡ learnt question heard known → stays_open (found_in known) question ≡ true
+    (held : Option OpenClasses) → later ≡ learnt question heard known → stays_open question ≡ true
     → IfSome held (AreOpen wanted (found_in known)) → IfSome held (AreOpen wanted (found_in later))
 stay_found_out wanted known later question heard held is stays are =
     subst (λ (now : Known). IfSome held (AreOpen wanted (found_in now))) (sym is) (by_held held are)

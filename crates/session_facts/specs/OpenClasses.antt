@@ -1,13 +1,20 @@
 -- How classes stand by what was learnt of them: which may lack something, and which may be found, whatever is asked.
-use Rattle.std.specs.Prelude.{◌≡◌, ◌∷◌, ◌||◌, Bool, true, false, not, filter, is_none, is_some, List, [], ℕ, Option, None, Some}
-use Rattle.std.specs.List.{flat_map, list_all}
-use Rattle.class_tables.specs.Lookups.{Lookups}
+use Rattle.std.specs.Prelude.{◌≡◌, ◌∷◌, ◌++◌, ◌||◌, Bool, true, false, cond, not, filter, fold, is_some, List, []}
+use Rattle.std.specs.Prelude.{ℕ, length, nat_le, Option, None, Some, option_map}
+use Rattle.std.specs.List.{flat_map, list_all, list_any}
+use Rattle.class_tables.specs.Facts.{Known, same_class}
+use Rattle.class_tables.specs.Lookups.{Lookups, found_in}
 use Rattle.class_tables.specs.Views.{Key}
+use Rattle.jdwp_commands.specs.declared.listed.LoadedClass.{LoadedClass}
 use Rattle.jdwp_commands.specs.declared.question.Question.{Question}
 use Rattle.jdwp_commands.specs.declared.question.Question.TheVariants as questions
+use Rattle.jdwp_events.specs.declared.composite.Composite.{Composite}
 use Rattle.jdwp_values.specs.declared.class.Method.{Method}
 use Rattle.jdwp_values.specs.declared.id.ClassId.{ClassId}
-use Rattle.machine_model.specs.Classes.{counts, is_keyed}
+use Rattle.machine_model.specs.Classes.{counts, is_keyed, with_listed}
+use Rattle.machine_model.specs.Composites.{prepared_in}
+use Rattle.machine_model.specs.declared.items.Phase.{Phase}
+use Rattle.machine_model.specs.declared.items.Phase.TheVariants.{Fresh, Attached, Gone}
 use Rattle.session_facts.specs.ClassPlanning.{watched_in}
 use Rattle.session_facts.specs.declared.open_classes.OpenClasses.{OpenClasses}
 use Rattle.session_facts.specs.declared.open_classes.Standing.{Standing}
@@ -98,10 +105,70 @@ pub record AreOpen (wanted : Wanted) (known : Lookups) (open_ones : OpenClasses)
   pub lacking : AreLeft (λ class. may_lack (class_standing wanted known class)) known.order open_ones.lacking
   pub found : AreLeft (λ class. may_be_found (class_standing wanted known class)) known.order open_ones.found
 
--- Once the reply to a question is learnt, a class that lacks nothing still does: the question asks for a fact of a
--- class that wasn't learnt before.
-abbrev pub stays_open : Lookups → Question → Bool
-stays_open known (questions.SourceFile class) = is_none (known.source class)
-stays_open known (questions.Methods class) = is_none (known.methods class)
-stays_open known (questions.LineTable class method) = true
-stays_open known _ = false
+-- What is learnt from the reply to a question leaves it so: a question for a fact of one class, and any other that lists
+-- no classes.
+abbrev pub stays_open : Question → Bool
+stays_open questions.AllClasses = false
+stays_open _ = true
+
+-- A class is told -----------------------------------------------------------------------------------------------------
+
+-- a class stands as before, or lower: it lacks nothing that it didn't lack, and isn't found where it wasn't
+abbrev pub stands_within : Standing → Standing → Bool
+stands_within Passed was = true
+stands_within Settled was = may_be_found was
+stands_within Open was = may_lack was
+
+-- how a class stood, where it was listed or told before
+abbrev pub stood : Wanted → Lookups → ClassId → Option Standing
+stood wanted known class = option_map (λ loaded. class_standing wanted known class) (known.loaded class)
+
+-- a class stands behind those before it
+abbrev pub joined : Standing → ClassId → OpenClasses → OpenClasses
+joined standing class left = record {
+  lacking = left.lacking ++ kept_by (may_lack standing) class;
+  found = left.found ++ kept_by (may_be_found standing) class;
+}
+
+-- so many may be found where a class takes its place among them
+abbrev pub most_found : ℕ
+most_found = 16
+
+-- a class is among others
+abbrev pub has_class : List ClassId → ClassId → Bool
+has_class classes class = list_any (same_class class) classes
+
+-- of all classes one and those that are left, in order
+abbrev pub placed : ClassId → List ClassId → List ClassId → List ClassId
+placed class left all = flat_map (λ other. kept_by (same_class class other || has_class left other) other) all
+
+-- a class takes its place among those that are left, where these are few; else all are gone through anew
+abbrev pub risen : List ClassId → ClassId → OpenClasses → Option OpenClasses
+risen all class left = cond (nat_le (length left.found) most_found)
+    (Some (record { lacking = placed class left.lacking all; found = placed class left.found all })) None
+
+-- Those that are left once a class is told, by how it stood and stands: it joins them where it is new. Told again it
+-- leaves them as they are, unless it rises.
+abbrev pub told_as : List ClassId → Option Standing → Standing → ClassId → OpenClasses → Option OpenClasses
+told_as all None now class left = Some (joined now class left)
+told_as all (Some was) now class left = cond (stands_within now was) (Some left) (risen all class left)
+
+abbrev pub left_told : Wanted → Known → LoadedClass → Option OpenClasses → Option OpenClasses
+left_told wanted known told None = None
+left_told wanted known told (Some left) =
+    told_as (found_in (with_listed known told)).order (stood wanted (found_in known) told.class)
+    (class_standing wanted (found_in (with_listed known told)) told.class) told.class left
+
+-- what is known, and the classes that are left, once a class is told
+abbrev pub with_told : Wanted → Known × Option OpenClasses → LoadedClass → Known × Option OpenClasses
+with_told wanted before told = (with_listed before.0 told, left_told wanted before.0 told before.1)
+
+-- the classes that a composite tells of, where the session is attached
+abbrev pub told_in : Phase → Composite → List LoadedClass
+told_in Fresh composite = []
+told_in Attached composite = prepared_in composite
+told_in Gone composite = []
+
+-- what is known, and the classes that are left, once an item is taken
+abbrev pub left_in : Wanted → Phase → Composite → Known → Option OpenClasses → Known × Option OpenClasses
+left_in wanted phase composite known left = fold (with_told wanted) (known, left) (told_in phase composite)

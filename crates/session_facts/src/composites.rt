@@ -5,19 +5,29 @@ ghost use Rattle.machine_model.specs.Classes.{with_listed};
 ghost use Rattle.machine_model.specs.Composites.{binding_parts, composite_parts, composite_row, dying_row, events_row};
 ghost use Rattle.machine_model.specs.Composites.{has_death, is_death, learnt_in, prepared_by, prepared_in};
 ghost use Rattle.machine_model.specs.Composites.{prepared_under};
-ghost use Rattle.machine_model.specs.State.{is_empty};
+ghost use Rattle.session_facts.specs.OpenClasses.{left_in, with_told};
 
-use crate::facts::learn_loaded;
+use crate::open_classes::OpenClasses;
+use crate::told_classes::learn_told;
 use class_tables::Classes;
 use jdwp_events::{Composite, Event as TargetEvent, Policy};
 use machine_model::{Choice, Event, Finish, Lookup, Part, Phase};
 use std::alloc::Global;
 use std::collections::VecDeque;
 use wire_core::NoMemory;
+use wish_sets::Wishes;
 
 // Learns the class that an event tells of, where it was prepared (JDWP, Event command set, Composite, ClassPrepare).
-fn learn_event(alloc: Global, event: &TargetEvent, classes: &mut Classes) -> Result<(), NoMemory>
-    ensures { OnOk result (classes.new ≡ fold with_listed classes.old (prepared_by event.now)) }
+fn learn_event(
+    alloc: Global,
+    event: &TargetEvent,
+    classes: &mut Classes,
+    wishes: &Wishes,
+    left: Option<OpenClasses>,
+) -> Result<Option<OpenClasses>, NoMemory>
+    ensures known { OnOk result (classes.new ≡ fold with_listed classes.old (prepared_by event.now)) }
+    ensures left { IfOk result (λ later. (classes.new, later)
+        ≡ fold (with_told wishes.now.wanted) (classes.old, left) (prepared_by event.now)) }
 {
     match event {
         TargetEvent::ClassPrepare {
@@ -26,8 +36,13 @@ fn learn_event(alloc: Global, event: &TargetEvent, classes: &mut Classes) -> Res
             signature,
             status,
             ..
-        } => learn_loaded(alloc, classes, *class, *tag, signature.as_slice(), *status),
-        _ => Ok(()),
+        } => {
+            let signature = signature.as_slice();
+            learn_told(
+                alloc, classes, wishes, left, *class, *tag, signature, *status,
+            )
+        }
+        _ => Ok(left),
     }
 }
 
@@ -35,25 +50,17 @@ fn learn_events(
     alloc: Global,
     events: &[TargetEvent],
     classes: &mut Classes,
-) -> Result<(), NoMemory>
-    ensures { OnOk result (classes.new ≡ fold with_listed classes.old (flat_map prepared_by events.now)) }
+    wishes: &Wishes,
+    mut left: Option<OpenClasses>,
+) -> Result<Option<OpenClasses>, NoMemory>
+    ensures known { OnOk result (classes.new ≡ fold with_listed classes.old (flat_map prepared_by events.now)) }
+    ensures left { IfOk result (λ later. (classes.new, later)
+        ≡ fold (with_told wishes.now.wanted) (classes.old, left) (flat_map prepared_by events.now)) }
 {
     for event in events {
-        learn_event(alloc, event, classes)?;
+        left = learn_event(alloc, event, classes, wishes, left)?;
     }
-    Ok(())
-}
-
-/// Whether no event tells of a class that was prepared (JDWP, Event command set, Composite, ClassPrepare).
-pub fn tells_of_none(events: &[TargetEvent]) -> bool
-    ensures { result ≡ is_empty (flat_map prepared_by events.now) }
-{
-    for event in events {
-        if let TargetEvent::ClassPrepare { .. } = event {
-            return false;
-        }
-    }
-    true
+    Ok(left)
 }
 
 // The target's end (JDWP, Event command set, Composite, VMDeath).
@@ -81,14 +88,18 @@ fn learn_under(
     policy: Policy,
     events: &[TargetEvent],
     classes: &mut Classes,
-) -> Result<(), NoMemory>
-    ensures { OnOk result (classes.new
+    wishes: &Wishes,
+    left: Option<OpenClasses>,
+) -> Result<Option<OpenClasses>, NoMemory>
+    ensures known { OnOk result (classes.new
         ≡ fold with_listed classes.old (prepared_under policy (flat_map prepared_by events.now))) }
+    ensures left { IfOk result (λ later. (classes.new, later) ≡ fold (with_told wishes.now.wanted) (classes.old, left)
+        (prepared_under policy (flat_map prepared_by events.now))) }
 {
     match policy {
-        Policy::NoThread => learn_events(alloc, events, classes),
-        Policy::EventThread => Ok(()),
-        Policy::All => learn_events(alloc, events, classes),
+        Policy::NoThread => learn_events(alloc, events, classes, wishes, left),
+        Policy::EventThread => Ok(left),
+        Policy::All => learn_events(alloc, events, classes, wishes, left),
     }
 }
 
@@ -97,34 +108,46 @@ fn learn_prepared(
     alloc: Global,
     composite: &Composite,
     classes: &mut Classes,
-) -> Result<(), NoMemory>
-    ensures { OnOk result (classes.new ≡ fold with_listed classes.old (prepared_in composite.now)) }
+    wishes: &Wishes,
+    left: Option<OpenClasses>,
+) -> Result<Option<OpenClasses>, NoMemory>
+    ensures known { OnOk result (classes.new ≡ fold with_listed classes.old (prepared_in composite.now)) }
+    ensures left { IfOk result (λ later. (classes.new, later)
+        ≡ fold (with_told wishes.now.wanted) (classes.old, left) (prepared_in composite.now)) }
 {
     if has_death(composite.events.as_slice()) {
-        return Ok(());
+        return Ok(left);
     }
     learn_under(
         alloc,
         composite.policy,
         composite.events.as_slice(),
         classes,
+        wishes,
+        left,
     )
 }
 
-/// Learns the classes that a composite tells of, where the session is attached. `NoMemory` comes where memory is
-/// refused (JDWP, Event command set, Composite, ClassPrepare).
+/// Learns the classes that a composite tells of, where the session is attached, and gives the classes that may lack
+/// something by then: a class that is new joins them, one that was known leaves them as they are, unless it stands
+/// higher than before. Where no class is told they stay. `NoMemory` comes where memory is refused (JDWP, Event command
+/// set, Composite, ClassPrepare).
 pub fn learn_in(
     alloc: Global,
     phase: Phase,
     composite: &Composite,
     classes: &mut Classes,
-) -> Result<(), NoMemory>
-    ensures { OnOk result (classes.new ≡ learnt_in phase composite.now classes.old) }
+    wishes: &Wishes,
+    left: Option<OpenClasses>,
+) -> Result<Option<OpenClasses>, NoMemory>
+    ensures known { OnOk result (classes.new ≡ learnt_in phase composite.now classes.old) }
+    ensures left { IfOk result (λ later.
+        (classes.new, later) ≡ left_in wishes.now.wanted phase composite.now classes.old left) }
 {
     match phase {
-        Phase::Fresh => Ok(()),
-        Phase::Attached => learn_prepared(alloc, composite, classes),
-        Phase::Gone => Ok(()),
+        Phase::Fresh => Ok(left),
+        Phase::Attached => learn_prepared(alloc, composite, classes, wishes, left),
+        Phase::Gone => Ok(left),
     }
 }
 

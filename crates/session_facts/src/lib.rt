@@ -16,11 +16,12 @@ mod places;
 mod references;
 mod sizes;
 mod threads;
+mod told_classes;
 mod variable_numbers;
 mod wire;
 
 pub use bound::BoundIds;
-pub use composites::{composite_parts, has_death, learn_in, tells_of_none};
+pub use composites::{composite_parts, has_death, learn_in};
 pub use copies::{effect_copy, text_copies};
 pub use effects::{effect_due, entry_by, forget_thrown, settle, unlisted_by};
 pub use facts::{learn, line_table_in, methods_in, source_in};

@@ -1,10 +1,11 @@
 //! How classes stand by what was learnt of them: which may lack something, and which may be found.
-ghost use Rattle.std.specs.Prelude.{◌≡◌, ◌++◌, IfOk, OnOk, true};
+ghost use Rattle.std.specs.Prelude.{◌≡◌, ◌++◌, cond, IfOk, OnOk, true};
 ghost use Rattle.std.specs.Prelude.{filter, is_some, option_copied, option_map};
 ghost use Rattle.std.specs.List.{list_all};
 ghost use Rattle.class_tables.specs.Lookups.{found_in};
 ghost use Rattle.class_tables.specs.Views.{key_in};
 ghost use Rattle.machine_model.specs.Classes.{counts};
+ghost use Rattle.machine_model.specs.State.{is_empty};
 ghost use Rattle.session_facts.specs.OpenClasses.{AreOpen, class_standing, keyed_standing, kept_by, may_be_found, may_lack};
 ghost use Rattle.session_facts.specs.OpenClasses.{methods_standing, source_standing, standing_so, stays_open};
 ghost use Rattle.session_facts.specs.OpenClasses.{unlisted_by, unnamed_by};
@@ -155,7 +156,8 @@ fn passes(classes: &Classes, wishes: &Wishes, class: ClassId) -> bool
     is_unnamed(wishes, known_signature(classes, class))
 }
 
-fn standing_of(classes: &Classes, wishes: &Wishes, class: ClassId) -> Standing
+/// How a class stands by what is known of it.
+pub(crate) fn standing_of(classes: &Classes, wishes: &Wishes, class: ClassId) -> Standing
     ensures { result ≡ class_standing wishes.now.wanted (found_in classes.now) class }
 {
     if passes(classes, wishes, class) {
@@ -173,9 +175,31 @@ fn standing_of(classes: &Classes, wishes: &Wishes, class: ClassId) -> Standing
     }
 }
 
+/// Whether something may be lacking of a class that stands so.
+pub(crate) fn may_lack(standing: Standing) -> bool
+    ensures { result ≡ may_lack standing }
+{
+    match standing {
+        Standing::Passed => false,
+        Standing::Settled => false,
+        Standing::Open => true,
+    }
+}
+
+/// Whether a class may be found that stands so.
+pub(crate) fn may_be_found(standing: Standing) -> bool
+    ensures { result ≡ may_be_found standing }
+{
+    match standing {
+        Standing::Passed => false,
+        Standing::Settled => true,
+        Standing::Open => true,
+    }
+}
+
 impl OpenClasses {
-    // A class that stands so, behind those before it.
-    fn add(&mut self, standing: Standing, class: ClassId) -> Result<(), NoMemory>
+    /// A class that stands so, behind those before it.
+    pub(crate) fn add(&mut self, standing: Standing, class: ClassId) -> Result<(), NoMemory>
         ensures lacking { OnOk result (self.new.lacking ≡ self.old.lacking ++ kept_by (may_lack standing) class) }
         ensures found { OnOk result (self.new.found ≡ self.old.found ++ kept_by (may_be_found standing) class) }
     {
@@ -231,9 +255,58 @@ fn still_open(
     Ok(kept)
 }
 
-/// The same without those that lack nothing by now: of all classes that were listed those that may lack something are
-/// left, and no others; those that may be found stay as they were. `NoMemory` comes where memory is refused (JDWP,
-/// ReferenceType command set, SourceFile and Methods; JDWP, Method command set, LineTable).
+// Those of some classes that may still be found.
+fn still_found(
+    alloc: Global,
+    classes: &Classes,
+    wishes: &Wishes,
+    those: &[ClassId],
+) -> Result<List<ClassId>, NoMemory>
+    ensures { IfOk result (λ kept. kept
+        ≡ standing_so may_be_found wishes.now.wanted (found_in classes.now) those.now) }
+{
+    let mut kept = List::new(alloc);
+    for class in those {
+        if may_be_found(standing_of(classes, wishes, *class)) {
+            kept.push(*class)?;
+        }
+    }
+    Ok(kept)
+}
+
+fn none_lacks(left: &OpenClasses) -> bool
+    ensures { result ≡ is_empty left.now.lacking }
+{
+    match left.lacking.as_slice() {
+        [] => true,
+        _ => false,
+    }
+}
+
+// Those that are left by what is known now, and no others.
+fn sorted_out(
+    alloc: Global,
+    classes: &Classes,
+    wishes: &Wishes,
+    left: OpenClasses,
+) -> Result<OpenClasses, NoMemory>
+    requires { AreOpen wishes.now.wanted (found_in classes.now) left }
+    ensures lacking { IfOk result (λ kept. kept.lacking
+        ≡ standing_so may_lack wishes.now.wanted (found_in classes.now) (found_in classes.now).order) }
+    ensures found { IfOk result (λ kept. kept.found
+        ≡ standing_so may_be_found wishes.now.wanted (found_in classes.now) (found_in classes.now).order) }
+    ensures enough { IfOk result (λ kept. AreOpen wishes.now.wanted (found_in classes.now) kept) }
+{
+    let OpenClasses { lacking, found } = left;
+    let lacking = still_open(alloc, classes, wishes, lacking.as_slice())?;
+    let found = still_found(alloc, classes, wishes, found.as_slice())?;
+    Ok(OpenClasses { lacking, found })
+}
+
+/// The same by what is known now: of all classes that were listed those that may lack something are left, and no others,
+/// and those that may be found. Where none may lack anything, nothing is gone through, and those that may be found stay.
+/// `NoMemory` comes where memory is refused (JDWP, ReferenceType command set, SourceFile and Methods; JDWP, Method
+/// command set, LineTable).
 pub fn trimmed(
     alloc: Global,
     classes: &Classes,
@@ -243,24 +316,20 @@ pub fn trimmed(
     requires { AreOpen wishes.now.wanted (found_in classes.now) left }
     ensures lacking { IfOk result (λ kept. kept.lacking
         ≡ standing_so may_lack wishes.now.wanted (found_in classes.now) (found_in classes.now).order) }
-    ensures found { IfOk result (λ kept. kept.found ≡ left.found) }
+    ensures found { IfOk result (λ kept. kept.found ≡ cond (is_empty left.lacking) left.found
+        (standing_so may_be_found wishes.now.wanted (found_in classes.now) (found_in classes.now).order)) }
     ensures enough { IfOk result (λ kept. AreOpen wishes.now.wanted (found_in classes.now) kept) }
 {
-    let OpenClasses { lacking, found } = left;
-    let lacking = still_open(alloc, classes, wishes, lacking.as_slice())?;
-    Ok(OpenClasses { lacking, found })
+    if none_lacks(&left) {
+        return Ok(left);
+    }
+    sorted_out(alloc, classes, wishes, left)
 }
 
-/// Whether classes that lack nothing still do once the reply to a question is learnt: the question asks for a fact of a
-/// class that wasn't learnt before (JDWP, ReferenceType command set, SourceFile and Methods; JDWP, Method command set,
-/// LineTable).
-pub fn stays_open(classes: &Classes, question: &Question) -> bool
-    ensures { result ≡ stays_open (found_in classes.now) question.now }
+/// Whether classes that lack nothing still do once the reply to a question is learnt: it lists no classes (JDWP,
+/// VirtualMachine command set, AllClasses).
+pub fn stays_open(question: &Question) -> bool
+    ensures { result ≡ stays_open question.now }
 {
-    match question {
-        Question::SourceFile(class) => known_source(classes, *class).is_none(),
-        Question::Methods(class) => known_methods(classes, *class).is_none(),
-        Question::LineTable { .. } => true,
-        _ => false,
-    }
+    !matches!(question, Question::AllClasses)
 }

@@ -1,11 +1,13 @@
 //! What an item writes down.
 ghost use Rattle.std.specs.Prelude.{◌≡◌, ◌++◌, OnOk};
 ghost use Rattle.machine_model.specs.Rows.{noted};
-ghost use Rattle.machine_model.specs.declared.parts.Note.TheVariants.{Functions, Lines};
+ghost use Rattle.machine_model.specs.declared.parts.Note.TheVariants.{Classes, Functions, Lines};
+ghost use Rattle.machine_model.specs.declared.parts.Note.TheVariants.{Exceptions as StopsAt, Step as Steps};
 ghost use Rattle.wish_sets.specs.Wanted.{with_step};
 ghost use Rattle.wish_sets.specs.Wishes.{rewished};
 
 use crate::state::State;
+use jdwp_values::ClassId;
 use machine_model::{Note, Thrown};
 use std::alloc::Global;
 use wire_core::{List, NoMemory, Text};
@@ -29,21 +31,15 @@ impl State {
             Note::Lines { key, path, entries } => self.list_lines(alloc, key, path, entries),
             Note::Functions(entries) => self.list_functions(alloc, entries),
             Note::Exceptions { caught, uncaught } => {
-                self.left = None;
-                self.wishes.set_exceptions(caught, uncaught);
+                self.stop_at(caught, uncaught);
                 Ok(())
             }
             Note::Step(step) => {
-                self.left = None;
-                want_step(&mut self.wishes, step);
+                self.step(step);
                 Ok(())
             }
             Note::Thrown(thrown) => add_thrown(&mut self.thrown, thrown.as_slice()),
-            Note::Classes(those) => {
-                self.left = None;
-                self.wishes
-                    .classes_known(alloc, &self.classes, those.as_slice())
-            }
+            Note::Classes(those) => self.know(alloc, those.as_slice()),
             Note::EntryHeld => {
                 self.entry = true;
                 Ok(())
@@ -53,6 +49,30 @@ impl State {
                 Ok(())
             }
         }
+    }
+
+    // Which exceptions stop is noted. No list changes, so classes that lack nothing still do.
+    #[tactic(auto, using(session_facts::proofs::AlikeLaws::exceptions_open))]
+    fn stop_at(&mut self, caught: bool, uncaught: bool)
+        ensures { self.new ≡ noted (StopsAt caught uncaught) self.old }
+    {
+        self.wishes.set_exceptions(caught, uncaught);
+    }
+
+    // A step is in flight, or none is. No list changes, so classes that lack nothing still do.
+    #[tactic(auto, using(session_facts::proofs::AlikeLaws::step_open))]
+    fn step(&mut self, step: Option<StepWish>)
+        ensures { self.new ≡ noted (Steps step) self.old }
+    {
+        want_step(&mut self.wishes, step);
+    }
+
+    // Classes are made known to what is bound in them. No list changes, so classes that lack nothing still do.
+    #[tactic(auto, using(session_facts::proofs::AlikeLaws::known_open))]
+    fn know(&mut self, alloc: Global, those: &[ClassId]) -> Result<(), NoMemory>
+        ensures { OnOk result (self.new ≡ noted (Classes those.now) self.old) }
+    {
+        self.wishes.classes_known(alloc, &self.classes, those)
     }
 
     // The breakpoints of a source are listed under a path, each under an id of its own; without a key none is kept.

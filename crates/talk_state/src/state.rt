@@ -4,6 +4,7 @@ ghost use Rattle.machine_model.specs.Plans.{answer_in};
 ghost use Rattle.machine_model.specs.Replying.{done_by, learnt, told_by};
 ghost use Rattle.session_facts.specs.Sizes.{sizes_seen};
 ghost use Rattle.session_facts.specs.Effects.{IsNext};
+ghost use Rattle.machine_model.specs.Composites.{learnt_in};
 ghost use Rattle.machine_model.specs.Due.{after_deed};
 ghost use Rattle.machine_model.specs.Rest.{awaits_greeting};
 ghost use Rattle.machine_model.specs.Rows.{taken};
@@ -12,11 +13,12 @@ ghost use Rattle.machine_model.specs.Telling.{after_event, attached_from};
 
 use class_tables::Classes;
 use jdwp_commands::{Question, Replied};
+use jdwp_events::Composite;
 use machine_model::{ClientOptions, Deed, Effect, Event, Item, News, Phase, Thrown};
 use session_facts::{
     BoundIds, Numbers, OpenClasses, Paths, SizesRead, ThreadNumbers, all_open, begin_stop,
     end_stop, entry_by, forget_thrown, has_stop, learn, learn_in, send, settle, sizes_in, spend,
-    stays_open, tells_of_none, trimmed, unlisted_by,
+    stays_open, trimmed, unlisted_by,
 };
 use std::alloc::Global;
 use std::marker::Model;
@@ -280,24 +282,29 @@ impl State {
         Ok(())
     }
 
-    /// What an item tells of classes is learnt as it is begun. Where it tells of none, what is left to be found out of
-    /// them stays. `NoMemory` comes where memory is refused (JDWP, Event command set, Composite, ClassPrepare).
-    #[tactic(auto, using(crate::proofs::TakenLaws::nothing_learnt))]
+    /// What an item tells of classes is learnt as it is begun: a class that is new joins those that may lack something,
+    /// where it does. `NoMemory` comes where memory is refused (JDWP, Event command set, Composite, ClassPrepare).
     pub fn take(&mut self, alloc: Global, item: &Item) -> Result<(), NoMemory>
         ensures { OnOk result (self.new ≡ taken item.now self.old) }
     {
         match item {
             Item::Request(_) => Ok(()),
-            Item::Composite { composite, .. } => {
-                if tells_of_none(composite.events.as_slice()) {
-                    return Ok(());
-                }
-                self.left = None;
-                learn_in(alloc, self.phase, composite, &mut self.classes)
-            }
+            Item::Composite { composite, .. } => self.learn_told(alloc, composite),
             Item::Raw { .. } => Ok(()),
             Item::TargetEnd => Ok(()),
         }
+    }
+
+    // The classes are learnt that a composite tells of.
+    #[tactic(auto, using(session_facts::proofs::ToldLaws::taken_open))]
+    fn learn_told(&mut self, alloc: Global, composite: &Composite) -> Result<(), NoMemory>
+        ensures { OnOk result (self.new
+            ≡ record self.old { classes = learnt_in self.old.phase composite.now self.old.classes }) }
+    {
+        let left = mem::replace(&mut self.left, None);
+        let classes = &mut self.classes;
+        self.left = learn_in(alloc, self.phase, composite, classes, &self.wishes, left)?;
+        Ok(())
     }
 
     /// What a reply to a question tells is known from now on. `NoMemory` comes where memory is refused (JDWP, JDWP
@@ -325,7 +332,7 @@ impl State {
         }
     }
 
-    // The fact of a class is learnt. Where it is new, classes that lack nothing still do.
+    // The fact of a class is learnt. Classes that lack nothing still do, where none are listed by it.
     #[tactic(auto, using(session_facts::proofs::OpenLaws::stay_found_out))]
     fn learn_fact(
         &mut self,
@@ -336,10 +343,9 @@ impl State {
         ensures { OnOk result (self.new
             ≡ record self.old { classes = learnt question.now (answer_in replied.now) self.old.classes }) }
     {
-        let stays = stays_open(&self.classes, question);
         let left = mem::replace(&mut self.left, None);
         learn(alloc, question, replied, &mut self.classes)?;
-        if stays {
+        if stays_open(question) {
             self.left = left;
         }
         Ok(())
@@ -359,13 +365,13 @@ impl State {
         Ok(())
     }
 
-    /// What the reply to the effect that was due tells is known from now on (JDWP, EventRequest command set, Set and
-    /// Clear).
+    /// What the reply to the effect that was due tells is known from now on. No list changes, so classes that lack nothing
+    /// still do (JDWP, EventRequest command set, Set and Clear).
+    #[tactic(auto, using(session_facts::proofs::AlikeLaws::settled_open))]
     pub fn settle(&mut self, effect: &Effect, replied: &Replied)
         requires { IsNext effect.now self.old.wishes }
         ensures { self.new ≡ done_by effect.now replied.now self.old }
     {
-        self.left = None;
         self.unlisted = unlisted_by(effect, replied, self.unlisted);
         settle(&mut self.wishes, effect, replied);
     }

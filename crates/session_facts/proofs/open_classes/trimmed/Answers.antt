@@ -1,22 +1,10 @@
-use Rattle.std.proofs.Common.{◌∙◌, Bool, ap, flat_map, refl, subst, sym}
+-- None is left that lacks something, so none of all is.
+use Rattle.std.proofs.Common.{◌∙◌, sym}
 use Rattle.class_tables.specs.Lookups.{found_in}
-use Rattle.jdwp_values.specs.declared.id.ClassId.{ClassId}
-use Rattle.session_facts.specs.OpenClasses.{AreLeft, class_standing, kept_by, may_lack}
-use Rattle.session_facts.proofs.OpenLaws.{all_left, needed_left}
+use Rattle.session_facts.proofs.OpenLaws.{none_lack}
 use Rattle.session_facts.proofs.open_classes.trimmed.Goals as goal
 
-pub returns : goal.returns
-returns c =
-    let known = found_in c.args.classes.now in
-    let lacks : ClassId → Bool = λ class. may_lack (class_standing c.args.wishes.now.wanted known class) in
-    let lacking = c.in_ok-lacking.ensures
-    ∙ ap (flat_map (λ (class : ClassId). kept_by (lacks class) class)) c.as_slice.ensures
-    ∙ needed_left lacks known.order c.args.left.lacking c.requires.lacking in
-    record {
-      lacking = lacking;
-      found = refl;
-      enough = record {
-        lacking = subst (AreLeft lacks known.order) (sym lacking) (all_left lacks known.order);
-        found = c.requires.found;
-      };
-    }
+pub returns-then-none_lacks-clause-lacking : goal.returns-then-none_lacks-clause-lacking
+returns-then-none_lacks-clause-lacking c =
+    none_lack c.args.wishes.now.wanted (found_in c.args.classes.now) c.args.left c.requires
+    (sym c.none_lacks.ensures ∙ c.if-none_lacks.true)
