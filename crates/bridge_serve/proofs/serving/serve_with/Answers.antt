@@ -6,3 +6,6 @@ say-ending-requires g c = may_say c.run-ending.ensures.ran
 
 pub returns-clause-served : goal.returns-clause-served
 returns-clause-served g c = served _ _ _ _ _ _ _ c.run-ending.ensures.ran c.say-ending.ensures.says
+
+pub returns-clause-stays : goal.returns-clause-stays
+returns-clause-stays g c = g.met.W.Wires.stays_on _ _ _ c.run-ending.ensures.stays c.say-ending.ensures.stays
