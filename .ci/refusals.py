@@ -68,7 +68,7 @@ class Refusals:
         total = self.begin.copy()
         below = sorted(crates_below(name, self.listed))
         add(total, "crates", repr([(crate, self.listed[crate]) for crate in [name, *below]]).encode())
-        for crate in [name, *edit.sources()]:
+        for crate in [name, *edit.sources(name, self.listed)]:
             add_crate(total, crate)
         for crate in below:
             # This file of a library holds a sum of its others.
