@@ -25,7 +25,7 @@ from building import plainly, program_of, stop
 
 RUNS = 3
 HITS = 1000
-EVENTS = 2000
+EVENTS = 20_000
 EVALUATED = 20
 # The class that is hit, its method, the first of the objects that lead to one another, and the first id of a thread
 # that starts.
