@@ -1,3 +1,14 @@
+mod Bytes
+mod ConditionLaws
+mod Cuts
+mod Digits
 mod Examples
+mod HitLaws
 mod JudgingLaws
+mod MessageLaws
+mod ParsingExamples
+mod PieceLoop
+mod Prefixes
 mod RenderingLaws
+mod SideLaws
+mod SignLaws

@@ -1,5 +1,8 @@
-//! Judgements, counts of hits and log messages.
-use break_rules::{Comparison, Hit, HitRule, Piece, Seen, Template, judge, render_log};
+//! Conditions, counts of hits and log messages.
+use break_rules::{
+    Comparison, Hit, HitRule, Part, Piece, RuleFault, Seen, Template, judge, parse_condition,
+    parse_hit, parse_log, render_log,
+};
 use field_exprs::{ExprFault, parse};
 use std::alloc::Global;
 use std::test::Fail;
@@ -47,5 +50,75 @@ fn a_message_has_its_values_in_order(rt: HostRuntime) -> Result<(), Fail> {
     values.push(Text::from_str(alloc, "<noSuchName>")?)?;
     let said = render_log(alloc, &Template { pieces }, &values)?;
     assert!(rt; said.as_str() == "n is 5, <noSuchName>");
+    Ok(())
+}
+
+#[test]
+fn hit_conditions_are_read(rt: HostRuntime) -> Result<(), Fail> {
+    let rows = [
+        ("10", HitRule::Equal, 10),
+        (" == 3", HitRule::Equal, 3),
+        (">=3 ", HitRule::AtLeast, 3),
+        ("> 2147483647", HitRule::Above, 2147483647),
+        ("<=\t1", HitRule::AtMost, 1),
+        ("<9", HitRule::Below, 9),
+        ("% 0000000100", HitRule::Multiple, 100),
+    ];
+    for (text, rule, count) in rows {
+        let read = parse_hit(&Text::from_str(rt.alloc(), text)?);
+        assert!(rt; read == Ok(Hit { rule, count }));
+    }
+    for text in [
+        "",
+        "0",
+        "= 3",
+        "> = 3",
+        "2147483648",
+        "00000000001",
+        "3 %",
+        "-1",
+        "n",
+    ] {
+        let read = parse_hit(&Text::from_str(rt.alloc(), text)?);
+        assert!(rt; read == Err(RuleFault::Outside));
+    }
+    Ok(())
+}
+
+#[test]
+fn conditions_are_read(rt: HostRuntime) -> Result<(), Fail> {
+    let alloc = rt.alloc();
+    let read = parse_condition(alloc, &Text::from_str(alloc, " n >= -9223372036854775808")?);
+    let rest = read.map_err(|_| "no condition")?.rest;
+    assert!(rt;
+        matches!(
+            rest,
+            Some((Comparison::GreaterEqual, Part::Number(-9223372036854775808)))
+        )
+    );
+    for text in [
+        "",
+        "n >",
+        "n = 5",
+        "n.size() > 3",
+        "1 < n < 3",
+        "9223372036854775808 == n",
+        "! done",
+    ] {
+        let read = parse_condition(alloc, &Text::from_str(alloc, text)?);
+        assert!(rt; matches!(read, Err(RuleFault::Outside)));
+    }
+    Ok(())
+}
+
+#[test]
+fn log_messages_are_read(rt: HostRuntime) -> Result<(), Fail> {
+    let alloc = rt.alloc();
+    let brace = parse_log(alloc, &Text::from_str(alloc, "}")?).map_err(|_| "no message")?;
+    assert!(rt; render_log(alloc, &brace, &List::new(alloc))?.as_str() == "}");
+    for text in ["{", "a {} b", "{n", "{1}"] {
+        let read = parse_log(alloc, &Text::from_str(alloc, text)?);
+        assert!(rt; matches!(read, Err(RuleFault::Outside)));
+    }
     Ok(())
 }
