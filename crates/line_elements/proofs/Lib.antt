@@ -1,3 +1,5 @@
 pub mod AgainLaws
+pub mod BitLaws
+mod Examples
 pub mod NumberLaws
 pub mod PartLaws

@@ -1,10 +1,12 @@
 -- Numbers and texts, as JSON values.
-use Rattle.std.specs.Prelude.{ℕ, ℤ, pos, negsuc, ◌-◌, ◌^◌, ◌==◌, ◌&&◌, nat_lt, nat_le, int_le, if◌then◌else◌, List, Bool}
+use Rattle.std.specs.Prelude.{ℕ, zero, suc, ℤ, pos, negsuc, ◌-◌, ◌^◌, ◌&&◌, nat_lt, nat_le, int_le, if◌then◌else◌, List}
 use Rattle.std.specs.Prelude.{Option, Some, None, option_map, option_and_then}
 use Rattle.std.specs.Int.{w64, cast_signed, cast_unsigned}
 use Rattle.std.specs.Str.{is_utf8}
 use Rattle.jdwp_values.specs.Lossy.{lossy}
 use Rattle.serde_json.specs.Data.{Data, Num, unsigned, negative, float, null, number, string}
+use Rattle.line_elements.specs.declared.version.Version.{Version}
+use Rattle.line_elements.specs.declared.version.Version.TheVariants.{First, Second}
 use Rattle.serde_json.specs.Find.{as_number, as_str, as_u64, as_integer, of_integer}
 
 -- a number without a sign, at least so much and below the bound
@@ -65,14 +67,23 @@ abbrev pub text_or_null_data : Option (List ℕ) → Data
 text_or_null_data (Some s) = text_data s
 text_or_null_data None = null
 
--- whether a version is known, where the number is an integer
-abbrev pub is_known : Num → Option Bool
-is_known (unsigned n) = Some (n == 1)
-is_known (negative z) = Some Bool.false
-is_known (float x) = None
+-- the version of a number, where it is known
+abbrev pub version_at : ℕ → Option Version
+version_at zero = None
+version_at (suc zero) = Some First
+version_at (suc (suc zero)) = Some Second
+version_at (suc (suc (suc n))) = None
 
-abbrev pub version_of : Data → Option Bool
-version_of d = option_and_then is_known (as_number d)
+-- the same, where the number is an integer
+abbrev pub known_version : Num → Option (Option Version)
+known_version (unsigned n) = Some (version_at n)
+known_version (negative z) = Some None
+known_version (float x) = None
 
-abbrev pub version_data : Bool → Data
-version_data known = natural_data (if known then 1 else 0)
+abbrev pub version_of : Data → Option (Option Version)
+version_of d = option_and_then known_version (as_number d)
+
+abbrev pub version_data : Option Version → Data
+version_data None = natural_data 0
+version_data (Some First) = natural_data 1
+version_data (Some Second) = natural_data 2

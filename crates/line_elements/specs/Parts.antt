@@ -1,5 +1,5 @@
 -- What stands behind the name in a line's array: a row of parts. For each kind of part `part_of` reads it and
--- `part_data` prints it.
+-- `part_data` prints it; values are printed in the second version, whichever they were read in.
 use Rattle.std.specs.Prelude.{◌≡◌, ℕ, ℤ, List, [], ◌∷◌, Bool, true, false, Option, Some, None, option_map, option_and_then, Result, Ok, Err}
 use Rattle.serde_json.specs.Data.{Data, boolean, string, Items, no_items, item}
 use Rattle.serde_json.specs.Find.{as_bool, as_str}
@@ -12,6 +12,7 @@ use Rattle.wire_core.specs.declared.outside.Side.{Side}
 use Rattle.slot_values.specs.declared.slot.SlotValue.{SlotValue}
 use Rattle.line_elements.specs.declared.elements.LineFault.{LineFault}
 use Rattle.line_elements.specs.declared.elements.LineFault.TheVariants.{NoMemory, BadShape}
+use Rattle.line_elements.specs.declared.version.Version.{Version}
 use Rattle.line_elements.specs.Numbers.{natural_of, natural_data, int_of, long_of, signed_data, index_of, index_data}
 use Rattle.line_elements.specs.Numbers.{text_of, text_data, text_or_null_of, text_or_null_data, version_of}
 use Rattle.line_elements.specs.Numbers.{version_data}
@@ -33,9 +34,10 @@ pub data Part : Type 0 where
   object_tag : Part
   policy : Part
   side : Part
-  value : Part
-  values : Part
-  slots : Part
+  -- values of the target's program, by the version that they are spelled in
+  value : Version → Part
+  values : Version → Part
+  slots : Version → Part
   lines : Part
   arguments : Part
   version : Part
@@ -53,12 +55,12 @@ Of class_tag = TypeTag
 Of object_tag = Tag
 Of policy = Policy
 Of side = Side
-Of value = Value
-Of values = List Value
-Of slots = List SlotValue
+Of (value v) = Value
+Of (values v) = List Value
+Of (slots v) = List SlotValue
 Of lines = Option (List Line)
 Of arguments = Data
-Of version = Bool
+Of version = Option Version
 
 abbrev pub part_of : (p : Part) → Data → Option (Of p)
 part_of (natural least bound) d = natural_of least bound d
@@ -73,9 +75,9 @@ part_of class_tag d = class_tag_of d
 part_of object_tag d = object_tag_of d
 part_of policy d = policy_of d
 part_of side d = side_of d
-part_of value d = value_of d
-part_of values d = list_of value_of d
-part_of slots d = list_of slot_of d
+part_of (value v) d = value_of v d
+part_of (values v) d = list_of (value_of v) d
+part_of (slots v) d = list_of (slot_of v) d
 part_of lines d = lines_of d
 part_of arguments d = arguments_of d
 part_of version d = version_of d
@@ -93,12 +95,12 @@ part_data class_tag tag = class_tag_data tag
 part_data object_tag tag = tag_data tag
 part_data policy p = policy_data p
 part_data side s = side_data s
-part_data value v = value_data v
-part_data values vs = list_data value_data vs
-part_data slots ss = list_data slot_data ss
+part_data (value v) x = value_data x
+part_data (values v) xs = list_data value_data xs
+part_data (slots v) xs = list_data slot_data xs
 part_data lines ls = lines_data ls
 part_data arguments d = d
-part_data version known = version_data known
+part_data version v = version_data v
 
 -- an element, and those behind it
 abbrev pub first_of : Items → Option (Data × Items)

@@ -1,5 +1,5 @@
 -- Values of the target's program, tags, and lists, as JSON values.
-use Rattle.std.specs.Prelude.{ℕ, zero, suc, ℤ, pos, negsuc, ◌^◌, ◌-◌, List, [], ◌∷◌, map, codes, bytes_eq, if◌then◌else◌, Bool, true, false}
+use Rattle.std.specs.Prelude.{ℕ, zero, suc, nat_le, ℤ, pos, negsuc, ◌^◌, ◌-◌, List, [], ◌∷◌, map, codes, bytes_eq, if◌then◌else◌, Bool, true, false}
 use Rattle.std.specs.Prelude.{Option, Some, None, option_map, option_and_then, ◌&&◌, not, is_some}
 use Rattle.serde_json.specs.Data.{Data, null, boolean, number, unsigned, string, array, object, Items, no_items, item}
 use Rattle.serde_json.specs.Find.{as_array, as_bool, as_number, as_object, as_str, as_u64}
@@ -21,6 +21,9 @@ use Rattle.jdwp_values.specs.Tags.{byte_of_tag, byte_of_type_tag, tag_of}
 use Rattle.wire_core.specs.declared.outside.Side.{Side}
 use Rattle.wire_core.specs.declared.outside.Side.TheVariants.{Client, Target}
 use Rattle.slot_values.specs.declared.slot.SlotValue.{SlotValue}
+use Rattle.line_elements.specs.declared.version.Version.{Version}
+use Rattle.line_elements.specs.declared.version.Version.TheVariants.{First, Second}
+use Rattle.line_elements.specs.Bits.{bits_text, bits_of}
 use Rattle.line_elements.specs.Numbers.{natural_of, natural_data, signed_of, signed_data, int_of, long_of}
 
 -- an array of these elements
@@ -134,64 +137,82 @@ list_data write xs = array_of (map write xs)
 
 -- ---- values
 
+-- so many at most
+abbrev pub at_most : ℕ → ℕ → Option ℕ
+at_most most n = if nat_le n most then Some n else None
+
+-- bits: in the first version a number below 2^63, in the second a text
+abbrev pub plain_bits : Version → Data → Option ℕ
+plain_bits First d = natural_of 0 (2 ^ 63) d
+plain_bits Second d = option_and_then bits_of (as_str d)
+
+abbrev pub bits_in : Version → ℕ → Data → Option ℕ
+bits_in version most d = option_and_then (at_most most) (plain_bits version d)
+
+abbrev pub bits_data : ℕ → Data
+bits_data n = string (bits_text n)
+
 -- an object's id, 0 for null
-abbrev pub reference_of : (ObjectId → Value) → Data → Option Value
-reference_of make d = option_map (λ n. make (record { 0 = n })) (natural_of 0 (2 ^ 63) d)
+abbrev pub reference_of : Version → (ObjectId → Value) → Data → Option Value
+reference_of version make d = option_map (λ n. make (record { 0 = n })) (bits_in version (2 ^ 64 - 1) d)
 
--- the value of a tag; a void one has no spelling
-abbrev pub tagged_of : Tag → Data → Option Value
-tagged_of tags.Byte d = option_map values.Byte (signed_of (negsuc 127) (pos 127) d)
-tagged_of tags.Char d = option_map values.Char (natural_of 0 (2 ^ 16) d)
-tagged_of tags.Double d = option_map values.Double (natural_of 0 (2 ^ 63) d)
-tagged_of tags.Float d = option_map values.Float (natural_of 0 (2 ^ 32) d)
-tagged_of tags.Int d = option_map values.Int (int_of d)
-tagged_of tags.Long d = option_map values.Long (long_of d)
-tagged_of tags.Short d = option_map values.Short (signed_of (negsuc (2 ^ 15 - 1)) (pos (2 ^ 15 - 1)) d)
-tagged_of tags.Boolean d = option_map values.Boolean (natural_of 0 256 d)
-tagged_of tags.Void d = None
-tagged_of tags.Object d = reference_of values.Object d
-tagged_of tags.Array d = reference_of values.Array d
-tagged_of tags.String d = reference_of values.String d
-tagged_of tags.Thread d = reference_of values.Thread d
-tagged_of tags.ThreadGroup d = reference_of values.ThreadGroup d
-tagged_of tags.ClassLoader d = reference_of values.ClassLoader d
-tagged_of tags.ClassObject d = reference_of values.ClassObject d
+-- the value of a tag; a void one is none
+abbrev pub tagged_of : Version → Tag → Data → Option Value
+tagged_of version tags.Byte d = option_map values.Byte (signed_of (negsuc 127) (pos 127) d)
+tagged_of version tags.Char d = option_map values.Char (bits_in version (2 ^ 16 - 1) d)
+tagged_of version tags.Double d = option_map values.Double (bits_in version (2 ^ 64 - 1) d)
+tagged_of version tags.Float d = option_map values.Float (bits_in version (2 ^ 32 - 1) d)
+tagged_of version tags.Int d = option_map values.Int (int_of d)
+tagged_of version tags.Long d = option_map values.Long (long_of d)
+tagged_of version tags.Short d = option_map values.Short (signed_of (negsuc (2 ^ 15 - 1)) (pos (2 ^ 15 - 1)) d)
+tagged_of version tags.Boolean d = option_map values.Boolean (bits_in version 255 d)
+tagged_of version tags.Void d = None
+tagged_of version tags.Object d = reference_of version values.Object d
+tagged_of version tags.Array d = reference_of version values.Array d
+tagged_of version tags.String d = reference_of version values.String d
+tagged_of version tags.Thread d = reference_of version values.Thread d
+tagged_of version tags.ThreadGroup d = reference_of version values.ThreadGroup d
+tagged_of version tags.ClassLoader d = reference_of version values.ClassLoader d
+tagged_of version tags.ClassObject d = reference_of version values.ClassObject d
 
--- a tag, and the number behind it
-abbrev pub value_in : Data × Data → Option Value
-value_in pair = option_and_then (λ tag. tagged_of tag pair.1) (tag_in pair.0)
+-- a tag, and what stands behind it
+abbrev pub value_in : Version → Data × Data → Option Value
+value_in version pair = option_and_then (λ tag. tagged_of version tag pair.1) (tag_in pair.0)
 
-abbrev pub value_of : Data → Option Value
-value_of d = option_and_then value_in (pair_of d)
+abbrev pub value_of : Version → Data → Option Value
+value_of version d = option_and_then (value_in version) (pair_of d)
 
-abbrev pub number_data : Value → Data
-number_data (values.Byte z) = signed_data z
-number_data (values.Char n) = natural_data n
-number_data (values.Double n) = natural_data n
-number_data (values.Float n) = natural_data n
-number_data (values.Int z) = signed_data z
-number_data (values.Long z) = signed_data z
-number_data (values.Short z) = signed_data z
-number_data (values.Boolean n) = natural_data n
-number_data values.Void = null
-number_data (values.Object id) = natural_data id.0
-number_data (values.Array id) = natural_data id.0
-number_data (values.String id) = natural_data id.0
-number_data (values.Thread id) = natural_data id.0
-number_data (values.ThreadGroup id) = natural_data id.0
-number_data (values.ClassLoader id) = natural_data id.0
-number_data (values.ClassObject id) = natural_data id.0
+-- what stands behind the tag of a value that is printed: a number with its sign, or bits, of which a void value has none
+abbrev pub told_data : Value → Data
+told_data (values.Byte z) = signed_data z
+told_data (values.Char n) = bits_data n
+told_data (values.Double n) = bits_data n
+told_data (values.Float n) = bits_data n
+told_data (values.Int z) = signed_data z
+told_data (values.Long z) = signed_data z
+told_data (values.Short z) = signed_data z
+told_data (values.Boolean n) = bits_data n
+told_data values.Void = bits_data 0
+told_data (values.Object id) = bits_data id.0
+told_data (values.Array id) = bits_data id.0
+told_data (values.String id) = bits_data id.0
+told_data (values.Thread id) = bits_data id.0
+told_data (values.ThreadGroup id) = bits_data id.0
+told_data (values.ClassLoader id) = bits_data id.0
+told_data (values.ClassObject id) = bits_data id.0
 
+-- a value as it is printed, in the second version
 abbrev pub value_data : Value → Data
-value_data v = array_of (tag_data (tag_of_value v) ∷ number_data v ∷ [])
+value_data v = array_of (tag_data (tag_of_value v) ∷ told_data v ∷ [])
 
 -- a slot, and its value
-abbrev pub slot_in : Data × Data → Option SlotValue
-slot_in pair =
-    option_and_then (λ slot. option_map (λ v. record { slot = slot; value = v }) (value_of pair.1)) (int_of pair.0)
+abbrev pub slot_in : Version → Data × Data → Option SlotValue
+slot_in version pair =
+    option_and_then (λ slot. option_map (λ v. record { slot = slot; value = v }) (value_of version pair.1))
+    (int_of pair.0)
 
-abbrev pub slot_of : Data → Option SlotValue
-slot_of d = option_and_then slot_in (pair_of d)
+abbrev pub slot_of : Version → Data → Option SlotValue
+slot_of version d = option_and_then (slot_in version) (pair_of d)
 
 abbrev pub slot_data : SlotValue → Data
 slot_data s = array_of (signed_data s.slot ∷ value_data s.value ∷ [])

@@ -7,6 +7,7 @@ ghost use Rattle.line_elements.specs.Parts.{arguments};
 ghost use Rattle.line_elements.specs.Parts.{version, is_end, Tells};
 
 use crate::arguments::Arguments;
+use crate::version::Version;
 use crate::{lists, numbers, values, words};
 use jdwp_events::Policy;
 use jdwp_values::{Line, Tag, TypeTag, Value};
@@ -199,20 +200,20 @@ impl<'a> Elements<'a> {
         values::side(value).ok_or(LineFault::BadShape)
     }
 
-    /// A value.
+    /// A value that is spelled in this version.
     #[tactic(auto, using(crate::proofs::PartLaws::part_at_none))]
-    pub fn value(&mut self) -> Result<Value, LineFault>
-        ensures { Tells (λ x. x) (part_at value self.old) self.new result }
+    pub fn value(&mut self, version: Version) -> Result<Value, LineFault>
+        ensures { Tells (λ x. x) (part_at (value version) self.old) self.new result }
     {
         let Some(value) = self.next() else {
             return Err(LineFault::BadShape);
         };
-        values::value(value).ok_or(LineFault::BadShape)
+        values::value(version, value).ok_or(LineFault::BadShape)
     }
 
-    /// Whether a version is known.
+    /// A version, where it is known.
     #[tactic(auto, using(crate::proofs::PartLaws::part_at_none))]
-    pub fn version(&mut self) -> Result<bool, LineFault>
+    pub fn version(&mut self) -> Result<Option<Version>, LineFault>
         ensures { Tells (λ x. x) (part_at version self.old) self.new result }
     {
         let Some(value) = self.next() else {
@@ -254,26 +255,26 @@ impl<'a> Elements<'a> {
         words::word(alloc, value)?.ok_or(LineFault::BadShape)
     }
 
-    /// Values, in a list.
+    /// Values that are spelled in this version, in a list.
     #[tactic(auto, using(crate::proofs::PartLaws::part_at_none))]
-    pub fn values(&mut self, alloc: Global) -> Result<List<Value>, LineFault>
-        ensures { Tells (λ x. x) (part_at values self.old) self.new result }
+    pub fn values(&mut self, alloc: Global, version: Version) -> Result<List<Value>, LineFault>
+        ensures { Tells (λ x. x) (part_at (values version) self.old) self.new result }
     {
         let Some(value) = self.next() else {
             return Err(LineFault::BadShape);
         };
-        lists::list(alloc, value)?.ok_or(LineFault::BadShape)
+        lists::list(alloc, version, value)?.ok_or(LineFault::BadShape)
     }
 
-    /// Slots, in a list.
+    /// Slots whose values are spelled in this version, in a list.
     #[tactic(auto, using(crate::proofs::PartLaws::part_at_none))]
-    pub fn slots(&mut self, alloc: Global) -> Result<List<SlotValue>, LineFault>
-        ensures { Tells (λ x. x) (part_at slots self.old) self.new result }
+    pub fn slots(&mut self, alloc: Global, version: Version) -> Result<List<SlotValue>, LineFault>
+        ensures { Tells (λ x. x) (part_at (slots version) self.old) self.new result }
     {
         let Some(value) = self.next() else {
             return Err(LineFault::BadShape);
         };
-        lists::list(alloc, value)?.ok_or(LineFault::BadShape)
+        lists::list(alloc, version, value)?.ok_or(LineFault::BadShape)
     }
 
     /// A method's lines, in a list, or null.

@@ -3,8 +3,9 @@ ghost use Rattle.std.specs.Prelude.{◌≡◌, ◌<◌, ◌≤◌, ◌≤ℤ◌,
 ghost use Rattle.serde_json.specs.View.{view};
 ghost use Rattle.line_elements.specs.Numbers.{natural_of, signed_of, int_of, long_of, index_of, text_of};
 ghost use Rattle.line_elements.specs.Numbers.{text_or_null_of};
-ghost use Rattle.line_elements.specs.Numbers.{version_of};
+ghost use Rattle.line_elements.specs.Numbers.{version_at, version_of};
 
+use crate::version::Version;
 use serde_json::Value;
 use std::alloc::Global;
 use wire_core::{Blob, NoMemory};
@@ -83,12 +84,22 @@ pub(crate) fn text_or_null(alloc: Global, value: &Value) -> Result<Option<Option
     }
 }
 
-/// Whether a version is known.
-pub(crate) fn version(value: &Value) -> Option<bool>
+/// The version of a number, where it is known; nothing of what is no integer.
+pub(crate) fn version(value: &Value) -> Option<Option<Version>>
     ensures { result ≡ version_of (view value.now) }
 {
     match value.as_u64() {
-        Some(version) => Some(version == 1),
-        None => if value.is_i64() { Some(false) } else { None },
+        Some(number) => Some(version_at(number)),
+        None => if value.is_i64() { Some(None) } else { None },
+    }
+}
+
+fn version_at(number: u64) -> Option<Version>
+    ensures { result ≡ version_at number }
+{
+    match number {
+        1 => Some(Version::First),
+        2 => Some(Version::Second),
+        _ => None,
     }
 }

@@ -1,15 +1,17 @@
-//! Parts of a line, as JSON values.
+//! Values of the target's program, as JSON values.
 ghost use Rattle.std.specs.Prelude.{◌≡◌, ◌∷◌, [], IfOk};
 ghost use Rattle.serde_json.specs.View.{view};
 ghost use Rattle.jdwp_values.specs.Tags.{byte_of_tag};
-ghost use Rattle.line_elements.specs.Values.{number_data, value_data, slot_data, line_data};
+ghost use Rattle.line_elements.specs.Values.{bits_data, told_data, value_data};
 
-use jdwp_values::{Line, Tag, Value};
+use crate::bits::bits_text;
+use jdwp_values::{Tag, Value};
 use serde_json::{Value as Json, json};
-use slot_values::SlotValue;
-use std::alloc::{AllocError, Global};
+use std::alloc::Global;
+use wire_core::NoMemory;
 
-fn tag_name(tag: Tag) -> &'static str
+/// A tag's character.
+pub fn tag_name(tag: Tag) -> &'static str
     ensures { result.now ≡ byte_of_tag tag ∷ [] }
 {
     match tag {
@@ -32,52 +34,43 @@ fn tag_name(tag: Tag) -> &'static str
     }
 }
 
-fn number_value(value: &Value) -> Json
-    ensures { view result ≡ number_data value.now }
+fn bits_json(alloc: Global, bits: u64) -> Result<Json, NoMemory>
+    ensures { IfOk result (λ shown. view shown ≡ bits_data bits) }
+{
+    let text = bits_text(alloc, bits)?;
+    Ok(json!(in alloc; text.as_str())?)
+}
+
+// What stands behind the tag: a number with its sign, or bits.
+fn told_json(alloc: Global, value: &Value) -> Result<Json, NoMemory>
+    ensures { IfOk result (λ shown. view shown ≡ told_data value.now) }
 {
     match value {
-        Value::Byte(number) => Json::from(*number),
-        Value::Char(bits) => Json::from(*bits),
-        Value::Double(bits) => Json::from(*bits),
-        Value::Float(bits) => Json::from(*bits),
-        Value::Int(number) => Json::from(*number),
-        Value::Long(number) => Json::from(*number),
-        Value::Short(number) => Json::from(*number),
-        Value::Boolean(byte) => Json::from(*byte),
-        Value::Void => Json::Null,
-        Value::Object(id) => Json::from(id.0),
-        Value::Array(id) => Json::from(id.0),
-        Value::String(id) => Json::from(id.0),
-        Value::Thread(id) => Json::from(id.0),
-        Value::ThreadGroup(id) => Json::from(id.0),
-        Value::ClassLoader(id) => Json::from(id.0),
-        Value::ClassObject(id) => Json::from(id.0),
+        Value::Byte(number) => Ok(Json::from(*number)),
+        Value::Char(bits) => bits_json(alloc, u64::from(*bits)),
+        Value::Double(bits) => bits_json(alloc, *bits),
+        Value::Float(bits) => bits_json(alloc, u64::from(*bits)),
+        Value::Int(number) => Ok(Json::from(*number)),
+        Value::Long(number) => Ok(Json::from(*number)),
+        Value::Short(number) => Ok(Json::from(*number)),
+        Value::Boolean(bits) => bits_json(alloc, u64::from(*bits)),
+        Value::Void => bits_json(alloc, 0),
+        Value::Object(id) => bits_json(alloc, id.0),
+        Value::Array(id) => bits_json(alloc, id.0),
+        Value::String(id) => bits_json(alloc, id.0),
+        Value::Thread(id) => bits_json(alloc, id.0),
+        Value::ThreadGroup(id) => bits_json(alloc, id.0),
+        Value::ClassLoader(id) => bits_json(alloc, id.0),
+        Value::ClassObject(id) => bits_json(alloc, id.0),
     }
 }
 
-/// A value behind its tag.
-pub(crate) fn value_value(alloc: Global, value: &Value) -> Result<Json, AllocError>
+/// The JSON value of a value: its tag, and a number with its sign, or bits as text. `NoMemory` comes where memory is
+/// refused.
+pub fn value_json(alloc: Global, value: &Value) -> Result<Json, NoMemory>
     ensures { IfOk result (λ shown. view shown ≡ value_data value.now) }
 {
     let tag = tag_name(value.tag());
-    let number = number_value(value);
-    json!(in alloc; [tag, number])
-}
-
-/// A slot, and its value.
-pub(crate) fn slot_value(alloc: Global, slot: &SlotValue) -> Result<Json, AllocError>
-    ensures { IfOk result (λ value. view value ≡ slot_data slot.now) }
-{
-    let value = value_value(alloc, &slot.value)?;
-    let slot = slot.slot;
-    json!(in alloc; [slot, value])
-}
-
-/// An index of a method's code, and its line.
-pub(crate) fn line_value(alloc: Global, line: &Line) -> Result<Json, AllocError>
-    ensures { IfOk result (λ value. view value ≡ line_data line.now) }
-{
-    let index = line.index;
-    let number = line.line;
-    json!(in alloc; [index, number])
+    let told = told_json(alloc, value)?;
+    Ok(json!(in alloc; [tag, told])?)
 }

@@ -1,14 +1,14 @@
 //! Values of the target's program, tags and lists of a line.
-ghost use Rattle.std.specs.Prelude.{◌≡◌, ◌^◌, option_map};
+ghost use Rattle.std.specs.Prelude.{◌≡◌, ◌≤◌, ◌-◌, ◌^◌, option_map, IfSome};
 ghost use Rattle.serde_json.specs.View.{view, items_view};
 ghost use Rattle.line_elements.specs.Values.{tag_of_text, tag_in, is_object_tag, object_tag_of, class_tag_of};
 ghost use Rattle.line_elements.specs.Values.{policy_of};
-ghost use Rattle.line_elements.specs.Values.{side_at, side_of, two_of, pair_of, reference_of, tagged_of, value_of};
-ghost use Rattle.line_elements.specs.Values.{value_in};
-ghost use Rattle.line_elements.specs.Values.{slot_of, line_of};
-ghost use Rattle.line_elements.specs.Numbers.{natural_of};
+ghost use Rattle.line_elements.specs.Values.{side_at, side_of, two_of, pair_of, plain_bits, bits_in};
+ghost use Rattle.line_elements.specs.Values.{reference_of, tagged_of, value_in, value_of, slot_in, slot_of, line_of};
 
+use crate::bits::bits_of;
 use crate::numbers::{int, long, natural, signed};
+use crate::version::Version;
 use jdwp_events::Policy;
 use jdwp_values::{Line, ObjectId, Tag, TypeTag, Value};
 use serde_json::Value as Json;
@@ -114,51 +114,69 @@ fn pair(value: &Json) -> Option<(&Json, &Json)>
     two(value.as_array()?.as_slice())
 }
 
-fn object(value: &Json) -> Option<ObjectId>
-    ensures { result ≡ option_map (λ n. record { 0 = n }) (natural_of 0 (2 ^ 63) (view value.now)) }
+fn plain_bits(version: Version, value: &Json) -> Option<u64>
+    ensures { result ≡ plain_bits version (view value.now) }
 {
-    Some(ObjectId(natural(value, 0, 1 << 63)?))
+    match version {
+        Version::First => natural(value, 0, 1 << 63),
+        Version::Second => bits_of(value.as_str()?),
+    }
 }
 
-fn number(tag: Tag, value: &Json) -> Option<Value>
-    ensures { result ≡ tagged_of tag (view value.now) }
+// Bits, so many at most, by the version that they are spelled in.
+fn bits(version: Version, most: u64, value: &Json) -> Option<u64>
+    ensures value { result ≡ bits_in version most (view value.now) }
+    ensures most { IfSome result (λ n. n ≤ most) }
+{
+    let bits = plain_bits(version, value)?;
+    if bits <= most { Some(bits) } else { None }
+}
+
+fn object(version: Version, value: &Json) -> Option<ObjectId>
+    ensures { result ≡ option_map (λ n. record { 0 = n }) (bits_in version (2 ^ 64 - 1) (view value.now)) }
+{
+    Some(ObjectId(bits(version, u64::MAX, value)?))
+}
+
+fn tagged(version: Version, tag: Tag, value: &Json) -> Option<Value>
+    ensures { result ≡ tagged_of version tag (view value.now) }
 {
     match tag {
         Tag::Byte => Some(Value::Byte(signed(value, -128, 127)? as i8)),
-        Tag::Char => Some(Value::Char(natural(value, 0, 1 << 16)? as u16)),
-        Tag::Double => Some(Value::Double(natural(value, 0, 1 << 63)?)),
-        Tag::Float => Some(Value::Float(natural(value, 0, 1 << 32)? as u32)),
+        Tag::Char => Some(Value::Char(bits(version, 65_535, value)? as u16)),
+        Tag::Double => Some(Value::Double(bits(version, u64::MAX, value)?)),
+        Tag::Float => Some(Value::Float(bits(version, 4_294_967_295, value)? as u32)),
         Tag::Int => Some(Value::Int(int(value)?)),
         Tag::Long => Some(Value::Long(long(value)?)),
         Tag::Short => Some(Value::Short(signed(value, -32_768, 32_767)? as i16)),
-        Tag::Boolean => Some(Value::Boolean(natural(value, 0, 256)? as u8)),
+        Tag::Boolean => Some(Value::Boolean(bits(version, 255, value)? as u8)),
         Tag::Void => None,
-        Tag::Object => Some(Value::Object(object(value)?)),
-        Tag::Array => Some(Value::Array(object(value)?)),
-        Tag::String => Some(Value::String(object(value)?)),
-        Tag::Thread => Some(Value::Thread(object(value)?)),
-        Tag::ThreadGroup => Some(Value::ThreadGroup(object(value)?)),
-        Tag::ClassLoader => Some(Value::ClassLoader(object(value)?)),
-        Tag::ClassObject => Some(Value::ClassObject(object(value)?)),
+        Tag::Object => Some(Value::Object(object(version, value)?)),
+        Tag::Array => Some(Value::Array(object(version, value)?)),
+        Tag::String => Some(Value::String(object(version, value)?)),
+        Tag::Thread => Some(Value::Thread(object(version, value)?)),
+        Tag::ThreadGroup => Some(Value::ThreadGroup(object(version, value)?)),
+        Tag::ClassLoader => Some(Value::ClassLoader(object(version, value)?)),
+        Tag::ClassObject => Some(Value::ClassObject(object(version, value)?)),
     }
 }
 
 /// A value behind its tag.
-pub(crate) fn value(value: &Json) -> Option<Value>
-    ensures { result ≡ value_of (view value.now) }
+pub(crate) fn value(version: Version, value: &Json) -> Option<Value>
+    ensures { result ≡ value_of version (view value.now) }
 {
     let (first, second) = pair(value)?;
-    number(tag(first)?, second)
+    tagged(version, tag(first)?, second)
 }
 
 /// A slot, and its value.
-pub(crate) fn slot(pair_value: &Json) -> Option<SlotValue>
-    ensures { result ≡ slot_of (view pair_value.now) }
+pub(crate) fn slot(version: Version, pair_value: &Json) -> Option<SlotValue>
+    ensures { result ≡ slot_of version (view pair_value.now) }
 {
     let (first, second) = pair(pair_value)?;
     Some(SlotValue {
         slot: int(first)?,
-        value: value(second)?,
+        value: value(version, second)?,
     })
 }
 

@@ -8,9 +8,8 @@ ghost use Rattle.line_elements.specs.Values.{array_of, list_data, slot_data, val
 
 use crate::lists::{lines_value, list_value};
 use crate::parts::{text_or_null_value, text_value};
-use crate::values::tagged_value;
 use jdwp_values::{Line, Value};
-use line_elements::Arguments;
+use line_elements::{Arguments, value_json};
 use serde_json::{Value as Json, json};
 use slot_values::SlotValue;
 use std::alloc::Global;
@@ -114,7 +113,7 @@ impl Elements {
     pub(crate) fn value(&mut self, value: &Value) -> Result<(), NoMemory>
         ensures { OnOk result (self.new ≡ self.old ++ value_data value.now ∷ []) }
     {
-        let value = tagged_value(self.alloc, value)?;
+        let value = value_json(self.alloc, value)?;
         self.push(value)
     }
 

@@ -7,8 +7,7 @@ mod lists;
 mod moves;
 mod parts;
 mod turns;
-mod values;
 mod world_rows;
 
 pub use elements::Elements;
-pub use lines::{ScriptRow, add_end, add_head, add_row, add_rows, add_sizes};
+pub use lines::{ScriptRow, add_end, add_head, add_limits, add_row, add_rows, add_sizes};

@@ -1,10 +1,11 @@
 //! Lines, behind those before them.
-ghost use Rattle.std.specs.Prelude.{◌≡◌, ◌++◌, [], ◌∷◌, false, true, OnOk, flat_map};
+ghost use Rattle.std.specs.Prelude.{◌≡◌, ◌++◌, [], ◌∷◌, false, OnOk, Some, flat_map};
 ghost use Rattle.serde_json.specs.View.{view};
 ghost use Rattle.serde_json.specs.Written.{has_float};
 ghost use Rattle.script_rows.specs.Printing.{data_of};
 ghost use Rattle.line_elements.specs.Values.{array_of};
 ghost use Rattle.script_rows.specs.declared.rows.Row.TheVariants as rows;
+ghost use Rattle.line_elements.specs.declared.version.Version.TheVariants.{Second};
 ghost use Rattle.script_text.specs.Texts.{line_of};
 
 use crate::elements::Elements;
@@ -61,13 +62,13 @@ pub fn add_rows<T: ScriptRow>(alloc: Global, text: &mut Blob, rows: &[T]) -> Res
     Ok(())
 }
 
-/// Adds the first line, of the version that is known. `NoMemory` comes where memory is refused.
+/// Adds the first line, of the second version. `NoMemory` comes where memory is refused.
 pub fn add_head(alloc: Global, text: &mut Blob) -> Result<(), NoMemory>
-    ensures { OnOk result (text.new ≡ text.old ++ line_of (data_of (rows.Head true))) }
+    ensures { OnOk result (text.new ≡ text.old ++ line_of (data_of (rows.Head (Some Second)))) }
 {
     let mut line = Elements::new(alloc);
     line.word("script")?;
-    line.natural(1)?;
+    line.natural(2)?;
     add_line(alloc, text, line)
 }
 
@@ -92,6 +93,31 @@ fn say_sizes(line: &mut Elements, sizes: IdSizes) -> Result<(), NoMemory>
     line.natural(u64::from(sizes.object))?;
     line.natural(u64::from(sizes.class))?;
     line.natural(u64::from(sizes.frame))
+}
+
+/// Adds the line that says the limits. `NoMemory` comes where memory is refused.
+pub fn add_limits(
+    alloc: Global,
+    text: &mut Blob,
+    turns: u64,
+    quiet: u64,
+    waiting: u32,
+) -> Result<(), NoMemory>
+    ensures { OnOk result (text.new ≡ text.old ++ line_of (data_of (rows.Limits turns quiet waiting))) }
+{
+    let mut line = Elements::new(alloc);
+    say_limits(&mut line, turns, quiet, waiting)?;
+    add_line(alloc, text, line)
+}
+
+fn say_limits(line: &mut Elements, turns: u64, quiet: u64, waiting: u32) -> Result<(), NoMemory>
+    requires { line.old ≡ [] }
+    ensures { OnOk result (array_of line.new ≡ data_of (rows.Limits turns quiet waiting)) }
+{
+    line.word("limits")?;
+    line.natural(turns)?;
+    line.natural(quiet)?;
+    line.natural(u64::from(waiting))
 }
 
 /// Adds the last line. `NoMemory` comes where memory is refused.

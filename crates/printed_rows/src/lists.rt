@@ -3,8 +3,8 @@ ghost use Rattle.std.specs.Prelude.{◌≡◌, IfOk};
 ghost use Rattle.serde_json.specs.View.{view};
 ghost use Rattle.line_elements.specs.Values.{list_data, lines_data};
 
-use crate::values::tagged_value;
 use jdwp_values::{Line, Value};
+use line_elements::value_json;
 use serde_json::{Value as Json, json};
 use slot_values::SlotValue;
 use std::alloc::Global;
@@ -29,7 +29,7 @@ impl Element for Value {
     ghost data_of = { value_data };
 
     fn value(&self, alloc: Global) -> Result<Json, NoMemory> {
-        tagged_value(alloc, self)
+        value_json(alloc, self)
     }
 }
 
@@ -40,7 +40,7 @@ impl Element for SlotValue {
 
     fn value(&self, alloc: Global) -> Result<Json, NoMemory> {
         let slot = self.slot;
-        let value = tagged_value(alloc, &self.value)?;
+        let value = value_json(alloc, &self.value)?;
         Ok(json!(in alloc; [slot, value])?)
     }
 }

@@ -1,11 +1,10 @@
-//! Texts, tags and sides of a line.
-ghost use Rattle.std.specs.Prelude.{◌≡◌, ◌∷◌, [], IfOk};
+//! Texts and sides of a line.
+ghost use Rattle.std.specs.Prelude.{◌≡◌, IfOk};
 ghost use Rattle.serde_json.specs.View.{view};
-ghost use Rattle.jdwp_values.specs.Tags.{byte_of_tag};
 ghost use Rattle.line_elements.specs.Numbers.{text_data, text_or_null_data};
 ghost use Rattle.line_elements.specs.Values.{side_name};
 
-use jdwp_values::{Tag, lossy};
+use jdwp_values::lossy;
 use serde_json::{Value as Json, json};
 use std::alloc::Global;
 use wire_core::{Blob, NoMemory, Side};
@@ -25,30 +24,6 @@ pub(crate) fn text_or_null_value(alloc: Global, bytes: &Option<Blob>) -> Result<
     match bytes {
         Some(bytes) => text_value(alloc, bytes.as_slice()),
         None => Ok(Json::Null),
-    }
-}
-
-/// A tag's character.
-pub(crate) fn tag_name(tag: Tag) -> &'static str
-    ensures { result.now ≡ byte_of_tag tag ∷ [] }
-{
-    match tag {
-        Tag::Byte => "B",
-        Tag::Char => "C",
-        Tag::Double => "D",
-        Tag::Float => "F",
-        Tag::Int => "I",
-        Tag::Long => "J",
-        Tag::Short => "S",
-        Tag::Boolean => "Z",
-        Tag::Void => "V",
-        Tag::Object => "L",
-        Tag::Array => "[",
-        Tag::String => "s",
-        Tag::Thread => "t",
-        Tag::ThreadGroup => "g",
-        Tag::ClassLoader => "l",
-        Tag::ClassObject => "c",
     }
 }
 

@@ -1,7 +1,7 @@
 //! Lines of the world.
 use crate::elements::Elements;
 use crate::lines::ScriptRow;
-use crate::parts::tag_name;
+use line_elements::tag_name;
 use script_rows::Begin;
 use wire_core::NoMemory;
 use world_model::{

@@ -21,19 +21,26 @@ use Rattle.script_rows.proofs.PlainLaws.{row_has_no_float}
 use Rattle.script_text.specs.declared.log.ScriptFault.{ScriptFault}
 use Rattle.script_text.specs.declared.log.ScriptFault.TheVariants.{NotUtf8, NoEnd}
 use Rattle.script_text.specs.Texts.{line_of}
+use Rattle.line_elements.specs.declared.version.Version.{Version}
+use Rattle.line_elements.specs.declared.version.Version.TheVariants.{Second}
+use Rattle.target_scripts.specs.declared.building.Building.{Building}
+use Rattle.target_scripts.specs.Adding.{grown}
 use Rattle.script_files.specs.Reading.{unless_shapeless, row_read, row_in, row_taken, said, line_taken, Stop, after}
-use Rattle.script_files.specs.Reading.{end_fault, finished, read_on}
+use Rattle.script_files.specs.Reading.{end_fault, finished, read_on, or_first, behind_row, taken_by, first_taken}
+use Rattle.script_files.specs.Reading.{with_sizes, numbers_of}
 use Rattle.printed_scripts.specs.Texts.{row_text}
-use Rattle.printed_scripts.proofs.RowLaws.{IsFit, row_told}
+use Rattle.printed_scripts.proofs.RowLaws.{IsFit, IsTold, row_told}
 
 -- ---- a line
 
 abbrev NoFeed : List ℕ → Type 0
 NoFeed bytes = AllByRecursion (λ byte. byte ≢ 10) bytes
 
--- what is printed of a row is one line, and is read as the row
+-- what is printed of a row is one line, which is read as the value of the row, and that as the row
 pub record IsShown (row : Row) : Type 0 where
-  pub is_read : row_in (compact_text (data_of row)) ≡ Ok row
+  pub utf8 : is_utf8 (compact_text (data_of row)) ≡ true
+  pub value : read (compact_text (data_of row)) ≡ Some (data_of row)
+  pub again : row_of Second (data_of row) ≡ Some row
   pub no_feed : NoFeed (compact_text (data_of row))
 
 row_found : (row : Row) (o : Option Row) → unless_shapeless o ≡ Ok row → o ≡ Some row
@@ -44,30 +51,38 @@ row_found row (Some other) e = ap (found_row row) e
     found_row row (Ok found) = Some found
     found_row row (Err kind) = Some row
 
-row_if : Bool → Option Data → Result Row ScriptFault
-row_if utf8 value = if utf8 then row_read value else Err NotUtf8
+row_if : Version → Bool → Option Data → Result Row ScriptFault
+row_if v utf8 value = if utf8 then row_read v value else Err NotUtf8
 
-from_line : (line : List ℕ) (row : Row) (utf8 : Bool) (value : Option Data) → is_utf8 line ≡ utf8 →
-    read line ≡ value → row_if utf8 value ≡ Ok row → IsShown row
+-- from what a row's value is like, and that it is read as the row
+pub shown_by : (row : Row) → IsTold row → row_of Second (data_of row) ≡ Some row → IsShown row
+shown_by row told again =
+    let shown = is_line (data_of row) told.fit.spelled told.fit.shallow (row_has_no_float row told.plain) in
+    record { utf8 = shown.utf8; value = shown.is_read; again = again; no_feed = shown.no_feed }
+
+-- a row that is shown is read in the version in which its value is the row
+pub read_by : (v : Version) (row : Row) → IsShown row → row_of v (data_of row) ≡ Some row →
+    row_in v (compact_text (data_of row)) ≡ Ok row
 unfolding row_in row_if
-from_line line row true (Some d) utf8 e is =
-    let found = row_found row (row_of d) is in
+read_by v row shown same =
+    ap (λ test. row_if v test (read (compact_text (data_of row)))) shown.utf8
+    ∙ ap (row_read v) shown.value
+    ∙ ap unless_shapeless same
+
+from_line : (v : Version) (line : List ℕ) (row : Row) (utf8 : Bool) (value : Option Data) → is_utf8 line ≡ utf8 →
+    read line ≡ value → row_if v utf8 value ≡ Ok row → IsShown row
+unfolding row_in row_if
+from_line v line row true (Some d) utf8 e is =
+    let found = row_found row (row_of v d) is in
     let fit : IsFit 127 d =
     record { spelled = read_spelled line d (IsUtf8-from_is_utf8 line utf8) e; shallow = depth-read line d e } in
-    let told = row_told d row fit found in
-    let shown = is_line (data_of row) told.fit.spelled told.fit.shallow (row_has_no_float row told.plain) in
-    record {
-      is_read = ap (λ test. row_if test (read (compact_text (data_of row)))) shown.utf8
-          ∙ ap row_read shown.is_read
-          ∙ ap unless_shapeless (printed_again d row found);
-      no_feed = shown.no_feed;
-    }
-from_line line row true None utf8 e is = absurd cc
-from_line line row false value utf8 e is = absurd cc
+    shown_by row (row_told v d row fit found) (printed_again v d row found)
+from_line v line row true None utf8 e is = absurd cc
+from_line v line row false value utf8 e is = absurd cc
 
-shown_row : (line : List ℕ) (row : Row) → row_in line ≡ Ok row → IsShown row
+shown_row : (v : Version) (line : List ℕ) (row : Row) → row_in v line ≡ Ok row → IsShown row
 unfolding row_in row_if
-shown_row line row e = from_line line row (is_utf8 line) (read line) refl refl e
+shown_row v line row e = from_line v line row (is_utf8 line) (read line) refl refl e
 
 -- ---- rows in order
 
@@ -123,14 +138,15 @@ at_end reading (byte ∷ rest) stop e clear = absurd (never (line_taken reading 
 at_feed : (reading : Reading) (line : List ℕ) (follows : Reading → Stop) (stop : Stop) →
     after reading follows (line_taken reading line) ≡ stop → stop.fault ≡ None →
     ((next : Reading) → follows next ≡ stop → HasRows next stop) → HasRows reading stop
-at_feed reading line follows stop e clear again = by_row (row_in line) refl e
+at_feed reading line follows stop e clear again = by_row (row_in (or_first reading.version) line) refl e
   where
-    by_taken : (row : Row) (taken : Result Reading ScriptFault) → row_in line ≡ Ok row → row_taken reading row ≡ taken →
+    by_taken : (row : Row) (taken : Result Reading ScriptFault) → row_in (or_first reading.version) line ≡ Ok row →
+        row_taken reading row ≡ taken →
         after reading follows taken ≡ stop → HasRows reading stop
-    by_taken row (Ok next) is taken e = one_row reading next row stop (shown_row line row is) taken (again next e)
+    by_taken row (Ok next) is taken e = one_row reading next row stop (shown_row (or_first reading.version) line row is) taken (again next e)
     by_taken row (Err kind) is taken e = absurd (no_fault reading kind stop e clear)
 
-    by_row : (found : Result Row ScriptFault) → row_in line ≡ found →
+    by_row : (found : Result Row ScriptFault) → row_in (or_first reading.version) line ≡ found →
         after reading follows (said reading found) ≡ stop → HasRows reading stop
     by_row (Ok row) is e = by_taken row (row_taken reading row) is refl e
     by_row (Err kind) is e = absurd (no_fault reading kind stop e clear)
@@ -165,16 +181,41 @@ one_line reading line (byte ∷ body) more clear =
     ∙ ap (λ (whole : List ℕ). after reading (λ next. read_on next [] more) (line_taken reading whole))
     (append_assoc line (byte ∷ []) body)
 
-pub rows_again : (read : List Row) (reading now : Reading) → AllByRecursion IsShown read → Takes reading read now →
-    read_on reading [] (flat_map row_text read) ≡ finished now []
+-- the version stays behind the head
+behind_version : (v : Version) (reading next : Reading) (result : Result Building ScriptFault) →
+    reading.version ≡ Some v → behind_row reading result ≡ Ok next → next.version ≡ Some v
+behind_version v reading next (Ok b) is e = sym (ap (version_or reading) e) ∙ is
+  where
+    version_or : Reading → Result Reading ScriptFault → Option Version
+    version_or other (Ok found) = found.version
+    version_or other (Err kind) = other.version
+behind_version v reading next (Err kind) is e = absurd cc
+
+version_stays : (v : Version) (reading next : Reading) (row : Row) → reading.version ≡ Some v →
+    row_taken reading row ≡ Ok next → next.version ≡ Some v
+version_stays v reading next row is e = by_building reading.building e
+  where
+    by_building : (building : Option Building) → taken_by reading row building ≡ Ok next → next.version ≡ Some v
+    by_building (Some b) e = behind_version v reading next (grown b row) is e
+    by_building None e =
+        behind_version v reading next (with_sizes (numbers_of row)) is (sym (ap (first_taken reading row) is) ∙ e)
+
+-- the next row is taken
+pub row_again : (v : Version) (row : Row) (more : List ℕ) (reading next : Reading) → or_first reading.version ≡ v →
+    IsShown row → row_of v (data_of row) ≡ Some row → row_taken reading row ≡ Ok next →
+    read_on reading [] (row_text row ++ more) ≡ read_on next [] more
 unfolding line_of
-rows_again [] reading now shown taken = ap (λ (r : Reading). finished r []) taken
-rows_again (row ∷ others) reading now shown taken =
-    let more = flat_map row_text others in
+row_again v row more reading next is shown same taken =
     let body = compact_text (data_of row) in
     ap (read_on reading []) (append_assoc body (10 ∷ []) more)
-    ∙ one_line reading [] body more shown.0.no_feed
+    ∙ one_line reading [] body more shown.no_feed
     ∙ ap (λ (found : Result Row ScriptFault). after reading (λ next. read_on next [] more) (said reading found))
-    shown.0.is_read
-    ∙ ap (λ (found : Result Reading ScriptFault). after reading (λ next. read_on next [] more) found) taken.1.0
-    ∙ rows_again others taken.0 now shown.1 taken.1.1
+    (ap (λ (w : Version). row_in w body) is ∙ read_by v row shown same)
+    ∙ ap (λ (found : Result Reading ScriptFault). after reading (λ next. read_on next [] more) found) taken
+
+pub rows_again : (read : List Row) (reading now : Reading) → reading.version ≡ Some Second →
+    AllByRecursion IsShown read → Takes reading read now → read_on reading [] (flat_map row_text read) ≡ finished now []
+rows_again [] reading now is shown taken = ap (λ (r : Reading). finished r []) taken
+rows_again (row ∷ others) reading now is shown taken =
+    row_again Second row (flat_map row_text others) reading taken.0 (ap or_first is) shown.0 shown.0.again taken.1.0
+    ∙ rows_again others taken.0 now (version_stays Second reading taken.0 row is taken.1.0) shown.1 taken.1.1

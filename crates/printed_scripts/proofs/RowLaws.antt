@@ -41,7 +41,10 @@ use Rattle.line_elements.specs.Numbers.{natural_of, natural_data, signed_within,
 use Rattle.line_elements.specs.Numbers.{int_of, long_of, index_of, index_data, utf8_text, text_of, text_data}
 use Rattle.line_elements.specs.Numbers.{text_or_null_of, text_or_null_data, version_data}
 use Rattle.line_elements.specs.Values.{array_of, tag_data, class_tag_data, policy_data, side_data, pair_of, each_of}
-use Rattle.line_elements.specs.Values.{list_of, list_data, tagged_of, value_in, value_of, value_data, number_data}
+use Rattle.line_elements.specs.Bits.{bits_text}
+use Rattle.line_elements.specs.declared.version.Version.{Version}
+use Rattle.line_elements.specs.declared.version.Version.TheVariants.{First, Second}
+use Rattle.line_elements.specs.Values.{list_of, list_data, bits_data, tagged_of, value_in, value_of, value_data, told_data}
 use Rattle.line_elements.specs.Values.{slot_in}
 use Rattle.line_elements.specs.Values.{slot_of, slot_data, line_in, line_of, line_data, lines_of, lines_data}
 use Rattle.line_elements.specs.Values.{arguments_of}
@@ -51,8 +54,11 @@ use Rattle.line_elements.specs.Parts.{object_tag}
 use Rattle.line_elements.specs.Parts.{policy, side, value, values as value_list, slots, lines, arguments, version, Of}
 use Rattle.line_elements.specs.Parts.{part_of, part_data, part_at, Holds, From, row_at, row_data}
 use Rattle.script_rows.specs.Plain.{IsPlain}
+use Rattle.target_scripts.specs.Adding.{usual_turns, usual_quiet, usual_waiting}
+use Rattle.printed_scripts.proofs.BitTexts.{bits_ascii}
 use Rattle.script_rows.specs.Printing.{data_of}
 use Rattle.script_rows.specs.Rows.{kind_of, whole, row_in, row_of, as_row}
+use Rattle.script_rows.specs.Rows.{sizes_made, limits_parts, limits_made}
 use Rattle.script_rows.specs.Rows.{id, sizes_parts, class_parts, class_made, method_parts, method_made, variable_parts}
 use Rattle.script_rows.specs.Rows.{variable_made, field_parts, field_made, object_parts, object_made, array_parts}
 use Rattle.script_rows.specs.Rows.{array_made, string_parts, string_made, put_parts, put_made, thread_parts}
@@ -229,77 +235,51 @@ side_fit : (deep : ℕ) (s : Side) → IsFit deep (side_data s)
 side_fit deep Client = flat deep _ (ascii_utf8 (codes "client") refl) refl
 side_fit deep Target = flat deep _ (ascii_utf8 (codes "target") refl) refl
 
-version_fit : (deep : ℕ) (known : Bool) → IsFit deep (version_data known)
-version_fit deep true = flat deep _ (omega arith) refl
-version_fit deep false = flat deep _ (omega arith) refl
+version_fit : (deep : ℕ) (v : Option Version) → IsFit deep (version_data v)
+version_fit deep None = flat deep _ (omega arith) refl
+version_fit deep (Some First) = flat deep _ (omega arith) refl
+version_fit deep (Some Second) = flat deep _ (omega arith) refl
 
 -- ---- values
 
-number_same : (tag : Tag) (d : Data) (v : Value) → IsSpelled d → tagged_of tag d ≡ Some v → d ≡ number_data v
-number_same tags.Byte d v spelled e =
-    map_some values.Byte (signed_of (negsuc 127) (pos 127) d) v e
-    (λ z found is. signed_same (negsuc 127) (pos 127) d z spelled found ∙ ap number_data is)
-number_same tags.Char d v spelled e =
-    map_some values.Char (natural_of 0 (2 ^ 16) d) v e
-    (λ n found is. natural_same 0 (2 ^ 16) d n found ∙ ap number_data is)
-number_same tags.Double d v spelled e =
-    map_some values.Double (natural_of 0 (2 ^ 63) d) v e
-    (λ n found is. natural_same 0 (2 ^ 63) d n found ∙ ap number_data is)
-number_same tags.Float d v spelled e =
-    map_some values.Float (natural_of 0 (2 ^ 32) d) v e
-    (λ n found is. natural_same 0 (2 ^ 32) d n found ∙ ap number_data is)
-number_same tags.Int d v spelled e =
-    map_some values.Int (int_of d) v e
-    (λ z found is. signed_same (negsuc (2 ^ 31 - 1)) (pos (2 ^ 31 - 1)) d z spelled found ∙ ap number_data is)
-number_same tags.Long d v spelled e =
-    map_some values.Long (long_of d) v e
-    (λ z found is. signed_same (negsuc (2 ^ 63 - 1)) (pos (2 ^ 63 - 1)) d z spelled found ∙ ap number_data is)
-number_same tags.Short d v spelled e =
-    map_some values.Short (signed_of (negsuc (2 ^ 15 - 1)) (pos (2 ^ 15 - 1)) d) v e
-    (λ z found is. signed_same (negsuc (2 ^ 15 - 1)) (pos (2 ^ 15 - 1)) d z spelled found ∙ ap number_data is)
-number_same tags.Boolean d v spelled e =
-    map_some values.Boolean (natural_of 0 256 d) v e
-    (λ n found is. natural_same 0 256 d n found ∙ ap number_data is)
-number_same tags.Void d v spelled e = absurd (none-some v e)
-number_same tags.Object d v spelled e =
-    map_some (λ n. values.Object (record { 0 = n })) (natural_of 0 (2 ^ 63) d) v e
-    (λ n found is. natural_same 0 (2 ^ 63) d n found ∙ ap number_data is)
-number_same tags.Array d v spelled e =
-    map_some (λ n. values.Array (record { 0 = n })) (natural_of 0 (2 ^ 63) d) v e
-    (λ n found is. natural_same 0 (2 ^ 63) d n found ∙ ap number_data is)
-number_same tags.String d v spelled e =
-    map_some (λ n. values.String (record { 0 = n })) (natural_of 0 (2 ^ 63) d) v e
-    (λ n found is. natural_same 0 (2 ^ 63) d n found ∙ ap number_data is)
-number_same tags.Thread d v spelled e =
-    map_some (λ n. values.Thread (record { 0 = n })) (natural_of 0 (2 ^ 63) d) v e
-    (λ n found is. natural_same 0 (2 ^ 63) d n found ∙ ap number_data is)
-number_same tags.ThreadGroup d v spelled e =
-    map_some (λ n. values.ThreadGroup (record { 0 = n })) (natural_of 0 (2 ^ 63) d) v e
-    (λ n found is. natural_same 0 (2 ^ 63) d n found ∙ ap number_data is)
-number_same tags.ClassLoader d v spelled e =
-    map_some (λ n. values.ClassLoader (record { 0 = n })) (natural_of 0 (2 ^ 63) d) v e
-    (λ n found is. natural_same 0 (2 ^ 63) d n found ∙ ap number_data is)
-number_same tags.ClassObject d v spelled e =
-    map_some (λ n. values.ClassObject (record { 0 = n })) (natural_of 0 (2 ^ 63) d) v e
-    (λ n found is. natural_same 0 (2 ^ 63) d n found ∙ ap number_data is)
+bits_fit : (deep n : ℕ) → IsFit deep (bits_data n)
+bits_fit deep n = flat deep (bits_data n) (ascii_utf8 (bits_text n) (bits_ascii n)) refl
 
-number_flat : (v : Value) → depth (number_data v) ≡ 0
-number_flat (values.Byte z) = refl
-number_flat (values.Char n) = refl
-number_flat (values.Double n) = refl
-number_flat (values.Float n) = refl
-number_flat (values.Int z) = refl
-number_flat (values.Long z) = refl
-number_flat (values.Short z) = refl
-number_flat (values.Boolean n) = refl
-number_flat values.Void = refl
-number_flat (values.Object o) = refl
-number_flat (values.Array o) = refl
-number_flat (values.String o) = refl
-number_flat (values.Thread o) = refl
-number_flat (values.ThreadGroup o) = refl
-number_flat (values.ClassLoader o) = refl
-number_flat (values.ClassObject o) = refl
+signed_fit : (deep : ℕ) (make : ℤ → Value) (least most : ℤ) (d : Data) (v : Value) → IsFit deep d →
+    ((z : ℤ) → told_data (make z) ≡ signed_data z) → option_map make (signed_of least most d) ≡ Some v →
+    IsFit deep (told_data v)
+signed_fit deep make least most d v fit shown e =
+    map_some make (signed_of least most d) v e
+    (λ z found is. subst (IsFit deep)
+    (signed_same least most d z fit.spelled found ∙ sym (shown z) ∙ ap told_data is) fit)
+
+bits_told : (deep : ℕ) (make : ℕ → Value) (o : Option ℕ) (v : Value) →
+    ((n : ℕ) → told_data (make n) ≡ bits_data n) → option_map make o ≡ Some v → IsFit deep (told_data v)
+bits_told deep make o v shown e =
+    map_some make o v e (λ n _ is. subst (IsFit deep) (sym (shown n) ∙ ap told_data is) (bits_fit deep n))
+
+-- what stands behind a tag
+told_fit : (deep : ℕ) (ver : Version) (tag : Tag) (d : Data) (v : Value) → IsFit deep d →
+    tagged_of ver tag d ≡ Some v → IsFit deep (told_data v)
+told_fit deep ver tags.Byte d v fit e = signed_fit deep values.Byte (negsuc 127) (pos 127) d v fit (λ z. refl) e
+told_fit deep ver tags.Char d v fit e = bits_told deep values.Char _ v (λ n. refl) e
+told_fit deep ver tags.Double d v fit e = bits_told deep values.Double _ v (λ n. refl) e
+told_fit deep ver tags.Float d v fit e = bits_told deep values.Float _ v (λ n. refl) e
+told_fit deep ver tags.Int d v fit e =
+    signed_fit deep values.Int (negsuc (2 ^ 31 - 1)) (pos (2 ^ 31 - 1)) d v fit (λ z. refl) e
+told_fit deep ver tags.Long d v fit e =
+    signed_fit deep values.Long (negsuc (2 ^ 63 - 1)) (pos (2 ^ 63 - 1)) d v fit (λ z. refl) e
+told_fit deep ver tags.Short d v fit e =
+    signed_fit deep values.Short (negsuc (2 ^ 15 - 1)) (pos (2 ^ 15 - 1)) d v fit (λ z. refl) e
+told_fit deep ver tags.Boolean d v fit e = bits_told deep values.Boolean _ v (λ n. refl) e
+told_fit deep ver tags.Void d v fit e = absurd (none-some v e)
+told_fit deep ver tags.Object d v fit e = bits_told deep (λ n. values.Object (record { 0 = n })) _ v (λ n. refl) e
+told_fit deep ver tags.Array d v fit e = bits_told deep (λ n. values.Array (record { 0 = n })) _ v (λ n. refl) e
+told_fit deep ver tags.String d v fit e = bits_told deep (λ n. values.String (record { 0 = n })) _ v (λ n. refl) e
+told_fit deep ver tags.Thread d v fit e = bits_told deep (λ n. values.Thread (record { 0 = n })) _ v (λ n. refl) e
+told_fit deep ver tags.ThreadGroup d v fit e = bits_told deep (λ n. values.ThreadGroup (record { 0 = n })) _ v (λ n. refl) e
+told_fit deep ver tags.ClassLoader d v fit e = bits_told deep (λ n. values.ClassLoader (record { 0 = n })) _ v (λ n. refl) e
+told_fit deep ver tags.ClassObject d v fit e = bits_told deep (λ n. values.ClassObject (record { 0 = n })) _ v (λ n. refl) e
 
 pair_same : (d : Data) (pair : Data × Data) → pair_of d ≡ Some pair →
     d ≡ array (item pair.0 (item pair.1 no_items))
@@ -333,33 +313,33 @@ two_fit deep a b p q =
     array_fit deep (item a (item b no_items))
     (both_fit deep a (item b no_items) p (both_fit deep b no_items q (none_fit deep)))
 
-value_fit : (deep : ℕ) (d : Data) (v : Value) → IsFit (suc deep) d → value_of d ≡ Some v →
+value_fit : (deep : ℕ) (ver : Version) (d : Data) (v : Value) → IsFit (suc deep) d → value_of ver d ≡ Some v →
     IsFit (suc deep) (value_data v)
-value_fit deep d v fit e =
-    option_and_then_some value_in (pair_of d) v e
+value_fit deep ver d v fit e =
+    option_and_then_some (value_in ver) (pair_of d) v e
     (λ pair found inside.
     let parts = pair_fit deep d pair fit found in
-    option_and_then_some (λ tag. tagged_of tag pair.1) (tag_in pair.0) v inside
+    option_and_then_some (λ tag. tagged_of ver tag pair.1) (tag_in pair.0) v inside
     (λ tag _ is.
-    two_fit deep (tag_data (tag_of_value v)) (number_data v) (tag_fit deep (tag_of_value v))
-    (subst (IsFit deep) (number_same tag pair.1 v parts.right.spelled is) parts.right)))
+    two_fit deep (tag_data (tag_of_value v)) (told_data v) (tag_fit deep (tag_of_value v))
+    (told_fit deep ver tag pair.1 v parts.right is)))
 
-slot_fit : (deep : ℕ) (d : Data) (s : SlotValue) → IsFit (suc (suc deep)) d → slot_of d ≡ Some s →
-    IsFit (suc (suc deep)) (slot_data s)
-slot_fit deep d s fit e =
-    option_and_then_some slot_in (pair_of d) s e
+slot_fit : (deep : ℕ) (ver : Version) (d : Data) (s : SlotValue) → IsFit (suc (suc deep)) d →
+    slot_of ver d ≡ Some s → IsFit (suc (suc deep)) (slot_data s)
+slot_fit deep ver d s fit e =
+    option_and_then_some (slot_in ver) (pair_of d) s e
     (λ pair found inside.
     let parts = pair_fit (suc deep) d pair fit found in
     option_and_then_some
-    (λ n. option_map (λ v. record { slot = n; value = v }) (value_of pair.1)) (int_of pair.0) s inside
+    (λ n. option_map (λ v. record { slot = n; value = v }) (value_of ver pair.1)) (int_of pair.0) s inside
     (λ n number made.
-    map_some (λ v. record { slot = n; value = v }) (value_of pair.1) s made
+    map_some (λ v. record { slot = n; value = v }) (value_of ver pair.1) s made
     (λ v read is.
     subst (λ (t : SlotValue). IsFit (suc (suc deep)) (slot_data t)) is
     (two_fit (suc deep) (signed_data n) (value_data v)
     (subst (IsFit (suc deep))
     (signed_same (negsuc (2 ^ 31 - 1)) (pos (2 ^ 31 - 1)) pair.0 n parts.left.spelled number) parts.left)
-    (value_fit deep pair.1 v parts.right read)))))
+    (value_fit deep ver pair.1 v parts.right read)))))
 
 line_fit : (deep : ℕ) (d : Data) (l : Line) → IsFit (suc deep) d → line_of d ≡ Some l → IsFit (suc deep) (line_data l)
 line_fit deep d l fit e =
@@ -441,9 +421,9 @@ part_fit class_tag d x fit e = class_tag_fit 126 x
 part_fit object_tag d x fit e = tag_fit 126 x
 part_fit policy d x fit e = policy_fit 126 x
 part_fit side d x fit e = side_fit 126 x
-part_fit value d x fit e = value_fit 125 d x fit e
-part_fit value_list d x fit e = list_fit 125 value_of value_data (value_fit 124) d x fit e
-part_fit slots d x fit e = list_fit 125 slot_of slot_data (slot_fit 123) d x fit e
+part_fit (value ver) d x fit e = value_fit 125 ver d x fit e
+part_fit (value_list ver) d x fit e = list_fit 125 (value_of ver) value_data (value_fit 124 ver) d x fit e
+part_fit (slots ver) d x fit e = list_fit 125 (slot_of ver) slot_data (slot_fit 123 ver) d x fit e
 part_fit lines d x fit e = lines_fit 124 d x fit e
 part_fit arguments d x fit e = subst (IsFit 126) (arguments_plain d x e).0 fit
 part_fit version d x fit e = version_fit 126 x
@@ -462,9 +442,9 @@ IsPlainPart class_tag x = Unit {0}
 IsPlainPart object_tag x = Unit {0}
 IsPlainPart policy x = Unit {0}
 IsPlainPart side x = Unit {0}
-IsPlainPart value x = Unit {0}
-IsPlainPart value_list x = Unit {0}
-IsPlainPart slots x = Unit {0}
+IsPlainPart (value ver) x = Unit {0}
+IsPlainPart (value_list ver) x = Unit {0}
+IsPlainPart (slots ver) x = Unit {0}
 IsPlainPart lines x = Unit {0}
 IsPlainPart arguments x = has_float x ≡ false
 IsPlainPart version x = Unit {0}
@@ -482,9 +462,9 @@ part_plain class_tag d x e = tt
 part_plain object_tag d x e = tt
 part_plain policy d x e = tt
 part_plain side d x e = tt
-part_plain value d x e = tt
-part_plain value_list d x e = tt
-part_plain slots d x e = tt
+part_plain (value ver) d x e = tt
+part_plain (value_list ver) d x e = tt
+part_plain (slots ver) d x e = tt
 part_plain lines d x e = tt
 part_plain arguments d x e = (arguments_plain d x e).1
 part_plain version d x e = tt
@@ -603,201 +583,209 @@ named s name P here others = by_test (bytes_eq s name) refl
     by_test false e = others e
 
 -- what a line says that has this name
-abbrev Says : Items → List ℕ → Type 0
-Says items s = Told (λ kind. row_in kind items) (kind_of s)
+abbrev Says : Version → Items → List ℕ → Type 0
+Says ver items s = Told (λ kind. row_in ver kind items) (kind_of s)
 
-script_line : (items : Items) → AreFit 126 items → Says items (codes "script")
+script_line : (ver : Version) (items : Items) → AreFit 126 items → Says ver items (codes "script")
 unfolding kind_of row_in
-script_line items fit =
-    bare_told (codes "script") (version ∷ []) (λ known. rows.Head known) refl (λ held. refl)
+script_line ver items fit =
+    bare_told (codes "script") (version ∷ []) (λ told. rows.Head told) refl (λ held. refl)
     (λ held plain. tt) items fit
 
-sizes_line : (items : Items) → AreFit 126 items → Says items (codes "sizes")
+sizes_line : (ver : Version) (items : Items) → AreFit 126 items → Says ver items (codes "sizes")
 unfolding kind_of row_in
-sizes_line items fit =
-    bare_told (codes "sizes") sizes_parts (λ a b c d e. rows.Sizes (a ∷ b ∷ c ∷ d ∷ e ∷ [])) refl (λ held. refl)
+sizes_line ver items fit =
+    bare_told (codes "sizes") sizes_parts sizes_made refl (λ held. refl)
     (λ held plain. tt) items fit
 
-class_line : (items : Items) → AreFit 126 items → Says items (codes "class")
+limits_line : (ver : Version) (items : Items) → AreFit 126 items → Says ver items (codes "limits")
 unfolding kind_of row_in
-class_line items fit =
+limits_line First items fit = λ r e. absurd (none-some r e)
+limits_line Second items fit =
+    bare_told (codes "limits") limits_parts limits_made refl (λ held. refl)
+    (λ held plain. tt) items fit
+
+class_line : (ver : Version) (items : Items) → AreFit 126 items → Says ver items (codes "class")
+unfolding kind_of row_in
+class_line ver items fit =
     line_told (codes "class") class_parts class_made rows.Class
     refl (λ held. refl) (λ held plain. tt) items fit
 
-method_line : (items : Items) → AreFit 126 items → Says items (codes "method")
+method_line : (ver : Version) (items : Items) → AreFit 126 items → Says ver items (codes "method")
 unfolding kind_of row_in
-method_line items fit =
+method_line ver items fit =
     line_told (codes "method") method_parts method_made rows.Method
     refl (λ held. refl) (λ held plain. tt) items fit
 
-variable_line : (items : Items) → AreFit 126 items → Says items (codes "variable")
+variable_line : (ver : Version) (items : Items) → AreFit 126 items → Says ver items (codes "variable")
 unfolding kind_of row_in
-variable_line items fit =
+variable_line ver items fit =
     line_told (codes "variable") variable_parts variable_made rows.Variable
     refl (λ held. refl) (λ held plain. tt) items fit
 
-field_line : (items : Items) → AreFit 126 items → Says items (codes "field")
+field_line : (ver : Version) (items : Items) → AreFit 126 items → Says ver items (codes "field")
 unfolding kind_of row_in
-field_line items fit =
+field_line ver items fit =
     line_told (codes "field") field_parts field_made rows.Field
     refl (λ held. refl) (λ held plain. tt) items fit
 
-object_line : (items : Items) → AreFit 126 items → Says items (codes "object")
+object_line : (ver : Version) (items : Items) → AreFit 126 items → Says ver items (codes "object")
 unfolding kind_of row_in
-object_line items fit =
+object_line ver items fit =
     line_told (codes "object") object_parts object_made rows.Object
     refl (λ held. refl) (λ held plain. tt) items fit
 
-array_line : (items : Items) → AreFit 126 items → Says items (codes "array")
+array_line : (ver : Version) (items : Items) → AreFit 126 items → Says ver items (codes "array")
 unfolding kind_of row_in
-array_line items fit =
-    line_told (codes "array") array_parts array_made rows.Array
+array_line ver items fit =
+    line_told (codes "array") (array_parts ver) (array_made ver) rows.Array
     refl (λ held. refl) (λ held plain. tt) items fit
 
-string_line : (items : Items) → AreFit 126 items → Says items (codes "string")
+string_line : (ver : Version) (items : Items) → AreFit 126 items → Says ver items (codes "string")
 unfolding kind_of row_in
-string_line items fit =
+string_line ver items fit =
     line_told (codes "string") string_parts string_made rows.Text
     refl (λ held. refl) (λ held plain. tt) items fit
 
-put_line : (items : Items) → AreFit 126 items → Says items (codes "put")
+put_line : (ver : Version) (items : Items) → AreFit 126 items → Says ver items (codes "put")
 unfolding kind_of row_in
-put_line items fit =
-    line_told (codes "put") put_parts put_made rows.Put
+put_line ver items fit =
+    line_told (codes "put") (put_parts ver) (put_made ver) rows.Put
     refl (λ held. refl) (λ held plain. tt) items fit
 
-thread_line : (items : Items) → AreFit 126 items → Says items (codes "thread")
+thread_line : (ver : Version) (items : Items) → AreFit 126 items → Says ver items (codes "thread")
 unfolding kind_of row_in
-thread_line items fit =
+thread_line ver items fit =
     line_told (codes "thread") thread_parts thread_made rows.Thread
     refl (λ held. refl) (λ held plain. tt) items fit
 
-frame_line : (items : Items) → AreFit 126 items → Says items (codes "frame")
+frame_line : (ver : Version) (items : Items) → AreFit 126 items → Says ver items (codes "frame")
 unfolding kind_of row_in
-frame_line items fit =
-    line_told (codes "frame") frame_parts frame_made rows.Frame
+frame_line ver items fit =
+    line_told (codes "frame") (frame_parts ver) (frame_made ver) rows.Frame
     refl (λ held. refl) (λ held plain. tt) items fit
 
-begin_line : (items : Items) → AreFit 126 items → Says items (codes "begin")
+begin_line : (ver : Version) (items : Items) → AreFit 126 items → Says ver items (codes "begin")
 unfolding kind_of row_in
-begin_line items fit =
+begin_line ver items fit =
     line_told (codes "begin") begin_parts begin_made rows.Begin
     refl (λ held. refl) (λ held plain. tt) items fit
 
-end_line : (items : Items) → AreFit 126 items → Says items (codes "end")
+end_line : (ver : Version) (items : Items) → AreFit 126 items → Says ver items (codes "end")
 unfolding kind_of row_in
-end_line items fit =
+end_line ver items fit =
     bare_told (codes "end") [] rows.End refl (λ held. refl)
     (λ held plain. tt) items fit
 
-at_line : (items : Items) → AreFit 126 items → Says items (codes "at")
+at_line : (ver : Version) (items : Items) → AreFit 126 items → Says ver items (codes "at")
 unfolding kind_of row_in
-at_line items fit =
-    line_told (codes "at") at_parts at_made rows.Move
+at_line ver items fit =
+    line_told (codes "at") (at_parts ver) (at_made ver) rows.Move
     refl (λ held. refl) (λ held plain. tt) items fit
 
-call_line : (items : Items) → AreFit 126 items → Says items (codes "call")
+call_line : (ver : Version) (items : Items) → AreFit 126 items → Says ver items (codes "call")
 unfolding kind_of row_in
-call_line items fit =
-    line_told (codes "call") call_parts call_made rows.Move
+call_line ver items fit =
+    line_told (codes "call") (call_parts ver) (call_made ver) rows.Move
     refl (λ held. refl) (λ held plain. tt) items fit
 
-return_line : (items : Items) → AreFit 126 items → Says items (codes "return")
+return_line : (ver : Version) (items : Items) → AreFit 126 items → Says ver items (codes "return")
 unfolding kind_of row_in
-return_line items fit =
+return_line ver items fit =
     line_told (codes "return") (id ∷ []) (λ thread. moves.Return (record { 0 = thread })) rows.Move
     refl (λ held. refl) (λ held plain. tt) items fit
 
-prepare_line : (items : Items) → AreFit 126 items → Says items (codes "prepare")
+prepare_line : (ver : Version) (items : Items) → AreFit 126 items → Says ver items (codes "prepare")
 unfolding kind_of row_in
-prepare_line items fit =
+prepare_line ver items fit =
     line_told (codes "prepare") prepare_parts
     (λ class thread. moves.Prepare (record { 0 = class }) (record { 0 = thread })) rows.Move
     refl (λ held. refl) (λ held plain. tt) items fit
 
-throw_line : (items : Items) → AreFit 126 items → Says items (codes "throw")
+throw_line : (ver : Version) (items : Items) → AreFit 126 items → Says ver items (codes "throw")
 unfolding kind_of row_in
-throw_line items fit =
+throw_line ver items fit =
     line_told (codes "throw") throw_parts throw_made rows.Move
     refl (λ held. refl) (λ held plain. tt) items fit
 
-start_line : (items : Items) → AreFit 126 items → Says items (codes "start")
+start_line : (ver : Version) (items : Items) → AreFit 126 items → Says ver items (codes "start")
 unfolding kind_of row_in
-start_line items fit =
+start_line ver items fit =
     line_told (codes "start") thread_parts (λ thread name. moves.Start (record { 0 = thread }) name) rows.Move
     refl (λ held. refl) (λ held plain. tt) items fit
 
-die_line : (items : Items) → AreFit 126 items → Says items (codes "die")
+die_line : (ver : Version) (items : Items) → AreFit 126 items → Says ver items (codes "die")
 unfolding kind_of row_in
-die_line items fit =
+die_line ver items fit =
     line_told (codes "die") (id ∷ []) (λ thread. moves.Die (record { 0 = thread })) rows.Move
     refl (λ held. refl) (λ held plain. tt) items fit
 
-store_line : (items : Items) → AreFit 126 items → Says items (codes "store")
+store_line : (ver : Version) (items : Items) → AreFit 126 items → Says ver items (codes "store")
 unfolding kind_of row_in
-store_line items fit =
-    line_told (codes "store") put_parts
+store_line ver items fit =
+    line_told (codes "store") (put_parts ver)
     (λ object field value. moves.Store (record { 0 = object }) (record { 0 = field }) value) rows.Move
     refl (λ held. refl) (λ held plain. tt) items fit
 
-death_line : (items : Items) → AreFit 126 items → Says items (codes "death")
+death_line : (ver : Version) (items : Items) → AreFit 126 items → Says ver items (codes "death")
 unfolding kind_of row_in
-death_line items fit =
+death_line ver items fit =
     line_told (codes "death") [] moves.Death rows.Move
     refl (λ held. refl) (λ held plain. tt) items fit
 
-ask_line : (items : Items) → AreFit 126 items → Says items (codes "ask")
+ask_line : (ver : Version) (items : Items) → AreFit 126 items → Says ver items (codes "ask")
 unfolding kind_of row_in
-ask_line items fit =
+ask_line ver items fit =
     line_told (codes "ask") ask_parts (λ command arguments. turns.Ask command arguments) rows.Turn
     refl (λ held. refl) (λ held plain. plain.1.0) items fit
 
-client_line : (items : Items) → AreFit 126 items → Says items (codes "client")
+client_line : (ver : Version) (items : Items) → AreFit 126 items → Says ver items (codes "client")
 unfolding kind_of row_in
-client_line items fit =
+client_line ver items fit =
     line_told (codes "client") bytes_parts (λ n. turns.Client n) rows.Turn
     refl (λ held. refl) (λ held plain. tt) items fit
 
-target_line : (items : Items) → AreFit 126 items → Says items (codes "target")
+target_line : (ver : Version) (items : Items) → AreFit 126 items → Says ver items (codes "target")
 unfolding kind_of row_in
-target_line items fit =
+target_line ver items fit =
     line_told (codes "target") bytes_parts (λ n. turns.Target n) rows.Turn
     refl (λ held. refl) (λ held plain. tt) items fit
 
-serve_line : (items : Items) → AreFit 126 items → Says items (codes "serve")
+serve_line : (ver : Version) (items : Items) → AreFit 126 items → Says ver items (codes "serve")
 unfolding kind_of row_in
-serve_line items fit =
+serve_line ver items fit =
     line_told (codes "serve") serve_parts (λ n. turns.Serve n) rows.Turn
     refl (λ held. refl) (λ held plain. tt) items fit
 
-move_line : (items : Items) → AreFit 126 items → Says items (codes "move")
+move_line : (ver : Version) (items : Items) → AreFit 126 items → Says ver items (codes "move")
 unfolding kind_of row_in
-move_line items fit =
+move_line ver items fit =
     line_told (codes "move") [] turns.Move rows.Turn
     refl (λ held. refl) (λ held plain. tt) items fit
 
-settle_line : (items : Items) → AreFit 126 items → Says items (codes "settle")
+settle_line : (ver : Version) (items : Items) → AreFit 126 items → Says ver items (codes "settle")
 unfolding kind_of row_in
-settle_line items fit =
+settle_line ver items fit =
     line_told (codes "settle") [] turns.Settle rows.Turn
     refl (λ held. refl) (λ held plain. tt) items fit
 
-deliver_line : (items : Items) → AreFit 126 items → Says items (codes "deliver")
+deliver_line : (ver : Version) (items : Items) → AreFit 126 items → Says ver items (codes "deliver")
 unfolding kind_of row_in
-deliver_line items fit =
+deliver_line ver items fit =
     line_told (codes "deliver") [] turns.Deliver rows.Turn
     refl (λ held. refl) (λ held plain. tt) items fit
 
-shut_line : (items : Items) → AreFit 126 items → Says items (codes "shut")
+shut_line : (ver : Version) (items : Items) → AreFit 126 items → Says ver items (codes "shut")
 unfolding kind_of row_in
-shut_line items fit =
+shut_line ver items fit =
     line_told (codes "shut") (side ∷ []) (λ s. turns.Shut s) rows.Turn
     refl (λ held. refl) (λ held plain. tt) items fit
 
 -- another name is no line's
-no_line : (items : Items) (s : List ℕ) →
+no_line : (ver : Version) (items : Items) (s : List ℕ) →
     bytes_eq s (codes "script") ≡ false →
     bytes_eq s (codes "sizes") ≡ false →
+    bytes_eq s (codes "limits") ≡ false →
     bytes_eq s (codes "class") ≡ false →
     bytes_eq s (codes "method") ≡ false →
     bytes_eq s (codes "variable") ≡ false →
@@ -827,10 +815,10 @@ no_line : (items : Items) (s : List ℕ) →
     bytes_eq s (codes "settle") ≡ false →
     bytes_eq s (codes "deliver") ≡ false →
     bytes_eq s (codes "shut") ≡ false →
-    Says items s
+    Says ver items s
 unfolding kind_of
-no_line items s e0 e1 e2 e3 e4 e5 e6 e7 e8 e9 e10 e11 e12 e13 e14 e15
-    e16 e17 e18 e19 e20 e21 e22 e23 e24 e25 e26 e27 e28 e29 e30 =
+no_line ver items s e0 e1 e2 e3 e4 e5 e6 e7 e8 e9 e10 e11 e12 e13 e14 e15 e16 e17 e18 e19 e20 e21 e22 e23 e24 e25 e26
+    e27 e28 e29 e30 e31 =
     rw (
       e0,
       e1,
@@ -863,59 +851,83 @@ no_line items s e0 e1 e2 e3 e4 e5 e6 e7 e8 e9 e10 e11 e12 e13 e14 e15
       e28,
       e29,
       e30,
+      e31,
     ) (λ r e. absurd (none-some r e))
 
-items_told : (s : List ℕ) (items : Items) → AreFit 126 items → Says items s
-items_told s items fit =
-    named s (codes "script") (Says items) (script_line items fit) (λ e0.
-    named s (codes "sizes") (Says items) (sizes_line items fit) (λ e1.
-    named s (codes "class") (Says items) (class_line items fit) (λ e2.
-    named s (codes "method") (Says items) (method_line items fit) (λ e3.
-    named s (codes "variable") (Says items) (variable_line items fit) (λ e4.
-    named s (codes "field") (Says items) (field_line items fit) (λ e5.
-    named s (codes "object") (Says items) (object_line items fit) (λ e6.
-    named s (codes "array") (Says items) (array_line items fit) (λ e7.
-    named s (codes "string") (Says items) (string_line items fit) (λ e8.
-    named s (codes "put") (Says items) (put_line items fit) (λ e9.
-    named s (codes "thread") (Says items) (thread_line items fit) (λ e10.
-    named s (codes "frame") (Says items) (frame_line items fit) (λ e11.
-    named s (codes "begin") (Says items) (begin_line items fit) (λ e12.
-    named s (codes "end") (Says items) (end_line items fit) (λ e13.
-    named s (codes "at") (Says items) (at_line items fit) (λ e14.
-    named s (codes "call") (Says items) (call_line items fit) (λ e15.
-    named s (codes "return") (Says items) (return_line items fit) (λ e16.
-    named s (codes "prepare") (Says items) (prepare_line items fit) (λ e17.
-    named s (codes "throw") (Says items) (throw_line items fit) (λ e18.
-    named s (codes "start") (Says items) (start_line items fit) (λ e19.
-    named s (codes "die") (Says items) (die_line items fit) (λ e20.
-    named s (codes "store") (Says items) (store_line items fit) (λ e21.
-    named s (codes "death") (Says items) (death_line items fit) (λ e22.
-    named s (codes "ask") (Says items) (ask_line items fit) (λ e23.
-    named s (codes "client") (Says items) (client_line items fit) (λ e24.
-    named s (codes "target") (Says items) (target_line items fit) (λ e25.
-    named s (codes "serve") (Says items) (serve_line items fit) (λ e26.
-    named s (codes "move") (Says items) (move_line items fit) (λ e27.
-    named s (codes "settle") (Says items) (settle_line items fit) (λ e28.
-    named s (codes "deliver") (Says items) (deliver_line items fit) (λ e29.
-    named s (codes "shut") (Says items) (shut_line items fit) (λ e30.
-    no_line items s e0 e1 e2 e3 e4 e5 e6 e7 e8 e9 e10 e11 e12 e13 e14 e15
-    e16 e17 e18 e19 e20 e21 e22 e23 e24 e25 e26 e27 e28 e29 e30)))))))))))))))))))))))))))))))
+items_told : (ver : Version) (s : List ℕ) (items : Items) → AreFit 126 items → Says ver items s
+items_told ver s items fit =
+    named s (codes "script") (Says ver items) (script_line ver items fit) (λ e0.
+    named s (codes "sizes") (Says ver items) (sizes_line ver items fit) (λ e1.
+    named s (codes "limits") (Says ver items) (limits_line ver items fit) (λ e2.
+    named s (codes "class") (Says ver items) (class_line ver items fit) (λ e3.
+    named s (codes "method") (Says ver items) (method_line ver items fit) (λ e4.
+    named s (codes "variable") (Says ver items) (variable_line ver items fit) (λ e5.
+    named s (codes "field") (Says ver items) (field_line ver items fit) (λ e6.
+    named s (codes "object") (Says ver items) (object_line ver items fit) (λ e7.
+    named s (codes "array") (Says ver items) (array_line ver items fit) (λ e8.
+    named s (codes "string") (Says ver items) (string_line ver items fit) (λ e9.
+    named s (codes "put") (Says ver items) (put_line ver items fit) (λ e10.
+    named s (codes "thread") (Says ver items) (thread_line ver items fit) (λ e11.
+    named s (codes "frame") (Says ver items) (frame_line ver items fit) (λ e12.
+    named s (codes "begin") (Says ver items) (begin_line ver items fit) (λ e13.
+    named s (codes "end") (Says ver items) (end_line ver items fit) (λ e14.
+    named s (codes "at") (Says ver items) (at_line ver items fit) (λ e15.
+    named s (codes "call") (Says ver items) (call_line ver items fit) (λ e16.
+    named s (codes "return") (Says ver items) (return_line ver items fit) (λ e17.
+    named s (codes "prepare") (Says ver items) (prepare_line ver items fit) (λ e18.
+    named s (codes "throw") (Says ver items) (throw_line ver items fit) (λ e19.
+    named s (codes "start") (Says ver items) (start_line ver items fit) (λ e20.
+    named s (codes "die") (Says ver items) (die_line ver items fit) (λ e21.
+    named s (codes "store") (Says ver items) (store_line ver items fit) (λ e22.
+    named s (codes "death") (Says ver items) (death_line ver items fit) (λ e23.
+    named s (codes "ask") (Says ver items) (ask_line ver items fit) (λ e24.
+    named s (codes "client") (Says ver items) (client_line ver items fit) (λ e25.
+    named s (codes "target") (Says ver items) (target_line ver items fit) (λ e26.
+    named s (codes "serve") (Says ver items) (serve_line ver items fit) (λ e27.
+    named s (codes "move") (Says ver items) (move_line ver items fit) (λ e28.
+    named s (codes "settle") (Says ver items) (settle_line ver items fit) (λ e29.
+    named s (codes "deliver") (Says ver items) (deliver_line ver items fit) (λ e30.
+    named s (codes "shut") (Says ver items) (shut_line ver items fit) (λ e31.
+    no_line ver items s e0 e1 e2 e3 e4 e5 e6 e7 e8 e9 e10 e11 e12 e13 e14 e15 e16 e17 e18 e19 e20 e21 e22 e23 e24 e25
+    e26 e27 e28 e29 e30 e31))))))))))))))))))))))))))))))))
 
-named_told : (name : Data) (items : Items) (r : Row) → AreFit 126 items →
-    option_and_then (λ kind. row_in kind items) (option_and_then kind_of (as_str name)) ≡ Some r → IsTold r
-named_told null items r fit e = absurd (none-some r e)
-named_told (boolean b) items r fit e = absurd (none-some r e)
-named_told (number n) items r fit e = absurd (none-some r e)
-named_told (string s) items r fit e = items_told s items fit r e
-named_told (array ds) items r fit e = absurd (none-some r e)
-named_told (object ms) items r fit e = absurd (none-some r e)
+named_told : (ver : Version) (name : Data) (items : Items) (r : Row) → AreFit 126 items →
+    option_and_then (λ kind. row_in ver kind items) (option_and_then kind_of (as_str name)) ≡ Some r → IsTold r
+named_told ver null items r fit e = absurd (none-some r e)
+named_told ver (boolean b) items r fit e = absurd (none-some r e)
+named_told ver (number n) items r fit e = absurd (none-some r e)
+named_told ver (string s) items r fit e = items_told ver s items fit r e
+named_told ver (array ds) items r fit e = absurd (none-some r e)
+named_told ver (object ms) items r fit e = absurd (none-some r e)
 
-pub row_told : (d : Data) (r : Row) → IsFit 127 d → row_of d ≡ Some r → IsTold r
-row_told null r fit e = absurd (none-some r e)
-row_told (boolean b) r fit e = absurd (none-some r e)
-row_told (number n) r fit e = absurd (none-some r e)
-row_told (string s) r fit e = absurd (none-some r e)
-row_told (array no_items) r fit e = absurd (none-some r e)
-row_told (array (item name items)) r fit e =
-    named_told name items r (rest_fit 126 name items (elements_fit 126 (item name items) fit)) e
-row_told (object ms) r fit e = absurd (none-some r e)
+pub row_told : (ver : Version) (d : Data) (r : Row) → IsFit 127 d → row_of ver d ≡ Some r → IsTold r
+row_told ver null r fit e = absurd (none-some r e)
+row_told ver (boolean b) r fit e = absurd (none-some r e)
+row_told ver (number n) r fit e = absurd (none-some r e)
+row_told ver (string s) r fit e = absurd (none-some r e)
+row_told ver (array no_items) r fit e = absurd (none-some r e)
+row_told ver (array (item name items)) r fit e =
+    named_told ver name items r (rest_fit 126 name items (elements_fit 126 (item name items) fit)) e
+row_told ver (object ms) r fit e = absurd (none-some r e)
+
+-- ---- the first rows that are printed
+
+pub head_told : IsTold (rows.Head (Some Second))
+head_told = record {
+  fit = array_fit 126 (item (string (codes "script")) (item (version_data (Some Second)) no_items))
+      (both_fit 126 (string (codes "script")) (item (version_data (Some Second)) no_items)
+      (flat 126 (string (codes "script")) (ascii_utf8 (codes "script") refl) refl)
+      (both_fit 126 (version_data (Some Second)) no_items (version_fit 126 (Some Second)) (none_fit 126)));
+  plain = tt;
+}
+
+pub usual_told : IsTold (rows.Limits usual_turns usual_quiet usual_waiting)
+usual_told = record {
+  fit = array_fit 126 _
+      (both_fit 126 (string (codes "limits")) _ (flat 126 (string (codes "limits")) (ascii_utf8 (codes "limits") refl) refl)
+      (both_fit 126 (natural_data usual_turns) _ (flat 126 (natural_data usual_turns) (omega arith) refl)
+      (both_fit 126 (natural_data usual_quiet) _ (flat 126 (natural_data usual_quiet) (omega arith) refl)
+      (both_fit 126 (natural_data usual_waiting) no_items (flat 126 (natural_data usual_waiting) (omega arith) refl)
+      (none_fit 126)))));
+  plain = tt;
+}

@@ -1,6 +1,7 @@
 -- The text that is added line by line is the text of the rows.
-use Rattle.std.proofs.Common.{◌≡◌, ℕ, true, List, [], ◌∷◌, ◌++◌, map, refl, sym, ap, ◌∙◌, append_assoc, append-nil}
+use Rattle.std.proofs.Common.{◌≡◌, ℕ, Some, List, [], ◌∷◌, ◌++◌, map, refl, sym, ap, ◌∙◌, append_assoc, append-nil}
 use Rattle.std.specs.List.{flat_map}
+use Rattle.line_elements.specs.declared.version.Version.TheVariants.{Second}
 use Rattle.script_rows.specs.declared.rows.Row.{Row}
 use Rattle.script_rows.specs.declared.rows.Row.TheVariants as rows
 use Rattle.script_rows.specs.declared.script.Script.{Script}
@@ -84,31 +85,35 @@ three-append : (a b c last : List Row) → a ++ (b ++ (c ++ last)) ≡ (a ++ (b 
 three-append a b c last = simp (append_assoc, append-nil) refl
 
 -- a whole script
-pub script_added : (s : Script) (start a b c d e f g : List ℕ) → start ≡ [] → a ≡ start ++ row_text (rows.Head true) →
+pub script_added : (s : Script) (start a b l c d e f g : List ℕ) → start ≡ [] →
+    a ≡ start ++ row_text (rows.Head (Some Second)) →
     b ≡ a ++ row_text (rows.Sizes (size_numbers s.world.sizes)) →
-    c ≡ b ++ flat_map row_text (together (world_parts s.world)) →
+    l ≡ b ++ row_text (rows.Limits s.turns s.quiet s.waiting) →
+    c ≡ l ++ flat_map row_text (together (world_parts s.world)) →
     d ≡ c ++ flat_map row_text (begin_rows s.begin) →
     e ≡ d ++ flat_map (λ x. row_text (rows.Move x)) s.program →
     f ≡ e ++ flat_map (λ x. row_text (rows.Turn x)) s.schedule →
     g ≡ f ++ row_text rows.End →
     g ≡ script_text s
-script_added s start a b c d e f g none p q r t u v x =
+script_added s start a b l c d e f g none p q k r t u v x =
     let end = rows.End ∷ [] in
     let turns = map rows.Turn s.schedule ++ end in
     let moves = map rows.Move s.program ++ turns in
     let begin = begin_rows s.begin ++ moves in
     let whole = together (world_parts s.world) ++ begin in
     let sizes = rows.Sizes (size_numbers s.world.sizes) in
+    let limits = rows.Limits s.turns s.quiet s.waiting in
     sym (append-nil g)
     ∙ one_added f g rows.End [] x
     ∙ kind_added e f rows.Turn s.schedule end v
     ∙ kind_added d e rows.Move s.program turns u
     ∙ some_added c d (begin_rows s.begin) moves t
-    ∙ some_added b c (together (world_parts s.world)) begin r
-    ∙ one_added a b sizes whole q
-    ∙ one_added start a (rows.Head true) (sizes ∷ whole) p
-    ∙ ap (λ (text : List ℕ). text ++ flat_map row_text (rows.Head true ∷ sizes ∷ whole)) none
-    ∙ ap (λ (rest : List Row). flat_map row_text (rows.Head true ∷ sizes ∷ rest))
+    ∙ some_added l c (together (world_parts s.world)) begin r
+    ∙ one_added b l limits whole k
+    ∙ one_added a b sizes (limits ∷ whole) q
+    ∙ one_added start a (rows.Head (Some Second)) (sizes ∷ limits ∷ whole) p
+    ∙ ap (λ (text : List ℕ). text ++ flat_map row_text (rows.Head (Some Second) ∷ sizes ∷ limits ∷ whole)) none
+    ∙ ap (λ (rest : List Row). flat_map row_text (rows.Head (Some Second) ∷ sizes ∷ limits ∷ rest))
     (ap (λ (rest : List Row). together (world_parts s.world) ++ rest)
     (three-append (begin_rows s.begin) (map rows.Move s.program) (map rows.Turn s.schedule) end)
     ∙ together-append (world_parts s.world)

@@ -1,11 +1,12 @@
 -- The text of a script: its lines, in the order of their kinds.
-use Rattle.std.specs.Prelude.{ℕ, List, [], ◌∷◌, ◌++◌, map, true, Option, Some, None}
+use Rattle.std.specs.Prelude.{ℕ, List, [], ◌∷◌, ◌++◌, map, Option, Some, None}
 use Rattle.std.specs.List.{flat_map}
 use Rattle.jdwp_values.specs.declared.sizes.IdSizes.{IdSizes}
 use Rattle.script_rows.specs.declared.rows.Row.{Row}
 use Rattle.script_rows.specs.declared.rows.Row.TheVariants as rows
 use Rattle.script_rows.specs.declared.script.Begin.{Begin}
 use Rattle.script_rows.specs.declared.script.Script.{Script}
+use Rattle.line_elements.specs.declared.version.Version.TheVariants.{Second}
 use Rattle.script_rows.specs.Printing.{data_of}
 use Rattle.script_text.specs.Texts.{line_of}
 use Rattle.world_model.specs.declared.world.World.{World}
@@ -40,9 +41,11 @@ abbrev pub together : List (List Row) → List Row
 together [] = []
 together (part ∷ parts) = part ++ together parts
 
--- the rows of a script
+-- the rows of a script, in the second version
 abbrev pub rows_of : Script → List Row
-rows_of s = rows.Head true ∷ rows.Sizes (size_numbers s.world.sizes) ∷ (together (parts s) ++ rows.End ∷ [])
+rows_of s =
+    rows.Head (Some Second) ∷ rows.Sizes (size_numbers s.world.sizes) ∷ rows.Limits s.turns s.quiet s.waiting
+    ∷ (together (parts s) ++ rows.End ∷ [])
 
 -- the text of a script: each row as a line
 abbrev pub script_text : Script → List ℕ

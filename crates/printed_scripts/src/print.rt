@@ -2,20 +2,21 @@
 ghost use Rattle.std.specs.Prelude.{◌≡◌, ◌++◌, IfOk, OnOk, flat_map};
 ghost use Rattle.printed_scripts.specs.Texts.{row_text, begin_rows, world_parts, together, script_text};
 
-use printed_rows::{add_end, add_head, add_row, add_rows, add_sizes};
+use printed_rows::{add_end, add_head, add_limits, add_row, add_rows, add_sizes};
 use script_rows::{Begin, Script};
 use std::alloc::Global;
 use wire_core::{Blob, NoMemory};
 use world_model::World;
 
-/// The text of a script: compact JSON, a line for each thing that it says, in the order of their kinds. `NoMemory`
-/// comes where memory is refused.
+/// The text of a script in the second version, with its limits: compact JSON, a line for each thing that it says, in the
+/// order of their kinds. `NoMemory` comes where memory is refused.
 pub fn print_script(alloc: Global, script: &Script) -> Result<Blob, NoMemory>
     ensures { IfOk result (λ text. text ≡ script_text script.now) }
 {
     let mut text = Blob::new(alloc);
     add_head(alloc, &mut text)?;
     add_sizes(alloc, &mut text, script.world.sizes)?;
+    add_limits(alloc, &mut text, script.turns, script.quiet, script.waiting)?;
     add_world(alloc, &mut text, &script.world)?;
     add_begin(alloc, &mut text, &script.begin)?;
     add_rows(alloc, &mut text, script.program.as_slice())?;

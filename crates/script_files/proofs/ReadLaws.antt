@@ -1,6 +1,6 @@
 -- A script that was read is fit for a target.
 use Rattle.std.proofs.Common.{◌≡◌, ℕ, ◌==◌, Bool, true, false, if◌then◌else◌, List, [], ◌∷◌, ◌++◌, Option, Some, None}
-use Rattle.std.proofs.Common.{Result, Ok, Err, refl, subst}
+use Rattle.std.proofs.Common.{Result, Ok, Err, refl, sym, subst}
 use Rattle.jdwp_values.specs.declared.sizes.IdSizes.{IdSizes}
 use Rattle.script_rows.specs.declared.rows.Row.{Row}
 use Rattle.script_rows.specs.declared.script.Script.{Script}
@@ -11,8 +11,10 @@ use Rattle.script_files.specs.declared.reading.Reading.{Reading}
 use Rattle.target_scripts.specs.Adding.{grown}
 use Rattle.target_scripts.specs.Chains.{chain_fault}
 use Rattle.target_scripts.specs.Fit.{IsSoundSoFar, IsFit}
-use Rattle.script_files.specs.Reading.{Stop, row_in, version_of, numbers_of, headed, sized, with_sizes, first_row}
-use Rattle.script_files.specs.Reading.{behind_first, behind_row, taken_by, said, line_taken, after, finished, read_on}
+use Rattle.line_elements.specs.declared.version.Version.{Version}
+use Rattle.script_files.specs.Reading.{Stop, row_in, version_of, numbers_of, headed, sized, with_sizes, first_taken}
+use Rattle.script_files.specs.Reading.{behind_head, behind_row, taken_by, said, or_first, line_taken, after, finished}
+use Rattle.script_files.specs.Reading.{read_on}
 use Rattle.script_files.specs.Reading.{beginning, script_in, unless_open, open_line, judged, script_of}
 use Rattle.script_files.specs.Sizes.{sizes_of}
 use Rattle.target_scripts.proofs.SoundLaws.{begun_sound, grown_sound, whole_fit}
@@ -22,50 +24,52 @@ abbrev IsSoundIn : Option Building → Type 0
 IsSoundIn None = Unit {0}
 IsSoundIn (Some b) = IsSoundSoFar b
 
-abbrev IfFirst : Result (Option Building) ScriptFault → Type 0
-IfFirst (Ok building) = IsSoundIn building
-IfFirst (Err kind) = Unit {0}
+abbrev IfSized : Result Building ScriptFault → Type 0
+IfSized (Ok b) = IsSoundSoFar b
+IfSized (Err kind) = Unit {0}
 
 abbrev IfTaken : Result Reading ScriptFault → Type 0
 IfTaken (Ok reading) = IsSoundIn reading.building
 IfTaken (Err kind) = Unit {0}
 
-headed_sound : (version : Option Bool) → IfFirst (headed version)
-headed_sound None = tt
-headed_sound (Some true) = tt
-headed_sound (Some false) = tt
-
-sized_sound : (sizes : Option IdSizes) → IfFirst (sized sizes)
+sized_sound : (sizes : Option IdSizes) → IfSized (sized sizes)
 sized_sound None = tt
 sized_sound (Some sizes) = begun_sound sizes
 
-numbers_sound : (numbers : Option (List ℕ)) → IfFirst (with_sizes numbers)
+numbers_sound : (numbers : Option (List ℕ)) → IfSized (with_sizes numbers)
 numbers_sound None = tt
 numbers_sound (Some numbers) = sized_sound (sizes_of numbers)
 
-first_sound : (headed : Bool) (row : Row) → IfFirst (first_row headed row)
-first_sound false row = headed_sound (version_of row)
-first_sound true row = numbers_sound (numbers_of row)
+behind_head_sound : (reading : Reading) (result : Result Version ScriptFault) → IsSoundIn reading.building
+    → IfTaken (behind_head reading result)
+behind_head_sound reading (Ok version) s = s
+behind_head_sound reading (Err kind) s = tt
 
-behind_first_sound : (reading : Reading) (result : Result (Option Building) ScriptFault) → IfFirst result
-    → IfTaken (behind_first reading result)
-behind_first_sound reading (Ok building) s = s
-behind_first_sound reading (Err kind) s = tt
+behind_sized_sound : (reading : Reading) (result : Result Building ScriptFault) → IfSized result
+    → IfTaken (behind_row reading result)
+behind_sized_sound reading (Ok b) s = s
+behind_sized_sound reading (Err kind) s = tt
 
 behind_row_sound : (reading : Reading) (b : Building) (row : Row) (result : Result Building ScriptFault)
     → IsSoundSoFar b → grown b row ≡ result → IfTaken (behind_row reading result)
 behind_row_sound reading b row (Ok new) s e = grown_sound b new row s e
 behind_row_sound reading b row (Err kind) s e = tt
 
-taken_sound : (reading : Reading) (row : Row) (building : Option Building) → IsSoundIn building
-    → IfTaken (taken_by reading row building)
-taken_sound reading row None s =
-    behind_first_sound reading (first_row reading.headed row) (first_sound reading.headed row)
-taken_sound reading row (Some b) s = behind_row_sound reading b row (grown b row) s refl
+first_sound : (reading : Reading) (row : Row) (version : Option Version) → IsSoundIn reading.building
+    → IfTaken (first_taken reading row version)
+first_sound reading row None s = behind_head_sound reading (headed (version_of row)) s
+first_sound reading row (Some version) s =
+    behind_sized_sound reading (with_sizes (numbers_of row)) (numbers_sound (numbers_of row))
+
+taken_sound : (reading : Reading) (row : Row) (building : Option Building) → reading.building ≡ building
+    → IsSoundIn building → IfTaken (taken_by reading row building)
+taken_sound reading row None is s =
+    first_sound reading row reading.version (subst IsSoundIn (sym is) s)
+taken_sound reading row (Some b) is s = behind_row_sound reading b row (grown b row) s refl
 
 said_sound : (reading : Reading) (result : Result Row ScriptFault) → IsSoundIn reading.building
     → IfTaken (said reading result)
-said_sound reading (Ok row) s = taken_sound reading row reading.building s
+said_sound reading (Ok row) s = taken_sound reading row reading.building refl s
 said_sound reading (Err kind) s = tt
 
 -- wherever reading stops
@@ -80,7 +84,7 @@ finished_sound : (reading : Reading) (rest : List ℕ) → IsSoundIn reading.bui
     → IsSoundIn (finished reading rest).reading.building
 finished_sound reading [] s = s
 finished_sound reading (byte ∷ rest) s =
-    after_sound reading _ (line_taken reading (byte ∷ rest)) s (said_sound reading (row_in (byte ∷ rest)) s)
+    after_sound reading _ (line_taken reading (byte ∷ rest)) s (said_sound reading (row_in (or_first reading.version) (byte ∷ rest)) s)
     (λ next h. h)
 
 one_byte : (feed : Bool) (reading : Reading) (line : List ℕ) (byte : ℕ) (bytes : List ℕ)
@@ -90,7 +94,7 @@ one_byte : (feed : Bool) (reading : Reading) (line : List ℕ) (byte : ℕ) (byt
     else read_on reading (line ++ byte ∷ []) bytes).reading.building
 one_byte true reading line byte bytes s later =
     after_sound reading (λ next. read_on next [] bytes) (line_taken reading line) s
-    (said_sound reading (row_in line) s) (λ next h. later next [] h)
+    (said_sound reading (row_in (or_first reading.version) line) s) (λ next h. later next [] h)
 one_byte false reading line byte bytes s later = later reading (line ++ byte ∷ []) s
 
 stops_sound : (reading : Reading) (line bytes : List ℕ) → IsSoundIn reading.building

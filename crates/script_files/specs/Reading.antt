@@ -1,5 +1,5 @@
 -- The script that a text is, or its first faulty line.
-use Rattle.std.specs.Prelude.{◌≡◌, ℕ, ◌+◌, ◌-◌, ◌^◌, ◌==◌, min, Bool, true, false, List, [], ◌∷◌, ◌++◌}
+use Rattle.std.specs.Prelude.{◌≡◌, ℕ, ◌+◌, ◌-◌, ◌^◌, ◌==◌, min, List, [], ◌∷◌, ◌++◌}
 use Rattle.std.specs.Prelude.{if◌then◌else◌, Option, Some, None, option_and_then, Result, Ok, Err}
 use Rattle.std.specs.Str.{is_utf8}
 use Rattle.jdwp_values.specs.declared.sizes.IdSizes.{IdSizes}
@@ -9,6 +9,8 @@ use Rattle.script_rows.specs.declared.rows.Row.{Row}
 use Rattle.script_rows.specs.declared.rows.Row.TheVariants as rows
 use Rattle.script_rows.specs.declared.script.Script.{Script}
 use Rattle.script_rows.specs.Rows.{row_of}
+use Rattle.line_elements.specs.declared.version.Version.{Version}
+use Rattle.line_elements.specs.declared.version.Version.TheVariants.{First}
 use Rattle.script_text.specs.declared.log.ScriptFault.{ScriptFault}
 use Rattle.script_text.specs.declared.log.ScriptFault.TheVariants.{NotUtf8, NotJson, BadShape, BadVersion, BadOrder}
 use Rattle.script_text.specs.declared.log.ScriptFault.TheVariants.{UnknownId, NoEnd}
@@ -29,24 +31,25 @@ abbrev pub unless_shapeless : Option Row → Result Row ScriptFault
 unless_shapeless (Some row) = Ok row
 unless_shapeless None = Err BadShape
 
-abbrev pub shaped : Data → Result Row ScriptFault
-shaped d = unless_shapeless (row_of d)
+abbrev pub shaped : Version → Data → Result Row ScriptFault
+shaped version d = unless_shapeless (row_of version d)
 
 -- a text is one JSON value, and that is a row
-abbrev pub row_read : Option Data → Result Row ScriptFault
-row_read (Some d) = shaped d
-row_read None = Err NotJson
+abbrev pub row_read : Version → Option Data → Result Row ScriptFault
+row_read version (Some d) = shaped version d
+row_read version None = Err NotJson
 
--- what a line says, or its fault
-unfoldable pub row_in : List ℕ → Result Row ScriptFault
-row_in line = if is_utf8 line then row_read (read line) else Err NotUtf8
+-- what a line of a script of this version says, or its fault
+unfoldable pub row_in : Version → List ℕ → Result Row ScriptFault
+row_in version line = if is_utf8 line then row_read version (read line) else Err NotUtf8
 
 -- The first two lines ------------------------------------------------------------------------------------------------
 
--- whether the version of a head is known; nothing of another row
-abbrev pub version_of : Row → Option Bool
-version_of (rows.Head known) = Some known
+-- the version of a head, where it is known; nothing of another row
+abbrev pub version_of : Row → Option (Option Version)
+version_of (rows.Head version) = Some version
 version_of (rows.Sizes sizes) = None
+version_of (rows.Limits turns quiet waiting) = None
 version_of (rows.Class row) = None
 version_of (rows.Method row) = None
 version_of (rows.Variable row) = None
@@ -65,7 +68,8 @@ version_of rows.End = None
 -- the numbers of a row of sizes; nothing of another row
 abbrev pub numbers_of : Row → Option (List ℕ)
 numbers_of (rows.Sizes sizes) = Some sizes
-numbers_of (rows.Head known) = None
+numbers_of (rows.Head version) = None
+numbers_of (rows.Limits turns quiet waiting) = None
 numbers_of (rows.Class row) = None
 numbers_of (rows.Method row) = None
 numbers_of (rows.Variable row) = None
@@ -82,23 +86,19 @@ numbers_of (rows.Turn turn) = None
 numbers_of rows.End = None
 
 -- the first line is the head, of a known version
-abbrev pub headed : Option Bool → Result (Option Building) ScriptFault
+abbrev pub headed : Option (Option Version) → Result Version ScriptFault
 headed None = Err BadOrder
-headed (Some known) = if known then Ok None else Err BadVersion
+headed (Some None) = Err BadVersion
+headed (Some (Some version)) = Ok version
 
 -- the second says how many bytes ids take
-abbrev pub sized : Option IdSizes → Result (Option Building) ScriptFault
+abbrev pub sized : Option IdSizes → Result Building ScriptFault
 sized None = Err BadShape
-sized (Some sizes) = Ok (Some (begun sizes))
+sized (Some sizes) = Ok (begun sizes)
 
-abbrev pub with_sizes : Option (List ℕ) → Result (Option Building) ScriptFault
+abbrev pub with_sizes : Option (List ℕ) → Result Building ScriptFault
 with_sizes None = Err BadOrder
 with_sizes (Some numbers) = sized (sizes_of numbers)
-
--- one of the first two lines
-abbrev pub first_row : Bool → Row → Result (Option Building) ScriptFault
-first_row false row = headed (version_of row)
-first_row true row = with_sizes (numbers_of row)
 
 -- Lines in order -----------------------------------------------------------------------------------------------------
 
@@ -107,18 +107,23 @@ abbrev pub next_line : ℕ → ℕ
 next_line line = min (line + 1) (2 ^ 32 - 1)
 
 -- what was read behind a line, or the fault of that line
-abbrev pub behind_first : Reading → Result (Option Building) ScriptFault → Result Reading ScriptFault
-behind_first reading (Ok building) =
-    Ok (record { line = next_line reading.line; headed = true; building = building })
-behind_first reading (Err kind) = Err kind
+abbrev pub behind_head : Reading → Result Version ScriptFault → Result Reading ScriptFault
+behind_head reading (Ok version) =
+    Ok (record { line = next_line reading.line; version = Some version; building = reading.building })
+behind_head reading (Err kind) = Err kind
 
 abbrev pub behind_row : Reading → Result Building ScriptFault → Result Reading ScriptFault
 behind_row reading (Ok building) =
-    Ok (record { line = next_line reading.line; headed = reading.headed; building = Some building })
+    Ok (record { line = next_line reading.line; version = reading.version; building = Some building })
 behind_row reading (Err kind) = Err kind
 
+-- one of the first two lines
+abbrev pub first_taken : Reading → Row → Option Version → Result Reading ScriptFault
+first_taken reading row None = behind_head reading (headed (version_of row))
+first_taken reading row (Some version) = behind_row reading (with_sizes (numbers_of row))
+
 abbrev pub taken_by : Reading → Row → Option Building → Result Reading ScriptFault
-taken_by reading row None = behind_first reading (first_row reading.headed row)
+taken_by reading row None = first_taken reading row reading.version
 taken_by reading row (Some building) = behind_row reading (grown building row)
 
 abbrev pub row_taken : Reading → Row → Result Reading ScriptFault
@@ -128,8 +133,13 @@ abbrev pub said : Reading → Result Row ScriptFault → Result Reading ScriptFa
 said reading (Ok row) = row_taken reading row
 said reading (Err kind) = Err kind
 
+-- a line is read in the script's version, and before the head in the first
+abbrev pub or_first : Option Version → Version
+or_first None = First
+or_first (Some version) = version
+
 abbrev pub line_taken : Reading → List ℕ → Result Reading ScriptFault
-line_taken reading line = said reading (row_in line)
+line_taken reading line = said reading (row_in (or_first reading.version) line)
 
 -- The whole text -----------------------------------------------------------------------------------------------------
 
@@ -163,7 +173,7 @@ read_on reading line (byte ∷ bytes) =
 
 -- before the first line
 abbrev pub beginning : Reading
-beginning = record { line = 1; headed = false; building = None }
+beginning = record { line = 1; version = None; building = None }
 
 -- the script that was read, where the last line is the end
 abbrev pub script_in : ℕ → Option Building → Option ScriptFault → Result Script ScriptTrouble
@@ -178,7 +188,7 @@ unless_open line building fault None = script_in line building fault
 unless_open line building fault (Some class_line) = Err (At class_line UnknownId)
 
 abbrev pub open_line : Option Building → Option ℕ
-open_line building = option_and_then (λ b. chain_fault b.script.world.classes) building
+open_line building = option_and_then chain_fault building
 
 abbrev pub judged : Stop → Result Script ScriptTrouble
 judged stop =

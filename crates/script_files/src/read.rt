@@ -1,14 +1,15 @@
 //! The script that a text is.
-ghost use Rattle.std.specs.Prelude.{◌≡◌, [], true};
+ghost use Rattle.std.specs.Prelude.{◌≡◌, [], Some};
 ghost use Rattle.serde_json.specs.View.{view};
-ghost use Rattle.script_files.specs.Reading.{shaped, row_in, version_of, numbers_of, first_row, row_taken, line_taken};
-ghost use Rattle.script_files.specs.Reading.{behind_first};
+ghost use Rattle.script_files.specs.Reading.{shaped, row_in, version_of, numbers_of, headed, with_sizes, or_first};
+ghost use Rattle.script_files.specs.Reading.{behind_head, behind_row, first_taken, row_taken, line_taken};
 ghost use Rattle.script_files.specs.Reading.{end_fault, finished, read_on, script_in, open_line, judged, script_of};
 ghost use Rattle.script_files.specs.Reading.{IsRead, IsLine, IsTaken, IsStopped};
 ghost use Rattle.script_files.specs.Sizes.{sizes_of};
 
 use crate::reading::Reading;
 use jdwp_values::IdSizes;
+use line_elements::Version;
 use script_rows::{Row, Script, read_row};
 use script_text::{ScriptFault, ScriptTrouble};
 use serde_json::Value;
@@ -25,7 +26,7 @@ pub fn read_script(alloc: Global, bytes: &[u8]) -> Result<Script, ScriptTrouble>
 {
     let mut reading = Reading {
         line: 1,
-        headed: false,
+        version: None,
         building: None,
     };
     match read_all(alloc, &mut reading, bytes) {
@@ -54,7 +55,7 @@ fn open_line(building: &Option<Building>) -> Option<u32>
     ensures { result ≡ open_line building.now }
 {
     match building {
-        Some(building) => chain_fault(building.script.world.classes.as_slice()),
+        Some(building) => chain_fault(building),
         None => None,
     }
 }
@@ -124,7 +125,7 @@ fn end_fault(building: &Option<Building>) -> Option<ScriptFault>
 fn take_line(alloc: Global, reading: &mut Reading, line: &[u8]) -> Result<(), RowTrouble>
     ensures { IsTaken reading.old reading.new result (line_taken reading.old line.now) }
 {
-    let row = row_in(alloc, line)?;
+    let row = row_in(alloc, version_in(reading), line)?;
     take_row(alloc, reading, row)
 }
 
@@ -141,62 +142,80 @@ fn take_row(alloc: Global, reading: &mut Reading, row: Row) -> Result<(), RowTro
     }
 }
 
+// Takes one of the first two lines.
 fn take_first(alloc: Global, reading: &mut Reading, row: Row) -> Result<(), RowTrouble>
-    ensures { IsTaken reading.old reading.new result (behind_first reading.old (first_row reading.old.headed row)) }
+    ensures { IsTaken reading.old reading.new result (first_taken reading.old row reading.old.version) }
 {
-    let building = first_in(alloc, reading.headed, row)?;
-    put_building(reading, building);
-    reading.headed = true;
+    match reading.version {
+        Some(_) => take_sizes(alloc, reading, &row),
+        None => take_head(reading, &row),
+    }
+}
+
+fn take_head(reading: &mut Reading, row: &Row) -> Result<(), RowTrouble>
+    ensures { IsTaken reading.old reading.new result (behind_head reading.old (headed (version_of row.now))) }
+{
+    let version = headed(row)?;
+    reading.version = Some(version);
     reading.line = reading.line.saturating_add(1);
     Ok(())
 }
 
-fn put_building(reading: &mut Reading, building: Option<Building>)
-    ensures { reading.new ≡ record reading.old { building = building } }
+fn take_sizes(alloc: Global, reading: &mut Reading, row: &Row) -> Result<(), RowTrouble>
+    ensures { IsTaken reading.old reading.new result (behind_row reading.old (with_sizes (numbers_of row.now))) }
 {
-    reading.building = building;
+    let building = with_sizes(alloc, row)?;
+    put_building(reading, building);
+    reading.line = reading.line.saturating_add(1);
+    Ok(())
 }
 
-fn first_in(alloc: Global, headed: bool, row: Row) -> Result<Option<Building>, RowTrouble>
-    ensures { IsLine result (first_row headed row) }
+fn put_building(reading: &mut Reading, building: Building)
+    ensures { reading.new ≡ record reading.old { building = Some building } }
 {
-    first_row(alloc, headed, &row)
+    reading.building = Some(building);
 }
 
-// One of the first two lines.
-fn first_row(alloc: Global, headed: bool, row: &Row) -> Result<Option<Building>, RowTrouble>
-    ensures { IsLine result (first_row headed row.now) }
+// The version of the head.
+fn headed(row: &Row) -> Result<Version, RowTrouble>
+    ensures { IsLine result (headed (version_of row.now)) }
 {
-    if headed {
-        with_sizes(alloc, row)
-    } else {
-        match version_of(row) {
-            Some(true) => Ok(None),
-            Some(false) => Err(RowTrouble::Fault(ScriptFault::BadVersion)),
-            None => Err(RowTrouble::Fault(ScriptFault::BadOrder)),
-        }
+    match version_of(row) {
+        Some(Some(version)) => Ok(version),
+        Some(None) => Err(RowTrouble::Fault(ScriptFault::BadVersion)),
+        None => Err(RowTrouble::Fault(ScriptFault::BadOrder)),
     }
 }
 
-fn with_sizes(alloc: Global, row: &Row) -> Result<Option<Building>, RowTrouble>
-    ensures { IsLine result (first_row true row.now) }
+fn with_sizes(alloc: Global, row: &Row) -> Result<Building, RowTrouble>
+    ensures { IsLine result (with_sizes (numbers_of row.now)) }
 {
     let Some(numbers) = numbers_of(row) else {
         return Err(RowTrouble::Fault(ScriptFault::BadOrder));
     };
     match sizes_of(numbers) {
-        Some(sizes) => Ok(Some(begun(alloc, sizes))),
+        Some(sizes) => Ok(begun(alloc, sizes)),
         None => Err(RowTrouble::Fault(ScriptFault::BadShape)),
     }
 }
 
-// Whether the version of a head is known; None of another row.
-fn version_of(row: &Row) -> Option<bool>
+// The version of a head, where it is known; None of another row.
+fn version_of(row: &Row) -> Option<Option<Version>>
     ensures { result ≡ version_of row.now }
 {
     match row {
-        Row::Head { known } => Some(*known),
+        Row::Head { version } => Some(*version),
         _ => None,
+    }
+}
+
+// The version that the next line is read in.
+fn version_in(reading: &Reading) -> Version
+    ensures { result ≡ or_first reading.now.version }
+{
+    match reading.version {
+        Some(version) => version,
+        None => Version::First,
     }
 }
 
@@ -221,14 +240,14 @@ fn sizes_of(numbers: [u32; 5]) -> Option<IdSizes>
     }
 }
 
-fn row_in(alloc: Global, line: &[u8]) -> Result<Row, RowTrouble>
-    ensures { IsLine result (row_in line.now) }
+fn row_in(alloc: Global, version: Version, line: &[u8]) -> Result<Row, RowTrouble>
+    ensures { IsLine result (row_in version line.now) }
 {
     let Ok(text) = str::from_utf8(line) else {
         return Err(RowTrouble::Fault(ScriptFault::NotUtf8));
     };
     match Value::from_str(alloc, text) {
-        Ok(value) => shaped(alloc, &value),
+        Ok(value) => shaped(alloc, version, &value),
         Err(error) => if error.is_memory() {
             Err(RowTrouble::NoMemory)
         } else {
@@ -237,10 +256,10 @@ fn row_in(alloc: Global, line: &[u8]) -> Result<Row, RowTrouble>
     }
 }
 
-fn shaped(alloc: Global, value: &Value) -> Result<Row, RowTrouble>
-    ensures { IsLine result (shaped (view value.now)) }
+fn shaped(alloc: Global, version: Version, value: &Value) -> Result<Row, RowTrouble>
+    ensures { IsLine result (shaped version (view value.now)) }
 {
-    match read_row(alloc, value)? {
+    match read_row(alloc, version, value)? {
         Some(row) => Ok(row),
         None => Err(RowTrouble::Fault(ScriptFault::BadShape)),
     }

@@ -16,8 +16,9 @@ use Rattle.script_rows.specs.declared.rows.Row.{Row}
 use Rattle.script_rows.specs.declared.rows.Row.TheVariants as rows
 use Rattle.script_rows.specs.declared.script.Turn.{Turn}
 use Rattle.script_rows.specs.declared.script.Turn.TheVariants as turns
+use Rattle.line_elements.specs.declared.version.Version.TheVariants.{First, Second}
 use Rattle.line_elements.specs.Numbers.{natural_data, text_or_null_data}
-use Rattle.line_elements.specs.Values.{number_data, value_data, slot_data, line_data, lines_data}
+use Rattle.line_elements.specs.Values.{told_data, value_data, slot_data, line_data, lines_data}
 use Rattle.line_elements.specs.Parts.{Part, natural, int, long, index, text, text_or_null, word, truth, class_tag}
 use Rattle.line_elements.specs.Parts.{object_tag}
 use Rattle.line_elements.specs.Parts.{policy, side, value, values as value_list, slots, lines, arguments, version, Of}
@@ -35,7 +36,7 @@ integer_plain : (z : ℤ) → is_float (of_integer z) ≡ false
 integer_plain (pos n) = refl
 integer_plain (negsuc n) = refl
 
-number_plain : (v : Value) → has_float (number_data v) ≡ false
+number_plain : (v : Value) → has_float (told_data v) ≡ false
 number_plain (values.Byte z) = integer_plain z
 number_plain (values.Char n) = refl
 number_plain (values.Double n) = refl
@@ -54,7 +55,7 @@ number_plain (values.ClassLoader n) = refl
 number_plain (values.ClassObject n) = refl
 
 value_plain : (v : Value) → has_float (value_data v) ≡ false
-value_plain v = neither (has_float (number_data v)) false (number_plain v) refl
+value_plain v = neither (has_float (told_data v)) false (number_plain v) refl
 
 slot_plain : (s : SlotValue) → has_float (slot_data s) ≡ false
 slot_plain s =
@@ -91,9 +92,9 @@ IsNoArguments class_tag = Unit {0}
 IsNoArguments object_tag = Unit {0}
 IsNoArguments policy = Unit {0}
 IsNoArguments side = Unit {0}
-IsNoArguments value = Unit {0}
-IsNoArguments value_list = Unit {0}
-IsNoArguments slots = Unit {0}
+IsNoArguments (value v) = Unit {0}
+IsNoArguments (value_list v) = Unit {0}
+IsNoArguments (slots v) = Unit {0}
 IsNoArguments lines = Unit {0}
 IsNoArguments arguments = ⊥
 IsNoArguments version = Unit {0}
@@ -111,12 +112,14 @@ part_plain class_tag other v = refl
 part_plain object_tag other v = refl
 part_plain policy other v = refl
 part_plain side other v = refl
-part_plain value other v = value_plain v
-part_plain value_list other v = list_plain value_data value_plain v
-part_plain slots other v = list_plain slot_data slot_plain v
+part_plain (value s) other v = value_plain v
+part_plain (value_list s) other v = list_plain value_data value_plain v
+part_plain (slots s) other v = list_plain slot_data slot_plain v
 part_plain lines other v = lines_plain v
 part_plain arguments other v = absurd other
-part_plain version other v = refl
+part_plain version other None = refl
+part_plain version other (Some First) = refl
+part_plain version other (Some Second) = refl
 
 abbrev HasNoArguments : List Part → Type 0
 HasNoArguments [] = Unit {0}
@@ -131,9 +134,9 @@ row_plain (p ∷ row) others held =
     (row_plain row others.1 held.1)
 
 move_plain : (m : Move) → has_float (move_data m) ≡ false
-move_plain (moves.At thread place given) = row_plain at_parts (tt, (tt, (tt, tt))) (thread.0, (place, (given, tt)))
+move_plain (moves.At thread place given) = row_plain (at_parts Second) (tt, (tt, (tt, tt))) (thread.0, (place, (given, tt)))
 move_plain (moves.Call thread frame class method place this given) =
-    row_plain call_parts (tt, (tt, (tt, (tt, (tt, (tt, (tt, tt)))))))
+    row_plain (call_parts Second) (tt, (tt, (tt, (tt, (tt, (tt, (tt, tt)))))))
     (thread.0, (frame.0, (class.0, (method.0, (place, (this.0, (given, tt)))))))
 move_plain (moves.Return thread) = refl
 move_plain (moves.Prepare class thread) = refl
@@ -141,7 +144,7 @@ move_plain (moves.Throw thread object class method place) = refl
 move_plain (moves.Start thread name) = refl
 move_plain (moves.Die thread) = refl
 move_plain (moves.Store object field v) =
-    row_plain put_parts (tt, (tt, (tt, tt))) (object.0, (field.0, (v, tt)))
+    row_plain (put_parts Second) (tt, (tt, (tt, tt))) (object.0, (field.0, (v, tt)))
 move_plain moves.Death = refl
 
 turn_plain : (t : Turn) → IsPlainTurn t → has_float (turn_data t) ≡ false
@@ -155,8 +158,11 @@ turn_plain turns.Deliver plain = refl
 turn_plain (turns.Shut s) plain = refl
 
 pub row_has_no_float : (row : Row) → IsPlain row → has_float (data_of row) ≡ false
-row_has_no_float (rows.Head known) plain = refl
+row_has_no_float (rows.Head None) plain = refl
+row_has_no_float (rows.Head (Some First)) plain = refl
+row_has_no_float (rows.Head (Some Second)) plain = refl
 row_has_no_float (rows.Sizes sizes) plain = list_plain natural_data (λ n. refl) sizes
+row_has_no_float (rows.Limits turns quiet waiting) plain = refl
 row_has_no_float (rows.Class c) plain =
     row_plain class_parts (tt, (tt, (tt, (tt, (tt, (tt, tt))))))
     (c.id.0, (c.tag, (c.signature, (c.source, (c.above.0, (c.prepared, tt))))))
@@ -199,13 +205,13 @@ row_has_no_float (rows.Field f) plain =
     (f.class.0, (f.field.id.0, (f.field.name, (f.field.signature, (f.field.bits, tt)))))
 row_has_no_float (rows.Object o) plain = refl
 row_has_no_float (rows.Array a) plain =
-    row_plain array_parts (tt, (tt, (tt, tt))) (a.id.0, (a.class.0, (a.values, tt)))
+    row_plain (array_parts Second) (tt, (tt, (tt, tt))) (a.id.0, (a.class.0, (a.values, tt)))
 row_has_no_float (rows.Text s) plain = refl
 row_has_no_float (rows.Put p) plain =
-    row_plain put_parts (tt, (tt, (tt, tt))) (p.object.0, (p.field.0, (p.value, tt)))
+    row_plain (put_parts Second) (tt, (tt, (tt, tt))) (p.object.0, (p.field.0, (p.value, tt)))
 row_has_no_float (rows.Thread t) plain = refl
 row_has_no_float (rows.Frame f) plain =
-    row_plain frame_parts (tt, (tt, (tt, (tt, (tt, (tt, (tt, tt)))))))
+    row_plain (frame_parts Second) (tt, (tt, (tt, (tt, (tt, (tt, (tt, tt)))))))
     (f.thread.0, (f.id.0, (f.class.0, (f.method.0, (f.index, (f.this.0, (f.slots, tt)))))))
 row_has_no_float (rows.Begin b) plain = refl
 row_has_no_float (rows.Move m) plain = move_plain m

@@ -17,8 +17,9 @@ IsPlainTurn turns.Deliver = Unit {0}
 IsPlainTurn (turns.Shut s) = Unit {0}
 
 abbrev pub IsPlain : Row → Type 0
-IsPlain (rows.Head known) = Unit {0}
+IsPlain (rows.Head told) = Unit {0}
 IsPlain (rows.Sizes sizes) = Unit {0}
+IsPlain (rows.Limits turns quiet waiting) = Unit {0}
 IsPlain (rows.Class c) = Unit {0}
 IsPlain (rows.Method m) = Unit {0}
 IsPlain (rows.Variable v) = Unit {0}

@@ -1,5 +1,5 @@
 -- The lines of a script: for each name the parts that stand behind it, and the row that they make.
-use Rattle.std.specs.Prelude.{ℕ, ◌^◌, ◌==◌, List, [], ◌∷◌, codes, bytes_eq, if◌then◌else◌, Option, Some, None}
+use Rattle.std.specs.Prelude.{ℕ, ◌+◌, ◌^◌, List, [], ◌∷◌, codes, bytes_eq, if◌then◌else◌, Option, Some, None}
 use Rattle.std.specs.Prelude.{option_map, option_and_then}
 use Rattle.serde_json.specs.Data.{Data, Items, no_items, item}
 use Rattle.serde_json.specs.Find.{as_array, as_str}
@@ -28,9 +28,12 @@ use Rattle.script_rows.specs.declared.rows.Row.TheVariants as rows
 use Rattle.script_rows.specs.declared.script.Begin.{Begin}
 use Rattle.script_rows.specs.declared.script.Turn.{Turn}
 use Rattle.script_rows.specs.declared.script.Turn.TheVariants as turns
+use Rattle.line_elements.specs.declared.version.Version.{Version}
+use Rattle.line_elements.specs.declared.version.Version.TheVariants.{First, Second}
 use Rattle.line_elements.specs.Parts.{Part, natural, int, long, index, text, text_or_null, word, truth, class_tag}
 use Rattle.line_elements.specs.Parts.{object_tag}
-use Rattle.line_elements.specs.Parts.{policy, side, value, values, slots, lines, arguments, version, From, row_at}
+use Rattle.line_elements.specs.Parts.{policy, side, value, values, slots, lines, arguments}
+use Rattle.line_elements.specs.Parts.{version as version_part, From, row_at}
 
 -- ---- names
 
@@ -38,6 +41,7 @@ abbrev pub world_kind : List ℕ → Option WorldKind
 world_kind name =
     if bytes_eq name (codes "script") then Some world.Script else
     (if bytes_eq name (codes "sizes") then Some world.Sizes else
+    (if bytes_eq name (codes "limits") then Some world.Limits else
     (if bytes_eq name (codes "class") then Some world.Class else
     (if bytes_eq name (codes "method") then Some world.Method else
     (if bytes_eq name (codes "variable") then Some world.Variable else
@@ -49,7 +53,7 @@ world_kind name =
     (if bytes_eq name (codes "thread") then Some world.Thread else
     (if bytes_eq name (codes "frame") then Some world.Frame else
     (if bytes_eq name (codes "begin") then Some world.Begin else
-    (if bytes_eq name (codes "end") then Some world.End else None)))))))))))))
+    (if bytes_eq name (codes "end") then Some world.End else None))))))))))))))
 
 abbrev pub move_kind : List ℕ → Option MoveKind
 move_kind name =
@@ -100,6 +104,10 @@ size = natural 1 9
 abbrev pub sizes_parts : List Part
 sizes_parts = size ∷ size ∷ size ∷ size ∷ size ∷ []
 
+-- the happenings that a session takes, its waits in vain in a row and its waiting items
+abbrev pub limits_parts : List Part
+limits_parts = natural 1 (2 ^ 40 + 1) ∷ natural 1 (2 ^ 63) ∷ natural 1 (2 ^ 32) ∷ []
+
 abbrev pub class_parts : List Part
 class_parts = id ∷ class_tag ∷ text ∷ text_or_null ∷ id_or_none ∷ truth ∷ []
 
@@ -115,29 +123,29 @@ field_parts = id ∷ id ∷ text ∷ text ∷ int ∷ []
 abbrev pub object_parts : List Part
 object_parts = id ∷ object_tag ∷ id ∷ []
 
-abbrev pub array_parts : List Part
-array_parts = id ∷ id ∷ values ∷ []
+abbrev pub array_parts : Version → List Part
+array_parts version = id ∷ id ∷ values version ∷ []
 
 abbrev pub string_parts : List Part
 string_parts = id ∷ id ∷ text ∷ []
 
-abbrev pub put_parts : List Part
-put_parts = id ∷ id ∷ value ∷ []
+abbrev pub put_parts : Version → List Part
+put_parts version = id ∷ id ∷ value version ∷ []
 
 abbrev pub thread_parts : List Part
 thread_parts = id ∷ text ∷ []
 
-abbrev pub frame_parts : List Part
-frame_parts = id ∷ id ∷ id ∷ id ∷ index ∷ id_or_none ∷ slots ∷ []
+abbrev pub frame_parts : Version → List Part
+frame_parts version = id ∷ id ∷ id ∷ id ∷ index ∷ id_or_none ∷ slots version ∷ []
 
 abbrev pub begin_parts : List Part
 begin_parts = id ∷ policy ∷ []
 
-abbrev pub at_parts : List Part
-at_parts = id ∷ index ∷ slots ∷ []
+abbrev pub at_parts : Version → List Part
+at_parts version = id ∷ index ∷ slots version ∷ []
 
-abbrev pub call_parts : List Part
-call_parts = id ∷ id ∷ id ∷ id ∷ index ∷ id_or_none ∷ slots ∷ []
+abbrev pub call_parts : Version → List Part
+call_parts version = id ∷ id ∷ id ∷ id ∷ index ∷ id_or_none ∷ slots version ∷ []
 
 abbrev pub prepare_parts : List Part
 prepare_parts = id ∷ id ∷ []
@@ -156,6 +164,12 @@ abbrev pub serve_parts : List Part
 serve_parts = natural 0 (2 ^ 32) ∷ []
 
 -- ---- what they make
+
+abbrev pub sizes_made : From sizes_parts Row
+sizes_made = λ field method object class frame. rows.Sizes (field ∷ method ∷ object ∷ class ∷ frame ∷ [])
+
+abbrev pub limits_made : From limits_parts Row
+limits_made = λ turns quiet waiting. rows.Limits turns quiet waiting
 
 abbrev pub class_made : From class_parts WorldClass
 class_made = λ id tag signature source above prepared. record {
@@ -192,20 +206,20 @@ field_made = λ class id name signature bits. record {
 abbrev pub object_made : From object_parts WorldObject
 object_made = λ id tag class. record { id = record { 0 = id }; tag = tag; class = record { 0 = class } }
 
-abbrev pub array_made : From array_parts WorldArray
-array_made = λ id class values. record { id = record { 0 = id }; class = record { 0 = class }; values = values }
+abbrev pub array_made : (version : Version) → From (array_parts version) WorldArray
+array_made version = λ id class values. record { id = record { 0 = id }; class = record { 0 = class }; values = values }
 
 abbrev pub string_made : From string_parts WorldString
 string_made = λ id class text. record { id = record { 0 = id }; class = record { 0 = class }; text = text }
 
-abbrev pub put_made : From put_parts Put
-put_made = λ object field value. record { object = record { 0 = object }; field = record { 0 = field }; value = value }
+abbrev pub put_made : (version : Version) → From (put_parts version) Put
+put_made version = λ object field value. record { object = record { 0 = object }; field = record { 0 = field }; value = value }
 
 abbrev pub thread_made : From thread_parts WorldThread
 thread_made = λ id name. record { id = record { 0 = id }; name = name }
 
-abbrev pub frame_made : From frame_parts WorldFrame
-frame_made = λ thread id class method index this slots. record {
+abbrev pub frame_made : (version : Version) → From (frame_parts version) WorldFrame
+frame_made version = λ thread id class method index this slots. record {
   thread = record { 0 = thread };
   id = record { 0 = id };
   class = record { 0 = class };
@@ -218,11 +232,11 @@ frame_made = λ thread id class method index this slots. record {
 abbrev pub begin_made : From begin_parts Begin
 begin_made = λ thread policy. record { thread = record { 0 = thread }; policy = policy }
 
-abbrev pub at_made : From at_parts Move
-at_made = λ thread index slots. moves.At (record { 0 = thread }) index slots
+abbrev pub at_made : (version : Version) → From (at_parts version) Move
+at_made version = λ thread index slots. moves.At (record { 0 = thread }) index slots
 
-abbrev pub call_made : From call_parts Move
-call_made = λ thread frame class method index this slots.
+abbrev pub call_made : (version : Version) → From (call_parts version) Move
+call_made version = λ thread frame class method index this slots.
     moves.Call (record { 0 = thread }) (record { 0 = frame }) (record { 0 = class }) (record { 0 = method }) index
     (record { 0 = this }) slots
 
@@ -236,34 +250,42 @@ throw_made = λ thread object class method index.
 abbrev pub as_row : {A B : Type 0} → (A → B) → Option (A × Items) → Option (B × Items)
 as_row wrap read = option_map (λ x. (wrap x.0, x.1)) read
 
-abbrev pub world_row : WorldKind → Items → Option (Row × Items)
-world_row world.Script items = row_at (version ∷ []) (λ known. rows.Head known) items
-world_row world.Sizes items = row_at sizes_parts (λ a b c d e. rows.Sizes (a ∷ b ∷ c ∷ d ∷ e ∷ [])) items
-world_row world.Class items = as_row rows.Class (row_at class_parts class_made items)
-world_row world.Method items = as_row rows.Method (row_at method_parts method_made items)
-world_row world.Variable items = as_row rows.Variable (row_at variable_parts variable_made items)
-world_row world.Field items = as_row rows.Field (row_at field_parts field_made items)
-world_row world.Object items = as_row rows.Object (row_at object_parts object_made items)
-world_row world.Array items = as_row rows.Array (row_at array_parts array_made items)
-world_row world.String items = as_row rows.Text (row_at string_parts string_made items)
-world_row world.Put items = as_row rows.Put (row_at put_parts put_made items)
-world_row world.Thread items = as_row rows.Thread (row_at thread_parts thread_made items)
-world_row world.Frame items = as_row rows.Frame (row_at frame_parts frame_made items)
-world_row world.Begin items = as_row rows.Begin (row_at begin_parts begin_made items)
-world_row world.End items = Some (rows.End, items)
+-- limits stand in the second version alone
+abbrev pub limits_row : Version → Items → Option (Row × Items)
+limits_row First items = None
+limits_row Second items = row_at limits_parts limits_made items
 
-abbrev pub move_of : MoveKind → Items → Option (Move × Items)
-move_of move.At items = row_at at_parts at_made items
-move_of move.Call items = row_at call_parts call_made items
-move_of move.Return items = row_at (id ∷ []) (λ thread. moves.Return (record { 0 = thread })) items
-move_of move.Prepare items =
+abbrev pub world_row : Version → WorldKind → Items → Option (Row × Items)
+world_row version world.Script items = row_at (version_part ∷ []) (λ told. rows.Head told) items
+world_row version world.Sizes items = row_at sizes_parts sizes_made items
+world_row version world.Limits items = limits_row version items
+world_row version world.Class items = as_row rows.Class (row_at class_parts class_made items)
+world_row version world.Method items = as_row rows.Method (row_at method_parts method_made items)
+world_row version world.Variable items = as_row rows.Variable (row_at variable_parts variable_made items)
+world_row version world.Field items = as_row rows.Field (row_at field_parts field_made items)
+world_row version world.Object items = as_row rows.Object (row_at object_parts object_made items)
+world_row version world.Array items = as_row rows.Array (row_at (array_parts version) (array_made version) items)
+world_row version world.String items = as_row rows.Text (row_at string_parts string_made items)
+world_row version world.Put items = as_row rows.Put (row_at (put_parts version) (put_made version) items)
+world_row version world.Thread items = as_row rows.Thread (row_at thread_parts thread_made items)
+world_row version world.Frame items = as_row rows.Frame (row_at (frame_parts version) (frame_made version) items)
+world_row version world.Begin items = as_row rows.Begin (row_at begin_parts begin_made items)
+world_row version world.End items = Some (rows.End, items)
+
+abbrev pub move_of : Version → MoveKind → Items → Option (Move × Items)
+move_of version move.At items = row_at (at_parts version) (at_made version) items
+move_of version move.Call items = row_at (call_parts version) (call_made version) items
+move_of version move.Return items = row_at (id ∷ []) (λ thread. moves.Return (record { 0 = thread })) items
+move_of version move.Prepare items =
     row_at prepare_parts (λ class thread. moves.Prepare (record { 0 = class }) (record { 0 = thread })) items
-move_of move.Throw items = row_at throw_parts throw_made items
-move_of move.Start items = row_at thread_parts (λ thread name. moves.Start (record { 0 = thread }) name) items
-move_of move.Die items = row_at (id ∷ []) (λ thread. moves.Die (record { 0 = thread })) items
-move_of move.Store items =
-    row_at put_parts (λ object field value. moves.Store (record { 0 = object }) (record { 0 = field }) value) items
-move_of move.Death items = Some (moves.Death, items)
+move_of version move.Throw items = row_at throw_parts throw_made items
+move_of version move.Start items =
+    row_at thread_parts (λ thread name. moves.Start (record { 0 = thread }) name) items
+move_of version move.Die items = row_at (id ∷ []) (λ thread. moves.Die (record { 0 = thread })) items
+move_of version move.Store items =
+    row_at (put_parts version)
+    (λ object field value. moves.Store (record { 0 = object }) (record { 0 = field }) value) items
+move_of version move.Death items = Some (moves.Death, items)
 
 abbrev pub turn_of : TurnKind → Items → Option (Turn × Items)
 turn_of turn.Ask items = row_at ask_parts (λ command arguments. turns.Ask command arguments) items
@@ -275,10 +297,10 @@ turn_of turn.Settle items = Some (turns.Settle, items)
 turn_of turn.Deliver items = Some (turns.Deliver, items)
 turn_of turn.Shut items = row_at (side ∷ []) (λ s. turns.Shut s) items
 
-abbrev pub kind_row : Kind → Items → Option (Row × Items)
-kind_row (kinds.World kind) items = world_row kind items
-kind_row (kinds.Move kind) items = as_row rows.Move (move_of kind items)
-kind_row (kinds.Turn kind) items = as_row rows.Turn (turn_of kind items)
+abbrev pub kind_row : Version → Kind → Items → Option (Row × Items)
+kind_row version (kinds.World kind) items = world_row version kind items
+kind_row version (kinds.Move kind) items = as_row rows.Move (move_of version kind items)
+kind_row version (kinds.Turn kind) items = as_row rows.Turn (turn_of kind items)
 
 -- nothing stands behind what was read
 abbrev pub whole : Row → Items → Option Row
@@ -286,14 +308,15 @@ whole row no_items = Some row
 whole row (item d ds) = None
 
 -- the row of a kind, of all elements behind the name
-unfoldable pub row_in : Kind → Items → Option Row
-row_in kind items = option_and_then (λ x. whole x.0 x.1) (kind_row kind items)
+unfoldable pub row_in : Version → Kind → Items → Option Row
+row_in version kind items = option_and_then (λ x. whole x.0 x.1) (kind_row version kind items)
 
 -- the row of these elements
-abbrev pub row_of_items : Items → Option Row
-row_of_items no_items = None
-row_of_items (item name items) = option_and_then (λ kind. row_in kind items) (option_and_then kind_of (as_str name))
+abbrev pub row_of_items : Version → Items → Option Row
+row_of_items version no_items = None
+row_of_items version (item name items) =
+    option_and_then (λ kind. row_in version kind items) (option_and_then kind_of (as_str name))
 
--- the row that a value is, where it is one
-abbrev pub row_of : Data → Option Row
-row_of d = option_and_then row_of_items (as_array d)
+-- the row that a value is in a script of this version, where it is one
+abbrev pub row_of : Version → Data → Option Row
+row_of version d = option_and_then (row_of_items version) (as_array d)

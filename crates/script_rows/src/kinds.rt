@@ -7,6 +7,7 @@ ghost use Rattle.script_rows.specs.Rows.{world_kind, move_kind, turn_kind, kind_
 pub(crate) enum WorldKind {
     Script,
     Sizes,
+    Limits,
     Class,
     Method,
     Variable,
@@ -62,6 +63,8 @@ fn world_kind(name: &str) -> Option<WorldKind>
         Some(WorldKind::Script)
     } else if name == "sizes" {
         Some(WorldKind::Sizes)
+    } else if name == "limits" {
+        Some(WorldKind::Limits)
     } else if name == "class" {
         Some(WorldKind::Class)
     } else if name == "method" {

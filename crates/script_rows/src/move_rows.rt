@@ -4,26 +4,27 @@ ghost use Rattle.line_elements.specs.Parts.{row_at, Tells};
 ghost use Rattle.script_rows.specs.Rows.{at_parts, at_made, call_parts, call_made, throw_parts, throw_made, move_of};
 ghost use Rattle.script_rows.specs.Rows.{turn_of};
 ghost use Rattle.script_rows.specs.declared.kinds.MoveKind.TheVariants as move;
+ghost use Rattle.line_elements.specs.declared.version.Version.TheVariants.{Second};
 
 use crate::kinds::{MoveKind, TurnKind};
 use crate::script::Turn;
 use jdwp_values::{ClassId, FieldId, FrameId, MethodId, ObjectId, ThreadId};
-use line_elements::{Elements, LineFault};
+use line_elements::{Elements, LineFault, Version};
 use std::alloc::Global;
 use world_model::Move;
 
-fn at(alloc: Global, elements: &mut Elements<'_>) -> Result<Move, LineFault>
-    ensures { Tells (λ x. x) (row_at at_parts at_made elements.old) elements.new result }
+fn at(alloc: Global, version: Version, elements: &mut Elements<'_>) -> Result<Move, LineFault>
+    ensures { Tells (λ x. x) (row_at (at_parts version) (at_made version) elements.old) elements.new result }
 {
     Ok(Move::At {
         thread: ThreadId(elements.id()?),
         index: elements.index()?,
-        slots: elements.slots(alloc)?,
+        slots: elements.slots(alloc, version)?,
     })
 }
 
-fn call(alloc: Global, elements: &mut Elements<'_>) -> Result<Move, LineFault>
-    ensures { Tells (λ x. x) (row_at call_parts call_made elements.old) elements.new result }
+fn call(alloc: Global, version: Version, elements: &mut Elements<'_>) -> Result<Move, LineFault>
+    ensures { Tells (λ x. x) (row_at (call_parts version) (call_made version) elements.old) elements.new result }
 {
     Ok(Move::Call {
         thread: ThreadId(elements.id()?),
@@ -32,7 +33,7 @@ fn call(alloc: Global, elements: &mut Elements<'_>) -> Result<Move, LineFault>
         method: MethodId(elements.id()?),
         index: elements.index()?,
         this: ObjectId(elements.id_or_none()?),
-        slots: elements.slots(alloc)?,
+        slots: elements.slots(alloc, version)?,
     })
 }
 
@@ -49,7 +50,7 @@ fn throw(elements: &mut Elements<'_>) -> Result<Move, LineFault>
 }
 
 fn prepare(elements: &mut Elements<'_>) -> Result<Move, LineFault>
-    ensures { Tells (λ x. x) (move_of move.Prepare elements.old) elements.new result }
+    ensures { Tells (λ x. x) (move_of Second move.Prepare elements.old) elements.new result }
 {
     Ok(Move::Prepare {
         class: ClassId(elements.id()?),
@@ -58,7 +59,7 @@ fn prepare(elements: &mut Elements<'_>) -> Result<Move, LineFault>
 }
 
 fn start(alloc: Global, elements: &mut Elements<'_>) -> Result<Move, LineFault>
-    ensures { Tells (λ x. x) (move_of move.Start elements.old) elements.new result }
+    ensures { Tells (λ x. x) (move_of Second move.Start elements.old) elements.new result }
 {
     Ok(Move::Start {
         thread: ThreadId(elements.id()?),
@@ -66,33 +67,34 @@ fn start(alloc: Global, elements: &mut Elements<'_>) -> Result<Move, LineFault>
     })
 }
 
-fn store(elements: &mut Elements<'_>) -> Result<Move, LineFault>
-    ensures { Tells (λ x. x) (move_of move.Store elements.old) elements.new result }
+fn store(version: Version, elements: &mut Elements<'_>) -> Result<Move, LineFault>
+    ensures { Tells (λ x. x) (move_of version move.Store elements.old) elements.new result }
 {
     Ok(Move::Store {
         object: ObjectId(elements.id()?),
         field: FieldId(elements.id()?),
-        value: elements.value()?,
+        value: elements.value(version)?,
     })
 }
 
-/// The move of a kind of line, of the parts behind its name.
+/// The move of a kind of line in a script of this version, of the parts behind its name.
 pub(crate) fn move_row(
     alloc: Global,
+    version: Version,
     kind: MoveKind,
     elements: &mut Elements<'_>,
 ) -> Result<Move, LineFault>
-    ensures { Tells (λ x. x) (move_of kind elements.old) elements.new result }
+    ensures { Tells (λ x. x) (move_of version kind elements.old) elements.new result }
 {
     match kind {
-        MoveKind::At => at(alloc, elements),
-        MoveKind::Call => call(alloc, elements),
+        MoveKind::At => at(alloc, version, elements),
+        MoveKind::Call => call(alloc, version, elements),
         MoveKind::Return => Ok(Move::Return(ThreadId(elements.id()?))),
         MoveKind::Prepare => prepare(elements),
         MoveKind::Throw => throw(elements),
         MoveKind::Start => start(alloc, elements),
         MoveKind::Die => Ok(Move::Die(ThreadId(elements.id()?))),
-        MoveKind::Store => store(elements),
+        MoveKind::Store => store(version, elements),
         MoveKind::Death => Ok(Move::Death),
     }
 }

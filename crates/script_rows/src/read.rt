@@ -9,24 +9,28 @@ use crate::kinds::{Kind, kind_of};
 use crate::move_rows::{move_row, turn_row};
 use crate::rows::Row;
 use crate::world_rows::world_row;
-use line_elements::{Elements, LineFault};
+use line_elements::{Elements, LineFault, Version};
 use serde_json::Value;
 use std::alloc::Global;
 use wire_core::NoMemory;
 
-/// The row that a line's JSON value is; None exactly where it isn't an array that a row gives, with elements of the
-/// kinds and ranges that stand in `Rows.antt`. `NoMemory` comes where memory is refused.
-pub fn read_row(alloc: Global, value: &Value) -> Result<Option<Row>, NoMemory>
-    ensures { IfOk result (λ row. row ≡ row_of (view value.now)) }
+/// The row that a line's JSON value is in a script of this version; None exactly where it isn't an array that a row
+/// gives, with elements of the kinds and ranges that stand in `Rows.antt`. `NoMemory` comes where memory is refused.
+pub fn read_row(alloc: Global, version: Version, value: &Value) -> Result<Option<Row>, NoMemory>
+    ensures { IfOk result (λ row. row ≡ row_of version (view value.now)) }
 {
     match value.as_array() {
-        Some(elements) => read_elements(alloc, elements.as_slice()),
+        Some(elements) => read_elements(alloc, version, elements.as_slice()),
         None => Ok(None),
     }
 }
 
-fn read_elements(alloc: Global, elements: &[Value]) -> Result<Option<Row>, NoMemory>
-    ensures { IfOk result (λ row. row ≡ row_of_items (items_view elements.now)) }
+fn read_elements(
+    alloc: Global,
+    version: Version,
+    elements: &[Value],
+) -> Result<Option<Row>, NoMemory>
+    ensures { IfOk result (λ row. row ≡ row_of_items version (items_view elements.now)) }
 {
     let [name, parts @ ..] = elements else {
         return Ok(None);
@@ -34,7 +38,7 @@ fn read_elements(alloc: Global, elements: &[Value]) -> Result<Option<Row>, NoMem
     let Some(kind) = line_kind(name) else {
         return Ok(None);
     };
-    match row_in(alloc, kind, parts) {
+    match row_in(alloc, version, kind, parts) {
         Ok(row) => Ok(Some(row)),
         Err(LineFault::NoMemory) => Err(NoMemory),
         Err(LineFault::BadShape) => Ok(None),
@@ -48,11 +52,11 @@ fn line_kind(name: &Value) -> Option<Kind>
 }
 
 #[tactic(auto, unfolding(crate::specs::Rows::row_in))]
-fn row_in(alloc: Global, kind: Kind, parts: &[Value]) -> Result<Row, LineFault>
-    ensures { Found result (row_in kind (items_view parts.now)) }
+fn row_in(alloc: Global, version: Version, kind: Kind, parts: &[Value]) -> Result<Row, LineFault>
+    ensures { Found result (row_in version kind (items_view parts.now)) }
 {
     let mut elements = Elements::new(parts);
-    let row = kind_row(alloc, kind, &mut elements)?;
+    let row = kind_row(alloc, version, kind, &mut elements)?;
     whole(row, &elements)
 }
 
@@ -67,12 +71,17 @@ fn whole(row: Row, left: &Elements<'_>) -> Result<Row, LineFault>
     }
 }
 
-fn kind_row(alloc: Global, kind: Kind, elements: &mut Elements<'_>) -> Result<Row, LineFault>
-    ensures { Tells (λ x. x) (kind_row kind elements.old) elements.new result }
+fn kind_row(
+    alloc: Global,
+    version: Version,
+    kind: Kind,
+    elements: &mut Elements<'_>,
+) -> Result<Row, LineFault>
+    ensures { Tells (λ x. x) (kind_row version kind elements.old) elements.new result }
 {
     match kind {
-        Kind::World(kind) => world_row(alloc, kind, elements),
-        Kind::Move(kind) => Ok(Row::Move(move_row(alloc, kind, elements)?)),
+        Kind::World(kind) => world_row(alloc, version, kind, elements),
+        Kind::Move(kind) => Ok(Row::Move(move_row(alloc, version, kind, elements)?)),
         Kind::Turn(kind) => Ok(Row::Turn(turn_row(alloc, kind, elements)?)),
     }
 }

@@ -1,4 +1,5 @@
 use crate::script::{Begin, Turn};
+use line_elements::Version;
 use world_model::{
     Move, Put, WorldArray, WorldClass, WorldField, WorldFrame, WorldMethod, WorldObject,
     WorldString, WorldThread, WorldVariable,
@@ -11,10 +12,19 @@ use world_model::{
 /// object are 0.
 #[derive(Drop)]
 pub enum Row {
-    /// The first line: whether its version is known.
-    Head { known: bool },
+    /// The first line: its version, where that is known.
+    Head {
+        version: Option<Version>,
+    },
     /// How many bytes the id of a field, a method, an object, a class and a frame takes, each from 1 to 8.
     Sizes([u32; 5]),
+    /// The limits of a session of the script: from 1 to 2^40 happenings, to 2^63 - 1 waits in vain in a row and to
+    /// 2^32 - 1 waiting items. Scripts of the first version have no such line.
+    Limits {
+        turns: u64,
+        quiet: u64,
+        waiting: u32,
+    },
     Class(WorldClass),
     Method(WorldMethod),
     Variable(WorldVariable),

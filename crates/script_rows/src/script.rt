@@ -33,11 +33,15 @@ pub struct Begin {
     pub policy: Policy,
 }
 
-/// A target, the moves of its program, and what is done in the session.
+/// A target, the moves of its program, and what is done in the session, under which limits: so many happenings, waits in
+/// vain in a row and waiting items.
 #[derive(Drop)]
 pub struct Script {
     pub world: World,
     pub program: List<Move>,
     pub begin: Option<Begin>,
     pub schedule: List<Turn>,
+    pub turns: u64,
+    pub quiet: u64,
+    pub waiting: u32,
 }

@@ -4,8 +4,8 @@ ghost use Rattle.line_elements.specs.Parts.{row_at, Tells};
 ghost use Rattle.script_rows.specs.Rows.{class_parts, class_made, method_parts, method_made, variable_parts};
 ghost use Rattle.script_rows.specs.Rows.{variable_made, field_parts, field_made, object_parts, object_made, array_parts};
 ghost use Rattle.script_rows.specs.Rows.{array_made, string_parts, string_made, put_parts, put_made, thread_parts};
-ghost use Rattle.script_rows.specs.Rows.{thread_made, frame_parts, frame_made, begin_parts, begin_made, world_row};
-ghost use Rattle.script_rows.specs.declared.kinds.WorldKind.TheVariants as world;
+ghost use Rattle.script_rows.specs.Rows.{thread_made, frame_parts, frame_made, begin_parts, begin_made, sizes_parts};
+ghost use Rattle.script_rows.specs.Rows.{sizes_made, limits_row, world_row};
 
 use crate::kinds::WorldKind;
 use crate::rows::Row;
@@ -13,7 +13,7 @@ use crate::script::Begin;
 use jdwp_values::{
     ClassId, Field, FieldId, FrameId, Method, MethodId, ObjectId, ThreadId, Variable,
 };
-use line_elements::{Elements, LineFault};
+use line_elements::{Elements, LineFault, Version};
 use std::alloc::Global;
 use world_model::{
     Put, WorldArray, WorldClass, WorldField, WorldFrame, WorldMethod, WorldObject, WorldString,
@@ -94,13 +94,17 @@ fn object(elements: &mut Elements<'_>) -> Result<WorldObject, LineFault>
     })
 }
 
-fn array(alloc: Global, elements: &mut Elements<'_>) -> Result<WorldArray, LineFault>
-    ensures { Tells (λ x. x) (row_at array_parts array_made elements.old) elements.new result }
+fn array(
+    alloc: Global,
+    version: Version,
+    elements: &mut Elements<'_>,
+) -> Result<WorldArray, LineFault>
+    ensures { Tells (λ x. x) (row_at (array_parts version) (array_made version) elements.old) elements.new result }
 {
     Ok(WorldArray {
         id: ObjectId(elements.id()?),
         class: ClassId(elements.id()?),
-        values: elements.values(alloc)?,
+        values: elements.values(alloc, version)?,
     })
 }
 
@@ -114,13 +118,13 @@ fn string(alloc: Global, elements: &mut Elements<'_>) -> Result<WorldString, Lin
     })
 }
 
-fn put(elements: &mut Elements<'_>) -> Result<Put, LineFault>
-    ensures { Tells (λ x. x) (row_at put_parts put_made elements.old) elements.new result }
+fn put(version: Version, elements: &mut Elements<'_>) -> Result<Put, LineFault>
+    ensures { Tells (λ x. x) (row_at (put_parts version) (put_made version) elements.old) elements.new result }
 {
     Ok(Put {
         object: ObjectId(elements.id()?),
         field: FieldId(elements.id()?),
-        value: elements.value()?,
+        value: elements.value(version)?,
     })
 }
 
@@ -133,8 +137,12 @@ fn thread(alloc: Global, elements: &mut Elements<'_>) -> Result<WorldThread, Lin
     })
 }
 
-fn frame(alloc: Global, elements: &mut Elements<'_>) -> Result<WorldFrame, LineFault>
-    ensures { Tells (λ x. x) (row_at frame_parts frame_made elements.old) elements.new result }
+fn frame(
+    alloc: Global,
+    version: Version,
+    elements: &mut Elements<'_>,
+) -> Result<WorldFrame, LineFault>
+    ensures { Tells (λ x. x) (row_at (frame_parts version) (frame_made version) elements.old) elements.new result }
 {
     Ok(WorldFrame {
         thread: ThreadId(elements.id()?),
@@ -143,7 +151,7 @@ fn frame(alloc: Global, elements: &mut Elements<'_>) -> Result<WorldFrame, LineF
         method: MethodId(elements.id()?),
         index: elements.index()?,
         this: ObjectId(elements.id_or_none()?),
-        slots: elements.slots(alloc)?,
+        slots: elements.slots(alloc, version)?,
     })
 }
 
@@ -157,7 +165,7 @@ fn begin(elements: &mut Elements<'_>) -> Result<Begin, LineFault>
 }
 
 fn sizes(elements: &mut Elements<'_>) -> Result<Row, LineFault>
-    ensures { Tells (λ x. x) (world_row world.Sizes elements.old) elements.new result }
+    ensures { Tells (λ x. x) (row_at sizes_parts sizes_made elements.old) elements.new result }
 {
     Ok(Row::Sizes([
         elements.small(1, 9)?,
@@ -168,29 +176,44 @@ fn sizes(elements: &mut Elements<'_>) -> Result<Row, LineFault>
     ]))
 }
 
-/// The row of a kind of line, of the parts behind its name.
+fn limits(version: Version, elements: &mut Elements<'_>) -> Result<Row, LineFault>
+    ensures { Tells (λ x. x) (limits_row version elements.old) elements.new result }
+{
+    match version {
+        Version::First => Err(LineFault::BadShape),
+        Version::Second => Ok(Row::Limits {
+            turns: elements.natural(1, (1 << 40) + 1)?,
+            quiet: elements.natural(1, 1 << 63)?,
+            waiting: elements.small(1, 1 << 32)?,
+        }),
+    }
+}
+
+/// The row of a kind of line in a script of this version, of the parts behind its name.
 pub(crate) fn world_row(
     alloc: Global,
+    version: Version,
     kind: WorldKind,
     elements: &mut Elements<'_>,
 ) -> Result<Row, LineFault>
-    ensures { Tells (λ x. x) (world_row kind elements.old) elements.new result }
+    ensures { Tells (λ x. x) (world_row version kind elements.old) elements.new result }
 {
     match kind {
         WorldKind::Script => Ok(Row::Head {
-            known: elements.version()?,
+            version: elements.version()?,
         }),
         WorldKind::Sizes => sizes(elements),
+        WorldKind::Limits => limits(version, elements),
         WorldKind::Class => Ok(Row::Class(class(alloc, elements)?)),
         WorldKind::Method => Ok(Row::Method(method(alloc, elements)?)),
         WorldKind::Variable => Ok(Row::Variable(variable(alloc, elements)?)),
         WorldKind::Field => Ok(Row::Field(field(alloc, elements)?)),
         WorldKind::Object => Ok(Row::Object(object(elements)?)),
-        WorldKind::Array => Ok(Row::Array(array(alloc, elements)?)),
+        WorldKind::Array => Ok(Row::Array(array(alloc, version, elements)?)),
         WorldKind::String => Ok(Row::Text(string(alloc, elements)?)),
-        WorldKind::Put => Ok(Row::Put(put(elements)?)),
+        WorldKind::Put => Ok(Row::Put(put(version, elements)?)),
         WorldKind::Thread => Ok(Row::Thread(thread(alloc, elements)?)),
-        WorldKind::Frame => Ok(Row::Frame(frame(alloc, elements)?)),
+        WorldKind::Frame => Ok(Row::Frame(frame(alloc, version, elements)?)),
         WorldKind::Begin => Ok(Row::Begin(begin(elements)?)),
         WorldKind::End => Ok(Row::End),
     }

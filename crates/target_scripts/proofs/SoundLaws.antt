@@ -44,11 +44,11 @@ use Rattle.script_worlds.proofs.GrowingLaws.{object_grows, array_grows, string_g
 use Rattle.script_worlds.proofs.GrowingLaws.{frame_grows, whole_is_sound}
 use Rattle.script_worlds.proofs.ListLaws.{first_of, second_of}
 use Rattle.target_scripts.specs.declared.building.Building.{Building}
-use Rattle.target_scripts.specs.Adding.{with_row, in_world, world_behind, made, moved_on, added, grown, begun}
+use Rattle.target_scripts.specs.Adding.{with_row, in_world, limited, world_behind, made, moved_on, added, grown, begun}
 use Rattle.target_scripts.specs.Adding.{unless_faulty}
 use Rattle.target_scripts.specs.Chains.{is_open, goes_on, first_open, line_of_class, chain_fault}
 use Rattle.target_scripts.specs.Fit.{AreMade, HasBegun, IsFit, Leads, IsSoundSoFar}
-use Rattle.target_scripts.specs.Judging.{rank, may_follow, row_fits, row_is_new, row_is_known, unless, fault_of}
+use Rattle.target_scripts.specs.Judging.{rank, is_twice, may_follow, row_fits, row_is_new, row_is_known, unless, fault_of}
 use Rattle.target_scripts.specs.Judging.{array_stands, frame_stands, may_begin, put_stands}
 
 -- A row without a fault ----------------------------------------------------------------------------------------------
@@ -87,9 +87,8 @@ no_fault b row h =
 -- rows stand in the order of their kinds
 in_order : (last next : ℕ) → may_follow last next ≡ true → last ≤ next
 in_order last next h =
-    let once = not (nat_eq last 12 && nat_eq next 12) in
-    leb-true last next (second_of (nat_lt 1 next) (nat_le last next)
-    (first_of (nat_lt 1 next && nat_le last next) once h))
+    leb-true last next (second_of (nat_lt 0 next) (nat_le last next)
+    (first_of (nat_lt 0 next && nat_le last next) (not (is_twice last next)) h))
 
 -- Rows of the world --------------------------------------------------------------------------------------------------
 
@@ -119,6 +118,7 @@ in_world_sound b row s fair early keeps grows =
       begin = still_begun b.script.world (with_row b.script.world row) b.script.begin keeps s.begin;
       moves = lead_by_none b.script.world b.running b.script.program row none s.moves;
       first = λ earlier. none;
+      limits = s.limits;
     }
 
 array_sound : (b : Building) (row : WorldArray) → IsSoundSoFar b → HasNoFault b (rows.Array row)
@@ -198,6 +198,7 @@ move_sound b row (Ok now) s h =
       moves = subst (Leads b.script.world (b.script.program ++ row ∷ [])) m.same
           (lead_on b.script.world b.running b.script.program row m.found s.moves m.is);
       first = λ early. absurd (omega (arith, early));
+      limits = s.limits;
     }
 move_sound b row (Err kind) s h = tt
 
@@ -278,6 +279,7 @@ begin_added b start s fair =
       );
       moves = s.moves;
       first = λ early. s.first (omega (arith, order));
+      limits = s.limits;
     }
 
 move_added : (b : Building) (row : Move) → IsSoundSoFar b → HasNoFault b (rows.Move row) → IfSound (added b (rows.Move row))
@@ -288,23 +290,58 @@ move_added b row s fair =
 turn_added : (b : Building) (turn : Turn) → IsSoundSoFar b → HasNoFault b (rows.Turn turn) → IfSound (added b (rows.Turn turn))
 unfolding added
 turn_added b turn s fair =
-    record { world = s.world; begin = s.begin; moves = s.moves; first = λ early. absurd (omega (arith, early)) }
+    record {
+      world = s.world;
+      begin = s.begin;
+      moves = s.moves;
+      first = λ early. absurd (omega (arith, early));
+      limits = s.limits;
+    }
 
 end_added : (b : Building) → IsSoundSoFar b → IfSound (added b rows.End)
 unfolding added
 end_added b s =
-    record { world = s.world; begin = s.begin; moves = s.moves; first = λ early. absurd (omega (arith, early)) }
+    record {
+      world = s.world;
+      begin = s.begin;
+      moves = s.moves;
+      first = λ early. absurd (omega (arith, early));
+      limits = s.limits;
+    }
+
+limits_added : (b : Building) (turns quiet waiting : ℕ) → IsSoundSoFar b → HasNoFault b (rows.Limits turns quiet waiting)
+    → IfSound (added b (rows.Limits turns quiet waiting))
+unfolding added limited row_fits
+limits_added b turns quiet waiting s fair =
+    let order = in_order b.last 1 fair.order in
+    let most = nat_lt 0 turns && nat_le turns (2 ^ 40) in
+    let others = nat_lt 0 quiet && nat_lt 0 waiting in
+    record {
+      world = s.world;
+      begin = s.begin;
+      moves = s.moves;
+      first = λ early. s.first (omega (arith, order));
+      limits = record {
+        some_turns = ltb-true 0 turns (first_of (nat_lt 0 turns) (nat_le turns (2 ^ 40)) (first_of most others fair.fits));
+        few_turns =
+            leb-true turns (2 ^ 40) (second_of (nat_lt 0 turns) (nat_le turns (2 ^ 40)) (first_of most others fair.fits));
+        some_quiet = ltb-true 0 quiet (first_of (nat_lt 0 quiet) (nat_lt 0 waiting) (second_of most others fair.fits));
+        some_waiting =
+            ltb-true 0 waiting (second_of (nat_lt 0 quiet) (nat_lt 0 waiting) (second_of most others fair.fits));
+      };
+    }
 
 -- no row stands behind the sizes of ids that stands in one of the first two lines
-too_early : (last next : ℕ) → next < 2 → may_follow last next ≡ true → ⊥
-too_early last next early h =
-    let first = first_of (nat_lt 1 next) (nat_le last next)
-    (first_of (nat_lt 1 next && nat_le last next) (not (nat_eq last 12 && nat_eq next 12)) h) in
-    let behind : 1 < next = ltb-true 1 next first in omega arith
+too_early : (last : ℕ) → may_follow last 0 ≡ true → ⊥
+too_early last h =
+    let first = first_of (nat_lt 0 0) (nat_le last 0)
+    (first_of (nat_lt 0 0 && nat_le last 0) (not (is_twice last 0)) h) in
+    let behind : 0 < 0 = ltb-true 0 0 first in omega arith
 
 added_sound : (b : Building) (row : Row) → IsSoundSoFar b → HasNoFault b row → IfSound (added b row)
-added_sound b (rows.Head known) s fair = absurd (too_early b.last 0 (omega arith) fair.order)
-added_sound b (rows.Sizes sizes) s fair = absurd (too_early b.last 1 (omega arith) fair.order)
+added_sound b (rows.Head told) s fair = absurd (too_early b.last fair.order)
+added_sound b (rows.Sizes sizes) s fair = absurd (too_early b.last fair.order)
+added_sound b (rows.Limits turns quiet waiting) s fair = limits_added b turns quiet waiting s fair
 added_sound b (rows.Class row) s fair = class_added b row s fair
 added_sound b (rows.Method row) s fair = method_added b row s fair
 added_sound b (rows.Variable row) s fair = variable_added b row s fair
@@ -329,7 +366,18 @@ pub grown_sound : (old new : Building) (row : Row) → IsSoundSoFar old → grow
 grown_sound old new row s h = subst IfSound h (unless_sound old row (fault_of old row) s refl)
 
 pub begun_sound : (sizes : IdSizes) → IsSoundSoFar (begun sizes)
-begun_sound sizes = record { world = empty_grows sizes; begin = tt; moves = refl; first = λ early. refl }
+begun_sound sizes = record {
+  world = empty_grows sizes;
+  begin = tt;
+  moves = refl;
+  first = λ early. refl;
+  limits = record {
+    some_turns = omega arith;
+    few_turns = omega arith;
+    some_quiet = omega arith;
+    some_waiting = omega arith;
+  };
+}
 
 -- The end ------------------------------------------------------------------------------------------------------------
 
@@ -358,16 +406,16 @@ all_end : (classes rows : List WorldClass) → position (goes_on classes) rows �
     → AllByRecursion (λ (row : WorldClass). ends classes classes row.id ≡ true) rows
 all_end classes rows h = all_end_from classes 0 rows (sym (position_from-zero (goes_on classes) rows) ∙ h)
 
-no_second_open : (a b : Option ℕ) → option_map line_of_class (option_or a b) ≡ None → b ≡ None
-no_second_open None None h = refl
-no_second_open None (Some n) h = absurd cc
-no_second_open (Some m) b h = absurd cc
+no_second_open : (first : ℕ) (a b : Option ℕ) → option_map (line_of_class first) (option_or a b) ≡ None → b ≡ None
+no_second_open first None None h = refl
+no_second_open first None (Some n) h = absurd cc
+no_second_open first (Some m) b h = absurd cc
 
-pub whole_fit : (b : Building) → IsSoundSoFar b → chain_fault b.script.world.classes ≡ None → IsFit b.script
+pub whole_fit : (b : Building) → IsSoundSoFar b → chain_fault b ≡ None → IsFit b.script
 whole_fit b s h =
     let classes = b.script.world.classes in
     let sound = whole_is_sound b.script.world s.world (all_end classes classes
-    (no_second_open (position (is_open classes) classes) (position (goes_on classes) classes) h)) in
+    (no_second_open b.first_class (position (is_open classes) classes) (position (goes_on classes) classes) h)) in
     record {
       sound = sound;
       requests = s.world.requests;
@@ -375,4 +423,5 @@ whole_fit b s h =
       alive = s.world.alive;
       moves = sound_moves b.script.world b.running b.script.program sound s.moves;
       begin = s.begin;
+      limits = s.limits;
     }

@@ -1,5 +1,5 @@
 -- What rows make of a script, line by line.
-use Rattle.std.specs.Prelude.{◌≡◌, ℕ, ◌<◌, List, [], ◌∷◌, ◌++◌, Option, Some, None, Result, Ok, Err}
+use Rattle.std.specs.Prelude.{◌≡◌, ℕ, ◌<◌, ◌^◌, List, [], ◌∷◌, ◌++◌, Option, Some, None, Result, Ok, Err}
 use Rattle.jdwp_events.specs.declared.composite.Composite.{Composite}
 use Rattle.jdwp_values.specs.declared.sizes.IdSizes.{IdSizes}
 use Rattle.script_rows.specs.declared.rows.Row.{Row}
@@ -20,8 +20,9 @@ use Rattle.target_scripts.specs.Judging.{rank, fault_of}
 
 -- a world with one row more; rows of other parts leave it as it is
 abbrev pub with_row : World → Row → World
-with_row w (rows.Head known) = w
+with_row w (rows.Head told) = w
 with_row w (rows.Sizes sizes) = w
+with_row w (rows.Limits turns quiet waiting) = w
 with_row w (rows.Class row) = with_class w row
 with_row w (rows.Method row) = with_method w row
 with_row w (rows.Variable row) = with_variable w row
@@ -39,10 +40,18 @@ with_row w rows.End = w
 
 -- a row of the world: it stands in the world as it is at the start, and in that behind all moves so far
 unfoldable pub in_world : Building → Row → Building
-in_world b row = record {
+in_world b row = record b {
   last = rank row;
   script = record b.script { world = with_row b.script.world row };
   running = with_row b.running row;
+}
+
+-- limits of the script's own; the first class stands one line further down
+unfoldable pub limited : Building → ℕ → ℕ → ℕ → Building
+limited b turns quiet waiting = record b {
+  last = 1;
+  first_class = 4;
+  script = record b.script { turns = turns; quiet = quiet; waiting = waiting };
 }
 
 -- the world behind a move, or that it can't be made
@@ -56,13 +65,14 @@ made w next = world_behind (moved w next)
 -- a move, where it can be made in the world behind all moves before it
 abbrev pub moved_on : Building → Move → Result World ScriptFault → Result Building ScriptFault
 moved_on b row (Ok now) =
-    Ok (record { last = 13; script = record b.script { program = b.script.program ++ row ∷ [] }; running = now })
+    Ok (record b { last = 13; script = record b.script { program = b.script.program ++ row ∷ [] }; running = now })
 moved_on b row (Err kind) = Err kind
 
 -- a row that has no other fault
 unfoldable pub added : Building → Row → Result Building ScriptFault
-added b (rows.Head known) = Ok (record b { last = 0 })
-added b (rows.Sizes sizes) = Ok (record b { last = 1 })
+added b (rows.Head told) = Ok (record b { last = 0 })
+added b (rows.Sizes sizes) = Ok (record b { last = 0 })
+added b (rows.Limits turns quiet waiting) = Ok (limited b turns quiet waiting)
 added b (rows.Class row) = Ok (in_world b (rows.Class row))
 added b (rows.Method row) = Ok (in_world b (rows.Method row))
 added b (rows.Variable row) = Ok (in_world b (rows.Variable row))
@@ -87,11 +97,30 @@ unless_faulty b row (Some fault) = Err fault
 abbrev pub grown : Building → Row → Result Building ScriptFault
 grown b row = unless_faulty b row (fault_of b row)
 
+-- the limits of a script that says none
+abbrev pub usual_turns : ℕ
+usual_turns = 2 ^ 40
+
+abbrev pub usual_quiet : ℕ
+usual_quiet = 43200000
+
+abbrev pub usual_waiting : ℕ
+usual_waiting = 65536
+
 -- a script of which nothing was said but how many bytes ids take
 abbrev pub begun : IdSizes → Building
 begun sizes = record {
-  last = 1;
-  script = record { world = empty_world sizes; program = []; begin = None; schedule = [] };
+  last = 0;
+  first_class = 3;
+  script = record {
+    world = empty_world sizes;
+    program = [];
+    begin = None;
+    schedule = [];
+    turns = usual_turns;
+    quiet = usual_quiet;
+    waiting = usual_waiting;
+  };
   running = empty_world sizes;
 }
 

@@ -6,6 +6,7 @@ use Rattle.std.specs.Option.{option_map_or, option_or}
 use Rattle.jdwp_values.specs.declared.id.ClassId.{ClassId}
 use Rattle.world_model.specs.declared.rows.WorldClass.{WorldClass}
 use Rattle.world_model.specs.Sound.{ends}
+use Rattle.target_scripts.specs.declared.building.Building.{Building}
 
 -- a class is reached from another one, or from one above it, one step up for each of these classes
 abbrev pub comes_to : List WorldClass → List WorldClass → ClassId → ClassId → Bool
@@ -29,10 +30,10 @@ goes_on classes row = not (ends classes classes row.id)
 abbrev pub first_open : List WorldClass → Option ℕ
 first_open classes = option_or (position (is_open classes) classes) (position (goes_on classes) classes)
 
--- the line of a class: classes stand behind the first two lines; the last number stands for all that follow
-abbrev pub line_of_class : ℕ → ℕ
-line_of_class place = min (place + 3) (2 ^ 32 - 1)
+-- the line of a class, by that of the first one; the last number stands for all that follow
+abbrev pub line_of_class : ℕ → ℕ → ℕ
+line_of_class first place = min (place + first) (2 ^ 32 - 1)
 
 -- the line of the first class whose chain is at fault
-abbrev pub chain_fault : List WorldClass → Option ℕ
-chain_fault classes = option_map line_of_class (first_open classes)
+abbrev pub chain_fault : Building → Option ℕ
+chain_fault b = option_map (line_of_class b.first_class) (first_open b.script.world.classes)

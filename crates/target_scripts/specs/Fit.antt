@@ -1,5 +1,5 @@
 -- What the parts of a script are to a target: the world that it begins in, the moves of its program and its start.
-use Rattle.std.specs.Prelude.{◌≡◌, ℕ, ◌<◌, true, false, List, [], ◌∷◌, Option, Some, None, Ok}
+use Rattle.std.specs.Prelude.{◌≡◌, ℕ, ◌<◌, ◌≤◌, ◌^◌, true, false, List, [], ◌∷◌, Option, Some, None, Ok}
 use Rattle.jdwp_events.specs.declared.composite.Composite.{Composite}
 use Rattle.jdwp_events.specs.declared.kind.Policy.TheVariants.{EventThread}
 use Rattle.script_rows.specs.declared.script.Begin.{Begin}
@@ -23,8 +23,16 @@ abbrev pub HasBegun : World → Option Begin → Type 0
 HasBegun w None = Unit {0}
 HasBegun w (Some begin) = (is_thread w begin.thread ≡ true) × (begin.policy ≡ EventThread → ⊥)
 
+-- limits under which a session can be served: each is at least 1, and there are at most 2^40 happenings
+pub record CanServe (turns quiet waiting : ℕ) : Type 0 where
+  pub some_turns : 0 < turns
+  pub few_turns : turns ≤ 2 ^ 40
+  pub some_quiet : 0 < quiet
+  pub some_waiting : 0 < waiting
+
 -- The world is sound and its target has not ended; no request stands and nothing is suspended; each move can be made,
--- and leaves it sound; the start names a thread, and isn't told under EVENT_THREAD.
+-- and leaves it sound; the start names a thread, and isn't told under EVENT_THREAD; and a session can be served under
+-- the limits.
 pub record IsFit (s : Script) : Type 0 where
   pub sound : IsSound s.world
   pub requests : s.world.requests ≡ []
@@ -32,6 +40,7 @@ pub record IsFit (s : Script) : Type 0 where
   pub alive : s.world.dead ≡ false
   pub moves : AreMade s.world s.program
   pub begin : HasBegun s.world s.begin
+  pub limits : CanServe s.turns s.quiet s.waiting
 
 -- Line by line -------------------------------------------------------------------------------------------------------
 
@@ -48,3 +57,4 @@ pub record IsSoundSoFar (b : Building) : Type 0 where
   pub begin : HasBegun b.script.world b.script.begin
   pub moves : Leads b.script.world b.script.program b.running
   pub first : b.last < 13 → b.script.program ≡ []
+  pub limits : CanServe b.script.turns b.script.quiet b.script.waiting

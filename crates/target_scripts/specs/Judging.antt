@@ -1,5 +1,5 @@
 -- Which rows may follow those before them: the first fault that a row has.
-use Rattle.std.specs.Prelude.{ℕ, nat_lt, nat_le, Bool, true, false, not, ◌==◌, ◌&&◌, if◌then◌else◌, Option, Some, None}
+use Rattle.std.specs.Prelude.{ℕ, ◌^◌, nat_lt, nat_le, Bool, true, false, not, ◌==◌, ◌&&◌, ◌||◌, if◌then◌else◌, Option, Some, None}
 use Rattle.std.specs.Prelude.{List, [], ◌∷◌}
 use Rattle.jdwp_events.specs.declared.kind.Policy.{Policy}
 use Rattle.jdwp_events.specs.declared.kind.Policy.TheVariants as policies
@@ -25,8 +25,9 @@ use Rattle.target_scripts.specs.declared.building.Building.{Building}
 
 -- the place of a row's kind among all kinds, in the order in which they stand
 abbrev pub rank : Row → ℕ
-rank (rows.Head known) = 0
-rank (rows.Sizes sizes) = 1
+rank (rows.Head told) = 0
+rank (rows.Sizes sizes) = 0
+rank (rows.Limits turns quiet waiting) = 1
 rank (rows.Class row) = 2
 rank (rows.Method row) = 3
 rank (rows.Variable row) = 4
@@ -42,9 +43,13 @@ rank (rows.Move row) = 13
 rank (rows.Turn turn) = 14
 rank rows.End = 15
 
--- behind the sizes of ids stand the other kinds in their order, and a start once
+-- limits and a start stand once
+abbrev pub is_twice : ℕ → ℕ → Bool
+is_twice last next = (last == next) && ((next == 1) || (next == 12))
+
+-- behind the sizes of ids stand the other kinds in their order
 abbrev pub may_follow : ℕ → ℕ → Bool
-may_follow last next = (nat_lt 1 next && nat_le last next) && not ((last == 12) && (next == 12))
+may_follow last next = (nat_lt 0 next && nat_le last next) && not (is_twice last next)
 
 -- Shape --------------------------------------------------------------------------------------------------------------
 
@@ -71,10 +76,15 @@ may_begin policies.All = true
 unfoldable pub move_stands : World → Move → Bool
 move_stands w row = move_fits w.sizes row && move_is_of_kind w row
 
+-- limits are ones under which a session can be served
+abbrev pub limits_fit : ℕ → ℕ → ℕ → Bool
+limits_fit turns quiet waiting = (nat_lt 0 turns && nat_le turns (2 ^ 40)) && (nat_lt 0 quiet && nat_lt 0 waiting)
+
 -- ids fit the sizes, values are of the kinds that were given, and a start has a policy that it may have
 unfoldable pub row_fits : World → Row → Bool
-row_fits w (rows.Head known) = true
+row_fits w (rows.Head told) = true
 row_fits w (rows.Sizes sizes) = true
+row_fits w (rows.Limits turns quiet waiting) = limits_fit turns quiet waiting
 row_fits w (rows.Class row) = class_fits w.sizes row
 row_fits w (rows.Method row) = method_fits w.sizes row
 row_fits w (rows.Variable row) = variable_fits w.sizes row
@@ -94,8 +104,9 @@ row_fits w rows.End = true
 
 -- what a row gives was not given
 unfoldable pub row_is_new : Script → Row → Bool
-row_is_new s (rows.Head known) = true
+row_is_new s (rows.Head told) = true
 row_is_new s (rows.Sizes sizes) = true
+row_is_new s (rows.Limits turns quiet waiting) = true
 row_is_new s (rows.Class row) = not (is_class s.world row.id)
 row_is_new s (rows.Method row) = not (is_method s.world row.class row.method.id)
 row_is_new s (rows.Variable row) = true
@@ -113,8 +124,9 @@ row_is_new s rows.End = true
 
 -- what a row names was given; the class above another one may be given later
 unfoldable pub row_is_known : Script → Row → Bool
-row_is_known s (rows.Head known) = true
+row_is_known s (rows.Head told) = true
 row_is_known s (rows.Sizes sizes) = true
+row_is_known s (rows.Limits turns quiet waiting) = true
 row_is_known s (rows.Class row) = true
 row_is_known s (rows.Method row) = is_class s.world row.class
 row_is_known s (rows.Variable row) = is_method s.world row.class row.method

@@ -1,7 +1,7 @@
 //! What rows make of a script, line by line.
 ghost use Rattle.std.specs.Prelude.{◌≡◌, OnOk, Ok};
 ghost use Rattle.script_rows.specs.declared.rows.Row.TheVariants as rows;
-ghost use Rattle.target_scripts.specs.Adding.{in_world, made, added, grown, begun, IsGrown, IsMade};
+ghost use Rattle.target_scripts.specs.Adding.{in_world, limited, made, added, grown, begun, IsGrown, IsMade};
 
 use crate::building::{Building, RowTrouble};
 use crate::judging::fault_of;
@@ -19,7 +19,7 @@ use world_model::{
     WorldObject, WorldString, WorldThread, WorldVariable,
 };
 
-/// A script of which nothing was said but how many bytes ids take. It takes no memory.
+/// A script of which nothing was said but how many bytes ids take, under the usual limits. It takes no memory.
 pub fn begun(alloc: Global, sizes: IdSizes) -> Building
     ensures { result ≡ begun sizes }
 {
@@ -28,12 +28,27 @@ pub fn begun(alloc: Global, sizes: IdSizes) -> Building
         program: List::new(alloc),
         begin: None,
         schedule: List::new(alloc),
+        turns: 1_099_511_627_776,
+        quiet: 43_200_000,
+        waiting: 65_536,
     };
     Building {
-        last: 1,
+        last: 0,
+        first_class: 3,
         script,
         running: empty_world(alloc, sizes),
     }
+}
+
+#[tactic(auto, unfolding(crate::specs::Adding::limited))]
+fn limit(building: &mut Building, turns: u64, quiet: u64, waiting: u32)
+    ensures { building.new ≡ limited building.old turns quiet waiting }
+{
+    building.last = 1;
+    building.first_class = 4;
+    building.script.turns = turns;
+    building.script.quiet = quiet;
+    building.script.waiting = waiting;
 }
 
 #[tactic(auto, unfolding(crate::specs::Adding::in_world))]
@@ -172,7 +187,15 @@ fn add(alloc: Global, building: &mut Building, row: Row) -> Result<(), RowTroubl
             Ok(())
         }
         Row::Sizes(_) => {
-            building.last = 1;
+            building.last = 0;
+            Ok(())
+        }
+        Row::Limits {
+            turns,
+            quiet,
+            waiting,
+        } => {
+            limit(building, turns, quiet, waiting);
             Ok(())
         }
         Row::Class(row) => Ok(add_class(alloc, building, row)?),

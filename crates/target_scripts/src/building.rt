@@ -3,11 +3,12 @@ use script_text::ScriptFault;
 use wire_core::NoMemory;
 use world_model::World;
 
-/// A script so far: the place of its last row's kind among all kinds, what its rows say, and the world behind all moves
-/// of its program.
+/// A script so far: the place of its last row's kind among all kinds, the line that its first class stands in, what its
+/// rows say, and the world behind all moves of its program.
 #[derive(Drop)]
 pub struct Building {
     pub last: u8,
+    pub first_class: u32,
     pub script: Script,
     pub running: World,
 }

@@ -4,6 +4,7 @@ ghost use Rattle.std.specs.List.{list_any};
 ghost use Rattle.world_model.specs.Sound.{ends};
 ghost use Rattle.target_scripts.specs.Chains.{comes_to, is_open, goes_on, first_open, line_of_class, chain_fault};
 
+use crate::building::Building;
 use jdwp_values::ClassId;
 use world_model::WorldClass;
 
@@ -94,21 +95,22 @@ fn first_open(classes: &[WorldClass]) -> Option<usize>
     }
 }
 
-// The line of a class, by its place.
-fn line_of_class(place: usize) -> u32
-    ensures { result ≡ line_of_class place }
+// The line of a class, by that of the first one and its place.
+fn line_of_class(first: u32, place: usize) -> u32
+    ensures { result ≡ line_of_class first place }
 {
-    if place < u32::MAX as usize - 3 {
-        place as u32 + 3
+    let most = u32::MAX - first;
+    if place < most as usize {
+        place as u32 + first
     } else {
         u32::MAX
     }
 }
 
 /// The line of the first class whose chain is at fault.
-pub fn chain_fault(classes: &[WorldClass]) -> Option<u32>
-    ensures { result ≡ chain_fault classes.now }
+pub fn chain_fault(building: &Building) -> Option<u32>
+    ensures { result ≡ chain_fault building.now }
 {
-    let place = first_open(classes)?;
-    Some(line_of_class(place))
+    let place = first_open(building.script.world.classes.as_slice())?;
+    Some(line_of_class(building.first_class, place))
 }

@@ -1,6 +1,7 @@
 //! Which rows may follow those before them.
 ghost use Rattle.std.specs.Prelude.{◌≡◌};
-ghost use Rattle.target_scripts.specs.Judging.{rank, may_follow, row_fits, row_is_new, row_is_known, id_fault, fault_of};
+ghost use Rattle.target_scripts.specs.Judging.{rank, is_twice, may_follow, limits_fit, row_fits, row_is_new, row_is_known, id_fault};
+ghost use Rattle.target_scripts.specs.Judging.{fault_of};
 ghost use Rattle.target_scripts.specs.Judging.{array_stands, put_stands, frame_stands, may_begin, move_stands};
 
 use crate::building::Building;
@@ -22,7 +23,8 @@ pub(crate) fn rank(row: &Row) -> u8
 {
     match row {
         Row::Head { .. } => 0,
-        Row::Sizes(_) => 1,
+        Row::Sizes(_) => 0,
+        Row::Limits { .. } => 1,
         Row::Class(_) => 2,
         Row::Method(_) => 3,
         Row::Variable(_) => 4,
@@ -40,11 +42,18 @@ pub(crate) fn rank(row: &Row) -> u8
     }
 }
 
+// Whether a kind of which a script has one row at most would stand twice.
+fn is_twice(last: u8, next: u8) -> bool
+    ensures { result ≡ is_twice last next }
+{
+    last == next && (next == 1 || next == 12)
+}
+
 // Whether a row of one kind may follow one of another.
 fn may_follow(last: u8, next: u8) -> bool
     ensures { result ≡ may_follow last next }
 {
-    (1 < next && last <= next) && !(last == 12 && next == 12)
+    (0 < next && last <= next) && !is_twice(last, next)
 }
 
 // Whether an array fits, and has values of its elements' kind.
@@ -91,6 +100,13 @@ fn may_begin(policy: Policy) -> bool
     }
 }
 
+// Whether a session can be served under limits.
+fn limits_fit(turns: u64, quiet: u64, waiting: u32) -> bool
+    ensures { result ≡ limits_fit turns quiet waiting }
+{
+    (0 < turns && turns <= 1_099_511_627_776) && (0 < quiet && 0 < waiting)
+}
+
 // Whether the ids of a row fit their sizes, its values are of the kinds that were given, and a start has a policy that
 // it may have.
 #[tactic(auto, unfolding(crate::specs::Judging::row_fits))]
@@ -99,6 +115,11 @@ fn row_fits(world: &World, row: &Row) -> bool
 {
     let sizes = world.sizes;
     match row {
+        Row::Limits {
+            turns,
+            quiet,
+            waiting,
+        } => limits_fit(*turns, *quiet, *waiting),
         Row::Class(row) => class_fits(sizes, row),
         Row::Method(row) => method_fits(sizes, row),
         Row::Variable(row) => variable_fits(sizes, row),

@@ -23,7 +23,7 @@ pub fn a_script_stays_sound_as_it_grows()
 
 /// The parts of a script whose rows have no fault, and whose chains of classes end, are fit for a target.
 pub fn a_script_without_a_fault_is_fit_for_a_target()
-    ensures { (b : Building) → IsSoundSoFar b → chain_fault b.script.world.classes ≡ None → IsFit b.script }
+    ensures { (b : Building) → IsSoundSoFar b → chain_fault b ≡ None → IsFit b.script }
 {}
 
 /// Wherever it stands, a class with the id of null is no row, nor is a start under EVENT_THREAD; one that suspends none

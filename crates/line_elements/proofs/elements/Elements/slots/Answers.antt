@@ -5,5 +5,5 @@ use Rattle.line_elements.proofs.elements.Elements.slots.Goals as goal
 
 pub returns : goal.returns
 returns c =
-    tells_part slots c.args.self.now c.next.new.self (view c.in-Some.value.now) c.in_ok-list.field-0 c.ok_or.result
+    tells_part (slots c.args.version) c.args.self.now c.next.new.self (view c.in-Some.value.now) c.in_ok-list.field-0 c.ok_or.result
     c.ok_or.ensures.value c.in-Some.ensures c.in_ok-list.ensures
