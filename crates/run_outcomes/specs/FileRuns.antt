@@ -1,8 +1,10 @@
 -- Runs that read a file, serve a session of what it says, and print the log of that session.
 use Rattle.std.specs.Prelude.{ℕ, ◌≡◌, List, [], Some, Result, Ok, Err}
+use Rattle.run_logs.specs.Runs.{entries_of}
+use Rattle.run_logs.specs.declared.run.Run.{Run}
 use Rattle.run_outcomes.specs.Lines.{status_of_ending}
 use Rattle.run_outcomes.specs.declared.printing.Outcome.{Outcome}
-use Rattle.run_outcomes.specs.declared.printing.Outcome.TheVariants.{NotRead, TooLong, BadLine, Logged, Ended}
+use Rattle.run_outcomes.specs.declared.printing.Outcome.TheVariants.{NotUsed, TooLong, BadLine, Logged, Ended}
 use Rattle.script_text.specs.Texts.{log_text}
 use Rattle.script_text.specs.declared.log.ScriptFault.{ScriptFault}
 use Rattle.script_text.specs.declared.log.ScriptTrouble.{ScriptTrouble}
@@ -17,11 +19,14 @@ use Rattle.wire_core.specs.Outside.{Outside}
 use Rattle.wire_core.specs.declared.files.FileRefusal.{FileRefusal}
 use Rattle.wire_core.specs.declared.files.FileRefusal.TheVariants.{Failed, TooLong as too_long_file}
 use Rattle.wire_core.specs.declared.memory.NoMemory.{NoMemory as Refused}
-use Rattle.wire_core.specs.declared.outside.Entry.{Entry}
 
--- the limits of a session
+-- the limits of a session that serves an editor
 abbrev pub usual_limits : Limits
 usual_limits = record { turns = 1099511627776; quiet = 43200000; waiting = 65536 }
+
+-- the limits of a log
+abbrev pub limits_of : SessionLog → Limits
+limits_of log = record { turns = log.turns; quiet = log.quiet; waiting = log.waiting }
 
 -- the bytes that a file may have at most
 abbrev pub most_bytes : ℕ
@@ -36,7 +41,7 @@ pub record IsRead (old new : Store) (name : List ℕ) (answer : Result (List ℕ
 -- the text of a file, or the outcome of a run that has none
 pub data ReadsText (name : List ℕ) (old new : Store) : Result (List ℕ) Outcome → Type 0 where
   is_read : {text : List ℕ} → IsRead old new name (Ok text) → ReadsText name old new (Ok text)
-  is_not_read : IsRead old new name (Err Failed) → ReadsText name old new (Err NotRead)
+  is_not_read : IsRead old new name (Err Failed) → ReadsText name old new (Err NotUsed)
   is_too_long : IsRead old new name (Err too_long_file) → ReadsText name old new (Err TooLong)
   forgets : {answer : Result (List ℕ) FileRefusal} → IsRead old new name answer
       → ReadsText name old new (Err (Ended NoMemory))
@@ -46,21 +51,22 @@ abbrev pub troubled : ScriptTrouble → Outcome
 troubled (At line kind) = BadLine line kind
 troubled no_memory = Ended NoMemory
 
--- A session was served over wires whose log was empty. This is their log, with the status of the session's ending, which
--- was not want of memory.
+-- A session was served over wires whose log was empty. This is their log, with the limits of the session and the status
+-- of its ending, which was not want of memory.
 pub record IsLogged (log : SessionLog) : Type 0 where
   pub old : Outside
   pub new : Outside
   pub ending : Ending
-  pub session : IsSession old new usual_limits ending
+  pub session : IsSession old new (limits_of log) ending
   pub nothing_before : old.log ≡ Some []
-  pub whole_log : new.log ≡ Some log.entries
+  pub whole_log : new.log ≡ Some (entries_of log.runs)
   pub ending_told : log.ending ≡ Some (status_of_ending ending)
   pub remembers : ¬ (ending ≡ NoMemory)
 
--- a log of these entries, with the status of this ending, which is not want of memory
-pub record KeepsLog (ending : Ending) (entries : List Entry) (log : SessionLog) : Type 0 where
-  pub entries_are : log.entries ≡ entries
+-- a log of these runs, with these limits and the status of this ending, which is not want of memory
+pub record KeepsLog (limits : Limits) (ending : Ending) (runs : List Run) (log : SessionLog) : Type 0 where
+  pub limits_are : limits_of log ≡ limits
+  pub runs_are : log.runs ≡ runs
   pub ending_told : log.ending ≡ Some (status_of_ending ending)
   pub remembers : ¬ (ending ≡ NoMemory)
 

@@ -1,7 +1,7 @@
 -- What the program prints and the status that it ends with, for each outcome of a run.
 use Rattle.std.specs.Prelude.{ℕ, ◌≡◌, Bool, true, false, if◌then◌else◌, nat_eq, List, ◌++◌, codes, decimal}
 use Rattle.run_outcomes.specs.declared.printing.Outcome.{Outcome}
-use Rattle.run_outcomes.specs.declared.printing.Outcome.TheVariants.{Misused, NotOpened, NotRead, BadLine, Logged, Ended}
+use Rattle.run_outcomes.specs.declared.printing.Outcome.TheVariants.{Misused, NotOpened, NotUsed, BadLine, Logged, Ended}
 use Rattle.run_outcomes.specs.declared.printing.Outcome.TheVariants.{TooLong as too_long}
 use Rattle.command_words.specs.Forms.{usage_line}
 use Rattle.dap_frames.specs.declared.fault.FrameFault.{FrameFault}
@@ -141,7 +141,7 @@ faulty_line line kind =
 unfoldable pub text_of : Outcome → List ℕ
 text_of Misused = usage_line
 text_of NotOpened = codes "ended 7 not opened\n"
-text_of NotRead = codes "ended 8 file\n"
+text_of NotUsed = codes "ended 8 file\n"
 text_of too_long = codes "ended 10 script line 0 TooLong\n"
 text_of (BadLine line kind) = faulty_line line kind
 text_of (Logged log) = log
@@ -151,7 +151,7 @@ text_of (Ended ending) = line_of_ending ending
 abbrev pub status_of : Outcome → ℕ
 status_of Misused = 2
 status_of NotOpened = 7
-status_of NotRead = 8
+status_of NotUsed = 8
 status_of too_long = 10
 status_of (BadLine line kind) = 10
 status_of (Logged log) = 0

@@ -1,17 +1,17 @@
 //! Runs that read a file, serve a session of what it says, and print the log of that session.
 ghost use Rattle.std.specs.Prelude.{◌≡◌, [], IfOk};
-ghost use Rattle.run_outcomes.specs.FileRuns.{KeepsLog, ReadsText, ShowsLog, troubled};
+ghost use Rattle.run_outcomes.specs.FileRuns.{limits_of, KeepsLog, ReadsText, ShowsLog, troubled};
 
 use crate::printing::{OUT_OF_MEMORY, Outcome, status_of_ending};
-use script_text::{ScriptTrouble, SessionLog, print_log};
-use session_endings::Ending;
+use script_text::{Run, ScriptTrouble, SessionLog, print_log};
+use session_endings::{Ending, Limits};
 use std::alloc::Global;
 use wire_core::{Blob, Entry, FileRefusal, Files, List, NoMemory, Word};
 
 // The bytes that are read of a file at most.
 const MOST_BYTES: usize = 67_108_864;
 
-/// All bytes of the file of this name, which may be 67,108,864 at most. Or the outcome of a run that has none: `NotRead`
+/// All bytes of the file of this name, which may be 67,108,864 at most. Or the outcome of a run that has none: `NotUsed`
 /// where the file fails, `TooLong` where it has more, and the ending `NoMemory` where memory is refused.
 pub fn read_text<F: Files>(alloc: Global, name: Word, files: &mut F) -> Result<Blob, Outcome>
     requires { (F.store files.old).asked ≡ [] }
@@ -19,7 +19,7 @@ pub fn read_text<F: Files>(alloc: Global, name: Word, files: &mut F) -> Result<B
 {
     match files.read(alloc, name, MOST_BYTES) {
         Ok(text) => Ok(text),
-        Err(FileRefusal::Failed) => Err(Outcome::NotRead),
+        Err(FileRefusal::Failed) => Err(Outcome::NotUsed),
         Err(FileRefusal::TooLong) => Err(Outcome::TooLong),
         Err(FileRefusal::NoMemory) => Err(Outcome::Ended(Ending::NoMemory)),
     }
@@ -35,18 +35,37 @@ pub fn troubled(trouble: ScriptTrouble) -> Outcome
     }
 }
 
-/// The log of a session that ended so: copies of these entries, in order, and the status of its ending. `NoMemory` comes
-/// where it ended for that, or memory is refused.
-pub fn log_of(alloc: Global, ending: Ending, entries: &[Entry]) -> Result<SessionLog, NoMemory>
-    ensures { IfOk result (KeepsLog ending entries.now) }
+/// The limits of a log.
+pub fn limits_of(log: &SessionLog) -> Limits
+    ensures { result ≡ limits_of log.now }
+{
+    Limits {
+        turns: log.turns,
+        quiet: log.quiet,
+        waiting: log.waiting,
+    }
+}
+
+/// The log of a session that ended so under these limits: copies of these runs, in order, and the status of its ending.
+/// `NoMemory` comes where it ended for that, or memory is refused.
+pub fn log_of(
+    alloc: Global,
+    limits: &Limits,
+    ending: Ending,
+    runs: &[Run],
+) -> Result<SessionLog, NoMemory>
+    ensures { IfOk result (KeepsLog limits.now ending runs.now) }
 {
     let status = status_of_ending(ending);
     if status == OUT_OF_MEMORY {
         return Err(NoMemory);
     }
-    let entries = copy_all(alloc, entries)?;
+    let runs = copy_all(alloc, runs)?;
     Ok(SessionLog {
-        entries,
+        turns: limits.turns,
+        quiet: limits.quiet,
+        waiting: limits.waiting,
+        runs,
         ending: Some(status),
     })
 }
@@ -65,14 +84,23 @@ pub fn show(alloc: Global, made: Result<SessionLog, NoMemory>) -> Outcome
     }
 }
 
-fn copy_all(alloc: Global, entries: &[Entry]) -> Result<List<Entry>, NoMemory>
-    ensures { IfOk result (λ copies. copies ≡ entries.now) }
+fn copy_all(alloc: Global, runs: &[Run]) -> Result<List<Run>, NoMemory>
+    ensures { IfOk result (λ copies. copies ≡ runs.now) }
 {
     let mut copies = List::new(alloc);
-    for entry in entries {
-        copies.push(copy(alloc, entry)?)?;
+    for run in runs {
+        copies.push(copy_run(alloc, run)?)?;
     }
     Ok(copies)
+}
+
+fn copy_run(alloc: Global, run: &Run) -> Result<Run, NoMemory>
+    ensures { IfOk result (λ copy. copy ≡ run.now) }
+{
+    Ok(match run {
+        Run::One(entry) => Run::One(copy(alloc, entry)?),
+        Run::Quiets(n) => Run::Quiets(*n),
+    })
 }
 
 fn copy(alloc: Global, entry: &Entry) -> Result<Entry, NoMemory>

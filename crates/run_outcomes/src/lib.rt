@@ -4,5 +4,5 @@
 mod file_runs;
 mod printing;
 
-pub use file_runs::{log_of, read_text, show, troubled};
-pub use printing::{Outcome, tell};
+pub use file_runs::{limits_of, log_of, read_text, show, troubled};
+pub use printing::{Outcome, status_of_ending, tell};

@@ -18,14 +18,14 @@ const NOT_PRINTED: u8 = 9;
 
 pub(crate) const OUT_OF_MEMORY: u8 = 70;
 
-/// What a run comes to: its words are refused; a link was not opened; a file was not read, is too long, or has this
-/// fault in this line, counted from 1; a session was served of what a file says, and this is the text of its log; or a
-/// session ended so, for want of memory maybe before it began.
+/// What a run comes to: its words are refused; a link was not opened; a file was not read or written; one is too long, or
+/// has this fault in this line, counted from 1; a session was served of what a file says, and this is the text of its log;
+/// or a session ended so, for want of memory maybe before it began.
 #[derive(Debug, Drop)]
 pub enum Outcome {
     Misused,
     NotOpened,
-    NotRead,
+    NotUsed,
     TooLong,
     BadLine { line: u32, kind: ScriptFault },
     Logged(Blob),
@@ -40,7 +40,7 @@ pub fn tell<O: Output>(alloc: Global, outcome: Outcome, out: &mut O) -> u8
     match outcome {
         Outcome::Misused => print_line(out, usage(), 2),
         Outcome::NotOpened => print_line(out, "ended 7 not opened\n", 7),
-        Outcome::NotRead => print_line(out, "ended 8 file\n", 8),
+        Outcome::NotUsed => print_line(out, "ended 8 file\n", 8),
         Outcome::TooLong => print_line(out, "ended 10 script line 0 TooLong\n", 10),
         Outcome::BadLine { line, kind } => print_made(out, faulty_line(alloc, line, kind), 10),
         Outcome::Logged(text) => print(out, text.as_slice(), 0),

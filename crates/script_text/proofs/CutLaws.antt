@@ -5,7 +5,7 @@ use Rattle.std.proofs.Common.{append_assoc, append-nil, drop-cons, length-drop, 
 use Rattle.std.proofs.Math.Seq.{take-suc}
 use Rattle.std.proofs.lemmas.Bool.{ne_eqb}
 use Rattle.std.proofs.lemmas.List.{get_or-drop}
-use Rattle.wire_core.specs.declared.outside.Entry.{Entry}
+use Rattle.run_logs.specs.declared.run.Run.{Run}
 use Rattle.script_text.specs.declared.order.Stage.TheVariants.{Start}
 use Rattle.script_text.specs.declared.log.SessionLog.{SessionLog}
 use Rattle.script_text.specs.declared.log.ScriptTrouble.{ScriptTrouble}
@@ -73,18 +73,16 @@ reading_of-read_on text = sym (
 
 -- ---- what the loop has read, one byte later
 
+-- a log with the limits of version 1 and these runs
+abbrev usual_with : List Run → SessionLog
+usual_with runs = record { turns = 1099511627776; quiet = 43200000; waiting = 65536; runs = runs; ending = None }
+
 -- what is read at the start
-pub read_at_start : (text : List ℕ) (entries : List Entry) → entries ≡ [] →
-    reading_of text
-    ≡ read_on (record { line = 1; stage = Start; log = record { entries = entries; ending = None } }) [] text
-read_at_start text entries none =
+pub read_at_start : (text : List ℕ) (runs : List Run) → runs ≡ [] →
+    reading_of text ≡ read_on (record { line = 1; stage = Start; log = usual_with runs }) [] text
+read_at_start text runs none =
     reading_of-read_on text
-    ∙ ap
-    (λ (es : List Entry). read_on
-    (record { line = 1; stage = Start; log = record { entries = es; ending = None } })
-    []
-    text)
-    (sym none)
+    ∙ ap (λ (rs : List Run). read_on (record { line = 1; stage = Start; log = usual_with rs }) [] text) (sym none)
 
 pub read_on-feed : (reading : Reading) (line : List ℕ) (byte : ℕ) (bytes : List ℕ) → byte ≡ 10 →
     read_on reading line (byte ∷ bytes) ≡ and_then (λ next. read_on next [] bytes) (line_taken reading line)

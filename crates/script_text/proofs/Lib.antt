@@ -1,5 +1,6 @@
 pub mod AgainLaws
 pub mod CutLaws
+mod Examples
 pub mod LineLaws
 pub mod OrderLaws
 pub mod RowLaws

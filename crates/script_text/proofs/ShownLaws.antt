@@ -1,8 +1,8 @@
 -- The text of a row: it is one line of ASCII, and is read as the row.
 use Rattle.std.proofs.Common.{◌≡◌, ℕ, zero, suc, ◌<◌, ◌≤◌, ◌^◌, ◌/◌, ◌%◌, List, [], ◌∷◌, ◌++◌, length, Bool, true}
-use Rattle.std.proofs.Common.{◌&&◌, Some, option_and_then, option_map, Ok, decimal, refl}
+use Rattle.std.proofs.Common.{◌&&◌, Option, Some, option_and_then, option_map, Ok, decimal, refl}
 use Rattle.std.proofs.Common.{sym, ap, ◌∙◌}
-use Rattle.std.proofs.Common.{append-nil, inl, inr, arith, lt-ltb}
+use Rattle.std.proofs.Common.{append-nil, inl, inr, arith, lt-ltb, le-leb}
 use Rattle.std.specs.Prelude.{nat_le, nat_lt, slice_index, codes}
 use Rattle.std.specs.Char.{digit_value}
 use Rattle.std.specs.List.{list_all}
@@ -21,6 +21,8 @@ use Rattle.json.specs.Tree.{json_tokens, depth, HasNumbers}
 use Rattle.json.proofs.Printed.Decimals.{IsNumber-decimal}
 use Rattle.json.proofs.Printed.Tokens.{tokens-print}
 use Rattle.json.proofs.Printed.Trees.{value-json_tokens, ArePrintable-json_tokens}
+use Rattle.run_logs.specs.Runs.{IsRun}
+use Rattle.run_logs.specs.declared.run.Run.TheVariants.{One}
 use Rattle.serde_json.specs.Data.{Data, number, unsigned}
 use Rattle.serde_json.specs.Read.{read, of_json, number_of}
 use Rattle.serde_json.specs.Written.{compact_text, outline}
@@ -29,12 +31,15 @@ use Rattle.serde_json.proofs.Texts.{print-outline}
 use Rattle.wire_core.specs.declared.outside.Side.{Side}
 use Rattle.wire_core.specs.declared.outside.Side.TheVariants.{Client, Target}
 use Rattle.wire_core.specs.declared.outside.Entry.{Entry as Logged}
-use Rattle.wire_core.specs.declared.outside.Entry.TheVariants.{In, Out, Shut, Failed, Quiet}
+use Rattle.wire_core.specs.declared.outside.Entry.TheVariants.{In, Out, Shut, Failed, Quiet as nothing}
 use Rattle.script_text.specs.declared.rows.Row.{Row}
-use Rattle.script_text.specs.declared.rows.Row.TheVariants.{Head, Entry, Ending, End}
-use Rattle.script_text.specs.Orderly.{IsSpelled}
-use Rattle.script_text.specs.Texts.{bytes_data, side_data, bare_data, head_data, entry_data, ending_data, end_data}
-use Rattle.script_text.specs.Rows.{is_lower_digit, bytes_of, decoded, row_of}
+use Rattle.script_text.specs.declared.rows.Row.TheVariants.{Head, Limits, Entry, Quiet, Quiets, Ending, End}
+use Rattle.script_text.specs.declared.rows.Version.{Version}
+use Rattle.script_text.specs.Orderly.{HaveLine, IsSpelled, IsWithin}
+use Rattle.script_text.specs.Texts.{bytes_data, side_data, bare_data, head_data, limits_data, quiets_data, entry_data}
+use Rattle.script_text.specs.Texts.{ending_data, end_data}
+use Rattle.script_text.specs.Rows.{is_lower_digit, bytes_of, decoded, row_of, most_turns, most_quiet, most_waiting}
+use Rattle.script_text.specs.Rows.{most_quiets, count_of, version_of}
 use Rattle.script_text.specs.Reading.{row_in, unless_shapeless}
 use Rattle.script_text.proofs.LineLaws.{row_in-read}
 
@@ -214,13 +219,16 @@ printed-failed Target = record {
   is_row = refl;
 }
 
-pub printed-entry : (entry : Logged) → IsSpelled entry → IsPrinted (entry_data entry) (Entry entry)
+pub printed-entry : (entry : Logged) → IsRun (One entry) → IsSpelled entry → IsPrinted (entry_data entry) (Entry entry)
+printed-entry (In side bytes) one spelled = printed-in side bytes spelled.some spelled.are
+printed-entry (Out side bytes) one spelled = printed-out side bytes spelled.some spelled.are
+printed-entry (Shut side) one spelled = printed-shut side
+printed-entry (Failed side) one spelled = printed-failed side
+printed-entry nothing one spelled = absurd one
+
+pub printed-quiet : IsPrinted (bare_data (codes "quiet")) Quiet
 unfolding escape_byte
-printed-entry (In side bytes) spelled = printed-in side bytes spelled.some spelled.are
-printed-entry (Out side bytes) spelled = printed-out side bytes spelled.some spelled.are
-printed-entry (Shut side) spelled = printed-shut side
-printed-entry (Failed side) spelled = printed-failed side
-printed-entry Quiet spelled = record {
+printed-quiet = record {
   is_read = read-compact (bare_data (codes "quiet")) (tt, tt) (omega arith) refl;
   is_shown = refl;
   is_row = refl;
@@ -251,14 +259,57 @@ number_shown : (n : ℕ) → n < 2 ^ 64 → list_all is_shown (decimal n ++ 93 �
 number_shown n fits =
     are_shown-append (decimal n) (93 ∷ []) (digits_shown (decimal n) (decimal_is_IsNumeral n fits).0.1) refl
 
-pub printed-head : IsPrinted head_data (Head true)
+pub printed-head : (version : ℕ) (row : Option Version) → version < 2 ^ 64 → version_of version ≡ row →
+    IsPrinted (head_data version) (Head row)
 unfolding escape_byte
-printed-head = record {
-  is_read = read-compact head_data (tt, (IsNumber-decimal 1 (omega arith), tt)) (omega arith)
-      (rw (number_read 1 (omega arith)) refl);
-  is_shown = number_shown 1 (omega arith);
-  is_row = refl;
+printed-head version row fits is = record {
+  is_read = read-compact (head_data version) (tt, (IsNumber-decimal version fits, tt)) (omega arith)
+      (rw (number_read version fits) refl);
+  is_shown = number_shown version fits;
+  is_row = rw is refl;
 }
+
+-- an integer from 1 to another
+count_of-within : (most n : ℕ) → IsWithin most n → count_of most n ≡ Some n
+count_of-within most n within =
+    rw (le-leb 1 n (omega (arith, within.some)), le-leb n most within.most) refl
+
+pub printed-quiets : (n : ℕ) → IsWithin most_quiets n → IsPrinted (quiets_data n) (Quiets n)
+unfolding escape_byte
+printed-quiets n within =
+    let fits : n < 2 ^ 64 = omega (arith, within.most) in
+    record {
+      is_read = read-compact (quiets_data n) (tt, (IsNumber-decimal n fits, tt)) (omega arith)
+          (rw (number_read n fits) refl);
+      is_shown = number_shown n fits;
+      is_row = rw (count_of-within most_quiets n within) refl;
+    }
+
+-- digits, and what stands behind them
+digits_then : (n : ℕ) (more : List ℕ) → n < 2 ^ 64 → list_all is_shown more ≡ true →
+    list_all is_shown (decimal n ++ more) ≡ true
+digits_then n more fits shown =
+    are_shown-append (decimal n) more (digits_shown (decimal n) (decimal_is_IsNumeral n fits).0.1) shown
+
+pub printed-limits : (turns quiet waiting : ℕ) → HaveLine turns quiet waiting →
+    IsPrinted (limits_data turns quiet waiting) (Limits turns quiet waiting)
+unfolding escape_byte
+printed-limits turns quiet waiting have =
+    let t_fits : turns < 2 ^ 64 = omega (arith, have.turns_are.most) in
+    let q_fits : quiet < 2 ^ 64 = omega (arith, have.quiet_is.most) in
+    let w_fits : waiting < 2 ^ 64 = omega (arith, have.waiting_is.most) in
+    record {
+      is_read = read-compact (limits_data turns quiet waiting)
+          (tt, (IsNumber-decimal turns t_fits, (IsNumber-decimal quiet q_fits, (IsNumber-decimal waiting w_fits, tt))))
+          (omega arith)
+          (rw (number_read turns t_fits, number_read quiet q_fits, number_read waiting w_fits) refl);
+      is_shown = digits_then turns _ t_fits (digits_then quiet _ q_fits (number_shown waiting w_fits));
+      is_row = rw (
+        count_of-within most_turns turns have.turns_are,
+        count_of-within most_quiet quiet have.quiet_is,
+        count_of-within most_waiting waiting have.waiting_is,
+      ) refl;
+    }
 
 pub printed-ending : (status : ℕ) → status < 256 → IsPrinted (ending_data status) (Ending status)
 unfolding escape_byte

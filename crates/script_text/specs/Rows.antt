@@ -1,5 +1,5 @@
 -- What a line of a log says, by the JSON value that it is.
-use Rattle.std.specs.Prelude.{ℕ, List, ◌==◌, ◌&&◌, ◌||◌, nat_lt, nat_le, length, codes, Bool, false}
+use Rattle.std.specs.Prelude.{ℕ, ◌-◌, ◌^◌, List, ◌==◌, ◌&&◌, ◌||◌, nat_lt, nat_le, length, codes, Bool}
 use Rattle.std.specs.Prelude.{if◌then◌else◌, Option, Some, None, option_map, option_and_then, Result, Ok, Err}
 use Rattle.std.specs.Char.{is_ascii_digit}
 use Rattle.std.specs.List.{list_all}
@@ -10,9 +10,11 @@ use Rattle.serde_json.specs.Data.{Data, Num, unsigned, negative, float, Items, n
 use Rattle.serde_json.specs.Find.{as_array, as_number, as_str, as_u64}
 use Rattle.wire_core.specs.declared.outside.Side.{Side}
 use Rattle.wire_core.specs.declared.outside.Side.TheVariants.{Client, Target}
-use Rattle.wire_core.specs.declared.outside.Entry.TheVariants.{In, Out, Shut, Failed, Quiet}
+use Rattle.wire_core.specs.declared.outside.Entry.TheVariants.{In, Out, Shut, Failed}
 use Rattle.script_text.specs.declared.rows.Row.{Row}
-use Rattle.script_text.specs.declared.rows.Row.TheVariants.{Head, Entry, Ending, End}
+use Rattle.script_text.specs.declared.rows.Row.TheVariants.{Head, Limits, Entry, Quiet, Quiets, Ending, End}
+use Rattle.script_text.specs.declared.rows.Version.{Version}
+use Rattle.script_text.specs.declared.rows.Version.TheVariants.{First, Second}
 
 -- the side of a name
 abbrev pub side_of : List ℕ → Option Side
@@ -52,28 +54,53 @@ status_of n = if nat_lt n 256 then Some n else None
 abbrev pub status_in : Data → Option ℕ
 status_in d = option_and_then status_of (option_and_then as_u64 (as_number d))
 
--- whether a version is known, where the number is an integer
-abbrev pub is_known : Num → Option Bool
-is_known (unsigned n) = Some (n == 1)
-is_known (negative z) = Some false
-is_known (float x) = None
+-- the version of this number, where it is known
+abbrev pub version_of : ℕ → Option Version
+version_of n = if n == 1 then Some First else (if n == 2 then Some Second else None)
 
-abbrev pub version_in : Data → Option Bool
-version_in d = option_and_then is_known (as_number d)
+-- the version of an integer; where a number is none, there is no such row
+abbrev pub version_by : Num → Option (Option Version)
+version_by (unsigned n) = Some (version_of n)
+version_by (negative z) = Some None
+version_by (float x) = None
+
+abbrev pub version_in : Data → Option (Option Version)
+version_in d = option_and_then version_by (as_number d)
+
+-- an integer from 1 to this one
+abbrev pub count_of : ℕ → ℕ → Option ℕ
+count_of most n = if nat_le 1 n && nat_le n most then Some n else None
+
+abbrev pub count_in : ℕ → Data → Option ℕ
+count_in most d = option_and_then (count_of most) (option_and_then as_u64 (as_number d))
+
+-- the most waits in vain that a log has, and the highest limits
+abbrev pub most_quiets : ℕ
+most_quiets = 2 ^ 62
+
+abbrev pub most_turns : ℕ
+most_turns = 2 ^ 40
+
+abbrev pub most_quiet : ℕ
+most_quiet = 2 ^ 63 - 1
+
+abbrev pub most_waiting : ℕ
+most_waiting = 2 ^ 32 - 1
 
 -- a name alone
 abbrev pub bare_row : List ℕ → Option Row
 bare_row name =
-    if bytes_eq name (codes "quiet") then Some (Entry Quiet) else
+    if bytes_eq name (codes "quiet") then Some Quiet else
     (if bytes_eq name (codes "end") then Some End else None)
 
 -- a name behind which one element stands
 abbrev pub single_row : Data → List ℕ → Option Row
 single_row one name =
     if bytes_eq name (codes "log") then option_map Head (version_in one) else
+    (if bytes_eq name (codes "quiet") then option_map Quiets (count_in most_quiets one) else
     (if bytes_eq name (codes "shut") then option_map (λ side. Entry (Shut side)) (side_in one) else
     (if bytes_eq name (codes "failed") then option_map (λ side. Entry (Failed side)) (side_in one) else
-    (if bytes_eq name (codes "ending") then option_map Ending (status_in one) else None)))
+    (if bytes_eq name (codes "ending") then option_map Ending (status_in one) else None))))
 
 -- a name, with a side and bytes
 abbrev pub bytes_row : List ℕ → Side → List ℕ → Option Row
@@ -86,13 +113,26 @@ abbrev pub triple_row : Data → Data → List ℕ → Option Row
 triple_row first second name =
     option_and_then (λ side. option_and_then (bytes_row name side) (bytes_in second)) (side_in first)
 
+-- the limits: each is an integer from 1 to the highest
+abbrev pub limits_of : Data → Data → Data → Option Row
+limits_of turns quiet waiting =
+    option_and_then (λ t. option_and_then (λ q. option_map (Limits t q) (count_in most_waiting waiting))
+    (count_in most_quiet quiet)) (count_in most_turns turns)
+
+-- a name behind which three elements stand
+abbrev pub limits_row : Data → Data → Data → List ℕ → Option Row
+limits_row turns quiet waiting name =
+    if bytes_eq name (codes "limits") then limits_of turns quiet waiting else None
+
 -- the row of these elements
 abbrev pub row_of_items : Items → Option Row
 row_of_items no_items = None
 row_of_items (item name no_items) = option_and_then bare_row (as_str name)
 row_of_items (item name (item one no_items)) = option_and_then (single_row one) (as_str name)
 row_of_items (item name (item first (item second no_items))) = option_and_then (triple_row first second) (as_str name)
-row_of_items (item name (item first (item second (item third more)))) = None
+row_of_items (item name (item first (item second (item third no_items)))) =
+    option_and_then (limits_row first second third) (as_str name)
+row_of_items (item name (item first (item second (item third (item fourth more))))) = None
 
 -- the row that a value is, where it is one
 abbrev pub row_of : Data → Option Row

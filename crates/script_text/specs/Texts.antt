@@ -1,6 +1,9 @@
--- The text of a session log: a line of JSON for each thing that the wires logged.
+-- The text of a session log: a line of JSON for each thing that the wires logged, waits in vain counted.
 use Rattle.std.specs.Prelude.{ℕ, List, [], ◌∷◌, ◌++◌, flat_map, codes, Option, Some, None}
 use Rattle.hex.specs.Hex.{encode_lower}
+use Rattle.run_logs.specs.Runs.{entries_of}
+use Rattle.run_logs.specs.declared.run.Run.{Run}
+use Rattle.run_logs.specs.declared.run.Run.TheVariants.{One, Quiets}
 use Rattle.serde_json.specs.Data.{Data, number, unsigned, string, array}
 use Rattle.serde_json.specs.View.{items_of}
 use Rattle.serde_json.specs.Written.{compact_text}
@@ -35,9 +38,19 @@ side_data name side = array_of (string name ∷ string (side_name side) ∷ [])
 abbrev pub bytes_data : List ℕ → Side → List ℕ → Data
 bytes_data name side bytes = array_of (string name ∷ string (side_name side) ∷ string (encode_lower bytes) ∷ [])
 
--- the first line says that this is a log, of version 1
-abbrev pub head_data : Data
-head_data = number_data (codes "log") 1
+-- the first line says that this is a log, and of which version
+abbrev pub head_data : ℕ → Data
+head_data version = number_data (codes "log") version
+
+-- the limits
+abbrev pub limits_data : ℕ → ℕ → ℕ → Data
+limits_data turns quiet waiting =
+    array_of
+    (string (codes "limits") ∷ number (unsigned turns) ∷ number (unsigned quiet) ∷ number (unsigned waiting) ∷ [])
+
+-- so many waits in vain
+abbrev pub quiets_data : ℕ → Data
+quiets_data n = number_data (codes "quiet") n
 
 -- an entry
 abbrev pub entry_data : Entry → Data
@@ -45,7 +58,12 @@ entry_data (In side bytes) = bytes_data (codes "in") side bytes
 entry_data (Out side bytes) = bytes_data (codes "out") side bytes
 entry_data (Shut side) = side_data (codes "shut") side
 entry_data (Failed side) = side_data (codes "failed") side
-entry_data Quiet = bare_data (codes "quiet")
+entry_data Quiet = quiets_data 1
+
+-- an entry, or waits that follow each other
+abbrev pub run_data : Run → Data
+run_data (One entry) = entry_data entry
+run_data (Quiets n) = quiets_data n
 
 -- the status of the session's ending
 abbrev pub ending_data : ℕ → Data
@@ -68,6 +86,30 @@ abbrev pub ending_text : Option ℕ → List ℕ
 ending_text (Some status) = line_of (ending_data status)
 ending_text None = []
 
--- the text of a log: the head, the entries, the ending where it is told, and the end
+-- the line of a run
+abbrev pub run_text : Run → List ℕ
+run_text run = line_of (run_data run)
+
+-- the text of a log: the head, the limits, the runs, the ending where it is told, and the end
 abbrev pub log_text : SessionLog → List ℕ
-log_text log = line_of head_data ++ (flat_map entry_text log.entries ++ (ending_text log.ending ++ line_of end_data))
+log_text log =
+    line_of (head_data 2)
+    ++ (line_of (limits_data log.turns log.quiet log.waiting)
+    ++ (flat_map run_text log.runs ++ (ending_text log.ending ++ line_of end_data)))
+
+-- in version 1 each wait in vain has a line
+abbrev pub old_data : Entry → Data
+old_data (In side bytes) = entry_data (In side bytes)
+old_data (Out side bytes) = entry_data (Out side bytes)
+old_data (Shut side) = entry_data (Shut side)
+old_data (Failed side) = entry_data (Failed side)
+old_data Quiet = bare_data (codes "quiet")
+
+abbrev pub old_entry_text : Entry → List ℕ
+old_entry_text entry = line_of (old_data entry)
+
+-- the text of a log in version 1: the head, each entry, the ending where it is told, and the end
+abbrev pub old_text : SessionLog → List ℕ
+old_text log =
+    line_of (head_data 1)
+    ++ (flat_map old_entry_text (entries_of log.runs) ++ (ending_text log.ending ++ line_of end_data))

@@ -1,10 +1,16 @@
-use wire_core::{Entry, List, NoMemory};
+use run_logs::Run;
+use wire_core::{List, NoMemory};
 
-/// A session as its wires logged it: what came in and went out, in order, and the status of its ending, where it is
-/// told.
+/// A session as its wires logged it: the limits that it was served under; what came in and went out, in order, where
+/// waits in vain that follow each other are one run; and the status of its ending, where it is told. The limits are a
+/// number of turns of the session's loop, one of waits in vain that follow each other while nothing is due, and one of
+/// items that wait.
 #[derive(Debug, Drop)]
 pub struct SessionLog {
-    pub entries: List<Entry>,
+    pub turns: u64,
+    pub quiet: u64,
+    pub waiting: u32,
+    pub runs: List<Run>,
     pub ending: Option<u8>,
 }
 

@@ -1,19 +1,28 @@
 //! The session log that a text is.
 ghost use Rattle.std.specs.Prelude.{◌≡◌, IfOk};
 ghost use Rattle.serde_json.specs.View.{view};
-ghost use Rattle.script_text.specs.Reading.{shaped, row_in, with_row, row_taken, line_taken, finished, reading_of};
-ghost use Rattle.script_text.specs.Reading.{IsRead, IsLine};
+ghost use Rattle.script_text.specs.Reading.{shaped, row_in, with_waits, with_one, with_row, row_taken, line_taken};
+ghost use Rattle.script_text.specs.Reading.{finished, reading_of, IsRead, IsLine};
 
 use crate::log::{ScriptFault, ScriptTrouble, SessionLog};
-use crate::order::{Stage, next_stage};
+use crate::order::{Place, Stage, next_stage, waits_in};
 use crate::rows::{Row, row_of};
 use crate::spelled::spelled_row;
+use run_logs::Run;
 use serde_json::Value;
 use std::alloc::Global;
 use std::str;
-use wire_core::{List, NoMemory};
+use wire_core::{Entry, List, NoMemory};
 
-/// What was read so far: the number of the line that comes next, where the log stands, and what it says.
+// The limits of a log of version 1.
+const USUAL_TURNS: u64 = 1_099_511_627_776;
+
+const USUAL_QUIET: u64 = 43_200_000;
+
+const USUAL_WAITING: u32 = 65_536;
+
+/// What was read so far: the number of the line that comes next, where the log stands, and what it says, without the
+/// waits that stand last.
 #[derive(Debug, Drop)]
 pub(crate) struct Reading {
     line: u32,
@@ -21,9 +30,9 @@ pub(crate) struct Reading {
     log: SessionLog,
 }
 
-/// Why a line was not read.
+/// Why a line was not read: memory was refused, or it has a fault.
 #[derive(Clone, Copy, Debug, Drop, PartialEq, Eq)]
-pub(crate) enum LineTrouble {
+pub enum LineTrouble {
     NoMemory,
     Fault(ScriptFault),
 }
@@ -39,8 +48,9 @@ impl From<NoMemory> for LineTrouble {
     }
 }
 
-/// Reads the text of a session log, as `print_log` writes it, in any spelling of each line's JSON. `NoMemory` comes
-/// where memory is refused, `At` with the first faulty line and the first fault that it has.
+/// Reads the text of a session log, as `print_log` writes it, in any spelling of each line's JSON; or one of version 1,
+/// where each wait in vain has a line, and the limits are 2^40 turns, 43,200,000 waits and 65,536 items. `NoMemory`
+/// comes where memory is refused, `At` with the first faulty line and the first fault that it has.
 pub fn read_log(alloc: Global, bytes: &[u8]) -> Result<SessionLog, ScriptTrouble>
     ensures { IsRead result (reading_of bytes.now) }
 {
@@ -48,7 +58,10 @@ pub fn read_log(alloc: Global, bytes: &[u8]) -> Result<SessionLog, ScriptTrouble
         line: 1,
         stage: Stage::Start,
         log: SessionLog {
-            entries: List::new(alloc),
+            turns: USUAL_TURNS,
+            quiet: USUAL_QUIET,
+            waiting: USUAL_WAITING,
+            runs: List::new(alloc),
             ending: None,
         },
     };
@@ -74,7 +87,10 @@ fn finish(alloc: Global, reading: Reading, rest: &[u8]) -> Result<SessionLog, Sc
         });
     }
     match reading.stage {
-        Stage::Over => Ok(reading.log),
+        Stage::Behind {
+            place: Place::Over,
+            ..
+        } => Ok(reading.log),
         _ => Err(ScriptTrouble::At {
             line: reading.line,
             kind: ScriptFault::NoEnd,
@@ -99,7 +115,7 @@ fn take_row(reading: Reading, row: Row) -> Result<Reading, ScriptTrouble>
     match next_stage(reading.stage, &row) {
         Ok(stage) => {
             let line = reading.line.saturating_add(1);
-            let log = with_row(reading.log, row)?;
+            let log = with_row(reading.log, waits_in(reading.stage), row)?;
             Ok(Reading { line, stage, log })
         }
         Err(kind) => Err(ScriptTrouble::At {
@@ -109,25 +125,52 @@ fn take_row(reading: Reading, row: Row) -> Result<Reading, ScriptTrouble>
     }
 }
 
-fn with_row(log: SessionLog, row: Row) -> Result<SessionLog, NoMemory>
-    ensures { IfOk result (λ more. more ≡ with_row log row) }
+// What a log says with one row more, where so many waits stand before it.
+fn with_row(log: SessionLog, waits: u64, row: Row) -> Result<SessionLog, NoMemory>
+    ensures { IfOk result (λ more. more ≡ with_row log waits row) }
 {
     match row {
-        Row::Head { known: _ } => Ok(log),
-        Row::Entry(entry) => {
-            let mut entries = log.entries;
-            entries.push(entry)?;
-            Ok(SessionLog {
-                entries,
-                ending: log.ending,
-            })
-        }
-        Row::Ending(status) => Ok(SessionLog {
-            entries: log.entries,
-            ending: Some(status),
+        Row::Head(_) => Ok(log),
+        Row::Limits {
+            turns,
+            quiet,
+            waiting,
+        } => Ok(SessionLog {
+            turns,
+            quiet,
+            waiting,
+            ..log
         }),
-        Row::End => Ok(log),
+        Row::Entry(entry) => with_one(with_waits(log, waits)?, entry),
+        Row::Quiet => Ok(log),
+        Row::Quiets(_) => Ok(log),
+        Row::Ending(status) => Ok(SessionLog {
+            ending: Some(status),
+            ..with_waits(log, waits)?
+        }),
+        Row::End => with_waits(log, waits),
     }
+}
+
+// A log with so many waits more.
+fn with_waits(log: SessionLog, waits: u64) -> Result<SessionLog, NoMemory>
+    ensures { IfOk result (λ more. more ≡ with_waits log waits) }
+{
+    if waits == 0 {
+        return Ok(log);
+    }
+    let mut runs = log.runs;
+    runs.push(Run::Quiets(waits))?;
+    Ok(SessionLog { runs, ..log })
+}
+
+// A log with an entry more, which is no wait in vain.
+fn with_one(log: SessionLog, entry: Entry) -> Result<SessionLog, NoMemory>
+    ensures { IfOk result (λ more. more ≡ with_one log entry) }
+{
+    let mut runs = log.runs;
+    runs.push(Run::One(entry))?;
+    Ok(SessionLog { runs, ..log })
 }
 
 fn row_in(alloc: Global, line: &[u8]) -> Result<Row, LineTrouble>

@@ -4,19 +4,43 @@ ghost use Rattle.std.specs.List.{list_all};
 ghost use Rattle.serde_json.specs.Find.{as_str};
 ghost use Rattle.serde_json.specs.View.{view, items_view};
 ghost use Rattle.script_text.specs.Rows.{is_lower_digit, is_hexadecimal, bytes_of, bytes_in, side_of, side_in};
-ghost use Rattle.script_text.specs.Rows.{status_in, version_in, bare_row, single_row, bytes_row, triple_row};
-ghost use Rattle.script_text.specs.Rows.{row_of_items, row_of};
+ghost use Rattle.script_text.specs.Rows.{status_in, version_of, version_in, count_of, count_in, bare_row, single_row};
+ghost use Rattle.script_text.specs.Rows.{bytes_row, triple_row, limits_row, row_of_items, row_of};
 
 use hex::FromHexError;
 use serde_json::Value;
 use std::alloc::Global;
 use wire_core::{Blob, Entry, NoMemory, Side};
 
-/// A line of a log: the head, whose version is known or isn't; an entry; the status of the ending; or the end.
+/// The most waits in vain that a log has.
+pub(crate) const MOST_QUIETS: u64 = 1 << 62;
+
+// The highest limits.
+const MOST_TURNS: u64 = 1 << 40;
+
+const MOST_QUIET: u64 = (1 << 63) - 1;
+
+/// Which lines a log has: in version 1 each wait in vain has a line, in version 2 those that follow each other have
+/// one, and a line tells the limits.
+#[derive(Clone, Copy, Debug, Drop, PartialEq, Eq)]
+pub(crate) enum Version {
+    First,
+    Second,
+}
+
+/// A line of a log: the head, whose version is known or isn't; the limits; an entry that is no wait in vain; one such
+/// wait, or so many; the status of the ending; or the end.
 #[derive(Debug, Drop)]
 pub(crate) enum Row {
-    Head { known: bool },
+    Head(Option<Version>),
+    Limits {
+        turns: u64,
+        quiet: u64,
+        waiting: u32,
+    },
     Entry(Entry),
+    Quiet,
+    Quiets(u64),
     Ending(u8),
     End,
 }
@@ -40,6 +64,7 @@ fn row_of_items(alloc: Global, items: &[Value]) -> Result<Option<Row>, NoMemory>
         [name] => Ok(bare_row(name)),
         [name, one] => Ok(single_row(name, one)),
         [name, side, bytes] => triple_row(alloc, name, side, bytes),
+        [name, turns, quiet, waiting] => Ok(limits_row(name, turns, quiet, waiting)),
         _ => Ok(None),
     }
 }
@@ -49,7 +74,7 @@ fn bare_row(name: &Value) -> Option<Row>
 {
     let name = name.as_str()?;
     if name == "quiet" {
-        Some(Row::Entry(Entry::Quiet))
+        Some(Row::Quiet)
     } else if name == "end" {
         Some(Row::End)
     } else {
@@ -62,9 +87,9 @@ fn single_row(name: &Value, one: &Value) -> Option<Row>
 {
     let name = name.as_str()?;
     if name == "log" {
-        Some(Row::Head {
-            known: version_in(one)?,
-        })
+        Some(Row::Head(version_in(one)?))
+    } else if name == "quiet" {
+        Some(Row::Quiets(count_in(MOST_QUIETS, one)?))
     } else if name == "shut" {
         Some(Row::Entry(Entry::Shut(side_in(one)?)))
     } else if name == "failed" {
@@ -109,6 +134,23 @@ fn bytes_row(name: &str, side: Side, bytes: Blob) -> Option<Row>
     }
 }
 
+fn limits_row(name: &Value, turns: &Value, quiet: &Value, waiting: &Value) -> Option<Row>
+    ensures { result
+        ≡ option_and_then (limits_row (view turns.now) (view quiet.now) (view waiting.now)) (as_str (view name.now)) }
+{
+    if name.as_str()? != "limits" {
+        return None;
+    }
+    let turns = count_in(MOST_TURNS, turns)?;
+    let quiet = count_in(MOST_QUIET, quiet)?;
+    let waiting = count_in(u32::MAX as u64, waiting)?;
+    Some(Row::Limits {
+        turns,
+        quiet,
+        waiting: waiting as u32,
+    })
+}
+
 fn side_in(value: &Value) -> Option<Side>
     ensures { result ≡ side_in (view value.now) }
 {
@@ -133,12 +175,38 @@ fn status_in(value: &Value) -> Option<u8>
     u8::try_from(value.as_u64()?).ok()
 }
 
-fn version_in(value: &Value) -> Option<bool>
+fn version_in(value: &Value) -> Option<Option<Version>>
     ensures { result ≡ version_in (view value.now) }
 {
     match value.as_u64() {
-        Some(version) => Some(version == 1),
-        None => if value.is_i64() { Some(false) } else { None },
+        Some(version) => Some(version_of(version)),
+        None => if value.is_i64() { Some(None) } else { None },
+    }
+}
+
+fn version_of(version: u64) -> Option<Version>
+    ensures { result ≡ version_of version }
+{
+    match version {
+        1 => Some(Version::First),
+        2 => Some(Version::Second),
+        _ => None,
+    }
+}
+
+fn count_in(most: u64, value: &Value) -> Option<u64>
+    ensures { result ≡ count_in most (view value.now) }
+{
+    count_of(most, value.as_u64()?)
+}
+
+fn count_of(most: u64, count: u64) -> Option<u64>
+    ensures { result ≡ count_of most count }
+{
+    if 1 <= count && count <= most {
+        Some(count)
+    } else {
+        None
     }
 }
 

@@ -1,5 +1,5 @@
 use Rattle.std.proofs.Common.{◌≡◌, take}
 use Rattle.run_outcomes.proofs.file_runs.copy_all.Given as goal
 
-abbrev pub invariant-loop-entry : goal.invariant-loop-entry
-invariant-loop-entry l = l.copies ≡ take l.entry-index l.entries
+abbrev pub invariant-loop-run : goal.invariant-loop-run
+invariant-loop-run l = l.copies ≡ take l.run-index l.runs

@@ -9,9 +9,9 @@ pub returns-in-NotOpened : goal.returns-in-NotOpened
 unfolding text_of
 returns-in-NotOpened g c = rw c.in-NotOpened.is c.print_line-in-NotOpened.ensures
 
-pub returns-in-NotRead : goal.returns-in-NotRead
+pub returns-in-NotUsed : goal.returns-in-NotUsed
 unfolding text_of
-returns-in-NotRead g c = rw c.in-NotRead.is c.print_line-in-NotRead.ensures
+returns-in-NotUsed g c = rw c.in-NotUsed.is c.print_line-in-NotUsed.ensures
 
 pub returns-in-TooLong : goal.returns-in-TooLong
 unfolding text_of
