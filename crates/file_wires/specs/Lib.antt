@@ -1,3 +1,4 @@
 pub mod Course
 pub mod LogWires
+pub mod Replaying
 pub mod PlayedWires

@@ -1,63 +1,66 @@
 -- Wires that replay a session log: what they tell, and what is left of the log.
-use Rattle.std.specs.Prelude.{◌≡◌, ◌++◌, Bool, false, List, [], ◌∷◌, map}
+use Rattle.std.specs.Prelude.{ℕ, ◌≡◌, ◌++◌, Bool, true, false, List, ◌∷◌, []}
 use Rattle.script_wires.specs.ScriptWires.{is_alone}
-use Rattle.wire_core.specs.Log.{entries}
-use Rattle.wire_core.specs.MemoryWires.{failing_of, is_refused, outside_of, steps_of}
-use Rattle.wire_core.specs.Outside.{Outside}
-use Rattle.wire_core.specs.declared.memory_wires.MemoryWires.{MemoryWires}
+use Rattle.wire_core.specs.Links.{Counts}
+use Rattle.wire_core.specs.Outside.{Adds, Outside, SameWaits, entry_of}
+use Rattle.wire_core.specs.declared.links.Links.{Links}
 use Rattle.wire_core.specs.declared.outside.Entry.{Entry}
-use Rattle.wire_core.specs.declared.outside.Entry.TheVariants.{In, Out, Shut as ends, Failed as fails, Quiet as nothing}
-use Rattle.wire_core.specs.declared.script.Step.{Step}
-use Rattle.wire_core.specs.declared.script.Step.TheVariants.{Bytes, Shut, Failed, Quiet}
-use Rattle.file_wires.specs.Course.{Sides, both_open, came, course}
+use Rattle.wire_core.specs.declared.outside.Entry.TheVariants.{Failed}
+use Rattle.wire_core.specs.declared.outside.Side.{Side}
+use Rattle.wire_core.specs.declared.outside.Happening.{Happening}
+use Rattle.wire_core.specs.declared.outside.Happening.TheVariants.{Failed as fails}
+use Rattle.wire_journals.specs.Journals.{outside_in}
+use Rattle.file_wires.specs.Course.{both_open, came, course}
+use Rattle.file_wires.specs.Replaying.{Comes, left_at, open_by}
 use Rattle.file_wires.specs.declared.log_wires.LogWires.{LogWires}
-
--- which sides are open
-abbrev pub sides_of : Outside → Sides
-sides_of o = record { client = o.client.is_open; target = o.target.is_open }
-
--- a step as the entry that it gives
-abbrev pub entry_of_step : Step → Entry
-entry_of_step (Bytes side bytes) = In side bytes
-entry_of_step (Shut side) = ends side
-entry_of_step (Failed side) = fails side
-entry_of_step Quiet = nothing
-
--- the step that gives an entry; what went out has none
-abbrev pub steps_for : Entry → List Step
-steps_for (In side bytes) = Bytes side bytes ∷ []
-steps_for (Out side bytes) = []
-steps_for (ends side) = Shut side ∷ []
-steps_for (fails side) = Failed side ∷ []
-steps_for nothing = Quiet ∷ []
-
--- what is still to come of wires
-abbrev pub ahead : MemoryWires → List Entry
-ahead w = course (sides_of (outside_of w)) (map entry_of_step (steps_of w))
-
--- Where both sides were asked for, or none, what came and what is still to come are the course of these entries, unless
--- memory was refused.
-abbrev pub Follows : List Entry → MemoryWires → Type 0
-Follows log w = is_alone (outside_of w).asked ≡ false → is_refused w ≡ false
-    → came (entries w.log) ++ ahead w ≡ course both_open log
-
--- wires that replay entries: no send is told to fail, and they follow the entries
-pub record IsReplay (log : List Entry) (w : MemoryWires) : Type 0 where
-  pub uncut : failing_of w ≡ []
-  pub follows : Follows log w
 
 -- what the wires tell of themselves
 abbrev pub told_by : LogWires → Outside
-told_by w = outside_of w.wires
+told_by w = outside_in w.journal
+
+-- their links, and their log
+abbrev pub links_of : LogWires → Links
+links_of w = w.journal.links
+
+abbrev pub entries_in : LogWires → List Entry
+entries_in w = w.journal.log.entries
 
 -- whether the target alone was asked for
 abbrev pub is_reached : LogWires → Bool
 is_reached w = is_alone (told_by w).asked
 
--- the wires were made over this log, whatever was asked of them
+-- whether a link failed since memory was refused to the wires
+abbrev pub is_refused : LogWires → Bool
+is_refused w = w.refused
+
+-- what is left of the log
+abbrev pub left_in_wires : LogWires → List Entry
+left_in_wires w = left_at w.place w.runs
+
+-- what is still to come
+abbrev pub ahead : LogWires → List Entry
+ahead w = course (open_by (links_of w)) (left_in_wires w)
+
+-- The wires were made over this log, whatever was asked of them: where both sides were asked for, or none, what came
+-- and what is still to come are its course, unless memory was refused.
 abbrev pub IsReplayOf : List Entry → LogWires → Type 0
-IsReplayOf log w = IsReplay log w.wires
+IsReplayOf log w =
+    is_reached w ≡ false → is_refused w ≡ false → came (entries_in w) ++ ahead w ≡ course both_open log
 
 -- what they were made over they are over still
 abbrev pub StaysReplay : LogWires → LogWires → Type 0
 StaysReplay old new = (log : List Entry) → IsReplayOf log old → IsReplayOf log new
+
+-- memory was refused to the wires: a side's link failed, with nothing else logged
+pub record Refuses (old new : LogWires) (side : Side) : Type 0 where
+  pub log : Adds (told_by old) (told_by new) (Failed side ∷ [])
+  pub links : Counts (told_by old) (told_by new) (fails side)
+  pub waits : SameWaits (told_by old) (told_by new)
+  pub refused : is_refused new ≡ true
+
+-- what is left of the log gave what came
+pub record GivesNext (old new : LogWires) (buffer : List ℕ) (happening : Happening) : Type 0 where
+  pub comes : Comes (links_of old) buffer happening (left_in_wires old) (left_in_wires new)
+  pub log : Adds (told_by old) (told_by new) (entry_of buffer happening ∷ [])
+  pub links : Counts (told_by old) (told_by new) happening
+  pub refused : is_refused new ≡ is_refused old

@@ -3,6 +3,7 @@
 
 mod log_wires;
 mod played_wires;
+mod replaying;
 
 pub use log_wires::LogWires;
 pub use played_wires::PlayedWires;

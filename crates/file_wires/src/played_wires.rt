@@ -2,12 +2,14 @@
 ghost use Rattle.std.specs.Prelude.{◌≡◌, [], false, Some, IfOk};
 ghost use Rattle.script_rows.specs.declared.script.Script.{Script as TheScript};
 ghost use Rattle.wire_core.specs.Outside.{IsOpen};
+ghost use Rattle.run_logs.specs.Runs.{entries_of, AreRuns};
 ghost use Rattle.wire_core.specs.declared.outside.Side.TheVariants.{Client, Target};
 
+use run_logs::Run;
 use script_rows::Script;
 use script_wires::ScriptWires;
 use std::alloc::Global;
-use wire_core::{Entry, Happening, NoMemory, OpenFailed, SendFailed, Side, Text, Wires};
+use wire_core::{Happening, NoMemory, OpenFailed, SendFailed, Side, Text, Wires};
 
 /// Wires over a script. What they were made over they are over still, whatever was asked of them: so whoever runs a
 /// session over them knows that the log which it made is of this script.
@@ -38,15 +40,16 @@ impl PlayedWires {
     }
 
     /// What came and went so far; `NoMemory` comes where memory was refused to the wires, so that a link failed.
-    pub fn entries(&self) -> Result<&[Entry], NoMemory>
-        ensures whole { IfOk result (λ log. (told_by self.now).log ≡ Some log.now) }
-        ensures played { IfOk result (λ log. (script : TheScript) → IsPlayOf script self.now
-            → is_reached self.now ≡ false → IsLogOf script log.now) }
+    pub fn runs(&self) -> Result<&[Run], NoMemory>
+        ensures whole { IfOk result (λ runs. (told_by self.now).log ≡ Some (entries_of runs.now)) }
+        ensures runs { IfOk result (λ runs. AreRuns runs.now) }
+        ensures played { IfOk result (λ runs. (script : TheScript) → IsPlayOf script self.now
+            → is_reached self.now ≡ false → IsLogOf script (entries_of runs.now)) }
     {
         if self.wires.refused() {
             return Err(NoMemory);
         }
-        Ok(self.wires.log())
+        Ok(self.wires.runs())
     }
 }
 

@@ -5,7 +5,7 @@ use crate::putting::{MOST_QUIETS, places, put, quiets_as};
 use crate::run::Run;
 use std::alloc::Global;
 use std::marker::Model;
-use wire_core::{Entry, NoMemory};
+use wire_core::{Entry, List, NoMemory};
 
 /// The entries of a log, in order. Contracts see them one by one; what is kept are runs, so that a wait in vain behind
 /// another takes no memory. A log has at most 2^62 waits. It can keep room for entries that have to be added where
@@ -46,6 +46,14 @@ impl RunLog {
         ensures runs { AreRuns result.now }
     {
         self.runs.as_slice()
+    }
+
+    /// The runs of the log, in its memory.
+    pub fn into_runs(self) -> List<Run>
+        ensures entries { entries_of result ≡ self.entries }
+        ensures runs { AreRuns result }
+    {
+        List::from_vec(self.runs)
     }
 
     /// Whether one more wait in vain can be added: there are fewer than 2^62.

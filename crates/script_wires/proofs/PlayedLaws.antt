@@ -14,7 +14,7 @@ use Rattle.script_wires.specs.ScriptWires.{outside_of, playing_of, is_alone, is_
 use Rattle.script_wires.specs.ScriptWires.{IsOver, HasPlayed}
 
 abbrev log_of : ScriptWires → List Entry
-log_of w = w.journal.entries.items
+log_of w = w.journal.log.entries
 
 some_same : {A : Type 0} (x y : A) → ◌≡◌ {A = Option A} (Some x) (Some y) → x ≡ y
 some_same x y h = cc

@@ -7,9 +7,9 @@ use Rattle.wire_core.specs.declared.outside.Happening.TheVariants.{Bytes, Shut, 
 use Rattle.wire_core.specs.declared.links.Links.{Links}
 use Rattle.wire_core.specs.Outside.{Link, entry_of}
 use Rattle.wire_core.specs.Links.{link_after, told, is_open_in, Counts}
-use Rattle.script_wires.specs.declared.journal.Journal.{Journal}
+use Rattle.wire_journals.specs.declared.journal.Journal.{Journal}
 use Rattle.script_wires.specs.declared.play.Play.{Play}
-use Rattle.script_wires.specs.Journals.{outside_in}
+use Rattle.wire_journals.specs.Journals.{outside_in}
 use Rattle.script_wires.specs.Playing.{Playing, is_open, closed_by}
 use Rattle.script_wires.specs.Plays.{playing}
 use Rattle.script_wires.specs.Schedules.{Reaches, Comes}

@@ -1,5 +1,3 @@
-pub mod Rooms
-pub mod Journals
 pub mod Requests
 pub mod Clients
 pub mod Lines

@@ -12,7 +12,7 @@ use Rattle.wire_core.specs.Outside.{Outside, Adds, entry_of}
 use Rattle.wire_core.specs.Links.{Keeps, Counts, first_open, fresh_link}
 use Rattle.script_rows.specs.declared.script.Script.{Script}
 use Rattle.script_wires.specs.declared.wires.ScriptWires.{ScriptWires}
-use Rattle.script_wires.specs.Journals.{outside_in}
+use Rattle.wire_journals.specs.Journals.{outside_in}
 use Rattle.script_wires.specs.Played.{Played, SendsTo}
 use Rattle.script_wires.specs.Playing.{Playing, beginning, closed}
 use Rattle.script_wires.specs.Plays.{playing}

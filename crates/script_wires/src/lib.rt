@@ -2,7 +2,6 @@
 #![tactic(auto)]
 
 mod client;
-mod journal;
 mod laws;
 mod play;
 mod requests;

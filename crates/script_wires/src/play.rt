@@ -92,6 +92,9 @@ impl Play {
             program,
             begin,
             schedule,
+            turns: _,
+            quiet: _,
+            waiting: _,
         } = script;
         Play {
             schedule: Schedule::new(schedule),

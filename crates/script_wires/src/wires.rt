@@ -4,17 +4,19 @@ ghost use Rattle.wire_core.specs.declared.outside.Side.TheVariants.{Client, Targ
 ghost use Rattle.wire_core.specs.Outside.{IsOpen, HasOpen, Connects, FailsToConnect, Reaches, FailsToReach};
 ghost use Rattle.wire_core.specs.Outside.{Hears, SameWaits, Sends, FailsToSend};
 ghost use Rattle.wire_core.specs.Links.{is_open_in, first_open, IsPossible};
+ghost use Rattle.run_logs.specs.Runs.{entries_of, AreRuns};
 
-use crate::journal::Journal;
 use crate::play::Play;
+use run_logs::Run;
 use script_rows::Script;
 use std::alloc::Global;
-use wire_core::{Entry, Happening, NoMemory, OpenFailed, SendFailed, Side, Text, Wires, raise};
+use wire_core::{Happening, NoMemory, OpenFailed, SendFailed, Side, Text, Wires};
+use wire_journals::Journal;
 
 /// Wires that join a bridge to a scripted target: what comes is what a script's schedule gives, and what is sent to the
 /// target is fed to it. They keep a log of all that came and went. When the schedule is used up, each side that is
 /// still open ends, the client first. Where memory is refused, a link fails; so it does where a number of the wires
-/// would reach 2^63, or a packet of the target would be too long.
+/// would reach 2^63, a packet of the target would be too long, or a wait in vain would stand behind 2^62 of them.
 #[derive(Drop)]
 pub struct ScriptWires {
     alloc: Global,
@@ -41,11 +43,12 @@ impl ScriptWires {
         })
     }
 
-    /// What came and went so far.
-    pub fn log(&self) -> &[Entry]
-        ensures { (outside_of self.now).log ≡ Some result.now }
+    /// What came and went so far, where waits in vain that follow each other are one run.
+    pub fn runs(&self) -> &[Run]
+        ensures log { (outside_of self.now).log ≡ Some (entries_of result.now) }
+        ensures runs { AreRuns result.now }
     {
-        self.journal.entries()
+        self.journal.runs()
     }
 
     /// Lets the wires go.
@@ -138,7 +141,7 @@ impl Wires for ScriptWires {
         ensures comes { NextOfScript self.old self.new buffer.new result }
         ensures stays { StaysOver self.old self.new }
     {
-        self.journal.waits = raise(self.journal.waits);
+        self.journal.wait();
         match self.hear(buffer) {
             Ok(happening) => happening,
             Err(NoMemory) => {

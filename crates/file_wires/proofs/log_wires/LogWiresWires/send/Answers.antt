@@ -1,7 +1,21 @@
-use Rattle.file_wires.proofs.FollowLaws.{replays_send}
+use Rattle.std.proofs.Common.{refl, ap}
+use Rattle.script_wires.specs.ScriptWires.{is_alone}
+use Rattle.file_wires.specs.declared.log_wires.LogWires.{LogWires}
+use Rattle.file_wires.proofs.FollowLaws.{refuses_on, sends_on}
 use Rattle.file_wires.proofs.log_wires.LogWiresWires.send.Goals as goal
 
-pub returns-clause-stays : goal.returns-clause-stays
-returns-clause-stays c = λ log replay.
-    replays_send log c.args.self.now.wires c.send.new.self c.args.side c.args.bytes.now c.send.result
-    c.send.ensures.script c.send.ensures.sends replay
+pub returns-in-Ok-clause-stays : goal.returns-in-Ok-clause-stays
+returns-in-Ok-clause-stays c = λ log replay.
+    let sent : LogWires = record {
+      alloc = c.args.self.now.alloc;
+      journal = c.send.new.self;
+      runs = c.args.self.now.runs;
+      place = c.args.self.now.place;
+      refused = c.args.self.now.refused;
+    } in
+    sends_on log c.args.self.now sent c.args.side c.args.bytes.now c.in-Ok.ensures.log c.in-Ok.ensures.kept refl refl
+    (ap is_alone c.in-Ok.ensures.links.asked) replay
+
+pub returns-in-Err-clause-stays : goal.returns-in-Err-clause-stays
+returns-in-Err-clause-stays c = λ log replay.
+    refuses_on log c.args.self.now c.refuse.new.self c.refuse.ensures.refused replay

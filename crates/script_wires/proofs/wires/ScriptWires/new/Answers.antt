@@ -1,6 +1,6 @@
 use Rattle.std.proofs.Common.{refl, ap}
 use Rattle.wire_core.specs.Outside.{Link}
-use Rattle.script_wires.specs.Journals.{IsNewJournal}
+use Rattle.wire_journals.specs.Journals.{IsNewJournal}
 use Rattle.script_wires.proofs.wires.ScriptWires.new.Goals as goal
 
 pub returns : goal.returns

@@ -1,49 +1,27 @@
-//! What came and went out over wires, and their links.
-ghost use Rattle.std.specs.Prelude.{◌≡◌, ◌+◌, ◌≤◌, true, [], ◌∷◌, ◌++◌, length, IfOk, IsOk, OnOk, OnErr, Some};
+ghost use Rattle.std.specs.Prelude.{◌≡◌, ◌≤◌, true, [], ◌∷◌, length, IfOk, IsOk, OnOk, OnErr, Some};
 ghost use Rattle.std.specs.Prelude.{◌↔◌};
 ghost use Rattle.wire_core.specs.declared.outside.Side.TheVariants.{Client, Target};
 ghost use Rattle.wire_core.specs.declared.outside.Happening.TheVariants.{Failed as fails};
 ghost use Rattle.wire_core.specs.declared.outside.Entry.TheVariants.{Out, Failed};
 ghost use Rattle.wire_core.specs.Outside.{entry_of, Adds, IsOpen, Connects, FailsToConnect, Reaches};
 ghost use Rattle.wire_core.specs.Outside.{FailsToReach, SameWaits};
-ghost use Rattle.wire_core.specs.Links.{is_open_in, open_count, shut_link, Counts, Keeps, IsWithin};
-ghost use Rattle.script_wires.specs.Rooms.{HasRoom, HasRoomLeft};
+ghost use Rattle.wire_core.specs.Links.{is_open_in, open_count, raised, shut_link, Counts, Keeps, IsWithin};
+ghost use Rattle.run_logs.specs.Runs.{entries_of, AreRuns};
 
+use run_logs::{Run, RunLog};
 use std::alloc::Global;
 use wire_core::{Blob, Entry, Happening, Links, Names, NoMemory, OpenFailed, Side, Text, raise};
 
-/// What came and went out over wires, their links, and what they were asked to open. The failure of each side that is
-/// open can be logged without memory.
+/// What came and went out over wires, their links, how often they waited, and what they were asked to open. The failure
+/// of each side that is open can be logged without memory.
 #[derive(Debug, Drop)]
-pub(crate) struct Journal {
-    entries: Vec<Entry>,
-    pub(crate) waits: u64,
+pub struct Journal {
+    log: RunLog,
+    waits: u64,
     links: Links,
     open_faults: u64,
     asked: Option<Names>,
-    ghost room: { HasRoom entries (open_count links) },
-}
-
-// Adds an entry, and keeps room for so many behind it.
-fn add(entries: &mut Vec<Entry>, entry: Entry, kept: usize) -> Result<(), NoMemory>
-    requires { kept ≤ 2 }
-    ensures ok { OnOk result (entries.new.items ≡ entries.old.items ++ entry ∷ []) }
-    ensures room { OnOk result (HasRoom entries.new kept) }
-    ensures err { OnErr result (entries.new.items ≡ entries.old.items) }
-    ensures kept { OnErr result (HasRoomLeft entries.old entries.new 0) }
-{
-    entries.reserve(kept + 1)?;
-    entries.push_reserved(entry);
-    Ok(())
-}
-
-// Adds an entry for which room was kept.
-fn add_reserved(entries: &mut Vec<Entry>, entry: Entry)
-    requires { HasRoom entries.old 1 }
-    ensures entries { entries.new.items ≡ entries.old.items ++ entry ∷ [] }
-    ensures room { HasRoomLeft entries.old entries.new 1 }
-{
-    entries.push_reserved(entry);
+    ghost room: { open_count links ≤ log.room },
 }
 
 // The entry of a happening, with a copy of the bytes that came.
@@ -59,56 +37,17 @@ fn entry(alloc: Global, buffer: &[u8], happening: Happening) -> Result<Entry, No
     }
 }
 
-// Adds what came, and keeps room for so many entries behind it.
-fn add_happening(
-    alloc: Global,
-    entries: &mut Vec<Entry>,
-    buffer: &[u8],
-    happening: Happening,
-    kept: usize,
-) -> Result<(), NoMemory>
-    requires room { kept ≤ 2 }
-    requires within { IsWithin (length buffer.now) happening }
-    ensures ok { OnOk result (entries.new.items ≡ entries.old.items ++ entry_of buffer.now happening ∷ []) }
-    ensures room { OnOk result (HasRoom entries.new kept) }
-    ensures err { OnErr result (entries.new.items ≡ entries.old.items) }
-    ensures kept { OnErr result (HasRoomLeft entries.old entries.new 0) }
-{
-    add(entries, entry(alloc, buffer, happening)?, kept)
-}
-
-// Adds bytes that went out, and keeps room for so many entries behind them.
-fn add_send(
-    alloc: Global,
-    entries: &mut Vec<Entry>,
-    side: Side,
-    bytes: &[u8],
-    kept: usize,
-) -> Result<(), NoMemory>
-    requires { kept ≤ 2 }
-    ensures ok { OnOk result (entries.new.items ≡ entries.old.items ++ Out side bytes.now ∷ []) }
-    ensures room { OnOk result (HasRoom entries.new kept) }
-    ensures err { OnErr result (entries.new.items ≡ entries.old.items) }
-    ensures kept { OnErr result (HasRoomLeft entries.old entries.new 0) }
-{
-    add(
-        entries,
-        Entry::Out(side, Blob::from_slice(alloc, bytes)?),
-        kept,
-    )
-}
-
 impl Journal {
-    ghost use Rattle.script_wires.specs.Journals.{outside_in, IsNewJournal};
+    ghost use Rattle.wire_journals.specs.Journals.{outside_in, IsNewJournal};
 
     /// The journal of wires with both sides open, of which nothing was asked yet.
-    pub(crate) fn new(alloc: Global) -> Result<Journal, NoMemory>
+    pub fn new(alloc: Global) -> Result<Journal, NoMemory>
         ensures { IfOk result IsNewJournal }
     {
-        let mut entries = Vec::new(alloc);
-        entries.reserve(2)?;
+        let mut log = RunLog::new(alloc);
+        log.reserve(2)?;
         Ok(Journal {
-            entries,
+            log,
             waits: 0,
             links: Links::new(true),
             open_faults: 0,
@@ -116,22 +55,33 @@ impl Journal {
         })
     }
 
-    /// What came and went so far.
-    pub(crate) fn entries(&self) -> &[Entry]
-        ensures { (outside_in self.now).log ≡ Some result.now }
+    /// What came and went so far, where waits in vain that follow each other are one run.
+    pub fn runs(&self) -> &[Run]
+        ensures log { (outside_in self.now).log ≡ Some (entries_of result.now) }
+        ensures runs { AreRuns result.now }
     {
-        self.entries.as_slice()
+        self.log.runs()
     }
 
     /// The links.
-    pub(crate) fn links(&self) -> Links
+    pub fn links(&self) -> Links
         ensures { result ≡ self.now.links }
     {
         self.links
     }
 
+    /// Counts a wait.
+    pub fn wait(&mut self)
+        ensures waits { (outside_in self.new).waits ≡ raised (outside_in self.old).waits }
+        ensures log { (outside_in self.new).log ≡ (outside_in self.old).log }
+        ensures links { self.new.links ≡ self.old.links }
+        ensures kept { Keeps (outside_in self.old) (outside_in self.new) }
+    {
+        self.waits = raise(self.waits);
+    }
+
     /// Opens what is open already, under these names; it fails exactly where a side isn't open.
-    pub(crate) fn connect(&mut self, listen: Text, target: Text) -> Result<(), OpenFailed>
+    pub fn connect(&mut self, listen: Text, target: Text) -> Result<(), OpenFailed>
         requires { (outside_in self.old).asked ≡ [] }
         ensures ok { OnOk result (Connects (outside_in self.old) (outside_in self.new) listen target) }
         ensures err { OnErr result (FailsToConnect (outside_in self.old) (outside_in self.new) listen target) }
@@ -167,7 +117,7 @@ impl Journal {
 
     /// Reaches the target alone, under this name: the client's side is shut. It fails exactly where the target's side
     /// isn't open.
-    pub(crate) fn reach(&mut self, target: Text) -> Result<(), OpenFailed>
+    pub fn reach(&mut self, target: Text) -> Result<(), OpenFailed>
         requires { (outside_in self.old).asked ≡ [] }
         ensures ok { OnOk result (Reaches (outside_in self.old) (outside_in self.new) target) }
         ensures err { OnErr result (FailsToReach (outside_in self.old) (outside_in self.new) target) }
@@ -190,18 +140,19 @@ impl Journal {
     }
 
     /// Logs and counts the failure of a side, which takes no memory.
-    pub(crate) fn fail(&mut self, side: Side)
+    pub fn fail(&mut self, side: Side)
         requires { is_open_in self.old.links side ≡ true }
         ensures log { Adds (outside_in self.old) (outside_in self.new) (Failed side ∷ []) }
         ensures links { Counts (outside_in self.old) (outside_in self.new) (fails side) }
         ensures waits { SameWaits (outside_in self.old) (outside_in self.new) }
     {
-        add_reserved(&mut self.entries, Entry::Failed(side));
+        self.log.add_reserved(Entry::Failed(side));
         self.links = self.links.after(Happening::Failed(side));
     }
 
-    /// Logs and counts what came; where memory is refused nothing changes.
-    pub(crate) fn hear(
+    /// Logs and counts what came. `NoMemory` comes where memory is refused, or at a wait in vain behind 2^62 of them;
+    /// then nothing changes.
+    pub fn hear(
         &mut self,
         alloc: Global,
         buffer: &[u8],
@@ -217,13 +168,13 @@ impl Journal {
     {
         let links = self.links.after(happening);
         let kept = links.open_count();
-        add_happening(alloc, &mut self.entries, buffer, happening, kept)?;
+        self.log.add(entry(alloc, buffer, happening)?, kept)?;
         self.links = links;
         Ok(())
     }
 
-    /// Logs what went out; where memory is refused nothing changes.
-    pub(crate) fn send(&mut self, alloc: Global, side: Side, bytes: &[u8]) -> Result<(), NoMemory>
+    /// Logs what went out. `NoMemory` comes where memory is refused; then nothing changes.
+    pub fn send(&mut self, alloc: Global, side: Side, bytes: &[u8]) -> Result<(), NoMemory>
         ensures log { OnOk result (Adds (outside_in self.old) (outside_in self.new) (Out side bytes.now ∷ [])) }
         ensures links { OnOk result (Keeps (outside_in self.old) (outside_in self.new)) }
         ensures waits { SameWaits (outside_in self.old) (outside_in self.new) }
@@ -231,6 +182,7 @@ impl Journal {
         ensures kept { self.new.links ≡ self.old.links }
     {
         let kept = self.links.open_count();
-        add_send(alloc, &mut self.entries, side, bytes, kept)
+        self.log
+            .add(Entry::Out(side, Blob::from_slice(alloc, bytes)?), kept)
     }
 }

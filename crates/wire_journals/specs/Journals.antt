@@ -3,11 +3,11 @@ use Rattle.std.specs.Prelude.{◌≡◌, true, [], Some}
 use Rattle.wire_core.specs.Links.{outside_with, fresh_link}
 use Rattle.wire_core.specs.Names.{names_of}
 use Rattle.wire_core.specs.Outside.{Outside}
-use Rattle.script_wires.specs.declared.journal.Journal.{Journal}
+use Rattle.wire_journals.specs.declared.journal.Journal.{Journal}
 
 -- all of it, the log among it
 abbrev pub outside_in : Journal → Outside
-outside_in j = outside_with (Some j.entries.items) j.waits j.links j.open_faults (names_of j.asked)
+outside_in j = outside_with (Some j.log.entries) j.waits j.links j.open_faults (names_of j.asked)
 
 -- nothing was logged, counted or asked for, and both sides are open
 pub record IsNewJournal (j : Journal) : Type 0 where
