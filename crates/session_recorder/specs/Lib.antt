@@ -1,0 +1,4 @@
+pub mod States
+pub mod Books
+pub mod Recording
+pub mod Ties
