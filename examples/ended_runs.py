@@ -99,8 +99,18 @@ def text_of(*rows):
     return "".join(json.dumps(row, separators=(",", ":")) + "\n" for row in rows)
 
 
+def limited(limits, *rows):
+    """A log with these limits, and these rows."""
+    return text_of(["log", 2], ["limits", *limits], *rows, ["end"])
+
+
 def log_of(*rows):
-    """A log with these rows."""
+    """A log with the limits of a session that serves an editor, and these rows."""
+    return limited((1099511627776, 43200000, 65536), *rows)
+
+
+def old_log_of(*rows):
+    """A log of version 1 with these rows: it has no limits, and each wait in vain has a row."""
     return text_of(["log", 1], *rows, ["end"])
 
 
@@ -112,27 +122,42 @@ ASKED = framed(compact({"arguments": {}, "command": "disconnect", "seq": 1, "typ
 ANSWERED = ["out", "client", framed(response(1, 1, "disconnect")).hex()]
 ONE_REQUEST = log_of(from_client(ASKED), ANSWERED, ["ending", 0])
 BEGIN, REST = from_client(ASKED[:50]), from_client(ASKED[50:])
-IN_PIECES = log_of(BEGIN, ["quiet"], REST, ANSWERED, ["ending", 0])
+IN_PIECES = log_of(BEGIN, ["quiet", 1], REST, ANSWERED, ["ending", 0])
 # The same in pieces, with what can't have gone out, and with bytes that came later.
-BADLY_KEPT = log_of(BEGIN, ["out", "target", "00"], ["quiet"], REST, from_client(b"\xff"), ["failed", "target"],
-                    ["ending", 6])
+LATER = (REST, from_client(b"\xff"), ["failed", "target"], ["ending", 6])
+BADLY_KEPT = log_of(BEGIN, ["out", "target", "00"], ["quiet", 1], *LATER)
+OLD_AND_BADLY_KEPT = old_log_of(BEGIN, ["quiet"], ["out", "target", "00"], *LATER)
 NO_LENGTH = from_client(b"X: y\r\n\r\n")
+TERMINATED = ["out", "client", framed(compact({"event": "terminated", "seq": 1, "type": "event"})).hex()]
 # Logs, each with what is printed where it is replayed.
 REPLAYED = (
     (ONE_REQUEST, ONE_REQUEST),
     (BADLY_KEPT, IN_PIECES),
     (IN_PIECES, IN_PIECES),
     # The sides end where a log is used up, the client first.
-    (log_of(["quiet"], ["quiet"]), log_of(["quiet"], ["quiet"], ["shut", "client"], ["ending", 1])),
+    (log_of(["quiet", 2]), log_of(["quiet", 2], ["shut", "client"], ["ending", 1])),
     (log_of(["failed", "client"], ["ending", 5]), log_of(["failed", "client"], ["ending", 5])),
-    (log_of(NO_LENGTH, ["quiet"]), log_of(NO_LENGTH, ["ending", 3])),
+    (log_of(NO_LENGTH, ["quiet", 7]), log_of(NO_LENGTH, ["ending", 3])),
+    # Those of version 1 have the limits of a session that serves an editor.
+    (old_log_of(["quiet"], ["quiet"]), log_of(["quiet", 2], ["shut", "client"], ["ending", 1])),
+    (OLD_AND_BADLY_KEPT, IN_PIECES),
+    (old_log_of(from_client(ASKED), ANSWERED, ["ending", 0]), ONE_REQUEST),
+    # The limits of a log are those of the session over it: on waits in vain that follow each other, and on turns.
+    (limited((100, 2, 1), ["quiet", 2]), limited((100, 2, 1), ["quiet", 2], TERMINATED, ["ending", 12])),
+    (limited((100, 3, 1), ["quiet", 2]), limited((100, 3, 1), ["quiet", 2], ["shut", "client"], ["ending", 1])),
+    (limited((100, 2, 1), ["quiet", 1000]), limited((100, 2, 1), ["quiet", 2], TERMINATED, ["ending", 12])),
+    (limited((3, 9, 1), ["quiet", 9]), limited((3, 9, 1), ["quiet", 3], ["ending", 13])),
 )
 SCRIPT = text_of(["script", 1], ["sizes", 8, 8, 8, 8, 8], ["ask", "disconnect", {}], ["settle"], ["end"])
 # The first word, a file that is none of its kind, the line of its first fault, and that.
 FAULTY = (
     ("replay", b"", 1, "NoEnd"),
     ("replay", b'["log",1]\n["end"]', 3, "NoEnd"),
-    ("replay", b'["log",2]\n["end"]\n', 1, "BadVersion"),
+    ("replay", b'["log",3]\n["end"]\n', 1, "BadVersion"),
+    ("replay", b'["log",2]\n["end"]\n', 2, "BadOrder"),
+    ("replay", b'["log",2]\n["limits",1,1,0]\n', 2, "BadShape"),
+    ("replay", b'["log",2]\n["limits",1,1,1]\n["quiet"]\n', 3, "BadShape"),
+    ("replay", b'["log",2]\n["limits",1,1,1]\n["quiet",1]\n["quiet",1]\n', 4, "BadOrder"),
     ("replay", b'["script",1]\n', 1, "BadShape"),
     ("replay", b'["quiet"]\n', 1, "BadOrder"),
     ("replay", b'["log",1]\n\xff\n', 2, "NotUtf8"),

@@ -1,14 +1,16 @@
 -- A run of the program: what its words make it do, what it prints, and the status that it ends with.
 use Rattle.std.specs.Prelude.{ℕ, ◌≡◌, List, length, take}
 use Rattle.file_wires.specs.Course.{both_open, came, course}
-use Rattle.run_outcomes.specs.FileRuns.{IsLogged, OfFile, usual_limits}
+use Rattle.run_logs.specs.Runs.{entries_of}
+use Rattle.run_outcomes.specs.FileRuns.{IsLogged, OfFile, limits_of, usual_limits}
 use Rattle.run_outcomes.specs.Lines.{Prints, status_of, text_of}
 use Rattle.file_wires.specs.PlayedWires.{IsLogOf}
 use Rattle.command_words.specs.Words.{AreRefused, Names}
 use Rattle.run_outcomes.specs.declared.printing.Outcome.{Outcome}
 use Rattle.run_outcomes.specs.declared.printing.Outcome.TheVariants.{Misused, NotOpened, Ended}
 use Rattle.command_words.specs.declared.words.Addresses.{Addresses}
-use Rattle.command_words.specs.declared.words.Task.TheVariants.{Serve, Script, Replay}
+use Rattle.command_words.specs.declared.words.Task.TheVariants.{Serve, Script, Replay, Record}
+use Rattle.bridge_runs.specs.Recording.{Records}
 use Rattle.bridge_serve.specs.Serving.{Blames, Idles, Keeps}
 use Rattle.script_files.specs.Reading.{script_of}
 use Rattle.script_rows.specs.declared.script.Script.{Script as TheScript}
@@ -21,6 +23,7 @@ use Rattle.wire_core.specs.declared.outside.Entry.{Entry}
 use Rattle.session_model.specs.Session.{IsSession}
 use Rattle.session_endings.specs.declared.ending.Ending.{Ending}
 use Rattle.session_endings.specs.declared.ending.Ending.TheVariants.{NoMemory}
+use Rattle.session_endings.specs.declared.ending.Limits.{Limits}
 
 -- a session was served over wires that were opened under these addresses
 pub record Serves (addresses : Addresses) (old new : Outside) (ending : Ending) : Type 0 where
@@ -31,27 +34,42 @@ pub record Serves (addresses : Addresses) (old new : Outside) (ending : Ending) 
   pub blames : Blames opened new ending
   pub idles : Idles usual_limits opened new ending
 
--- the log of a session that was served over wires that gave what came in these entries, in order, up to its ending
-pub record IsServedAgain (entries : List Entry) (log : SessionLog) : Type 0 where
+-- the log of a session that was served under these limits, over wires that gave what came in these entries, in order,
+-- up to its ending
+pub record IsServedUnder (limits : Limits) (entries : List Entry) (log : SessionLog) : Type 0 where
   pub logged : IsLogged log
-  pub in_order : came log.entries ≡ take (length (came log.entries)) (course both_open entries)
+  pub limits_are : limits_of log ≡ limits
+  pub in_order : came (entries_of log.runs) ≡ take (length (came (entries_of log.runs))) (course both_open entries)
+
+-- the log of a session that was served under the limits of this log, over wires that gave what came in it
+abbrev pub IsServedAgain : SessionLog → SessionLog → Type 0
+IsServedAgain told log = IsServedUnder (limits_of told) (entries_of told.runs) log
 
 -- what becomes of the file with a session log
 abbrev pub Replays : List ℕ → Store → Store → Outcome → Type 0
-Replays name old new outcome = OfFile reading_of (λ log. IsServedAgain log.entries) name old new outcome
+Replays name old new outcome = OfFile reading_of IsServedAgain name old new outcome
 
--- the log of a session that was served over wires that play this script
-pub record IsServedOf (script : TheScript) (log : SessionLog) : Type 0 where
+-- the limits of a script
+abbrev pub script_limits : TheScript → Limits
+script_limits script = record { turns = script.turns; quiet = script.quiet; waiting = script.waiting }
+
+-- the log of a session that was served under these limits, over wires that play this script
+pub record IsPlayedUnder (limits : Limits) (script : TheScript) (log : SessionLog) : Type 0 where
   pub logged : IsLogged log
-  pub of_script : IsLogOf script log.entries
+  pub limits_are : limits_of log ≡ limits
+  pub of_script : IsLogOf script (entries_of log.runs)
+
+-- the log of a session that was served under the limits of this script, over wires that play it
+abbrev pub IsServedOf : TheScript → SessionLog → Type 0
+IsServedOf script log = IsPlayedUnder (script_limits script) script log
 
 -- what becomes of the file with a script
 abbrev pub Plays : List ℕ → Store → Store → Outcome → Type 0
 Plays name old new outcome = OfFile script_of IsServedOf name old new outcome
 
 -- What the words make of the wires and the files, and the outcome: where they are refused nothing is done; else a
--- session is served, or the links are not opened; or a script is played; or a session log is replayed. Want of memory
--- may come before anything is done.
+-- session is served, or the links are not opened; or a script is played; or a session log is replayed; or a session is
+-- recorded. Want of memory may come before anything is done.
 pub data Does : List (List ℕ) → Outside → Outside → Store → Store → Outcome → Type 0 where
   misused : {words : List (List ℕ)} {o : Outside} {s : Store} → AreRefused words → Does words o o s s Misused
   forgets : {words : List (List ℕ)} {o : Outside} {s : Store} → Does words o o s s (Ended NoMemory)
@@ -64,6 +82,9 @@ pub data Does : List (List ℕ) → Outside → Outside → Store → Store → 
       → Names words (Script name) → Plays name old new outcome → Does words o o old new outcome
   replays : {words : List (List ℕ)} {name : List ℕ} {o : Outside} {old new : Store} {outcome : Outcome}
       → Names words (Replay name) → Replays name old new outcome → Does words o o old new outcome
+  records : {words : List (List ℕ)} {addresses : Addresses} {name : List ℕ} {old new : Outside} {s s' : Store}
+      {outcome : Outcome} → Names words (Record addresses name) → Records addresses name old new s s' outcome
+      → Does words old new s s' outcome
 
 -- what a run finds and what it leaves: its wires, its files, and what is printed
 pub record Surroundings : Type 0 where

@@ -5,6 +5,7 @@ ghost use Rattle.bridge_runs.specs.Command.{Does, Runs};
 ghost use Rattle.command_words.specs.Words.{IsValue, Names, said, usage_words};
 ghost use Rattle.command_words.specs.declared.words.Task.{Task as TheTask};
 
+use crate::record::record_to;
 use crate::replay::replay;
 use crate::script::play;
 use bridge_serve::serve;
@@ -51,6 +52,7 @@ fn run<W: Wires, F: Files>(alloc: Global, words: &[Word], wires: &mut W, files: 
         },
         Ok(Task::Script(name)) => play(alloc, name, files),
         Ok(Task::Replay(name)) => replay(alloc, name, files),
+        Ok(Task::Record(addresses, out)) => record_to(alloc, addresses, out, wires, files),
         Err(WordsFault::Refused) => Outcome::Misused,
         Err(WordsFault::NoMemory) => Outcome::Ended(Ending::NoMemory),
     }

@@ -2,7 +2,10 @@
 #![tactic(auto)]
 
 mod command;
+mod laws;
+mod record;
 mod replay;
 mod script;
 
 pub use command::bridge_main;
+pub use laws::a_record_is_a_session;

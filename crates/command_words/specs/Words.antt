@@ -8,7 +8,7 @@ use Rattle.command_words.specs.Forms.{Part, bare_app, form_fault, form_given, fo
 use Rattle.command_words.specs.declared.forms.Kind.{Kind}
 use Rattle.command_words.specs.declared.forms.Kind.TheVariants as kind
 use Rattle.command_words.specs.declared.words.Task.{Task}
-use Rattle.command_words.specs.declared.words.Task.TheVariants.{Serve, Script, Replay}
+use Rattle.command_words.specs.declared.words.Task.TheVariants.{Serve, Script, Replay, Record}
 use Rattle.command_words.specs.declared.words.WordsFault.{WordsFault}
 use Rattle.command_words.specs.declared.words.WordsFault.TheVariants.{Refused, NoMemory}
 
@@ -25,6 +25,7 @@ abbrev pub said : Task → Kind × List (List ℕ)
 said (Serve addresses) = (kind.Serve, addresses.listen ∷ addresses.target ∷ [])
 said (Script file) = (kind.Script, file ∷ [])
 said (Replay file) = (kind.Replay, file ∷ [])
+said (Record addresses file) = (kind.Record, addresses.listen ∷ addresses.target ∷ file ∷ [])
 
 -- each value of a command is given, by its name
 abbrev pub HasAll : Kind → (List ℕ → Option (List ℕ)) → Type 0

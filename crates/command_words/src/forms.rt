@@ -8,6 +8,7 @@ pub enum Kind {
     Serve,
     Script,
     Replay,
+    Record,
 }
 
 /// A value that a command has to be given: behind the name of an option, or alone, so that only `clap` knows its name.
@@ -18,7 +19,7 @@ pub enum Part<'a> {
 }
 
 /// The commands, in the order of the usage line.
-pub(crate) const KINDS: [Kind; 3] = [Kind::Serve, Kind::Script, Kind::Replay];
+pub(crate) const KINDS: [Kind; 4] = [Kind::Serve, Kind::Script, Kind::Replay, Kind::Record];
 
 /// The words of a command: its name, and the values that it has to be given.
 pub(crate) fn form_of<'a>(kind: Kind) -> (&'a str, &'a [Part<'a>])
@@ -29,6 +30,14 @@ pub(crate) fn form_of<'a>(kind: Kind) -> (&'a str, &'a [Part<'a>])
         Kind::Serve => ("serve", &[Part::Option("listen"), Part::Option("target")]),
         Kind::Script => ("script", &[Part::Value("file")]),
         Kind::Replay => ("replay", &[Part::Value("file")]),
+        Kind::Record => (
+            "record",
+            &[
+                Part::Option("listen"),
+                Part::Option("target"),
+                Part::Option("out"),
+            ],
+        ),
     }
 }
 
@@ -43,5 +52,5 @@ pub(crate) fn kind_in<'a>(kinds: &'a [Kind], name: &str) -> Option<&'a Kind>
 pub fn usage() -> &'static str
     ensures { result.now ≡ usage_line }
 {
-    "usage: bridge serve --listen A --target B, script FILE, replay LOG\n"
+    "usage: bridge serve --listen A --target B, script FILE, replay LOG, record --listen A --target B --out FILE\n"
 }

@@ -12,20 +12,21 @@ use clap::{Arg, ArgAction, ArgMatches, Command, Error};
 use std::alloc::{AllocError, Global};
 use wire_core::{NoMemory, Text, Word};
 
-/// The addresses that `serve` is given: the one to accept the client at, and the one of the target.
+/// The addresses that a session is served between: the one to accept the client at, and the one of the target.
 #[derive(Debug, Drop)]
 pub struct Addresses {
     pub listen: Text,
     pub target: Text,
 }
 
-/// What the words ask for: a session between these addresses, one of the script in this file, or the session log of
-/// this file once more.
+/// What the words ask for: a session between these addresses, one of the script in this file, the session log of this
+/// file once more, or a session between these addresses that is recorded in this file.
 #[derive(Debug, Drop)]
 pub enum Task {
     Serve(Addresses),
     Script(Word),
     Replay(Word),
+    Record(Addresses, Word),
 }
 
 /// Why words ask for nothing: they are refused, or memory ran out.
@@ -89,12 +90,25 @@ fn task_of(alloc: Global, kind: Kind, matches: &ArgMatches) -> Result<Task, NoMe
     ensures { IfOk result (λ task. IsTask kind (first_value (found_of matches.now)) task) }
 {
     Ok(match kind {
-        Kind::Serve => Task::Serve(Addresses {
-            listen: value_of(alloc, matches, "listen")?,
-            target: value_of(alloc, matches, "target")?,
-        }),
+        Kind::Serve => Task::Serve(addresses_of(alloc, matches)?),
         Kind::Script => Task::Script(value_of(alloc, matches, "file")?),
         Kind::Replay => Task::Replay(value_of(alloc, matches, "file")?),
+        Kind::Record => Task::Record(
+            addresses_of(alloc, matches)?,
+            value_of(alloc, matches, "out")?,
+        ),
+    })
+}
+
+fn addresses_of(alloc: Global, matches: &ArgMatches) -> Result<Addresses, NoMemory>
+    requires listen { is_some (first_value (found_of matches.now) (codes "listen")) ≡ true }
+    requires target { is_some (first_value (found_of matches.now) (codes "target")) ≡ true }
+    ensures listen { IfOk result (λ a. first_value (found_of matches.now) (codes "listen") ≡ Some a.listen) }
+    ensures target { IfOk result (λ a. first_value (found_of matches.now) (codes "target") ≡ Some a.target) }
+{
+    Ok(Addresses {
+        listen: value_of(alloc, matches, "listen")?,
+        target: value_of(alloc, matches, "target")?,
     })
 }
 

@@ -20,6 +20,9 @@ returns-in-Ok-Script g c = Does.plays (rw c.in-Ok-Script.field-0-is at c.in-Ok-S
 pub returns-in-Ok-Replay : goal.returns-in-Ok-Replay
 returns-in-Ok-Replay g c = Does.replays (rw c.in-Ok-Replay.field-0-is at c.in-Ok-Replay.ensures) c.replay.ensures
 
+pub returns-in-Ok-Record : goal.returns-in-Ok-Record
+returns-in-Ok-Record g c = Does.records (rw c.in-Ok-Record.field-0-is at c.in-Ok-Record.ensures) c.record_to.ensures
+
 pub returns-in-Err-Refused : goal.returns-in-Err-Refused
 returns-in-Err-Refused g c = Does.misused (rw c.in-Err-Refused.field-0-is at c.in-Err-Refused.ensures)
 

@@ -1,5 +1,5 @@
 use Rattle.run_outcomes.specs.FileRuns.{OfFile}
-use Rattle.run_outcomes.proofs.FileLaws.{printed_of, text_read, troubled_file}
+use Rattle.run_outcomes.proofs.FileLaws.{printed_of, read_usable, text_read, troubled_file}
 use Rattle.bridge_runs.proofs.replay.replay.Goals as goal
 
 pub returns-in-Ok-read_log : goal.returns-in-Ok-read_log
@@ -14,3 +14,7 @@ returns-in-Ok g c =
 
 pub returns : goal.returns
 returns g c = OfFile.has_no_text c.in-Err.ensures
+
+-- a log that was read has limits that a session can be served under
+pub served_again-requires : goal.served_again-requires
+served_again-requires g c = read_usable _ _ c.in-Ok-read_log.ensures

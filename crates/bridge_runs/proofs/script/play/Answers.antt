@@ -1,6 +1,11 @@
 use Rattle.run_outcomes.specs.FileRuns.{OfFile}
 use Rattle.run_outcomes.proofs.FileLaws.{printed_of, text_read, troubled_file}
+use Rattle.bridge_runs.proofs.ScriptLaws.{read_limits}
 use Rattle.bridge_runs.proofs.script.play.Goals as goal
+
+-- a script that was read has limits that a session can be served under
+pub served_of-requires : goal.served_of-requires
+served_of-requires g c = read_limits _ _ c.in-Ok-read_script.ensures
 
 pub returns-in-Ok-read_script : goal.returns-in-Ok-read_script
 returns-in-Ok-read_script g c =

@@ -7,9 +7,9 @@ use Rattle.bridge_runs.proofs.script.served_over.Goals as goal
 pub returns : goal.returns
 returns c script over =
     IfOk-weaker c.log_of.result _ _ (λ log kept. record {
-      logged = logged_of _ _ _ _ log (rw c.standard.ensures.values at c.serve-ending.ensures.session)
-          c.requires.log c.in_ok-entries.ensures.whole kept;
-      of_script = rw kept.entries_are
-          (c.in_ok-entries.ensures.played script (c.serve-ending.ensures.stays script over)
+      logged = logged_of _ _ _ _ _ log c.serve-ending.ensures.session c.requires.log c.in_ok-runs.ensures.whole kept;
+      limits_are = kept.limits_are;
+      of_script = rw kept.runs_are
+          (c.in_ok-runs.ensures.played script (c.serve-ending.ensures.stays script over)
           (rw (c.serve-ending.ensures.keeps.asked, c.requires.asked) refl));
     }) c.log_of.ensures
