@@ -1,0 +1,9 @@
+pub mod Names
+pub mod Questions
+pub mod States
+pub mod Steps
+pub mod Tapping
+pub mod Rules
+pub mod Transcripts
+pub mod Laws
+pub mod Endings
