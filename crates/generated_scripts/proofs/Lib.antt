@@ -1,0 +1,4 @@
+pub mod NumberLaws
+pub mod FitLaws
+pub mod ArgumentLaws
+pub mod Examples

@@ -1,0 +1,4 @@
+pub mod Numbers
+pub mod Worlds
+pub mod Turns
+pub mod Generated

@@ -1,0 +1,4 @@
+pub mod MessageLaws
+pub mod SentLaws
+pub mod HeardLaws
+pub mod SummedLaws
