@@ -5,15 +5,18 @@ It starts the Java program that a `launch` names, or reaches the one that an `at
 and it ends what it started. docs/EDITORS.md says what both requests take. The line that the bridge prints goes to the
 standard error. The status is that of the bridge; 2 where there was none, 1 where the editor goes away before.
 
-usage: editors/launch.py [--target HOST:PORT] [--listen PORT] [--plain] [--program PROGRAM]
+usage: editors/launch.py [--target HOST:PORT] [--listen PORT] [--plain] [--record FILE] [--program PROGRAM]
 
   --target HOST:PORT   where the Java machine of an `attach` listens, where the request doesn't say so
   --listen PORT        serves editors that connect to this port of this machine, one session after another
   --plain              hands on what both say, and adds nothing to it
+  --record FILE        has the bridge write the log of its session to FILE as it ends, of a second session to FILE.2, and
+                       so on
   --program PROGRAM    a built bridge; without it the one of this repository, crates/bridge_cmd/out/bridge_cmd, or where
                        there is none the one beside it that isn't proved
 """
 import argparse
+import itertools
 import os
 import signal
 import socket
@@ -37,14 +40,24 @@ def options(words):
     parser.add_argument("--target")
     parser.add_argument("--listen", type=int)
     parser.add_argument("--plain", action="store_true")
+    parser.add_argument("--record")
     parser.add_argument("--program")
     chosen = parser.parse_args(words)
+    chosen.records = record_names(chosen.record)
     if not chosen.program:
         chosen.program = PROGRAM
         if os.path.isfile(UNPROVED) and not os.path.isfile(PROGRAM):
             chosen.program = UNPROVED
             print("launch.py: the bridge that runs is not proved", file=sys.stderr)
     return chosen
+
+
+def record_names(path):
+    """The file that each session is recorded to, or nothing for each."""
+    if not path:
+        return itertools.repeat(None)
+    path = os.path.abspath(path)
+    return itertools.chain([path], ("%s.%d" % (path, number) for number in itertools.count(2)))
 
 
 def to_editor(piece):

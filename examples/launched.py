@@ -377,6 +377,19 @@ def a_relay_adds_nothing(program, _):
     return True
 
 
+def a_session_is_recorded(program, classes):
+    with tempfile.TemporaryDirectory() as folder:
+        path = os.path.join(folder, "town.log")
+        with Editor(program, "--record", path) as editor:
+            editor.begin("launch", launch(classes))
+            has_to_be("how it ends", editor.ended(), (0, 0, ENDED))
+        with open(path, "rb") as file:
+            recorded = file.read()
+        played = subprocess.run([program, "replay", path], stdin=subprocess.DEVNULL, stdout=subprocess.PIPE,
+                                timeout=PATIENCE, check=False)
+        return (played.stdout, played.returncode) == (recorded, 0)
+
+
 def part(mark, name):
     """The process of this part of a session, where there is one."""
     started, keepers = parts_of(mark)
@@ -440,7 +453,8 @@ CASES = (kinds_of_programs_are_launched, a_program_that_does_not_start_is_told_s
          frames_show_the_file_of_their_root,
          steps_go_on_out_of_the_library, a_pause_ends_a_step, fractions_are_shown_in_decimal,
          collections_show_their_elements, numbers_are_right_over_1000_requests, sessions_follow_each_other_at_a_port,
-         java_machines_of_a_command_are_one_session, a_target_that_goes_is_told, a_relay_adds_nothing)
+         java_machines_of_a_command_are_one_session, a_target_that_goes_is_told, a_relay_adds_nothing,
+         a_session_is_recorded)
 MOMENTS = ("begun", "starting", "attached", "stopped", "running")
 
 

@@ -24,10 +24,11 @@ KITCHEN = os.path.join(EXAMPLES, "kitchen")
 POT = os.path.join("src", "main", "java", "kitchen", "Pot.java")
 TEST = os.path.join("src", "test", "java", "kitchen", "PotTest.java")
 REPOSITORY = "/usr/share/maven-repo"
+PLUGINS = ["org/apache/maven/plugins/maven-%s-plugin" % name for name in ("compiler", "resources", "surefire")]
 # What each build tool wants to stay offline, and what has to be in the repository for it.
 BUILDS = {
-    "maven": ("mvn", ["-o", "-Dmaven.repo.local=" + REPOSITORY], "org/apache/maven/plugins/maven-surefire-plugin"),
-    "gradle": ("gradle", ["--offline"], "junit/junit"),
+    "maven": ("mvn", ["-o", "-Dmaven.repo.local=" + REPOSITORY], [*PLUGINS, "junit/junit"]),
+    "gradle": ("gradle", ["--offline"], ["junit/junit"]),
 }
 
 
@@ -78,12 +79,22 @@ def maven_is_stopped(program):
     return True
 
 
+def lacking_for(kind):
+    """What a build tool lacks here, or nothing."""
+    tool, _, parts = BUILDS[kind]
+    if not shutil.which(tool):
+        return "there is no " + tool
+    missing = [part for part in parts if not os.path.isdir(os.path.join(REPOSITORY, part))]
+    return "%s has no %s" % (REPOSITORY, missing[0]) if missing else None
+
+
 def main():
     why = lacking("java", "javac")
     cases = []
-    for kind, (tool, _, part) in BUILDS.items():
-        if why or not shutil.which(tool) or not os.path.isdir(os.path.join(REPOSITORY, part)):
-            print("%s skipped: %s" % (kind, why or "there is no %s, or no %s in %s" % (tool, part, REPOSITORY)))
+    for kind in BUILDS:
+        lack = why or lacking_for(kind)
+        if lack:
+            print("%s skipped: %s" % (kind, lack))
         else:
             cases.append(kind)
     program = program_of(sys.argv[1:]) if cases else None

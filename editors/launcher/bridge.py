@@ -33,11 +33,14 @@ def free_port():
 
 
 class Bridge:
-    """A bridge for the Java machine at a place, and the link to it."""
+    """A bridge for the Java machine at a place, and the link to it. Its session is recorded where a file is named."""
 
-    def __init__(self, program, target, environment, is_quiet=False):
+    def __init__(self, program, target, environment, record=None, is_quiet=False):
         self.port, self.is_quiet = free_port(), is_quiet
-        words = [program, "serve", "--listen", "127.0.0.1:%d" % self.port, "--target", target]
+        # A log takes its time to be written.
+        self.longest = PATIENCE if record else LEAVE
+        words = [program, "record" if record else "serve", "--listen", "127.0.0.1:%d" % self.port, "--target", target]
+        words += ["--out", record] if record else []
         try:
             self.process = subprocess.Popen(words, stdin=subprocess.DEVNULL, stdout=subprocess.PIPE, env=environment)
         except OSError as trouble:
@@ -93,7 +96,7 @@ class Bridge:
     def end(self):
         """The status of the bridge, whose line goes to the standard error. One that doesn't end is killed."""
         try:
-            said, _ = self.process.communicate(timeout=LEAVE)
+            said, _ = self.process.communicate(timeout=self.longest)
         except subprocess.TimeoutExpired:
             self.process.kill()
             said, _ = self.process.communicate()

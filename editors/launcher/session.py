@@ -294,7 +294,7 @@ class Session:
 
     def greeted(self, target, arguments):
         """Starts a bridge, and gives its response to `attach`."""
-        start = partial(Bridge, self.chosen.program, target, self.keeper.environment())
+        start = partial(Bridge, self.chosen.program, target, self.keeper.environment(), next(self.chosen.records))
         self.bridge = yield from self.worked(start)
         self.bridge.listen(self.tell)
         yield request("initialize", self.hello)
