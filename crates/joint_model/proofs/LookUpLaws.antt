@@ -1,12 +1,15 @@
 -- A look-up by a target's replies is the look-up in the target's world.
-use Rattle.std.proofs.Common.{◌≡◌, ℕ, refl, sym, ap, ⊎_elim}
+use Rattle.std.proofs.Common.{◌≡◌, ◌∙◌, ℕ, Bool, true, false, cond, refl, sym, ap, ⊎_elim}
+use Rattle.std.specs.Prelude.{Err, ◌==◌}
 use Rattle.joint_model.specs.Laws.{AreOfTarget, FailsAsThere, IsOfTarget, IsRefusedAs}
-use Rattle.joint_model.specs.Obeying.{Replies}
+use Rattle.joint_model.specs.Obeying.{MayRefuse, Replies}
+use Rattle.machine_model.specs.Facts.{is_of_class}
 use Rattle.machine_model.specs.Lookups.{plan, sight_of}
 use Rattle.machine_model.specs.Names.{Question, Replied, an_answer, an_error}
 use Rattle.machine_model.specs.declared.acts.Want.{Want}
 use Rattle.machine_model.specs.PlanLaws.{FailsFirst, IsOf, IsRefused, Reaches}
-use Rattle.machine_model.specs.Plans.{Fault, Need, Plan, Sight, answer_in, fails, gives, has, lacks, pairs, wants}
+use Rattle.machine_model.specs.Plans.{Fault, Need, Plan, Sight, answer_in, fails, gives, has, lacks, pairs, refusal_by}
+use Rattle.machine_model.specs.Plans.{tried_of, tries, wants}
 use Rattle.machine_model.specs.State.{State}
 use Rattle.machine_laws.proofs.PlanLaws.{both}
 use Rattle.machine_laws.proofs.WorldLaws.{worlds}
@@ -19,9 +22,23 @@ answered_alike : {w : World} {question : Question} {replied : Replied} → Repli
 answered_alike (Replies.says is) = ap answer_in (sym is)
 answered_alike (Replies.refuses is may) = ap answer_in (sym is)
 
+-- and says of a thread that it isn't there where the world's error says so
+code_alike : (of_class : Bool) {usual code : ℕ} → MayRefuse of_class usual code
+    → cond of_class false (code == 10) ≡ cond of_class false (usual == 10)
+code_alike true may = refl
+code_alike false may = may.no_thread refl
+
+tried_alike : {w : World} {question : Question} {replied : Replied} → Replies w question replied
+    → tried_of question replied ≡ tried_of question (reply_of w question)
+tried_alike {question = question} (Replies.says is) = ap (tried_of question) (sym is)
+tried_alike {question = question} (Replies.refuses is may) =
+    ap (λ (says : Bool). Err (refusal_by says)) (code_alike (is_of_class question) may)
+    ∙ ap (tried_of question) (sym is)
+
 of_the_world : (w : World) (sight : Sight) → IsOfTarget w sight → IsOf (reply_of w) sight
 of_the_world w sight is = record {
   replies = λ question replied stands. answered_alike (is.replies question replied stands);
+  refusals = λ question replied stands. tried_alike (is.replies question replied stands);
   facts = is.facts;
 }
 
@@ -31,6 +48,8 @@ reached : {A : Type 0} (sight : Sight) (Kind : Want → Type 0) (p : Plan A) →
 reached sight Kind (gives a) h = absurd h
 reached sight Kind (wants want rest) h =
     ⊎_elim (λ here. (want, here)) (λ more. reached sight Kind (rest more.0) more.2) h
+reached sight Kind (tries question rest) h =
+    ⊎_elim (λ here. (Want.May question, here)) (λ more. reached sight Kind (rest (tried_of question more.0)) more.2) h
 reached sight Kind (pairs p q rest) h =
     ⊎_elim (λ either. ⊎_elim (λ one. reached sight Kind p one) (λ one. reached sight Kind q one) either)
     (λ more. reached sight Kind (rest more.0) more.3) h

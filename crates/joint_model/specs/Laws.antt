@@ -9,10 +9,10 @@ use Rattle.jdwp_commands.specs.declared.question.Question.TheVariants as questio
 use Rattle.joint_model.specs.Joints.{Joint, Packet, a_reply, some_events}
 use Rattle.joint_model.specs.Names.{Attached, Does, Lookup, Resume, Suspend, Suspension, TargetCommand, all_threads}
 use Rattle.joint_model.specs.Names.{a_question, an_effect}
-use Rattle.joint_model.specs.Obeying.{Emits, MayRefuse, Replies, Runs, Serves, is_of_class}
+use Rattle.joint_model.specs.Obeying.{Emits, MayRefuse, Replies, Runs, Serves}
 use Rattle.machine_model.specs.declared.items.Item.{Item}
 use Rattle.machine_model.specs.declared.items.Item.TheVariants.{Request as a_request}
-use Rattle.machine_model.specs.Facts.{fact_known, fact_of}
+use Rattle.machine_model.specs.Facts.{fact_known, fact_of, is_of_class}
 use Rattle.machine_model.specs.Leaving.{sends_farewell}
 use Rattle.machine_model.specs.Lookups.{found_for, plan, sight_of}
 use Rattle.machine_model.specs.Names.{Answer, Composite, Question, Replied, ThreadId, an_answer, an_error}

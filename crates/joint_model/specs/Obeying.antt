@@ -25,7 +25,7 @@ use Rattle.jdwp_commands.specs.declared.asked.Replied.TheVariants.{Answer as an_
 use Rattle.jdwp_commands.specs.declared.effect.Effect.{Effect}
 use Rattle.jdwp_commands.specs.declared.effect.Effect.TheVariants as effects
 use Rattle.jdwp_commands.specs.declared.question.Question.{Question}
-use Rattle.jdwp_commands.specs.declared.question.Question.TheVariants as questions
+use Rattle.machine_model.specs.Facts.{is_of_class}
 use Rattle.world_model.specs.declared.rows.Installed.{Installed}
 use Rattle.world_model.specs.declared.rows.WorldFrame.{WorldFrame}
 use Rattle.world_model.specs.declared.world.World.{World}
@@ -43,17 +43,6 @@ use Rattle.world_model.specs.Sound.{IsRequest, IsSound}
 use Rattle.world_model.specs.Threads.{is_alive}
 
 -- Replies -------------------------------------------------------------------------------------------------------------
-
--- a fact of a class, which may be absent (JDWP, ReferenceType, ClassType and Method command sets)
-abbrev pub is_of_class : Question → Bool
-is_of_class (questions.Signature class) = true
-is_of_class (questions.Fields class) = true
-is_of_class (questions.Methods class) = true
-is_of_class (questions.SourceFile class) = true
-is_of_class (questions.Superclass class) = true
-is_of_class (questions.LineTable class method) = true
-is_of_class (questions.VariableTable class method) = true
-is_of_class _ = false
 
 -- Which error a target may choose in the place of the usual one: any, but 112 says that the target has ended, and 10
 -- that a thread isn't alive, and they say just that; of an absent fact any but 112 will do (JDWP, Error Constants,

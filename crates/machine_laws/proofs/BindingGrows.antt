@@ -13,7 +13,7 @@ use Rattle.machine_model.specs.Binding.{sight_alone}
 use Rattle.machine_model.specs.Classes.{class_plan, classes_in, known_plan}
 use Rattle.machine_model.specs.Facts.{fact_known}
 use Rattle.machine_model.specs.Plans.{Need, Plan, after, beside, each, fact_heard, gives, has, heard_of, joined, fails}
-use Rattle.machine_model.specs.Plans.{made_with, need, pairs, question_of, wants, lacks}
+use Rattle.machine_model.specs.Plans.{lacks, made_with, need, pairs, question_of, tries, wants}
 use Rattle.machine_model.specs.Replying.{knows_fact, learnt, with_heard}
 use Rattle.machine_model.specs.State.{is_some}
 use Rattle.machine_steps.specs.Names.{Answer, Question, Sent, Want}
@@ -186,6 +186,7 @@ module _ (known now : Known) (grows : Grows known now) where
   need_still (wants want rest) h = after_still (heard_of (sight_alone known) want) (heard_of (sight_alone now) want)
       (λ heard. need (sight_alone known) (rest heard)) (λ heard. need (sight_alone now) (rest heard))
       (heard_still want h.0) (λ heard. need_still (rest heard) (h.1 heard))
+  need_still (tries question rest) h = cc
   need_still (pairs p q rest) h =
       after_still (beside (need (sight_alone known) p) (need (sight_alone known) q))
       (beside (need (sight_alone now) p) (need (sight_alone now) q))

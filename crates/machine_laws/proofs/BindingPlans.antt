@@ -2,7 +2,7 @@
 use Rattle.std.proofs.Common.{◌≡◌, ℕ, suc, Bool, true, false, cond, not, List, [], ◌∷◌, Option, Some, None, refl, sym}
 use Rattle.std.proofs.Common.{ap, ◌∙◌, ◌||◌}
 use Rattle.std.specs.List.{AllByRecursion as All}
-use Rattle.std.specs.Prelude.{filter}
+use Rattle.std.specs.Prelude.{filter, Result as Tried}
 use Rattle.class_tables.specs.Facts.{Known}
 use Rattle.class_tables.specs.Lookups.{Lookups, found_in}
 use Rattle.class_tables.specs.Signatures.{package_in}
@@ -15,7 +15,8 @@ use Rattle.machine_model.specs.Classes.{methods_plan, package_plan, prepared_pla
 use Rattle.machine_model.specs.Facts.{fact_known, methods_in, source_in}
 use Rattle.machine_model.specs.Plans.{Found, Need, Plan, Sight, after, asking, asks_for, beside, chained, each}
 use Rattle.machine_model.specs.Plans.{fact_heard, fails, found_at, found_from, gives, has, heard_of, joined, lacking}
-use Rattle.machine_model.specs.Plans.{lacks, made_with, need, pairs, question_of, wants, must_by, must_hear, may_hear}
+use Rattle.machine_model.specs.Plans.{lacks, made_with, may_hear, must_by, must_hear, need, pairs, question_of, tries}
+use Rattle.machine_model.specs.Plans.{Refusal, try_hear, wants}
 use Rattle.machine_model.specs.State.{is_some}
 use Rattle.machine_model.proofs.IdRows.{all_joined}
 use Rattle.machine_model.proofs.KeyLaws.{is_one}
@@ -54,6 +55,8 @@ wants_other want = not (is_listing (question_of want))
 unfoldable pub AllWants : {A : Type 0} → (Want → Bool) → Plan A → Type 0
 AllWants test (gives a) = Unit {0}
 AllWants test (wants want rest) = (test want ≡ true) × ((heard : Option Answer) → AllWants test (rest heard))
+AllWants test (tries question rest) =
+    (test (Want.May question) ≡ true) × ((heard : Tried Answer Refusal) → AllWants test (rest heard))
 AllWants test (pairs p q rest) = AllWants test p × AllWants test q × ((two : _) → AllWants test (rest two))
 
 module _ (test : Want → Bool) where
@@ -62,12 +65,14 @@ module _ (test : Want → Bool) where
   unfolding AllWants chained
   chains (gives a) f h k = k a
   chains (wants want rest) f h k = (h.0, λ heard. chains (rest heard) f (h.1 heard) k)
+  chains (tries question rest) f h k = (h.0, λ heard. chains (rest heard) f (h.1 heard) k)
   chains (pairs p q rest) f h k = (h.0, h.1, λ two. chains (rest two) f (h.2 two) k)
 
   pub makes : {A B : Type 0} (f : A → B) (p : Plan A) → AllWants test p → AllWants test (made_with f p)
   unfolding AllWants made_with
   makes f (gives a) h = tt
   makes f (wants want rest) h = (h.0, λ heard. makes f (rest heard) (h.1 heard))
+  makes f (tries question rest) h = (h.0, λ heard. makes f (rest heard) (h.1 heard))
   makes f (pairs p q rest) h = (h.0, h.1, λ two. makes f (rest two) (h.2 two))
 
   pub every : {A B : Type 0} (f : A → Plan B) → ((a : A) → AllWants test (f a)) → (list : List A)
@@ -168,6 +173,11 @@ after_lacks test (has a) f h k = k a
 after_lacks test (fails fault) f h k = tt
 after_lacks test (lacks want others) f h k = h
 
+try_lacks : (test : Want → Bool) (question : Question) (found : Option Found) → test (Want.May question) ≡ true
+    → All (λ want. test want ≡ true) (lacking (try_hear question found))
+try_lacks test question None is = (is, tt)
+try_lacks test question (Some found) is = tt
+
 -- what a plan lacks is what it may want
 pub plan_lacks : {A : Type 0} (test : Want → Bool) (sight : Sight) (p : Plan A) → AllWants test p
     → All (λ want. test want ≡ true) (lacking (need sight p))
@@ -175,6 +185,10 @@ unfolding need AllWants
 plan_lacks test sight (gives a) h = tt
 plan_lacks test sight (wants want rest) h = after_lacks test (heard_of sight want) (λ heard. need sight (rest heard))
     (heard_lacks test sight want h.0) (λ heard. plan_lacks test sight (rest heard) (h.1 heard))
+plan_lacks test sight (tries question rest) h =
+    after_lacks test (try_hear question (found_from 0 sight.asked question)) (λ heard. need sight (rest heard))
+    (try_lacks test question (found_from 0 sight.asked question) h.0)
+    (λ heard. plan_lacks test sight (rest heard) (h.1 heard))
 plan_lacks test sight (pairs p q rest) h =
     after_lacks test (beside (need sight p) (need sight q)) (λ two. need sight (rest two))
     (beside_lacks test (need sight p) (need sight q) (plan_lacks test sight p h.0) (plan_lacks test sight q h.1))
@@ -224,6 +238,7 @@ need_alone known asked (wants want rest) h k =
     ap (λ n. after n (λ heard. need (record { classes = found_in known; asked = asked }) (rest heard)))
     (heard_alone known asked want h k.0)
     ∙ after_like (heard_of (sight_alone known) want) _ _ (λ heard. need_alone known asked (rest heard) h (k.1 heard))
+need_alone known asked (tries question rest) h k = cc
 need_alone known asked (pairs p q rest) h k =
     ap (λ n. after n (λ two. need (record { classes = found_in known; asked = asked }) (rest two)))
     (ap (λ n. beside n (need (record { classes = found_in known; asked = asked }) q)) (need_alone known asked p h k.0)
@@ -265,6 +280,7 @@ unfolding need AllWants
 need_holds known (gives a) h = refl
 need_holds known (wants want rest) h = after_holds (heard_of (sight_alone known) want) _ (heard_holds known want h.0)
     (λ heard. need_holds known (rest heard) (h.1 heard))
+need_holds known (tries question rest) h = cc
 need_holds known (pairs p q rest) h = after_holds (beside (need (sight_alone known) p) (need (sight_alone known) q)) _
     (beside_holds (need (sight_alone known) p) (need (sight_alone known) q) (need_holds known p h.0)
     (need_holds known q h.1))

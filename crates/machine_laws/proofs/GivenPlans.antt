@@ -10,8 +10,9 @@ use Rattle.machine_model.specs.Children.{Child, Place, index_name, locals_plan, 
 use Rattle.machine_model.specs.Exceptions.{mode_of}
 use Rattle.machine_model.specs.Lookups.{found_for, name_plan, names_plan, plan, sight_of, threads_in}
 use Rattle.machine_model.specs.Outcomes.{result_of}
-use Rattle.machine_model.specs.Plans.{Need, Plan, Result, Sight, after, asking, beside, chained, each, fails, gave}
-use Rattle.machine_model.specs.Plans.{gives, has, heard_of, joined, lacks, made_with, need, pairs, refused, wants}
+use Rattle.machine_model.specs.Plans.{Need, Plan, Refusal, Result, Sight, after, asking, beside, chained, each, fails}
+use Rattle.machine_model.specs.Plans.{found_from, gave, gives, has, heard_of, joined, lacks, made_with, need, pairs}
+use Rattle.machine_model.specs.Plans.{refused, tries, try_hear, wants}
 use Rattle.machine_model.specs.State.{Hand, State}
 use Rattle.machine_model.specs.Values.{by_id, declared_plan, length_plan, type_plan}
 use Rattle.machine_model.specs.Writing.{Writing, child_named, child_written, digits_of, element_by, element_store}
@@ -30,6 +31,7 @@ use Rattle.value_views.specs.Names.{class_name}
 unfoldable AllGives : {A : Type 0} → (A → Bool) → Plan A → Type 0
 AllGives test (gives a) = test a ≡ true
 AllGives test (wants want rest) = (heard : Option Answer) → AllGives test (rest heard)
+AllGives test (tries question rest) = (heard : Read Answer Refusal) → AllGives test (rest heard)
 AllGives test (pairs p q rest) = (two : _) → AllGives test (rest two)
 
 chains : {A B : Type 0} (test : B → Bool) (p : Plan A) (f : A → Plan B) → ((a : A) → AllGives test (f a))
@@ -37,6 +39,7 @@ chains : {A B : Type 0} (test : B → Bool) (p : Plan A) (f : A → Plan B) → 
 unfolding AllGives chained
 chains test (gives a) f k = k a
 chains test (wants want rest) f k = λ heard. chains test (rest heard) f k
+chains test (tries question rest) f k = λ heard. chains test (rest heard) f k
 chains test (pairs p q rest) f k = λ two. chains test (rest two) f k
 
 makes : {A B : Type 0} (test : B → Bool) (f : A → B) (p : Plan A) → ((a : A) → test (f a) ≡ true)
@@ -44,6 +47,7 @@ makes : {A B : Type 0} (test : B → Bool) (f : A → B) (p : Plan A) → ((a : 
 unfolding AllGives made_with
 makes test f (gives a) k = k a
 makes test f (wants want rest) k = λ heard. makes test f (rest heard) k
+makes test f (tries question rest) k = λ heard. makes test f (rest heard) k
 makes test f (pairs p q rest) k = λ two. makes test f (rest two) k
 
 -- a value passes it
@@ -63,6 +67,9 @@ plan_gives : {A : Type 0} (test : A → Bool) (sight : Sight) (p : Plan A) → A
 unfolding need AllGives
 plan_gives test sight (gives a) h = h
 plan_gives test sight (wants want rest) h = after_passes test (heard_of sight want) (λ heard. need sight (rest heard))
+    (λ heard. plan_gives test sight (rest heard) (h heard))
+plan_gives test sight (tries question rest) h =
+    after_passes test (try_hear question (found_from 0 sight.asked question)) (λ heard. need sight (rest heard))
     (λ heard. plan_gives test sight (rest heard) (h heard))
 plan_gives test sight (pairs p q rest) h =
     after_passes test (beside (need sight p) (need sight q)) (λ two. need sight (rest two))

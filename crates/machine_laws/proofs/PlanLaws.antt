@@ -1,14 +1,15 @@
 -- How a plan is read by the replies so far: it has its value, fails by its first error, or lacks what is open.
 use Rattle.std.proofs.Common.{◌≡◌, ◌≤◌, inl, inr, ℕ, zero, suc, Bool, true, false, cond, List, [], ◌∷◌, ◌++◌, Option}
 use Rattle.std.proofs.Common.{Some, None, refl, sym, ap, subst, ◌∙◌, arith, nat_le, Contains, ⊎_elim, ◌+◌}
+use Rattle.std.specs.Prelude.{Result as Tried}
 use Rattle.std.proofs.lemmas.List.Elements.{Contains-append_cases, Contains-append_left, Contains-append_right}
 use Rattle.std.proofs.lemmas.List.Elements.{Contains-push, Contains-push_cases}
 use Rattle.machine_model.specs.Facts.{fact_known}
 use Rattle.machine_model.specs.PlanLaws.{FailsFirst, Gives, HasMet, HasNoReply, Hears, IsMissing, IsOpen, IsRefused}
-use Rattle.machine_model.specs.PlanLaws.{IsUnheard, LacksOpen, Reaches, RepliedAt}
+use Rattle.machine_model.specs.PlanLaws.{IsReply, IsUnheard, LacksOpen, Reaches, RepliedAt}
 use Rattle.machine_model.specs.Plans.{Fault, Found, Need, Plan, Sight, after, asks_for, beside, earlier, fact_heard}
 use Rattle.machine_model.specs.Plans.{fact_replied, fails, found_at, found_from, gives, has, heard_of, lacks, may_hear}
-use Rattle.machine_model.specs.Plans.{must_by, must_hear, need, pairs, wants}
+use Rattle.machine_model.specs.Plans.{must_by, must_hear, need, pairs, Refusal, tried_of, tries, try_hear, wants}
 use Rattle.machine_steps.specs.Names.{Answer, Question, Replied, Sent, Want, an_answer, an_error}
 
 -- What was heard ------------------------------------------------------------------------------------------------------
@@ -174,6 +175,34 @@ only_one sight want ones h other i = (
   h.1,
 )
 
+-- what was heard of a question that is tried
+abbrev pub Tries : Sight → Question → Tried Answer Refusal → Type 0
+Tries sight question heard =
+    (replied : Replied) × IsReply sight.asked question replied × (tried_of question replied ≡ heard)
+
+-- or nothing was: it is lacking
+abbrev pub IsUntried : Sight → Question → List Want → Type 0
+IsUntried sight question ones = (ones ≡ Want.May question ∷ []) × HasNoReply sight.asked question
+
+pub tried_so : (sight : Sight) (question : Question) → IsSo (Tries sight question) (λ fault. ⊥)
+    (IsUntried sight question) (try_hear question (found_from 0 sight.asked question))
+tried_so sight question = by_found (found_from 0 sight.asked question) refl
+  where
+    by_found : (found : Option Found) → found_from 0 sight.asked question ≡ found → IsSo (Tries sight question)
+        (λ fault. ⊥) (IsUntried sight question) (try_hear question found)
+    by_found None is =
+        (refl, λ place replied h. let there = found_there 0 place sight.asked question replied h in cc)
+    by_found (Some found) is = (
+      found.replied,
+      record { place = found.place; stands = replied_at sight.asked question found is },
+      refl,
+    )
+
+tried_has : (sight : Sight) (question : Question) (replied : Replied) → IsReply sight.asked question replied
+    → try_hear question (found_from 0 sight.asked question) ≡ has (tried_of question replied)
+tried_has sight question replied h =
+    ap (try_hear question) (found_there 0 h.place sight.asked question replied h.stands)
+
 -- its value, an error that it has met, or what is open
 pub need_so : {A : Type 0} (sight : Sight) (p : Plan A) (V : A → Type 0) (E : Fault → Type 0) (L : Want → Type 0)
     → ((a : A) → Gives sight p a → V a) → ((fault : Fault) → HasMet sight p fault → E fault)
@@ -185,6 +214,23 @@ need_so sight (wants want rest) V E L v e l =
     (λ heard h. need_so sight (rest heard) V E L (λ a g. v a (heard, h, g)) (λ fault m. e fault (inr (heard, h, m)))
     (λ other o. l other (inr (heard, h, o))))
     (λ fault m. e fault (inl m)) (λ ones h other i. l other (inl (only_one sight want ones h other i)))
+need_so sight (tries question rest) V E L v e l =
+    after_so (Tries sight question) (λ fault. ⊥) E _ (Each L) V (try_hear question (found_from 0 sight.asked question))
+    (λ heard. need sight (rest heard)) (tried_so sight question)
+    (λ heard h. need_so sight (rest heard) V E L
+    (λ a g. v a (h.0, h.1, subst (λ (one : Tried Answer Refusal). Gives sight (rest one) a) (sym h.2) g))
+    (λ fault m. e fault (inr (
+      h.0,
+      h.1,
+      subst (λ (one : Tried Answer Refusal). HasMet sight (rest one) fault) (sym h.2) m,
+    )))
+    (λ other o. l other (inr (
+      h.0,
+      h.1,
+      subst (λ (one : Tried Answer Refusal). IsOpen sight (rest one) other) (sym h.2) o,
+    ))))
+    (λ fault no. absurd no)
+    (λ ones h other i. l other (inl (only_one sight (Want.May question) ones h other i)))
 need_so sight (pairs p q rest) V E L v e l =
     after_so _ E E (Each L) (Each L) V (beside (need sight p) (need sight q)) (λ two. need sight (rest two))
     (beside_so (Gives sight p) (Gives sight q) E L (need sight p) (need sight q)
@@ -202,6 +248,8 @@ gives_has : {A : Type 0} (sight : Sight) (p : Plan A) (value : A) → Gives sigh
 unfolding need
 gives_has sight (gives a) value g = ap has g
 gives_has sight (wants want rest) value g = rw (hears_has sight want g.0 g.1) (gives_has sight (rest g.0) value g.2)
+gives_has sight (tries question rest) value g =
+    rw (tried_has sight question g.0 g.1) (gives_has sight (rest (tried_of question g.0)) value g.2)
 gives_has sight (pairs p q rest) value g =
     rw (gives_has sight p g.0.0 g.1, gives_has sight q g.0.1 g.2) (gives_has sight (rest g.0) value g.3)
 
@@ -233,6 +281,11 @@ right_shows E L (fails fault) (lacks first others) j h = j.over (first ∷ other
 right_shows E L (lacks first others) (lacks other more) j h = j.back (first ∷ others) (other ∷ more) h
 right_shows E L _ _ j h = h
 
+try_shows : (E : Fault → Type 0) (L : List Want → Type 0) (question : Question) (found : Option Found)
+    → Shows E L (may_hear question found) → Shows E L (try_hear question found)
+try_shows E L question None h = h
+try_shows E L question (Some found) h = h
+
 -- what a plan has come to shows in what it comes to
 shows : {A : Type 0} (sight : Sight) (Kind : Want → Type 0) (E : Fault → Type 0) (L : List Want → Type 0) → Joins E L
     → ((want : Want) → Kind want → Shows E L (heard_of sight want)) → (p : Plan A) → Reaches sight Kind p
@@ -243,6 +296,13 @@ shows sight Kind E L j k (wants want rest) (inl h) = after_so (λ a. ⊥) E E L 
     (λ heard. need sight (rest heard)) (k want h) (λ a no. absurd no) (λ fault h. h) (λ ones h. h)
 shows sight Kind E L j k (wants want rest) (inr r) =
     rw (hears_has sight want r.0 r.1) (shows sight Kind E L j k (rest r.0) r.2)
+shows sight Kind E L j k (tries question rest) (inl h) =
+    after_so (λ a. ⊥) E E L L (λ a. ⊥) (try_hear question (found_from 0 sight.asked question))
+    (λ heard. need sight (rest heard))
+    (try_shows E L question (found_from 0 sight.asked question) (k (Want.May question) h)) (λ a no. absurd no)
+    (λ fault h. h) (λ ones h. h)
+shows sight Kind E L j k (tries question rest) (inr r) =
+    rw (tried_has sight question r.0 r.1) (shows sight Kind E L j k (rest (tried_of question r.0)) r.2)
 shows sight Kind E L j k (pairs p q rest) (inl r) =
     after_so (λ a. ⊥) E E L L (λ a. ⊥) (beside (need sight p) (need sight q)) (λ two. need sight (rest two))
     (⊎_elim (λ r. left_shows E L (need sight p) (need sight q) j (shows sight Kind E L j k p r))

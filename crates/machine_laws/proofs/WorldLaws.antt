@@ -6,10 +6,11 @@ use Rattle.machine_model.specs.Facts.{fact_of}
 use Rattle.machine_model.specs.Lookups.{name_plan, named_by, names_plan, plan, sight_of, threads_plan}
 use Rattle.machine_model.specs.PlanLaws.{Agrees, AreOfWorld, Hears, IsOf, IsRefused, IsUnheard, threads_in_world}
 use Rattle.machine_model.specs.Plans.{Fault, Need, Plan, Sight, answer_in, chained, each, gives, lacks, made_with}
-use Rattle.machine_model.specs.Plans.{beside, heard_of, must_say, need, of_world, pairs, said_of, two_of, wants}
+use Rattle.machine_model.specs.Plans.{beside, found_from, heard_of, must_say, need, of_world, pairs, said_of, tries}
+use Rattle.machine_model.specs.Plans.{try_hear, two_of, wants}
 use Rattle.machine_model.specs.State.{State}
 use Rattle.machine_steps.specs.Names.{Answer, NamedThread, Question, Replied, ThreadId, Want, an_answer, an_error}
-use Rattle.machine_laws.proofs.PlanLaws.{Each, IsSo, after_so, beside_so, heard_so}
+use Rattle.machine_laws.proofs.PlanLaws.{Each, IsSo, IsUntried, Tries, after_so, beside_so, heard_so, tried_so}
 
 -- By a world's replies ------------------------------------------------------------------------------------------------
 
@@ -53,6 +54,12 @@ need_there world sight (wants want rest) V E w v e =
     (λ heard h. let said = hears_said world sight want heard w h in
     need_there world sight (rest heard) V E w (λ a g. v a (rw said g)) (λ none. e (rw said none)))
     (λ fault h. e (rw (refused_said world sight fault want w h) refl)) (λ ones h other i. tt)
+need_there world sight (tries question rest) V E w v e =
+    after_so (Tries sight question) (λ fault. ⊥) (λ fault. E) (IsUntried sight question) (Each (λ want. Unit {0})) V
+    (try_hear question (found_from 0 sight.asked question)) (λ heard. need sight (rest heard)) (tried_so sight question)
+    (λ heard h. let said = sym (w.refusals question h.0 h.1) ∙ h.2 in
+    need_there world sight (rest heard) V E w (λ a g. v a (rw said g)) (λ none. e (rw said none)))
+    (λ fault no. absurd no) (λ ones h other i. tt)
 need_there world sight (pairs p q rest) V E w v e =
     after_so _ (λ fault. two_of (of_world world p) (of_world world q) ≡ None) (λ fault. E) (Each (λ want. Unit {0}))
     (Each (λ want. Unit {0})) V (beside (need sight p) (need sight q)) (λ two. need sight (rest two))

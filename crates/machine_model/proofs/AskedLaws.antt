@@ -8,7 +8,7 @@ use Rattle.machine_model.specs.Keys.{same_question}
 use Rattle.machine_model.specs.Names.{Answer, Question, Replied, Sent, Want}
 use Rattle.machine_model.specs.Plans.{Found, Need, Plan, Sight, after, asks_for, beside, fact_heard, fails, found_at}
 use Rattle.machine_model.specs.Plans.{found_from, gives, has, heard_of, lacking, lacks, may_hear, must_by, must_hear}
-use Rattle.machine_model.specs.Plans.{need, pairs, question_of, wants}
+use Rattle.machine_model.specs.Plans.{need, pairs, question_of, tries, try_hear, wants}
 use Rattle.machine_model.specs.Replying.{filled, is_waiting, waits_for}
 use Rattle.machine_model.specs.State.{is_none}
 use Rattle.machine_model.proofs.KeyLaws.{same_back}
@@ -97,6 +97,15 @@ beside_due asked (lacks want others) (has b) h k = h
 beside_due asked (lacks want others) (lacks other more) h k = due_joined asked (want ∷ others) (other ∷ more) h k
 beside_due asked _ _ h k = refl
 
+tried_due : (asked : List Sent) (question : Question)
+    → all_due asked (lacking (try_hear question (found_from 0 asked question))) ≡ true
+tried_due asked question = by_found (found_from 0 asked question) refl
+  where
+    by_found : (found : Option Found) → found_from 0 asked question ≡ found
+        → all_due asked (lacking (try_hear question found)) ≡ true
+    by_found None is = new_or (is_waiting question asked) (not (was_asked question asked)) (unheard 0 asked question is)
+    by_found (Some found) is = refl
+
 -- what a plan lacks is due
 pub need_due : {A : Type 0} (sight : Sight) (plan : Plan A) → all_due sight.asked (lacking (need sight plan)) ≡ true
 unfolding need
@@ -104,6 +113,9 @@ need_due sight (gives a) = refl
 need_due sight (wants want rest) =
     after_due sight.asked (heard_of sight want) (λ heard. need sight (rest heard)) (lacks_due sight want)
     (λ heard. need_due sight (rest heard))
+need_due sight (tries question rest) =
+    after_due sight.asked (try_hear question (found_from 0 sight.asked question)) (λ heard. need sight (rest heard))
+    (tried_due sight.asked question) (λ heard. need_due sight (rest heard))
 need_due sight (pairs p q rest) =
     after_due sight.asked (beside (need sight p) (need sight q)) (λ two. need sight (rest two))
     (beside_due sight.asked (need sight p) (need sight q) (need_due sight p) (need_due sight q))

@@ -1,3 +1,4 @@
+mod CaughtExamples
 mod Examples
 mod FrameExamples
 mod StepExamples
@@ -5,6 +6,7 @@ mod StopExamples
 pub mod AskedLaws
 pub mod Bools
 pub mod BreakpointExamples
+pub mod CaughtLaws
 pub mod DueWants
 pub mod IdRows
 pub mod KeyLaws

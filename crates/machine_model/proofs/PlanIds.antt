@@ -25,7 +25,7 @@ use Rattle.machine_model.specs.Names.{exception_found, exception_info, exception
 use Rattle.machine_model.proofs.WriteIds.{IsWrite}
 use Rattle.machine_model.specs.Plans.{Found, Need, Plan, Sight, after, answer_in, asks_for, beside, chained, fails}
 use Rattle.machine_model.specs.Plans.{found_at, found_from, gives, has, heard_of, lacks, made_with, need, pairs}
-use Rattle.machine_model.specs.Plans.{question_of, wants}
+use Rattle.machine_model.specs.Plans.{question_of, tries, try_hear, wants}
 use Rattle.machine_model.proofs.IdRows.{all_joined, are_plain, none_in}
 use Rattle.machine_model.proofs.KeyLaws.{is_one}
 use Rattle.stop_refs.specs.declared.thing.FrameThing.{FrameThing}
@@ -227,6 +227,10 @@ need_chained sight (gives a) f = refl
 need_chained sight (wants want rest) f =
     after_like (heard_of sight want) _ _ (λ heard. need_chained sight (rest heard) f)
     ∙ after_after (heard_of sight want) (λ heard. need sight (rest heard)) (λ a. need sight (f a))
+need_chained sight (tries question rest) f =
+    after_like (try_hear question (found_from 0 sight.asked question)) _ _ (λ heard. need_chained sight (rest heard) f)
+    ∙ after_after (try_hear question (found_from 0 sight.asked question)) (λ heard. need sight (rest heard))
+    (λ a. need sight (f a))
 need_chained sight (pairs p q rest) f =
     after_like (beside (need sight p) (need sight q)) _ _ (λ two. need_chained sight (rest two) f)
     ∙ after_after (beside (need sight p) (need sight q)) (λ two. need sight (rest two)) (λ a. need sight (f a))
@@ -238,6 +242,10 @@ need_made sight f (gives a) = refl
 need_made sight f (wants want rest) =
     after_like (heard_of sight want) _ _ (λ heard. need_made sight f (rest heard))
     ∙ after_after (heard_of sight want) (λ heard. need sight (rest heard)) (λ a. has (f a))
+need_made sight f (tries question rest) =
+    after_like (try_hear question (found_from 0 sight.asked question)) _ _ (λ heard. need_made sight f (rest heard))
+    ∙ after_after (try_hear question (found_from 0 sight.asked question)) (λ heard. need sight (rest heard))
+    (λ a. has (f a))
 need_made sight f (pairs p q rest) =
     after_like (beside (need sight p) (need sight q)) _ _ (λ two. need_made sight f (rest two))
     ∙ after_after (beside (need sight p) (need sight q)) (λ two. need sight (rest two)) (λ a. has (f a))

@@ -2,6 +2,7 @@ pub mod Asking
 pub mod Binding
 pub mod BreakpointEvents
 pub mod Breakpoints
+pub mod Caught
 pub mod Children
 pub mod Classes
 pub mod Composites

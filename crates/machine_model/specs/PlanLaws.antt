@@ -8,7 +8,7 @@ use Rattle.machine_model.specs.Lookups.{found_for, named_by, plan, sight_of}
 use Rattle.machine_model.specs.Names.{Answer, Finding, Lookup, Question, Replied, Sent, ThreadId, Want, all_threads}
 use Rattle.machine_model.specs.Names.{an_answer, an_error, threads_found}
 use Rattle.machine_model.specs.Plans.{Fault, Need, Plan, Sight, answer_in, asks_for, fails, gives, has, lacks}
-use Rattle.machine_model.specs.Plans.{joined, of_world, pairs, wants}
+use Rattle.machine_model.specs.Plans.{joined, of_world, pairs, tried_of, tries, wants}
 use Rattle.machine_model.specs.State.{Hand, State}
 
 -- How far a plan has come ---------------------------------------------------------------------------------------------
@@ -56,6 +56,8 @@ Hears sight (Want.Fact question) heard =
 abbrev pub Gives : {A : Type 0} → Sight → Plan A → A → Type 0
 Gives sight (gives a) value = a ≡ value
 Gives sight (wants want rest) value = (heard : Option Answer) × Hears sight want heard × Gives sight (rest heard) value
+Gives sight (tries question rest) value =
+    (replied : Replied) × IsReply sight.asked question replied × Gives sight (rest (tried_of question replied)) value
 Gives sight (pairs p q rest) value =
     (two : _) × Gives sight p two.0 × Gives sight q two.1 × Gives sight (rest two) value
 
@@ -64,6 +66,8 @@ abbrev pub Reaches : {A : Type 0} → Sight → (Want → Type 0) → Plan A →
 Reaches sight Kind (gives a) = ⊥
 Reaches sight Kind (wants want rest) =
     Kind want ⊎ ((heard : Option Answer) × Hears sight want heard × Reaches sight Kind (rest heard))
+Reaches sight Kind (tries question rest) = Kind (Want.May question)
+    ⊎ ((replied : Replied) × IsReply sight.asked question replied × Reaches sight Kind (rest (tried_of question replied)))
 Reaches sight Kind (pairs p q rest) = (Reaches sight Kind p ⊎ Reaches sight Kind q)
     ⊎ ((two : _) × Gives sight p two.0 × Gives sight q two.1 × Reaches sight Kind (rest two))
 
@@ -119,11 +123,13 @@ Wants = (state : State) (hand : Hand) (lookup : Lookup)
 
 -- Worlds --------------------------------------------------------------------------------------------------------------
 
--- what was replied is what a world replies, the same answer or an error to the same question; and what is known of
--- classes is so in the world
+-- What was replied is what a world replies, the same answer or an error to the same question; where the question is
+-- tried, the error says of the thread what the world's says; and what is known of classes is so in the world.
 pub record IsOf (world : Question → Replied) (sight : Sight) : Type 0 where
   pub replies : (question : Question) (replied : Replied) → IsReply sight.asked question replied
       → answer_in replied ≡ answer_in (world question)
+  pub refusals : (question : Question) (replied : Replied) → IsReply sight.asked question replied
+      → tried_of question replied ≡ tried_of question (world question)
   pub facts : (question : Question) (fact : Option Answer) → fact_known sight.classes question ≡ Some fact
       → fact ≡ fact_of question (answer_in (world question))
 

@@ -1,9 +1,9 @@
 -- Look-ups as plans: what is asked of the target, and how it goes on by what is heard. A plan is data, and knows
 -- neither replies nor classes: it is read by the replies so far and the facts that were learnt, or asked of a world.
-use Rattle.std.specs.Prelude.{ℕ, suc, ◌∷◌, ◌++◌, Bool, true, false, cond, List, [], nat_le, Option, None, Some}
-use Rattle.std.specs.Prelude.{option_and_then}
+use Rattle.std.specs.Prelude.{ℕ, suc, ◌==◌, ◌∷◌, ◌++◌, Bool, true, false, cond, List, [], nat_le, Option, None, Some}
+use Rattle.std.specs.Prelude.{option_and_then, Result as Tried, Ok, Err}
 use Rattle.class_tables.specs.Lookups.{Lookups}
-use Rattle.machine_model.specs.Facts.{fact_known, fact_of}
+use Rattle.machine_model.specs.Facts.{fact_known, fact_of, is_of_class}
 use Rattle.machine_model.specs.Keys.{same_question}
 use Rattle.machine_model.specs.Names.{Answer, Question, Replied, Sent, Want, an_answer, an_error}
 
@@ -15,23 +15,43 @@ question_of (Want.Must question) = question
 question_of (Want.May question) = question
 question_of (Want.Fact question) = question
 
--- A plan gives a value; or wants something and goes on by what it hears, the answer, or nothing for an error; or
--- follows two plans side by side, and goes on by what both give.
+-- Why a question that is tried has no answer: its thread isn't there, or something else is wrong (JDWP, Error
+-- Constants, INVALID_THREAD).
+pub data Refusal : Type 0 where
+  no_thread : Refusal
+  other_error : Refusal
+
+abbrev pub refusal_by : Bool → Refusal
+refusal_by true = no_thread
+refusal_by false = other_error
+
+-- What is heard of a question that is tried: the answer, or why there is none. An error to a question for a fact of a
+-- class says nothing of a thread, whatever its code.
+abbrev pub tried_of : Question → Replied → Tried Answer Refusal
+tried_of question (an_answer answer) = Ok answer
+tried_of question (an_error code) = Err (refusal_by (cond (is_of_class question) false (code == 10)))
+
+-- A plan gives a value; or wants something and goes on by what it hears, the answer, or nothing for an error; or tries
+-- a question, and goes on by its answer or by why there is none; or follows two plans side by side, and goes on by what
+-- both give.
 pub data Plan : Type 0 → Type 1 where
   gives : {A : Type 0} → A → Plan A
   wants : {A : Type 0} → Want → (Option Answer → Plan A) → Plan A
+  tries : {A : Type 0} → Question → (Tried Answer Refusal → Plan A) → Plan A
   pairs : {A B C : Type 0} → Plan A → Plan B → (A × B → Plan C) → Plan C
 
 -- what depends on a value
 unfoldable pub chained : {A B : Type 0} → Plan A → (A → Plan B) → Plan B
 chained (gives a) go = go a
 chained (wants want rest) go = wants want (λ heard. chained (rest heard) go)
+chained (tries question rest) go = tries question (λ heard. chained (rest heard) go)
 chained (pairs p q rest) go = pairs p q (λ two. chained (rest two) go)
 
 -- what is made of a value
 unfoldable pub made_with : {A B : Type 0} → (A → B) → Plan A → Plan B
 made_with f (gives a) = gives (f a)
 made_with f (wants want rest) = wants want (λ heard. made_with f (rest heard))
+made_with f (tries question rest) = tries question (λ heard. made_with f (rest heard))
 made_with f (pairs p q rest) = pairs p q (λ two. made_with f (rest two))
 
 -- one plan for each, side by side
@@ -154,10 +174,17 @@ heard_of sight (Want.May question) = may_hear question (found_from 0 sight.asked
 heard_of sight (Want.Fact question) =
     fact_heard question (fact_known sight.classes question) (found_from 0 sight.asked question)
 
+-- a question that is tried is asked as one that a plan can do without
+abbrev pub try_hear : Question → Option Found → Need (Tried Answer Refusal)
+try_hear question None = lacks (Want.May question) []
+try_hear question (Some found) = has (tried_of question found.replied)
+
 -- what a plan comes to
 unfoldable pub need : {A : Type 0} → Sight → Plan A → Need A
 need sight (gives a) = has a
 need sight (wants want rest) = after (heard_of sight want) (λ heard. need sight (rest heard))
+need sight (tries question rest) =
+    after (try_hear question (found_from 0 sight.asked question)) (λ heard. need sight (rest heard))
 need sight (pairs p q rest) = after (beside (need sight p) (need sight q)) (λ two. need sight (rest two))
 
 -- the value, or the code of the error that decides
@@ -199,5 +226,6 @@ two_of (Some a) (Some b) = Some (a, b)
 unfoldable pub of_world : {A : Type 0} → (Question → Replied) → Plan A → Option A
 of_world world (gives a) = Some a
 of_world world (wants want rest) = option_and_then (λ heard. of_world world (rest heard)) (said_of world want)
+of_world world (tries question rest) = of_world world (rest (tried_of question (world question)))
 of_world world (pairs p q rest) =
     option_and_then (λ two. of_world world (rest two)) (two_of (of_world world p) (of_world world q))

@@ -22,14 +22,14 @@ use Rattle.machine_model.specs.Ids.{id_of_object, ids_of_value}
 use Rattle.machine_model.specs.Lookups.{name_plan, named_by, names_plan, plan, threads_in, threads_plan}
 use Rattle.machine_model.specs.Plans.{Found, Plan, Sight, answer_in, asking, beside, chained, both, each, fact_heard}
 use Rattle.machine_model.specs.Plans.{found_from, gives, heard_of, made_with, may_hear, must_hear, need, pairs, joined}
-use Rattle.machine_model.specs.Plans.{question_of}
+use Rattle.machine_model.specs.Plans.{Refusal, question_of, tried_of, tries, try_hear}
 use Rattle.machine_model.specs.State.{State}
 use Rattle.machine_model.proofs.IdRows.{all_back, all_front, all_joined, is_short, none_in}
-use Rattle.machine_steps.specs.Names.{Answer, Lookup, NamedThread, Replied, ThreadId, Want, all_threads, an_answer}
-use Rattle.machine_steps.specs.Names.{an_error, classes_found, class_facts, frames_found, thread_frames, Thrown}
-use Rattle.machine_steps.specs.Names.{exception_found, exception_info, exception_text, text_found, Failure, Seen, Store}
+use Rattle.machine_steps.specs.Names.{Answer, Lookup, NamedThread, Question, Replied, ThreadId, Want, all_threads}
+use Rattle.machine_steps.specs.Names.{an_answer, an_error, classes_found, class_facts, frames_found, thread_frames}
+use Rattle.machine_steps.specs.Names.{exception_found, exception_info, exception_text, text_found, Failure, Seen}
 use Rattle.machine_steps.specs.Names.{container_children, expression_value, no_value, value_found, variable_write}
-use Rattle.machine_steps.specs.Names.{variables_found}
+use Rattle.machine_steps.specs.Names.{Store, Thrown, variables_found}
 use Rattle.class_tables.specs.declared.loaded.Loaded.{Loaded}
 use Rattle.machine_model.specs.Classes.{bound_plan, class_plan, classes_plan, counts, is_keyed, keyed_plan, lines_plan}
 use Rattle.machine_model.specs.Classes.{methods_plan, package_plan, prepared_plan, source_plan, watched_plan}
@@ -40,7 +40,7 @@ use Rattle.class_tables.specs.Signatures.{package_in}
 use Rattle.wish_sets.specs.Places.{key_by}
 use Rattle.wish_sets.specs.Wanted.{Wanted}
 use Rattle.wish_sets.specs.Wished.{is_named, is_watched}
-use Rattle.std.specs.Prelude.{codes, ◌||◌, Result, Ok, Err, bytes_eq, find}
+use Rattle.std.specs.Prelude.{codes, ◌||◌, Result, Result as Tried, Ok, Err, bytes_eq, find}
 use Rattle.machine_model.proofs.PlanIds.{Any, AreKnown, IsAsked, IsFound, IsGood, IsHeard, IsHeardOf, IsWanted}
 use Rattle.machine_model.proofs.PlanIds.{NeedStands, OfClass, OfFrameThing, OfLookup, OfMethod, OfNamed, OfObject}
 use Rattle.machine_model.proofs.PlanIds.{OfShownFrame, OfShownVariable, OfThing, OfThread, OnSome, after_stands}
@@ -146,6 +146,30 @@ module _ (P : Id → Type 0) (null : P (class 0)) (sight : Sight) (known : Known
   unfolding need
   joins Good Best Last p q rest k l m = after_stands P (λ two. Good two.0 × Best two.1) Last
       (beside (need sight p) (need sight q)) _ (beside_stands P Good Best (need sight p) (need sight q) k l) m
+
+  -- what is heard of a question that is tried
+  abbrev IsTriedOf : Question → Tried Answer Refusal → Type 0
+  IsTriedOf question (Ok answer) = All P (ids_answered (thread_of question) answer)
+  IsTriedOf question (Err why) = Unit {0}
+
+  tried : {A : Type 0} (Good : A → Type 0) (question : Question) (rest : Tried Answer Refusal → Plan A)
+      → IsWanted P true (Want.May question)
+      → ((heard : Tried Answer Refusal) → IsTriedOf question heard → Row Good (rest heard))
+      → Row Good (tries question rest)
+  unfolding need
+  tried Good question rest q k = after_stands P (IsTriedOf question) Good
+      (try_hear question (found_from 0 sight.asked question)) _
+      (by_found (found_from 0 sight.asked question) (found_some P true 0 sight.asked question asked)) k
+    where
+      by_reply : (replied : Replied) → All P (ids_replied (thread_of question) replied)
+          → IsTriedOf question (tried_of question replied)
+      by_reply (an_answer answer) k = k
+      by_reply (an_error code) k = tt
+
+      by_found : (found : Option Found) → OnSome (IsFound P question) found
+          → NeedStands P (IsTriedOf question) (try_hear question found)
+      by_found None k = (q, tt)
+      by_found (Some found) k = by_reply found.replied k
 
   every : {A B : Type 0} (Good : A → Type 0) (Best : B → Type 0) (f : A → Plan B) → ((a : A) → Good a → Row Best (f a))
       → (list : List A) → All Good list → Row (All Best) (each f list)
