@@ -1,41 +1,30 @@
--- What is pending is on its way, and in a stop each reply in flight is still so when it comes.
-use Rattle.std.proofs.Common.{◌≡◌, ◌<◌, ℕ, ◌+◌, Bool, true, false, cond, not, ◌||◌, List, [], ◌∷◌, ◌++◌, Some}
+-- What is pending is on its way, and while a suspension is held each reply in flight is still so when it comes.
+use Rattle.std.proofs.Common.{◌≡◌, ◌<◌, ℕ, ◌+◌, Bool, true, false, ◌||◌, List, [], ◌∷◌, ◌++◌, Some}
 use Rattle.std.proofs.Common.{Option, None, refl, sym, ap, ◌∙◌, arith}
 use Rattle.std.specs.List.{AllByRecursion, flat_map}
 use Rattle.joint_model.specs.Joints.{Joint, Packet, a_reply, is_aside, some_events}
-use Rattle.joint_model.specs.Laws.{IsStillSo, is_suspend, replies_to, total}
-use Rattle.joint_model.specs.Names.{Act, Does, Resume, Suspend, Suspension, TargetCommand}
+use Rattle.joint_model.specs.Laws.{IsHeld, IsStillSo, is_suspend, replies_to, total}
+use Rattle.joint_model.specs.Names.{Act, Does, Suspend, TargetCommand}
 use Rattle.joint_model.specs.Names.{a_question, an_effect}
 use Rattle.joint_model.specs.Obeying.{Replies, Serves}
 use Rattle.jdwp_commands.specs.declared.question.Question.{Question}
-use Rattle.machine_model.specs.Due.{clear, due, load_of, still_stopped}
+use Rattle.machine_model.specs.Due.{due}
 use Rattle.machine_model.specs.Leaving.{sends_farewell}
 use Rattle.machine_model.specs.Names.{Composite, Replied}
 use Rattle.machine_model.specs.Pending.{ArePending, bit, count, has_change, has_such}
 use Rattle.machine_model.specs.Pending.{is_change, replied_by, sent_by}
 use Rattle.machine_model.specs.Replying.{pending_of, wire}
-use Rattle.machine_model.specs.Runs.{Allows, Message, Run}
-use Rattle.machine_model.specs.State.{Hand, Machine, State, has_waiting, is_flying, is_gone}
-use Rattle.machine_model.specs.Telling.{after_event}
-use Rattle.machine_model.specs.declared.parts.Event.{Event}
-use Rattle.machine_model.specs.declared.parts.Event.TheVariants.{Initialized, News as some_news, Stopped as a_stop}
-use Rattle.machine_model.specs.declared.parts.Event.TheVariants.{Terminated}
-use Rattle.machine_model.specs.declared.parts.Note.{Note}
-use Rattle.machine_model.specs.declared.parts.Part.{Part}
-use Rattle.machine_model.specs.declared.parts.Stopping.{Stopping}
-use Rattle.machine_model.specs.Rows.{noted}
-use Rattle.machine_steps.proofs.HoldingParts.{numbered_stop, same_stop}
+use Rattle.machine_model.specs.Runs.{Allows, Message}
+use Rattle.machine_model.specs.State.{Machine}
 use Rattle.machine_steps.proofs.PendingLaws.{all_open, pending_is}
-use Rattle.machine_steps.proofs.QuietLaws.{quiet_now}
-use Rattle.machine_steps.proofs.Stepping.{IsAt, Moves, moved, walks_due}
-use Rattle.machine_steps.proofs.Tables.{free, free_once}
-use Rattle.machine_steps.proofs.Testing.{tested, whole}
-use Rattle.machine_steps.proofs.TurnLaws.{Turns, is_beside, none_flies, none_late, none_out, same_hand, turned}
+use Rattle.machine_steps.proofs.Stepping.{Moves, moved, walks_due}
+use Rattle.machine_steps.proofs.Tables.{free}
+use Rattle.machine_steps.proofs.TurnLaws.{Turns, is_beside, turned}
 use Rattle.world_model.specs.declared.world.World.{World}
 use Rattle.world_model.specs.Replies.{reply_of}
 use Rattle.world_model.proofs.HoldLaws.{all_push}
 use Rattle.joint_model.proofs.BalanceLaws.{emitted_count, not_left, run_of}
-use Rattle.joint_model.proofs.HeldLaws.{total_last}
+use Rattle.joint_model.proofs.HeldLaws.{Begins, begins, total_last}
 use Rattle.joint_model.proofs.ServedLaws.{served_lives}
 use Rattle.joint_model.proofs.StillLaws.{stands_still}
 
@@ -124,66 +113,10 @@ pending_on_way messages m w commands packets kept test j =
     let sent = count_flat test sent_by messages in
     let replied = count_flat test replied_by messages in omega arith
 
--- A stop begins -------------------------------------------------------------------------------------------------------
+-- Silent moves --------------------------------------------------------------------------------------------------------
 
 pub silent_move : {m : Machine} → (due false m).act ≡ Act.Goes → Moves m None (due false m).next
 silent_move {m} is = rw is at (walks_due m)
-
--- where a stop is in hand behind a move, it was before it, nothing was pending, or a Suspend is sent
-pub data Begins (m : Machine) (said : Option Message) : Type 0 where
-  stood : m.state.stopped ≡ true → Begins m said
-  silent : pending_of m ≡ [] → Begins m said
-  by_pause : said ≡ Some (Message.sends (an_effect (Does Suspend))) → Begins m said
-
-silent_asked : (flies waits : Bool) → cond flies false (not waits) ≡ true → (flies ≡ false) × (waits ≡ false)
-silent_asked true waits is = absurd cc
-silent_asked false true is = absurd cc
-silent_asked false false is = (refl, refl)
-
-near_stop : (gone : Bool) (stopping : Stopping) (rest : List Part)
-    → free_once gone (Part.Tells (a_stop stopping) ∷ rest) ≡ true → gone ≡ false
-near_stop gone stopping rest is = grind (arith, is)
-
-none_at_stop : {messages : List Message} {m : Machine} {hand : Hand} {stopping : Stopping} {rest : List Part}
-    → Run messages m → load_of m ≡ clear → IsAt m hand (Part.Tells (a_stop stopping)) rest → pending_of m ≡ []
-none_at_stop {m = m} {hand} {stopping} {rest} r is at =
-    let holds = (all_open r).holds in
-    let quiet = silent_asked (is_flying hand.effect) (has_waiting hand.asked)
-    (quiet_now m hand holds.quiet is at.in_hand) in
-    let near = near_stop (is_gone m.state.phase) stopping rest (whole free_once (tested free r) at) in
-    sym (same_hand m hand at.in_hand)
-    ∙ rw (none_late m holds.late near, none_out hand.asked quiet.1, none_flies hand.effect quiet.0) refl
-
-resumed_stop : (suspension : Suspension) (stopped : Bool) → still_stopped suspension stopped ≡ true → stopped ≡ true
-resumed_stop suspension stopped is = grind (arith, is)
-
-pub noted_stop : (note : Note) (state : State) → (noted note state).stopped ≡ state.stopped
-noted_stop note state = grind arith
-
-told_begins : {messages : List Message} {m : Machine} {hand : Hand} {rest : List Part} {said : Option Message}
-    (event : Event) → Run messages m → load_of m ≡ clear → IsAt m hand (Part.Tells event) rest
-    → (after_event event m.state).stopped ≡ true → Begins m said
-told_begins Initialized r is at stop = Begins.stood stop
-told_begins (some_news news) r is at stop = Begins.stood stop
-told_begins (a_stop stopping) r is at stop = Begins.silent (none_at_stop r is at)
-told_begins Terminated r is at stop = absurd cc
-
-pub begins : {messages : List Message} (m next : Machine) (said : Option Message) → Run messages m → Moves m said next
-    → next.state.stopped ≡ true → Begins m said
-begins m next said r (Moves.responds {outcome = outcome} is at item) stop =
-    Begins.stood (sym (numbered_stop outcome m.state) ∙ stop)
-begins m next said r (Moves.tells {event = event} is at) stop = told_begins event r is at stop
-begins m next said r (Moves.sends {deed = Suspend} is at near) stop = Begins.by_pause refl
-begins m next said r (Moves.sends {deed = Resume suspension} is at near) stop =
-    Begins.stood (resumed_stop suspension m.state.stopped stop)
-begins m next said r (Moves.sends {deed = _} is at near) stop = Begins.stood stop
-begins m next said r (Moves.notes {note = note} is at) stop = Begins.stood (sym (noted_stop note m.state) ∙ stop)
-begins m next said r (Moves.answers {question} {replied} is waits reply stays) stop =
-    Begins.stood (sym (same_stop (a_question question) replied m.state) ∙ stop)
-begins m next said r (Moves.replies {effect} {replied} is flies reply stays) stop =
-    Begins.stood (sym (same_stop (an_effect effect) replied m.state) ∙ stop)
-begins m next said r (Moves.loses late near why) stop = absurd cc
-begins m next said r _ stop = Begins.stood stop
 
 -- A command that changes the target goes alone ------------------------------------------------------------------------
 
@@ -228,7 +161,7 @@ changes_too (command ∷ pending) some = by_command command some (changes_too pe
         let rest : 0 < count is_suspend pending = omega arith in let now = more rest in omega arith
     by_command (an_effect effect) some more = omega arith
 
--- What is in flight in a stop -----------------------------------------------------------------------------------------
+-- What is in flight ---------------------------------------------------------------------------------------------------
 
 none_asked : (w : World) (packets : List Packet) → total (replies_to is_question) packets ≡ 0
     → AllByRecursion (IsStillSo w) packets
@@ -248,30 +181,28 @@ no_flight {messages} {m} {w} {commands} {packets} {kept} now j none =
     none_asked now packets (omega arith)
 
 abbrev Stays : Machine → World → List Packet → Type 0
-Stays m w packets = m.state.stopped ≡ true → count is_suspend (pending_of m) ≡ 0 → AllByRecursion (IsStillSo w) packets
+Stays m w packets = IsHeld m → count is_suspend (pending_of m) ≡ 0 → AllByRecursion (IsStillSo w) packets
 
 by_begins : {messages : List Message} {m : Machine} {w : World} {commands : List TargetCommand}
-    {packets : List Packet} {kept : List Composite} {said : Option Message} → Joint messages m w commands packets kept
-    → count is_suspend (pending_of m) ≡ 0
-    → (said ≡ Some (Message.sends (an_effect (Does Suspend))) → AllByRecursion (IsStillSo w) packets)
-    → Stays m w packets → Begins m said → AllByRecursion (IsStillSo w) packets
-by_begins j few pauses stays (Begins.stood stop) = stays stop few
-by_begins {w = w} j few pauses stays (Begins.silent nil) = no_flight w j (ap (count is_question) nil)
-by_begins j few pauses stays (Begins.by_pause is) = pauses is
+    {packets : List Packet} {kept : List Composite} → Joint messages m w commands packets kept
+    → count is_suspend (pending_of m) ≡ 0 → Stays m w packets → Begins m → AllByRecursion (IsStillSo w) packets
+by_begins j few stays (Begins.stood some) = stays some few
+by_begins {w = w} j few stays (Begins.silent none nil) = no_flight w j (ap (count is_question) nil)
 
 before_turn : {messages : List Message} {m : Machine} {w : World} {commands now : List TargetCommand}
     {packets : List Packet} {kept : List Composite} {both sent : Bool} {said : Option Message}
     → Joint messages m w commands packets kept → Turns (pending_of m) both sent said now → count is_suspend now ≡ 0
-    → Begins m said → Stays m w packets → AllByRecursion (IsStillSo w) packets
+    → ((said ≡ Some (Message.sends (an_effect (Does Suspend))) → ⊥) → Begins m) → Stays m w packets
+    → AllByRecursion (IsStillSo w) packets
 before_turn j (Turns.stays beside same) few b stays =
-    by_begins j (ap (count is_suspend) (sym same) ∙ few)
-    (λ is. let other : true ≡ false = sym beside ∙ ap is_beside is in absurd cc) stays b
+    by_begins j (ap (count is_suspend) (sym same) ∙ few) stays
+    (b (λ is. let other : true ≡ false = sym beside ∙ ap is_beside is in cc))
 before_turn j (Turns.greets unsent same) few b stays =
-    by_begins j (ap (count is_suspend) (sym same) ∙ few) (λ is. absurd cc) stays b
+    by_begins j (ap (count is_suspend) (sym same) ∙ few) stays (b (λ is. cc))
 before_turn {m = m} j (Turns.asks question shakes room only same) few b stays =
     let more = count_append is_suspend (pending_of m) (a_question question ∷ []) in
     let now = ap (count is_suspend) same in
-    by_begins j (omega arith) (λ is. absurd cc) stays b
+    by_begins j (omega arith) stays (b (λ is. cc))
 before_turn {w = w} j (Turns.changes effect shakes nil same) few b stays =
     no_flight w j (ap (count is_question) nil)
 before_turn {messages} {m} {w} {packets = packets} j (Turns.answers command replied before after was same) few b stays =
@@ -290,25 +221,25 @@ before_turn {messages} {m} {w} {packets = packets} j (Turns.answers command repl
         let parts = count_append is_suspend before (command ∷ after) in
         let others = count_append is_suspend before after in
         let one : bit (is_suspend command) ≡ 0 = ap bit is in
-        by_begins j (omega arith) (λ is. absurd cc) stays b
+        by_begins j (omega arith) stays (b (λ is. cc))
 
 pub before_message : {messages : List Message} {m next : Machine} {w : World} {commands : List TargetCommand}
     {packets : List Packet} {kept : List Composite} {message : Message} → Joint messages m w commands packets kept
-    → Allows m message next → next.state.stopped ≡ true → count is_suspend (pending_of next) ≡ 0 → Stays m w packets
+    → Allows m message next → IsHeld next → count is_suspend (pending_of next) ≡ 0 → Stays m w packets
     → AllByRecursion (IsStillSo w) packets
-before_message {m = m} {next} {message = message} j allows stop few stays =
+before_message {m = m} {next} {message = message} j allows some few stays =
     let r = run_of j in
-    before_turn j (turned m next (Some message) (all_open r).holds (moved allows)) few
-    (begins m next (Some message) r (moved allows) stop) stays
+    before_turn j (turned m next (Some message) (all_open r).holds (moved allows)) few (begins r (moved allows) some)
+    stays
 
 before_goes : {messages : List Message} {m : Machine} {w : World} {commands : List TargetCommand}
     {packets : List Packet} {kept : List Composite} → Joint messages m w commands packets kept
-    → (due false m).act ≡ Act.Goes → (due false m).next.state.stopped ≡ true
+    → (due false m).act ≡ Act.Goes → IsHeld (due false m).next
     → count is_suspend (pending_of (due false m).next) ≡ 0 → Stays m w packets → AllByRecursion (IsStillSo w) packets
-before_goes {m = m} j is stop few stays =
+before_goes {m = m} j is some few stays =
     let r = run_of j in
     before_turn j (turned m (due false m).next None (all_open r).holds (silent_move is)) few
-    (begins m (due false m).next None r (silent_move is) stop) stays
+    (begins r (silent_move is) some) stays
 
 pub same_reply : {w now : World} {question : Question} {replied : Replied} → reply_of now question ≡ reply_of w question
     → Replies w question replied → Replies now question replied
@@ -341,42 +272,42 @@ served_so {messages} {m} {w} {now} {packets} {kept} {replied} (an_effect effect)
 
 pub replies_so : {messages : List Message} {m : Machine} {w : World} {commands : List TargetCommand}
     {packets : List Packet} {kept : List Composite} → Joint messages m w commands packets kept → w.dead ≡ false
-    → has_such sends_farewell messages ≡ false → m.state.stopped ≡ true → count is_suspend (pending_of m) ≡ 0
+    → has_such sends_farewell messages ≡ false → IsHeld m → count is_suspend (pending_of m) ≡ 0
     → AllByRecursion (IsStillSo w) packets
-replies_so (Joint.starts sound alive free none) lives near stop few = tt
-replies_so (Joint.goes j is) lives near stop few = before_goes j is stop few (replies_so j lives near)
-replies_so (Joint.says {messages} {message = message} j allows aside) lives near stop few =
-    before_message j allows stop few (replies_so j lives (not_left messages message near).0)
-replies_so (Joint.sends {messages} {command = command} j allows) lives near stop few =
-    before_message j allows stop few (replies_so j lives (not_left messages (Message.sends command) near).0)
-replies_so (Joint.gets {messages} {command = command} {replied} j allows) lives near stop few =
-    (before_message j allows stop few
+replies_so (Joint.starts sound alive free none) lives near here few = tt
+replies_so (Joint.goes j is) lives near here few = before_goes j is here few (replies_so j lives near)
+replies_so (Joint.says {messages} {message = message} j allows aside) lives near here few =
+    before_message j allows here few (replies_so j lives (not_left messages message near).0)
+replies_so (Joint.sends {messages} {command = command} j allows) lives near here few =
+    before_message j allows here few (replies_so j lives (not_left messages (Message.sends command) near).0)
+replies_so (Joint.gets {messages} {command = command} {replied} j allows) lives near here few =
+    (before_message j allows here few
     (replies_so j lives (not_left messages (Message.answers command replied) near).0)).1
-replies_so (Joint.takes {messages} {composite = composite} {at} j allows) lives near stop few =
-    (before_message j allows stop few (replies_so j lives (not_left messages (Message.comes at composite) near).0)).1
-replies_so (Joint.keeps {messages} {at = at} {body} j is allows) lives near stop few =
-    (before_message j allows stop few (replies_so j lives (not_left messages (Message.keeps at body) near).0)).1
-replies_so (Joint.reads {messages} {composite = composite} {at} {body} j is allows) lives near stop few =
-    before_message j allows stop few (replies_so j lives (not_left messages (Message.reads at body composite) near).0)
-replies_so (Joint.loses {messages} j allows) lives near stop few =
-    before_message j allows stop few (replies_so j lives (not_left messages Message.ends near).0)
-replies_so (Joint.serves command before after j serves) lives near stop few =
-    served_so command before after j serves (replies_so j (served_lives serves lives) near stop few)
-replies_so (Joint.runs {messages} {m} {w} {now} {commands} {packets} {kept} j runs) lives near stop few =
-    absurd ((stands_still messages m w commands packets kept j runs.alive near stop few).no_run now runs)
-replies_so (Joint.emits {messages} {m} {w} {now} {commands} {packets} {kept} {composite} j emits) lives near stop few =
+replies_so (Joint.takes {messages} {composite = composite} {at} j allows) lives near here few =
+    (before_message j allows here few (replies_so j lives (not_left messages (Message.comes at composite) near).0)).1
+replies_so (Joint.keeps {messages} {at = at} {body} j is allows) lives near here few =
+    (before_message j allows here few (replies_so j lives (not_left messages (Message.keeps at body) near).0)).1
+replies_so (Joint.reads {messages} {composite = composite} {at} {body} j is allows) lives near here few =
+    before_message j allows here few (replies_so j lives (not_left messages (Message.reads at body composite) near).0)
+replies_so (Joint.loses {messages} j allows) lives near here few =
+    before_message j allows here few (replies_so j lives (not_left messages Message.ends near).0)
+replies_so (Joint.serves command before after j serves) lives near here few =
+    served_so command before after j serves (replies_so j (served_lives serves lives) near here few)
+replies_so (Joint.runs {messages} {m} {w} {now} {commands} {packets} {kept} j runs) lives near here few =
+    absurd ((stands_still messages m w commands packets kept j runs.alive near here few).no_run now runs)
+replies_so (Joint.emits {messages} {m} {w} {now} {commands} {packets} {kept} {composite} j emits) lives near here few =
     let counted = emitted_count emits lives in
-    let still = stands_still messages m w commands packets kept j counted.0 near stop few in
+    let still = stands_still messages m w commands packets kept j counted.0 near here few in
     let held = still.suspended in
     let more = counted.1 in
     let some : 0 < now.count = omega arith in
     all_push (IsStillSo now) packets (some_events composite)
     (still_so w now packets ((still.told composite now emits).replies lives some)
-    (replies_so j counted.0 near stop few)) tt
-replies_so (Joint.dies j) lives near stop few = absurd cc
+    (replies_so j counted.0 near here few)) tt
+replies_so (Joint.dies j) lives near here few = absurd cc
 
 pub replies_stay : (messages : List Message) (m : Machine) (w : World) (commands : List TargetCommand)
     (packets : List Packet) (kept : List Composite) → Joint messages m w commands packets kept → w.dead ≡ false
-    → has_such sends_farewell messages ≡ false → m.state.stopped ≡ true → count is_suspend (pending_of m) ≡ 0
+    → has_such sends_farewell messages ≡ false → IsHeld m → count is_suspend (pending_of m) ≡ 0
     → AllByRecursion (IsStillSo w) packets
-replies_stay messages m w commands packets kept j lives near stop few = replies_so j lives near stop few
+replies_stay messages m w commands packets kept j lives near here few = replies_so j lives near here few

@@ -1,26 +1,30 @@
 -- No Resume is sent but for a suspension that is held. The machine's laws say what is held by its view of the
 -- messages, in which a composite counts from its turn on, and a Suspend from its sending; here both count once they
 -- came.
-use Rattle.std.proofs.Common.{◌≡◌, ◌≤◌, ◌<◌, ℕ, ◌+◌, Bool, true, false, cond, List, [], ◌∷◌, ◌++◌, Option, Some}
+use Rattle.std.proofs.Common.{◌≡◌, ◌≤◌, ◌<◌, ℕ, ◌+◌, Bool, true, false, cond, List, [], ◌∷◌, ◌++◌, Option, Some, None}
 use Rattle.std.proofs.Common.{refl, sym, ap, subst, ◌∙◌, arith, nat_lt}
 use Rattle.jdwp_commands.specs.declared.question.Question.TheVariants as questions
 use Rattle.dap_messages.specs.declared.told.Event.{Event as EventTold}
 use Rattle.dap_messages.specs.declared.told.Event.TheVariants as events
-use Rattle.joint_model.specs.Laws.{held, held_by, held_from, is_suspend, suspends_by, total}
+use Rattle.joint_model.specs.Laws.{IsHeld, held, held_by, held_from, is_suspend, suspends_by, total}
 use Rattle.joint_model.specs.Names.{Clear, Dispose, Does, Effect, Exit, Resume, Set, Suspend, Suspension, TargetCommand}
 use Rattle.joint_model.specs.Names.{Writes, a_question, an_effect}
 use Rattle.machine_model.specs.Composites.{has_death}
 use Rattle.machine_model.specs.Knowing.{AreSaid, View, come_view, event_view, is_farewell, learnt_view}
-use Rattle.machine_model.specs.Knowing.{may_be, may_resume, replied_view, says, says_dead, turned_view}
+use Rattle.machine_model.specs.Knowing.{may_be, may_resume, replied_view, says, says_dead, turned_view, view_of}
 use Rattle.machine_model.specs.Names.{Composite, Replied, a_response, an_event}
 use Rattle.machine_model.specs.Pending.{bit, commands_replied, commands_sent, count}
 use Rattle.machine_model.specs.Replying.{pending_of}
 use Rattle.machine_model.specs.Runs.{Allows, Message, Run}
 use Rattle.machine_model.specs.State.{Machine, is_gone}
-use Rattle.machine_laws.proofs.KnowingLaws.{is_known}
+use Rattle.machine_laws.proofs.KnowingLaws.{Sees, is_known, sees_on}
 use Rattle.machine_steps.proofs.PendingLaws.{all_open, pending_is}
-use Rattle.machine_steps.proofs.Stepping.{moved}
-use Rattle.machine_steps.proofs.TurnLaws.{Turns, is_beside, turned}
+use Rattle.machine_steps.proofs.HeldLaws.{gone_owed}
+use Rattle.machine_steps.proofs.HoldingParts.{lost_flags, lost_held}
+use Rattle.machine_steps.proofs.Stepping.{Moves, moved}
+use Rattle.machine_steps.proofs.Tables.{free}
+use Rattle.machine_steps.proofs.Testing.{tested}
+use Rattle.machine_steps.proofs.TurnLaws.{Turns, is_beside, none_late, turned}
 use Rattle.suspend_ledger.specs.Suspensions.{suspensions_by}
 
 -- Sums ----------------------------------------------------------------------------------------------------------------
@@ -234,13 +238,90 @@ pub resumes_held : (messages : List Message) (m next : Machine) (suspension : Su
     → Allows m (Message.sends (an_effect (Does (Resume suspension)))) next → 0 < held messages
 resumes_held messages m next suspension r allows = resume_held r allows (exact r)
 
--- In a stop a suspension is held, once the Suspend of a pause is replied to.
-pub stop_held : {messages : List Message} {m : Machine} → Run messages m → m.state.stopped ≡ true
+-- What the machine holds is held by the messages, once the Suspend of a pause is replied to.
+pub some_held : {messages : List Message} {m : Machine} → Run messages m → IsHeld m
     → count is_suspend (pending_of m) ≡ 0 → 0 < held messages
-stop_held {messages} {m} r stopped none =
+some_held {messages} {m} r some none =
     let before = exact r in
     let counted = (pending_is messages m r).counted is_suspend in
-    let some = covers (is_known messages m r).said in
-    let one : bit m.state.stopped ≡ 1 = ap bit stopped in
+    let here = covers (is_known messages m r).said in
     let sent = sent_is messages in
     let done = done_is messages in omega arith
+
+-- in a stop one is held
+pub stops_are_held : (m : Machine) → m.state.stopped ≡ true → IsHeld m
+stops_are_held m is = let one = ap bit is in omega arith
+
+-- in a target that is gone none is
+pub near_held : {messages : List Message} {m : Machine} → Run messages m → IsHeld m → is_gone m.state.phase ≡ false
+near_held {m = m} r some = by_gone (is_gone m.state.phase) refl
+  where
+    by_gone : (gone : Bool) → is_gone m.state.phase ≡ gone → gone ≡ false
+    by_gone true gone =
+        let flags = lost_flags m (lost_held r) gone in
+        let stop = ap bit flags.0 in
+        let entry = ap bit flags.1 in
+        let owed = gone_owed (is_gone m.state.phase) m.state.stopped m.hand gone (tested free r) in absurd (omega arith)
+    by_gone false near = refl
+
+-- Where one is held behind a move -------------------------------------------------------------------------------------
+
+event_less : (event : EventTold) (view : View) → (event_view event view).held ≤ view.held
+event_less events.Initialized view = omega arith
+event_less (events.Breakpoint breakpoint) view = omega arith
+event_less (events.Thread change) view = omega arith
+event_less (events.Stopped stop) view = omega arith
+event_less events.Terminated view = omega arith
+
+replied_less : (gone ended : Bool) (command : TargetCommand) (replied : Replied) (view : View)
+    → (replied_view gone ended command replied view).held ≤ view.held
+replied_less true ended command replied view = omega arith
+replied_less false true command replied view = omega arith
+replied_less false false command replied view = let same = (learnt_held command replied view).0 in omega arith
+
+come_less : (gone : Bool) (composite : Composite) (view : View) → (come_view gone composite view).held ≤ view.held
+come_less true composite view = omega arith
+come_less false composite view = omega arith
+
+-- a message holds no suspension more, but for a Suspend
+says_less : (message : Message) (view : View) → (message ≡ Message.sends (an_effect (Does Suspend)) → ⊥)
+    → (says message view).held ≤ view.held
+says_less (Message.hears request) view apart = omega arith
+says_less (Message.tells (a_response response)) view apart = omega arith
+says_less (Message.tells (an_event event)) view apart = event_less event view
+says_less Message.greets view apart = omega arith
+says_less Message.greeted view apart = omega arith
+says_less (Message.sends (a_question question)) view apart = omega arith
+says_less (Message.sends (an_effect (Set wish))) view apart = omega arith
+says_less (Message.sends (an_effect (Clear wish request))) view apart = omega arith
+says_less (Message.sends (an_effect (Does Suspend))) view apart = absurd (apart refl)
+says_less (Message.sends (an_effect (Does (Resume suspension)))) view apart = omega arith
+says_less (Message.sends (an_effect (Does Dispose))) view apart = omega arith
+says_less (Message.sends (an_effect (Does Exit))) view apart = omega arith
+says_less (Message.sends (an_effect (Does (Writes write)))) view apart = omega arith
+says_less (Message.answers command replied) view apart =
+    replied_less (is_gone view.phase) (cond (is_farewell command) false (says_dead replied)) command replied view
+says_less Message.ends view apart = omega arith
+says_less (Message.comes at composite) view apart = come_less (is_gone view.phase) composite view
+says_less (Message.keeps at body) view apart = omega arith
+says_less (Message.reads at body composite) view apart = come_less (is_gone view.phase) composite view
+
+-- one was held before it, or an item came to its turn with nothing pending
+pub data Begins (m : Machine) : Type 0 where
+  stood : IsHeld m → Begins m
+  silent : m.hand ≡ None → pending_of m ≡ [] → Begins m
+
+-- where one is held behind a move that sends no Suspend
+pub begins : {messages : List Message} {m next : Machine} {said : Option Message} → Run messages m
+    → Moves m said next → IsHeld next → (said ≡ Some (Message.sends (an_effect (Does Suspend))) → ⊥) → Begins m
+begins {m = m} {next} {said} r moved some apart = by_said said (sees_on r moved) apart
+  where
+    by_said : (said : Option Message) → Sees m next said
+        → (said ≡ Some (Message.sends (an_effect (Does Suspend))) → ⊥) → Begins m
+    by_said None (Sees.as_said is) apart =
+        let same = ap (λ (view : View). view.held) is in Begins.stood (omega arith)
+    by_said (Some message) (Sees.as_said is) apart =
+        let same = ap (λ (view : View). view.held) is in
+        let less = says_less message (view_of m) (λ one. apart (ap Some one)) in Begins.stood (omega arith)
+    by_said None (Sees.at_turn composite others none attached are is) apart =
+        Begins.silent none (rw (none_late m (all_open r).holds.late (ap is_gone attached), none) refl)

@@ -35,6 +35,7 @@ use Rattle.wish_sets.specs.declared.wish.Wish.TheVariants as wishes
 use Rattle.world_model.specs.declared.rows.Installed.{Installed}
 use Rattle.world_model.specs.declared.world.World.{World}
 use Rattle.world_model.specs.Sound.{IsHold, IsSound}
+use Rattle.joint_model.proofs.HeldLaws.{stops_are_held}
 use Rattle.joint_model.proofs.StillLaws.{stands_still}
 
 -- The machine ---------------------------------------------------------------------------------------------------------
@@ -441,4 +442,5 @@ stops_for_pause = tells stops (tells (succeeds pauses) (does {now = watched 1} k
 -- it stands still then
 still_there : IsStill (watched 1)
 unfolding due wanted load_of newly_lacked next_change wished need made_with each chained
-still_there = stands_still pause_said stopped (watched 1) [] [] [] stops_for_pause refl refl refl refl
+still_there =
+    stands_still pause_said stopped (watched 1) [] [] [] stops_for_pause refl refl (stops_are_held stopped refl) refl

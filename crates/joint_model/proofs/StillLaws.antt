@@ -1,5 +1,5 @@
--- While a stop is in hand, a target that lives and wasn't left stands still.
-use Rattle.std.proofs.Common.{◌≡◌, ◌<◌, ℕ, zero, suc, Bool, true, false, cond, List, [], ◌∷◌, map, fold, refl, sym}
+-- While a suspension is held, a target that lives and wasn't left stands still.
+use Rattle.std.proofs.Common.{◌≡◌, ◌<◌, ℕ, zero, suc, Bool, false, cond, List, [], ◌∷◌, map, fold, refl, sym}
 use Rattle.std.proofs.Common.{ap, ◌∙◌, arith, Option, Some, None, option_map}
 use Rattle.std.specs.Prelude.{◌==◌, length, Result, Ok, Err, ok_or, option_and_then, unwrap_or}
 use Rattle.std.specs.List.{AllByRecursion}
@@ -20,7 +20,7 @@ use Rattle.jdwp_events.specs.declared.composite.Composite.{Composite}
 use Rattle.jdwp_events.specs.declared.event.Event.{Event}
 use Rattle.jdwp_events.specs.declared.event.Event.TheVariants as events
 use Rattle.joint_model.specs.Joints.{Joint, Packet}
-use Rattle.joint_model.specs.Laws.{IsStill, StaysSo, held, is_suspend, puts}
+use Rattle.joint_model.specs.Laws.{IsHeld, IsStill, StaysSo, held, is_suspend, puts}
 use Rattle.joint_model.specs.Names.{TargetCommand}
 use Rattle.joint_model.specs.Obeying.{Emits, IsTold, Matches, Runs, Serves, prepared_by}
 use Rattle.machine_model.specs.Leaving.{sends_farewell}
@@ -44,7 +44,7 @@ use Rattle.world_model.specs.Threads.{counted, frame_in, frames_from, frames_of,
 use Rattle.world_model.specs.Replies.{living_reply, reply_of}
 use Rattle.world_model.proofs.KeptLaws.{programs, values}
 use Rattle.joint_model.proofs.BalanceLaws.{balances, run_of}
-use Rattle.joint_model.proofs.HeldLaws.{stop_held}
+use Rattle.joint_model.proofs.HeldLaws.{some_held}
 
 -- What is replied depends on no event request, and on suspensions only in that there are any.
 abbrev world_of : Program → Values → ℕ → World
@@ -212,11 +212,10 @@ runs_not held runs = let free = runs.free in omega arith
 
 pub stands_still : (messages : List Message) (m : Machine) (w : World) (commands : List TargetCommand)
     (packets : List Packet) (kept : List Composite) → Joint messages m w commands packets kept → w.dead ≡ false
-    → has_such sends_farewell messages ≡ false → m.state.stopped ≡ true → count is_suspend (pending_of m) ≡ 0
-    → IsStill w
-stands_still messages m w commands packets kept j lives near stopped none =
+    → has_such sends_farewell messages ≡ false → IsHeld m → count is_suspend (pending_of m) ≡ 0 → IsStill w
+stands_still messages m w commands packets kept j lives near here none =
     let balance = balances messages m w commands packets kept j lives near in
-    let some = stop_held (run_of j) stopped none in
+    let some = some_held (run_of j) here none in
     let held : 0 < w.count = omega arith in
     record {
       suspended = held;

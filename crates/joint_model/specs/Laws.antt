@@ -1,5 +1,5 @@
 -- What holds of every look-up over a target's world, and of every joint. The laws stand behind what they speak of.
-use Rattle.std.specs.Prelude.{ℕ, ◌≡◌, ◌<◌, ◌+◌, Bool, true, false, List, [], ◌∷◌, Option, None, Some}
+use Rattle.std.specs.Prelude.{ℕ, ◌≡◌, ◌<◌, ◌+◌, ◌||◌, Bool, true, false, List, [], ◌∷◌, Option, Some}
 use Rattle.std.specs.List.{AllByRecursion}
 use Rattle.class_tables.specs.Lookups.{found_in}
 use Rattle.jdwp_commands.specs.declared.answer.Answer.TheVariants as answers
@@ -7,12 +7,11 @@ use Rattle.jdwp_commands.specs.declared.asked.Asked.{Asked}
 use Rattle.jdwp_commands.specs.declared.asked.Asked.TheVariants as commands
 use Rattle.jdwp_commands.specs.declared.question.Question.TheVariants as questions
 use Rattle.joint_model.specs.Joints.{Joint, Packet, a_reply, some_events}
-use Rattle.joint_model.specs.Names.{Attached, Does, Lookup, Resume, Suspend, Suspension, TargetCommand, all_threads}
-use Rattle.joint_model.specs.Names.{a_question, an_effect}
+use Rattle.joint_model.specs.Names.{Attached, Decides, Does, Lookup, Part, Resume, Suspend, Suspension, TargetCommand}
+use Rattle.joint_model.specs.Names.{a_question, all_threads, an_effect}
 use Rattle.joint_model.specs.Obeying.{Emits, MayRefuse, Replies, Runs, Serves}
-use Rattle.machine_model.specs.declared.items.Item.{Item}
-use Rattle.machine_model.specs.declared.items.Item.TheVariants.{Request as a_request}
 use Rattle.machine_model.specs.Facts.{fact_known, fact_of, is_of_class}
+use Rattle.machine_model.specs.Knowing.{held_in}
 use Rattle.machine_model.specs.Leaving.{sends_farewell}
 use Rattle.machine_model.specs.Lookups.{found_for, plan, sight_of}
 use Rattle.machine_model.specs.Names.{Answer, Composite, Question, Replied, ThreadId, an_answer, an_error}
@@ -22,7 +21,7 @@ use Rattle.machine_model.specs.Plans.{Need, Sight, answer_in, fails, has, lacks,
 use Rattle.machine_model.specs.Replying.{IsReply as IsTaken, pending_of, wire}
 use Rattle.machine_model.specs.Rest.{IsAtRest}
 use Rattle.machine_model.specs.Runs.{Allows, Message, Run}
-use Rattle.machine_model.specs.State.{Hand, Machine, SizesRead, State}
+use Rattle.machine_model.specs.State.{Hand, Machine, SizesRead, State, is_none}
 use Rattle.suspend_ledger.specs.Suspensions.{composite as composite_came, resumed, suspended, suspensions_by}
 use Rattle.suspend_ledger.specs.Suspensions.{with_happening}
 use Rattle.world_model.specs.declared.world.World.{World}
@@ -127,7 +126,7 @@ Balances = (messages : List Message) (m : Machine) (w : World) (commands : List 
     (kept : List Composite) → Joint messages m w commands packets kept → w.dead ≡ false
     → has_such sends_farewell messages ≡ false → w.count ≡ held messages + untold commands packets kept
 
--- A stop --------------------------------------------------------------------------------------------------------------
+-- A target that stands still ------------------------------------------------------------------------------------------
 
 -- Classes, objects, threads, frames and values are as they were. So each question has the same reply, as long as the
 -- target lives and is suspended.
@@ -154,12 +153,19 @@ abbrev pub is_suspend : TargetCommand → Bool
 is_suspend (an_effect (Does Suspend)) = true
 is_suspend _ = false
 
--- While a stop is in hand, and no Suspend is without a reply, a target that lives and wasn't left stands still.
+-- A suspension of the whole target is held: for the stop in hand, as the entry, or for the composite in hand.
+abbrev pub IsHeld : Machine → Type 0
+IsHeld m = 0 < held_in m.state m.hand
+
+-- While a suspension is held, and no Suspend is without a reply, a target that lives and wasn't left stands still.
 abbrev pub StandsStill : Type 0
 StandsStill = (messages : List Message) (m : Machine) (w : World) (commands : List TargetCommand)
     (packets : List Packet) (kept : List Composite) → Joint messages m w commands packets kept → w.dead ≡ false
-    → has_such sends_farewell messages ≡ false → m.state.stopped ≡ true → count is_suspend (pending_of m) ≡ 0
-    → IsStill w
+    → has_such sends_farewell messages ≡ false → IsHeld m → count is_suspend (pending_of m) ≡ 0 → IsStill w
+
+-- In a stop one is held.
+abbrev pub StopsAreHeld : Type 0
+StopsAreHeld = (m : Machine) → m.state.stopped ≡ true → IsHeld m
 
 -- At rest, once the session is attached, and with nothing unserved, in flight or unread, a target that lives and wasn't
 -- left is suspended once for a stop in hand and once as the entry that is held, and no more.
@@ -188,30 +194,43 @@ IsStillSo w (a_reply (a_question question) replied) = Replies w question replied
 IsStillSo w (a_reply (an_effect effect) replied) = Unit {0}
 IsStillSo w (some_events composite) = Unit {0}
 
--- In a stop, each reply to a question that is in flight is still so when it comes.
+-- While a suspension is held, each reply to a question that is in flight is still so when it comes.
 abbrev pub RepliesStay : Type 0
 RepliesStay = (messages : List Message) (m : Machine) (w : World) (commands : List TargetCommand)
     (packets : List Packet) (kept : List Composite) → Joint messages m w commands packets kept → w.dead ≡ false
-    → has_such sends_farewell messages ≡ false → m.state.stopped ≡ true → count is_suspend (pending_of m) ≡ 0
+    → has_such sends_farewell messages ≡ false → IsHeld m → count is_suspend (pending_of m) ≡ 0
     → AllByRecursion (IsStillSo w) packets
 
--- A look-up in a stop -------------------------------------------------------------------------------------------------
+-- A look-up while the target stands still -----------------------------------------------------------------------------
 
-abbrev pub is_request : Item → Bool
-is_request (a_request request) = true
-is_request _ = false
+-- a look-up, or the decision on a composite, which may become one
+abbrev pub is_look : Part → Bool
+is_look (Part.Looks lookup) = true
+is_look (Part.Unfolds Decides) = true
+is_look _ = false
+
+-- a look-up is still to be done
+abbrev pub has_look : List Part → Bool
+has_look [] = false
+has_look (part ∷ parts) = is_look part || has_look parts
+
+-- No value was written for the item so far: nothing was sent for it but questions, or a look-up is still to be done,
+-- and before it at most event requests were set and cleared.
+abbrev pub wrote_nothing : Hand → Bool
+wrote_nothing hand = is_none hand.effect || has_look hand.parts
 
 -- what is known of classes is so in the world
 pub record AreFactsOf (w : World) (state : State) : Type 0 where
   pub facts : (question : Question) (fact : Option Answer) → fact_known (found_in state.classes) question ≡ Some fact
       → fact ≡ fact_of question (answer_in (reply_of w question))
 
--- In a stop, where what is known of classes is so in the world, a look-up that is done for a request, which has changed
--- nothing yet, has what it has in the target's world as that stands; and one that has failed has nothing there.
+-- While a suspension is held, and where what is known of classes is so in the world, a look-up that is done for an item
+-- for which nothing was written has what it has in the target's world as that stands; and one that has failed has
+-- nothing there.
 abbrev pub ShowsTheWorld : Type 0
 ShowsTheWorld = (messages : List Message) (m : Machine) (w : World) (commands : List TargetCommand)
     (packets : List Packet) (kept : List Composite) (hand : Hand) (lookup : Lookup)
     → Joint messages m w commands packets kept → w.dead ≡ false → has_such sends_farewell messages ≡ false
-    → m.state.stopped ≡ true → count is_suspend (pending_of m) ≡ 0 → m.hand ≡ Some hand → is_request hand.item ≡ true
-    → hand.effect ≡ None → AreFactsOf w m.state
+    → IsHeld m → count is_suspend (pending_of m) ≡ 0 → m.hand ≡ Some hand → wrote_nothing hand ≡ true
+    → AreFactsOf w m.state
     → Agrees (found_for lookup m.state hand) (of_world (reply_of w) (plan lookup m.state))

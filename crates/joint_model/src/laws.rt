@@ -2,7 +2,7 @@
 //! contract of a function that does nothing.
 
 ghost use Rattle.joint_model.specs.Laws.{Balances, CountsAtRest, ErrorsAreTaken, LookUps, PendingOnTheWay};
-ghost use Rattle.joint_model.specs.Laws.{RepliesStay, ResumesHeld, ShowsTheWorld, StandsStill};
+ghost use Rattle.joint_model.specs.Laws.{RepliesStay, ResumesHeld, ShowsTheWorld, StandsStill, StopsAreHeld};
 
 /// A look-up that is done by the replies of a target that obeys JDWP has the value that it has in the target's world,
 /// in whatever order they were asked for and came, and whatever numbers the target chose for its errors. One that has
@@ -27,13 +27,19 @@ pub fn suspensions_balance()
     ensures { Balances }
 {}
 
-/// As long as a stop is in hand and no Suspend waits for its reply, a target that obeys JDWP, lives and wasn't left
-/// stands still: all its threads are suspended, its program doesn't run, and no event and no command changes a class,
-/// an object, a thread, a frame or a value, but for the value that a SetValues puts. So each question has the same
-/// reply as before, as long as that is so (DAP specification, Events, Stopped; JDWP, VirtualMachine command set,
-/// Suspend).
-pub fn a_target_stands_still_in_a_stop()
+/// As long as the machine holds a suspension of the whole target, for the stop in hand, as its entry or for the
+/// composite in hand, and no Suspend waits for its reply, a target that obeys JDWP, lives and wasn't left stands still:
+/// all its threads are suspended, its program doesn't run, and no event and no command changes a class, an object, a
+/// thread, a frame or a value, but for the value that a SetValues puts. So each question has the same reply as before,
+/// as long as that is so (JDWP, Event command set, Composite; JDWP, VirtualMachine command set, Suspend).
+pub fn a_target_that_is_held_stands_still()
     ensures { StandsStill }
+{}
+
+/// In a stop the machine holds a suspension of the whole target (DAP specification, Events, Stopped; JDWP,
+/// VirtualMachine command set, Suspend).
+pub fn a_stop_holds_the_target()
+    ensures { StopsAreHeld }
 {}
 
 /// At rest, once the session is attached, with no command unserved, nothing in flight and nothing unread, a target that
@@ -56,18 +62,21 @@ pub fn what_is_pending_is_on_its_way()
     ensures { PendingOnTheWay }
 {}
 
-/// As long as a stop is in hand and no Suspend waits for its reply, each reply to a question that is in flight from a
-/// target that obeys JDWP, lives and wasn't left is one that the target may give as its world stands: nothing that it
-/// tells has changed since (DAP specification, Events, Stopped; JDWP, JDWP Packets).
-pub fn replies_in_flight_stay_so_in_a_stop()
+/// As long as the machine holds a suspension of the whole target and no Suspend waits for its reply, each reply to a
+/// question that is in flight from a target that obeys JDWP, lives and wasn't left is one that the target may give as
+/// its world stands: nothing that it tells has changed since (JDWP, JDWP Packets; JDWP, VirtualMachine command set,
+/// Suspend).
+pub fn replies_in_flight_stay_so_while_the_target_is_held()
     ensures { RepliesStay }
 {}
 
-/// As long as a stop is in hand and no Suspend waits for its reply, over a target that obeys JDWP, lives and wasn't
-/// left, and where what is known of classes is so in its world: a look-up that is done for a request, which has changed
-/// nothing yet, has the value that it has in that world as it stands; one that has failed has none there (DAP
-/// specification, StackTrace, Scopes, Variables, Evaluate and ExceptionInfo requests; JDWP, Detailed Command
-/// Information).
-pub fn a_look_up_in_a_stop_shows_the_world_as_it_stands()
+/// As long as the machine holds a suspension of the whole target and no Suspend waits for its reply, over a target that
+/// obeys JDWP, lives and wasn't left, and where what is known of classes is so in its world: a look-up for a request or
+/// a composite in hand, for which nothing was written so far, has the value that it has in that world as it stands; one
+/// that has failed has none there. Nothing was written where only questions were sent for it, nor where a look-up is
+/// still to be done: before that at most event requests are set and cleared (DAP specification, StackTrace, Scopes,
+/// Variables, Evaluate and ExceptionInfo requests; JDWP, Detailed Command Information; JDWP, Event command set,
+/// Composite).
+pub fn a_look_up_shows_the_world_as_it_stands()
     ensures { ShowsTheWorld }
 {}

@@ -128,7 +128,7 @@ watch_is effect replied unlisted = grind arith
 
 -- The view ------------------------------------------------------------------------------------------------------------
 
-abbrev says_so : Option Message → View → View
+abbrev pub says_so : Option Message → View → View
 says_so None view = view
 says_so (Some message) view = says message view
 
@@ -269,10 +269,10 @@ ended_seen m gone f l =
     (gone_owed (is_gone m.state.phase) false m.hand gone f)
 
 -- how a move changes what is known: as its message says; or a composite is at its turn
-data Sees (m next : Machine) : Option Message → Type 0 where
+pub data Sees (m next : Machine) : Option Message → Type 0 where
   as_said : {said : Option Message} → view_of next ≡ says_so said (view_of m) → Sees m next said
-  at_turn : (composite : Composite) (others : List Composite) → m.state.phase ≡ Attached → (view_of m).composites ≡ composite ∷ others
-      → view_of next ≡ turned_view composite others (view_of m) → Sees m next None
+  at_turn : (composite : Composite) (others : List Composite) → m.hand ≡ None → m.state.phase ≡ Attached
+      → (view_of m).composites ≡ composite ∷ others → view_of next ≡ turned_view composite others (view_of m) → Sees m next None
 
 -- Turns ---------------------------------------------------------------------------------------------------------------
 
@@ -336,7 +336,7 @@ begun_seen m item rest none late ends are = by_item item late ends are
         → Sees m (begun m (a_composite at composite) rest) None
     by_phase at composite Fresh is late are = cc
     by_phase at composite Attached is late are =
-        Sees.at_turn composite (flat_map composite_in rest) is (rw is are)
+        Sees.at_turn composite (flat_map composite_in rest) none is (rw is are)
         (rw (
           is,
           holds (has_death composite.events) composite.policy (held_in m.state m.hand) _ none_held
@@ -572,7 +572,7 @@ record Said (messages : List Message) (m : Machine) : Type 0 where
 said_next : (messages : List Message) (m next : Machine) (said : Option Message) → may_so (view_of m) said ≡ true
     → Sees m next said → AreSaid messages (view_of m) → AreSaid (with_said messages said) (view_of next)
 said_next messages m next None may (Sees.as_said is) h = subst (λ (view : View). AreSaid messages view) (sym is) h
-said_next messages m next None may (Sees.at_turn composite others attached are is) h =
+said_next messages m next None may (Sees.at_turn composite others none attached are is) h =
     subst (λ (view : View). AreSaid messages view) (sym is) (AreSaid.turns composite others h attached are)
 said_next messages m next (Some message) may (Sees.as_said is) h =
     subst (λ (view : View). AreSaid (messages ++ message ∷ []) view) (sym is) (AreSaid.one_more message may h)
@@ -602,21 +602,30 @@ said_on messages m next said r s moved =
       in_order = order_next messages said (length next.state.threads) (n.in_order s.in_order);
     }
 
+all_said : {messages : List Message} {m : Machine} → Run messages m → Said messages m
+all_said r = by_runs {Holds = Said} (record {
+  starts = record {
+    quiet = refl;
+    kept = refl;
+    marked = refl;
+    ordered = refl;
+    said_so = AreSaid.none;
+    distinct = refl;
+    in_order = AreInOrder.none;
+  };
+  moves = λ messages m next said before s moved after. said_on messages m next said before s moved;
+}) r
+
 pub is_known : (messages : List Message) (m : Machine) → Run messages m → IsKnown messages m
-is_known messages m r =
-    let s = by_runs {Holds = Said} (record {
-      starts = record {
-        quiet = refl;
-        kept = refl;
-        marked = refl;
-        ordered = refl;
-        said_so = AreSaid.none;
-        distinct = refl;
-        in_order = AreInOrder.none;
-      };
-      moves = λ messages m next said before s moved after. said_on messages m next said before s moved;
-    }) r in record {
-      said = s.said_so;
-      once = numbered_once m.state.threads s.distinct;
-      in_order = s.in_order;
-    }
+is_known messages m r = let s = all_said r in record {
+  said = s.said_so;
+  once = numbered_once m.state.threads s.distinct;
+  in_order = s.in_order;
+}
+
+-- each move in a run changes what is known so
+pub sees_on : {messages : List Message} {m next : Machine} {said : Option Message} → Run messages m
+    → Moves m said next → Sees m next said
+sees_on {m = m} {next} {said} r moved = let s = all_said r in
+    view_on m next said s.quiet s.kept (no_late r) (tested free r) s.ordered (always_early r) s.marked (holding r)
+    (lost_held r) moved
