@@ -3,6 +3,7 @@
 ghost use Rattle.std.specs.Prelude.{◌≡◌, IfOk};
 ghost use Rattle.machine_model.specs.Children.{locals_plan, of_variable, visible_at, visible_plan, with_this};
 ghost use Rattle.machine_model.specs.Plans.{need};
+ghost use Rattle.machine_model.specs.Writing.{is_this, sought_in};
 ghost use Rattle.look_ups.specs.Needs.{need_of, need_with, seen_by};
 
 use crate::children::{Child, Place};
@@ -96,5 +97,23 @@ pub(crate) fn locals_need(
         Need::Has((value, children)) => Ok(Need::Has(with_this(alloc, value, children)?)),
         Need::Fails { place, code } => Ok(Need::Fails { place, code }),
         Need::Lacks { first, others } => Ok(Need::Lacks { first, others }),
+    }
+}
+
+/// The children of a frame among which a name is sought: the receiver of its method is asked for only where that is
+/// `this`.
+pub(crate) fn sought_need(
+    alloc: Global,
+    sight: Sight<'_>,
+    frame: FrameThing,
+    name: &Text,
+) -> Result<Need<VecDeque<Child>>, NoMemory>
+    ensures { IfOk result (λ found. need_with (λ children. children.items) found
+        ≡ need (seen_by sight.entry) (sought_in frame (is_this name.now))) }
+{
+    if "this".as_bytes() == name.as_bytes() {
+        locals_need(alloc, sight, frame)
+    } else {
+        visible_need(alloc, sight, frame)
     }
 }

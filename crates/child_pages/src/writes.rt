@@ -17,7 +17,7 @@ ghost use Rattle.child_pages.specs.Shown.{write_said, writing_of};
 
 use crate::children::Child;
 use crate::fields::object_fields;
-use crate::locals::locals_need;
+use crate::locals::sought_need;
 use crate::paired::of_index;
 use crate::writing::{Writing, Written, element_store, field_store, place_written, slot_store};
 use dap_messages::Failure;
@@ -79,7 +79,7 @@ fn local_written(
     ensures { IfOk result (λ found. need_with write_said found
         ≡ need (seen_by sight.entry) (local_written (writing_of writing.entry) frame name.now)) }
 {
-    match locals_need(alloc, sight, frame)? {
+    match sought_need(alloc, sight, frame, name)? {
         Need::Has(children) => {
             let children = Vec::from(children);
             let child = child_named(name.as_bytes(), children.as_slice());

@@ -6,7 +6,7 @@ use Rattle.std.specs.Str.Parse.{digits_value}
 use Rattle.dap_messages.specs.Telling.{no_such_name}
 use Rattle.jdwp_commands.specs.declared.question.Question.TheVariants as questions
 use Rattle.jdwp_values.specs.declared.value.Value.{Value}
-use Rattle.machine_model.specs.Children.{Child, Place, index_name, locals_plan, object_fields, of_index}
+use Rattle.machine_model.specs.Children.{Child, Place, index_name, object_fields, of_index}
 use Rattle.machine_model.specs.Exceptions.{mode_of}
 use Rattle.machine_model.specs.Lookups.{found_for, name_plan, names_plan, plan, sight_of, threads_in}
 use Rattle.machine_model.specs.Outcomes.{result_of}
@@ -17,7 +17,7 @@ use Rattle.machine_model.specs.State.{Hand, State}
 use Rattle.machine_model.specs.Values.{by_id, declared_plan, length_plan, type_plan}
 use Rattle.machine_model.specs.Writing.{Writing, child_named, child_written, digits_of, element_by, element_store}
 use Rattle.machine_model.specs.Writing.{field_store, field_written, index_written, is_index_name, object_size}
-use Rattle.machine_model.specs.Writing.{slot_store, value_for, write_by, write_with}
+use Rattle.machine_model.specs.Writing.{is_this, slot_store, sought_in, value_for, write_by, write_with}
 use Rattle.machine_steps.specs.Names.{Answer, Failure, Finding, NamedThread, Store, ThreadId, Thrown, Want}
 use Rattle.machine_steps.specs.Names.{all_threads, exception_found, exception_info, frames_found, no_value}
 use Rattle.machine_steps.specs.Names.{threads_found, value_found, variable_write, variables_found, write_found}
@@ -129,7 +129,7 @@ at_index w name true array =
 of_thing : (w : Writing) (thing : Thing) (name : List ℕ) → AllGives is_of_write (write_by w thing name)
 unfolding AllGives
 of_thing w (things.Frame frame) name = refl
-of_thing w (things.Locals frame) name = chains is_of_write (locals_plan frame)
+of_thing w (things.Locals frame) name = chains is_of_write (sought_in frame (is_this name))
     (λ children. child_written w (slot_store frame) (child_named name children))
     (λ children. of_child w (slot_store frame) (child_named name children))
 of_thing w (things.Object object) name = by_object object.0

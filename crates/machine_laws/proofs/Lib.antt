@@ -40,6 +40,7 @@ pub mod PausedEvents
 pub mod PausedStops
 pub mod PlanLaws
 pub mod QuestionLaws
+pub mod ReceiverLaws
 pub mod RefusedSteps
 pub mod ReplyLaws
 pub mod SafePlans

@@ -29,7 +29,7 @@ use Rattle.machine_model.specs.Harmless.{is_harmless}
 use Rattle.machine_model.specs.Lookups.{name_plan, names_plan, threads_in, threads_plan}
 use Rattle.machine_model.specs.Writing.{Writing, child_named, child_written, digits_of, element_by, element_store}
 use Rattle.machine_model.specs.Writing.{field_store, field_written, index_written, is_index_name, local_written}
-use Rattle.machine_model.specs.Writing.{slot_store, value_for, write_by, write_with}
+use Rattle.machine_model.specs.Writing.{is_this, slot_store, sought_in, value_for, write_by, write_with}
 use Rattle.machine_steps.specs.Names.{Answer, ClassId, ThreadId, Thrown, Want, exception_found, frames_found}
 use Rattle.machine_steps.specs.Names.{text_found, Failure, Store, no_value, value_found, variables_found}
 use Rattle.std.specs.Str.Parse.{digits_value}
@@ -190,12 +190,14 @@ exception_safe thrown = makes is_safe (λ id. exception_found id (mode_of thrown
 
 -- Children ------------------------------------------------------------------------------------------------------------
 
+visible_safe : (f : FrameThing) → Safe (visible_plan f)
+visible_safe f = makes is_safe (visible_at f.at.index) (variables_plan f.at.class f.at.method)
+    (asks is_safe listed_variables (Want.Fact (questions.VariableTable f.at.class f.at.method)) refl)
+
 locals_safe : (f : FrameThing) → Safe (locals_plan f)
 locals_safe f = makes is_safe with_this (both (this_plan f) (visible_plan f))
     (both_safe (this_plan f) (visible_plan f)
-    (asks is_safe this_in (Want.Must (questions.ThisObject f.thread f.frame)) refl)
-    (makes is_safe (visible_at f.at.index) (variables_plan f.at.class f.at.method)
-    (asks is_safe listed_variables (Want.Fact (questions.VariableTable f.at.class f.at.method)) refl)))
+    (asks is_safe this_in (Want.Must (questions.ThisObject f.thread f.frame)) refl) (visible_safe f))
 
 chain_safe : (steps : ℕ) (met : List ℕ) (class : ℕ) → Safe (chain steps met class)
 unfolding chain
@@ -411,9 +413,13 @@ child_written_safe w store_in (Some child) = makes is_safe
     (λ declared. write_with w (store_in child.place) declared (value_for declared w.text)) (declared_plan child.declared)
     (declared_safe child.declared)
 
+sought_safe : (f : FrameThing) (this : Bool) → Safe (sought_in f this)
+sought_safe f false = visible_safe f
+sought_safe f true = locals_safe f
+
 local_written_safe : (w : Writing) (f : FrameThing) (name : List ℕ) → Safe (local_written w f name)
-local_written_safe w f name = chains is_safe (locals_plan f)
-    (λ children. child_written w (slot_store f) (child_named name children)) (locals_safe f)
+local_written_safe w f name = chains is_safe (sought_in f (is_this name))
+    (λ children. child_written w (slot_store f) (child_named name children)) (sought_safe f (is_this name))
     (λ children. child_written_safe w (slot_store f) (child_named name children))
 
 field_written_safe : (w : Writing) (name : List ℕ) (id : ℕ) → Safe (field_written w name (suc id))

@@ -3,6 +3,7 @@ pub mod Changing
 pub mod ClientStops
 pub mod NamedThreads
 pub mod Pausing
+pub mod ReceiverQuestions
 pub mod Settings
 pub mod StepRequests
 pub mod ThreadEvents

@@ -6,6 +6,7 @@ ghost use Rattle.machine_laws.specs.Changing.{Changes};
 ghost use Rattle.machine_laws.specs.ClientStops.{ShowsStops};
 ghost use Rattle.machine_laws.specs.NamedThreads.{AsksNamed, StepsNamed};
 ghost use Rattle.machine_laws.specs.Pausing.{Pauses, TellsPauses};
+ghost use Rattle.machine_laws.specs.ReceiverQuestions.{NamesOthers, SparesReceivers};
 ghost use Rattle.machine_laws.specs.Settings.{Sets};
 ghost use Rattle.machine_laws.specs.StepRequests.{FailsRefused, StepsAsAsked};
 ghost use Rattle.machine_laws.specs.ThreadEvents.{TellsInHand, TellsThreads};
@@ -339,4 +340,12 @@ pub fn values_are_set_by_writes_in_a_stop()
 /// (DAP specification, ExceptionInfo request; JDWP, Event command set, Composite, Exception).
 pub fn exception_infos_are_of_threads_that_have_thrown()
     ensures { ShowsThrown }
+{}
+
+/// A `setVariable` asks for the receiver of a frame's method only where that is what it names, which is `this`. Any
+/// other name stands for the same variable with the receiver beside it and without (DAP specification, SetVariable
+/// request; JDWP, StackFrame command set, ThisObject).
+pub fn the_receiver_is_asked_for_by_its_name()
+    ensures spares { SparesReceivers }
+    ensures others { NamesOthers }
 {}

@@ -16,7 +16,7 @@ use Rattle.jdwp_values.specs.declared.tag.Tag.{Tag}
 use Rattle.jdwp_values.specs.declared.value.Value.{Value}
 use Rattle.jdwp_values.specs.declared.value.Value.TheVariants as values
 use Rattle.machine_model.specs.Children.{Child, Place, at_index, first_byte, in_field, in_slot, index_name, locals_plan}
-use Rattle.machine_model.specs.Children.{object_fields, of_index}
+use Rattle.machine_model.specs.Children.{object_fields, of_index, visible_plan}
 use Rattle.machine_model.specs.Names.{Failure, Finding, Store, Write, no_value, to_element, to_field, to_slot, write_found}
 use Rattle.machine_model.specs.Plans.{Plan, chained, gives, made_with}
 use Rattle.machine_model.specs.State.{SizesRead}
@@ -152,9 +152,18 @@ index_written w name true array = element_written w name (digits_value 10 (digit
 
 -- The look-up ---------------------------------------------------------------------------------------------------------
 
+-- A name is sought among a frame's variables; the receiver is asked for where the name is its own alone (JDWP, StackFrame
+-- command set, ThisObject).
+abbrev pub is_this : List ℕ → Bool
+is_this name = bytes_eq (codes "this") name
+
+abbrev pub sought_in : FrameThing → Bool → Plan (List Child)
+sought_in frame false = visible_plan frame
+sought_in frame true = locals_plan frame
+
 abbrev pub local_written : Writing → FrameThing → List ℕ → Plan Finding
-local_written w frame name =
-    chained (locals_plan frame) (λ children. child_written w (slot_store frame) (child_named name children))
+local_written w frame name = chained (sought_in frame (is_this name))
+    (λ children. child_written w (slot_store frame) (child_named name children))
 
 abbrev pub field_written : Writing → List ℕ → ℕ → Plan Finding
 field_written w name object =

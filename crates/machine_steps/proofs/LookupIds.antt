@@ -62,7 +62,7 @@ use Rattle.machine_model.specs.Children.{reach, this_in, this_plan, variables_pl
 use Rattle.machine_model.specs.Children.{with_class, with_name, with_this, index_name, first_byte}
 use Rattle.machine_model.specs.Writing.{Writing, child_named, child_written, digits_of, element_by, element_store}
 use Rattle.machine_model.specs.Writing.{field_store, field_written, index_written, is_index_name, local_written}
-use Rattle.machine_model.specs.Writing.{slot_store, value_for, write_by, write_with}
+use Rattle.machine_model.specs.Writing.{is_this, slot_store, sought_in, value_for, write_by, write_with}
 use Rattle.machine_model.proofs.WriteIds.{OfStore, OfValueRead, value_read}
 use Rattle.std.specs.Str.Parse.{digits_value}
 use Rattle.dap_messages.specs.Telling.{bad_index, no_such_name}
@@ -925,10 +925,14 @@ module _ (P : Id → Type 0) (null : P (class 0)) (sight : Sight) (known : Known
   element_stores id k (at_index i) h = k
   element_stores id k _ h = tt
 
+  sought_row : (f : FrameThing) → OfFrameThing P f → (this : Bool) → Row (All OfChild) (sought_in f this)
+  sought_row f k false = visible_row f k
+  sought_row f k true = locals_row f k
+
   local_written_row : (w : Writing) (f : FrameThing) → OfFrameThing P f → (name : List ℕ)
       → Row (IsGood P) (local_written w f name)
-  local_written_row w f k name = chains (All OfChild) (IsGood P) (locals_plan f)
-      (λ children. child_written w (slot_store f) (child_named name children)) (locals_row f k)
+  local_written_row w f k name = chains (All OfChild) (IsGood P) (sought_in f (is_this name))
+      (λ children. child_written w (slot_store f) (child_named name children)) (sought_row f k (is_this name))
       (λ children h. child_row_written w (slot_store f) (slot_stores f k) (child_named name children)
       (child_found name children h))
 
