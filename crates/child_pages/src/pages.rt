@@ -20,9 +20,6 @@ use std::collections::VecDeque;
 use stop_refs::{FrameThing, Thing};
 use wire_core::{List, NoMemory};
 
-// The greatest number that is asked for.
-const LAST_ASKED: u32 = 2147483647;
-
 // The variables of a frame, each with its value.
 #[tactic(auto, using(machine_model::proofs::PlanIds::need_made))]
 fn locals_valued(
@@ -112,9 +109,6 @@ fn elements_valued(
     ensures { IfOk result (λ found. need_of found
         ≡ need (seen_by sight.entry) (elements_valued array start count)) }
 {
-    if count > 0 && start > LAST_ASKED {
-        return Err(NoMemory);
-    }
     match elements_heard(alloc, sight, array, start, count)? {
         Need::Has(found) => {
             let children = elements_of(alloc, array, start, count)?;

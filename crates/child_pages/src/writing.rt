@@ -12,7 +12,7 @@ ghost use Rattle.child_pages.specs.Shown.{place_of, write_said, writing_of};
 use crate::children::Place;
 use dap_messages::Failure;
 use jdwp_values::{ObjectId, Tag, Value};
-use look_ups::{Declared, Need, Sight, childless, declared_need, first_byte, type_if};
+use look_ups::{Declared, Need, Sight, as_int, childless, declared_need, first_byte, type_if};
 use machine_model::{Seen, Store, Write};
 use std::alloc::Global;
 use stop_refs::FrameThing;
@@ -103,12 +103,10 @@ pub(crate) fn element_store(array: u64, place: Place) -> Result<Option<Store>, N
 {
     match place {
         Place::Index(index) => {
-            if index > i32::MAX as u32 {
-                return Err(NoMemory);
-            }
+            let index = as_int(index)?;
             Ok(Some(Store::Element {
                 array: ObjectId(array),
-                index: index as i32,
+                index,
             }))
         }
         Place::Known(_) => Ok(None),

@@ -1,5 +1,5 @@
 //! What was answered to questions for values.
-ghost use Rattle.std.specs.Prelude.{◌≡◌, ◌<◌, ◌≤◌, ◌^◌, ◌∷◌, [], pos, IfOk, MatchResult, Some};
+ghost use Rattle.std.specs.Prelude.{◌≡◌, ◌<◌, ◌≤◌, ◌^◌, ◌+◌, ◌∷◌, [], pos, IfOk, MatchResult, OnOk, Some};
 ghost use Rattle.machine_model.specs.Plans.{asking, need};
 ghost use Rattle.machine_model.specs.Variables.{elements_plan, field_values, slots_plan, values_in};
 ghost use Rattle.machine_model.specs.declared.acts.Want.{Want};
@@ -108,8 +108,8 @@ pub fn as_int(number: u32) -> Result<i32, NoMemory>
 }
 
 /// The values of so many elements of the array of an id, from an index on, by what was replied; of no elements
-/// nothing is asked. `NoMemory` comes where memory is refused, and for a number of 2^31 or more (JDWP, ArrayReference
-/// command set, GetValues).
+/// nothing is asked. `NoMemory` comes where memory is refused, and for a number of 2^31 or more: so an element that is
+/// asked for has an index (JDWP, ArrayReference command set, GetValues).
 #[tactic(auto, unfolding(machine_model::specs::Plans::need))]
 pub fn elements_heard<'a>(
     alloc: Global,
@@ -118,8 +118,9 @@ pub fn elements_heard<'a>(
     start: u32,
     count: u32,
 ) -> Result<Need<&'a [Value]>, NoMemory>
-    ensures { IfOk result (λ found. need_with (λ values. values.now) found
+    ensures found { IfOk result (λ found. need_with (λ values. values.now) found
         ≡ need (seen_by sight.entry) (elements_plan array start count)) }
+    ensures indices { OnOk result (start + count < 2 ^ 32) }
 {
     if count == 0 {
         return Ok(Need::Has(&[]));

@@ -1,5 +1,5 @@
 //! The stop in hand, with the numbers of what was told in it.
-ghost use Rattle.std.specs.Prelude.{◌≡◌, false, true, IfOk, OnOk};
+ghost use Rattle.std.specs.Prelude.{◌≡◌, ◌+◌, ◌^◌, ◌<◌, ◌≤◌, false, length, true, MatchResult, OnOk};
 ghost use Rattle.machine_model.specs.Due.{numbers_by, still_numbered, still_stopped, stopped_by};
 ghost use Rattle.machine_model.specs.State.{numbers_over};
 ghost use Rattle.stop_refs.specs.Numbers.{begun};
@@ -63,9 +63,10 @@ pub fn end_stop(alloc: Global, numbers: &mut Numbers)
     }
 }
 
-// The next stop, where it can be counted.
+// The next stop. It takes no memory: `NoMemory` comes just where there are as many stops as are counted.
 fn next_stop(running: Running) -> Result<Stop, NoMemory>
-    ensures { IfOk result (λ stop. stop ≡ begun running) }
+    ensures { MatchResult result (λ stop. (stop ≡ begun running) × (length running.firsts + 1 < 2 ^ 63))
+        (λ _. 2 ^ 63 ≤ length running.firsts + 1) }
 {
     if running.stops() >= MOST_STOPS {
         return Err(NoMemory);

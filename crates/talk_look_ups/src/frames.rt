@@ -16,7 +16,7 @@ use crate::frame_names::{ClassHeard, frame_shown, line_at};
 use crate::need::{Need, lacks};
 use jdwp_commands::{Answer, Frame, Question, Replied};
 use jdwp_values::{ClassId, LineTable, Location, MethodId, ThreadId};
-use look_ups::{Asked, QuestionKey};
+use look_ups::{Asked, QuestionKey, as_int};
 use machine_model::{Finding, ShownFrame, Want};
 use session_facts::{known_signature, line_table_in};
 use std::alloc::Global;
@@ -26,9 +26,6 @@ use wire_core::{List, NoMemory};
 
 // So many frames are shown at most.
 const MOST_FRAMES: u32 = 10_000;
-
-// The greatest number that is asked for.
-const LAST_ASKED: u32 = 2147483647;
 
 // The signature of a class in a reply (JDWP, ReferenceType command set, Signature).
 fn signature_in(replied: &Replied) -> &[u8]
@@ -267,16 +264,6 @@ fn count_from(total: u32, start: u32, levels: u32) -> u32
     }
 }
 
-// A number as it is asked for; one of 2^31 or more isn't.
-fn as_asked(number: u32) -> Result<i32, NoMemory>
-    ensures { IfOk result (λ asked. asked ≡ pos number) }
-{
-    if number > LAST_ASKED {
-        return Err(NoMemory);
-    }
-    Ok(number as i32)
-}
-
 // So many frames are asked for, from a place on (JDWP, ThreadReference command set, Frames).
 #[tactic(auto, using(crate::proofs::FrameLaws::listed_need))]
 fn listed_need(
@@ -291,8 +278,8 @@ fn listed_need(
     ensures { IfOk result (λ found. need_of found
         ≡ listed_in (sight_in state.now asked.now) state.now thread total start count) }
 {
-    let start = as_asked(start)?;
-    let length = as_asked(count)?;
+    let start = as_int(start)?;
+    let length = as_int(count)?;
     let key = QuestionKey::new(
         alloc,
         Question::Frames {

@@ -1,5 +1,5 @@
 //! Breakpoints as a client lists them: their ids, and how each is told.
-ghost use Rattle.std.specs.Prelude.{◌≡◌, ◌+◌, pos, map, IfOk};
+ghost use Rattle.std.specs.Prelude.{◌≡◌, ◌+◌, ◌^◌, pos, map, IfOk, MatchResult};
 ghost use Rattle.machine_model.specs.Breakpoints.{breakpoint_told, entry_of, key_of, numbered_from, status_by};
 ghost use Rattle.machine_model.specs.Breakpoints.{status_of, target_line};
 ghost use Rattle.machine_model.specs.Rows.{breakpoint_parts};
@@ -15,9 +15,9 @@ use wish_sets::{EntryState, LineEntry, Wishes};
 // The greatest line (JDWP, Method command set, LineTable, lineNumber).
 const LAST_LINE: u32 = 2147483647;
 
-/// The id behind this one. One that has no room comes to no memory.
+/// The id behind this one. It takes no memory: `NoMemory` comes just where that is 2^64.
 pub(crate) fn next_id(id: u64) -> Result<u64, NoMemory>
-    ensures { IfOk result (λ next. next ≡ id + 1) }
+    ensures { MatchResult result (λ next. next ≡ id + 1) (λ _. id + 1 ≡ 2 ^ 64) }
 {
     match id.checked_add(1) {
         Some(next) => Ok(next),

@@ -1,5 +1,5 @@
 //! What an item writes down.
-ghost use Rattle.std.specs.Prelude.{◌≡◌, ◌++◌, OnOk};
+ghost use Rattle.std.specs.Prelude.{◌≡◌, ◌++◌, ◌+◌, ◌^◌, ◌≤◌, MatchResult, OnOk};
 ghost use Rattle.machine_model.specs.Rows.{noted};
 ghost use Rattle.machine_model.specs.declared.parts.Note.TheVariants.{Classes, Functions, Lines};
 ghost use Rattle.machine_model.specs.declared.parts.Note.TheVariants.{Exceptions as StopsAt, Step as Steps};
@@ -85,9 +85,7 @@ impl State {
     ) -> Result<(), NoMemory>
         ensures { OnOk result (self.new ≡ noted (Lines key path entries) self.old) }
     {
-        let Some(next) = self.next_entry.checked_add(entries.len() as u64) else {
-            return Err(NoMemory);
-        };
+        let next = id_behind(self.next_entry, entries.len())?;
         if let Some(key) = key {
             self.left = None;
             self.paths.put(alloc, &key, path)?;
@@ -105,13 +103,21 @@ impl State {
     ) -> Result<(), NoMemory>
         ensures { OnOk result (self.new ≡ noted (Functions entries) self.old) }
     {
-        let Some(next) = self.next_entry.checked_add(entries.len() as u64) else {
-            return Err(NoMemory);
-        };
+        let next = id_behind(self.next_entry, entries.len())?;
         self.left = None;
         self.wishes.set_functions(alloc, entries)?;
         self.next_entry = next;
         Ok(())
+    }
+}
+
+// The id behind so many, from this one on. It takes no memory: `NoMemory` comes just where that would reach 2^64.
+fn id_behind(first: u64, count: usize) -> Result<u64, NoMemory>
+    ensures { MatchResult result (λ next. next ≡ first + count) (λ _. 2 ^ 64 ≤ first + count) }
+{
+    match first.checked_add(count as u64) {
+        Some(next) => Ok(next),
+        None => Err(NoMemory),
     }
 }
 
