@@ -6,7 +6,7 @@ use Rattle.std.specs.Prelude.{◌==◌, is_some}
 use Rattle.std.proofs.lemmas.List.{length-map, map-append}
 use Rattle.std.specs.List.{flat_map, remove}
 use Rattle.jdwp_commands.specs.declared.asked.Asked.TheVariants as commands
-use Rattle.machine_model.specs.Asking.{is_new, was_asked}
+use Rattle.machine_model.specs.Apart.{is_new, was_asked}
 use Rattle.machine_model.specs.Due.{asked_hand, due, is_full}
 use Rattle.machine_model.specs.Keys.{same_question}
 use Rattle.machine_model.specs.Plans.{asks_for, question_of}
@@ -374,6 +374,7 @@ always_once : {messages : List Message} {m : Machine} → Run messages m → IsO
 always_once r = by_runs {Holds = λ (messages : List Message) (m : Machine). IsOnce m.hand} (record {
   starts = refl;
   moves = λ messages m next said r h moved after. once_on m next said r h moved;
+  queues = λ messages m hand queue r may h. h;
 }) r
 
 -- in every run no question was asked twice for the item in hand

@@ -29,6 +29,7 @@ pub run_of : {messages : List Message} {m : Machine} {w : World} {commands : Lis
     {packets : List Packet} {kept : List Composite} → Joint messages m w commands packets kept → Run messages m
 run_of (Joint.starts sound alive free none) = Run.starts
 run_of (Joint.goes j is) = Run.goes (run_of j) is
+run_of (Joint.queues j may) = Run.queues (run_of j) may
 run_of (Joint.says j allows aside) = Run.moves (run_of j) allows
 run_of (Joint.sends j allows) = Run.moves (run_of j) allows
 run_of (Joint.gets j allows) = Run.moves (run_of j) allows
@@ -136,6 +137,7 @@ balanced : {messages : List Message} {m : Machine} {w : World} {commands : List 
     → has_such sends_farewell messages ≡ false → IsBalanced messages w commands packets kept
 balanced (Joint.starts sound alive free none) lives near = record { stays = refl; count = free }
 balanced (Joint.goes j is) lives near = balanced j lives near
+balanced (Joint.queues j may) lives near = balanced j lives near
 balanced (Joint.says {messages} {message = message} j allows aside) lives near =
     let b = balanced j lives (not_left messages message near).0 in
     let stays = b.stays in let count = b.count in

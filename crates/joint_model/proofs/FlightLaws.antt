@@ -1,6 +1,6 @@
 -- What is pending is on its way, and while a suspension is held each reply in flight is still so when it comes.
 use Rattle.std.proofs.Common.{◌≡◌, ◌<◌, ℕ, ◌+◌, Bool, true, false, ◌||◌, List, [], ◌∷◌, ◌++◌, Some}
-use Rattle.std.proofs.Common.{Option, None, refl, sym, ap, ◌∙◌, arith}
+use Rattle.std.proofs.Common.{Option, None, refl, sym, ap, subst, ◌∙◌, arith}
 use Rattle.std.specs.List.{AllByRecursion, flat_map}
 use Rattle.joint_model.specs.Joints.{Joint, Packet, a_reply, is_aside, some_events}
 use Rattle.joint_model.specs.Laws.{IsHeld, IsStillSo, is_suspend, replies_to, total}
@@ -9,13 +9,14 @@ use Rattle.joint_model.specs.Names.{a_question, an_effect}
 use Rattle.joint_model.specs.Obeying.{Replies, Serves}
 use Rattle.jdwp_commands.specs.declared.question.Question.{Question}
 use Rattle.machine_model.specs.Due.{due}
+use Rattle.machine_model.specs.Knowing.{held_in}
 use Rattle.machine_model.specs.Leaving.{sends_farewell}
 use Rattle.machine_model.specs.Names.{Composite, Replied}
 use Rattle.machine_model.specs.Pending.{ArePending, bit, count, has_change, has_such}
 use Rattle.machine_model.specs.Pending.{is_change, replied_by, sent_by}
-use Rattle.machine_model.specs.Replying.{pending_of, wire}
+use Rattle.machine_model.specs.Replying.{pending_in, pending_of, wire}
 use Rattle.machine_model.specs.Runs.{Allows, Message}
-use Rattle.machine_model.specs.State.{Machine}
+use Rattle.machine_model.specs.State.{Hand, Machine}
 use Rattle.machine_steps.proofs.PendingLaws.{all_open, pending_is}
 use Rattle.machine_steps.proofs.Stepping.{Moves, moved, walks_due}
 use Rattle.machine_steps.proofs.Tables.{free}
@@ -63,6 +64,7 @@ on_way : (test : TargetCommand → Bool) {messages : List Message} {m : Machine}
     ≡ count test commands + (total (replies_to test) packets + total (replied_in test) messages)
 on_way test (Joint.starts sound alive free none) = refl
 on_way test (Joint.goes j is) = on_way test j
+on_way test (Joint.queues j may) = on_way test j
 on_way test (Joint.says {messages} {message = message} j allows aside) =
     let before = on_way test j in let none = aside_none test message aside in
     let no_sent = none.0 in let no_reply = none.1 in
@@ -276,6 +278,9 @@ pub replies_so : {messages : List Message} {m : Machine} {w : World} {commands :
     → AllByRecursion (IsStillSo w) packets
 replies_so (Joint.starts sound alive free none) lives near here few = tt
 replies_so (Joint.goes j is) lives near here few = before_goes j is here few (replies_so j lives near)
+replies_so (Joint.queues {m = m} j may) lives near here few = replies_so j lives near
+    (subst (λ (held : Option Hand). 0 < held_in m.state held) (sym may.held) here)
+    (subst (λ (held : Option Hand). count is_suspend (m.late ++ pending_in held) ≡ 0) (sym may.held) few)
 replies_so (Joint.says {messages} {message = message} j allows aside) lives near here few =
     before_message j allows here few (replies_so j lives (not_left messages message near).0)
 replies_so (Joint.sends {messages} {command = command} j allows) lives near here few =

@@ -10,6 +10,7 @@ use Rattle.joint_model.specs.Names.{Does, Effect, Suspend, TargetCommand, a_ques
 use Rattle.joint_model.specs.Obeying.{Replies, Serves}
 use Rattle.jdwp_commands.specs.declared.question.Question.{Question}
 use Rattle.machine_model.specs.Due.{due}
+use Rattle.machine_model.specs.Knowing.{held_in}
 use Rattle.machine_model.specs.Leaving.{sends_farewell}
 use Rattle.machine_model.specs.Lookups.{found_for, plan}
 use Rattle.machine_model.specs.Names.{Composite, Replied, an_event}
@@ -347,6 +348,10 @@ hands_so (Joint.starts sound alive free none) lives near = λ some few. tt
 hands_so (Joint.goes {m = m} {w} j is) lives near = λ some few.
     step_so w m (due false m).next None (run_of j) (silent_move is) (near_held (Run.goes (run_of j) is) some) some few
     (λ question replied is. absurd cc) (hands_so j lives near)
+hands_so (Joint.queues {m = m} {w} j may) lives near = λ some few.
+    subst (λ (held : Option Hand). HandSo w held) may.held (hands_so j lives near
+    (subst (λ (held : Option Hand). 0 < held_in m.state held) (sym may.held) some)
+    (subst (λ (held : Option Hand). count is_suspend (m.late ++ pending_in held) ≡ 0) (sym may.held) few))
 hands_so (Joint.says {messages} {m} {next} {w} {message = message} j allows aside) lives near = λ some few.
     said_so w j allows some few (aside_told w message aside) (hands_so j lives (not_left messages message near).0)
 hands_so (Joint.sends {messages} {m} {next} {w} {command = command} j allows) lives near = λ some few.

@@ -223,6 +223,7 @@ message_exact n came done undone _ some is = omega arith
 pub exact : {messages : List Message} {m : Machine} → Run messages m → IsExact messages
 exact Run.starts = refl
 exact (Run.goes r is) = exact r
+exact (Run.queues r may) = exact r
 exact (Run.moves {messages} {m} {next} {message} r allows) =
     let before = exact r in
     rw (

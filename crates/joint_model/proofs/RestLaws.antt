@@ -78,6 +78,7 @@ deaths : {messages : List Message} {m : Machine} {w : World} {commands : List Ta
     → total death_by messages + (total death_of packets + total death_in kept) ≡ 0
 deaths (Joint.starts sound alive free none) lives = refl
 deaths (Joint.goes j is) lives = deaths j lives
+deaths (Joint.queues j may) lives = deaths j lives
 deaths (Joint.says {messages} {message = message} j allows aside) lives =
     let before = deaths j lives in let one = aside_lives message aside in
     let last = total_last death_by messages message in omega arith

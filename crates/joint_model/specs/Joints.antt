@@ -6,8 +6,9 @@ use Rattle.joint_model.specs.Obeying.{Emits, Runs, Serves}
 use Rattle.machine_model.specs.Due.{due}
 use Rattle.machine_model.specs.Names.{Composite, Replied}
 use Rattle.machine_model.specs.Replying.{wire}
-use Rattle.machine_model.specs.Runs.{Allows, Message}
-use Rattle.machine_model.specs.State.{Machine, fresh}
+use Rattle.machine_model.specs.Runs.{Allows, MayQueue, Message, to_ask}
+use Rattle.machine_model.specs.State.{Hand, Machine, fresh}
+use Rattle.machine_model.specs.declared.acts.Want.{Want}
 use Rattle.world_model.specs.declared.world.World.{World}
 use Rattle.world_model.specs.Sound.{IsSound}
 
@@ -38,6 +39,10 @@ pub data Joint : List Message → Machine → World → List TargetCommand → L
   goes : {messages : List Message} {m : Machine} {w : World} {commands : List TargetCommand} {packets : List Packet}
       {kept : List Composite} → Joint messages m w commands packets kept → (due false m).act ≡ Act.Goes
       → Joint messages (due false m).next w commands packets kept
+  queues : {messages : List Message} {m : Machine} {w : World} {commands : List TargetCommand}
+      {packets : List Packet} {kept : List Composite} {hand : Hand} {queue : List Want}
+      → Joint messages m w commands packets kept → MayQueue m hand queue
+      → Joint messages (to_ask m hand queue) w commands packets kept
   says : {messages : List Message} {m next : Machine} {w : World} {commands : List TargetCommand}
       {packets : List Packet} {kept : List Composite} {message : Message} → Joint messages m w commands packets kept
       → Allows m message next → is_aside message ≡ true → Joint (messages ++ message ∷ []) next w commands packets kept

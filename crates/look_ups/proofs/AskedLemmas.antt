@@ -6,7 +6,7 @@ use Rattle.std.specs.Map.{keys_of, lookup, values_of}
 use Rattle.indexmap.specs.IndexMap.{insert_entry}
 use Rattle.indexmap.proofs.MapLemmas.{absent_from_lookup, insert_entry-absent}
 use Rattle.jdwp_commands.specs.declared.question.Question.{Question}
-use Rattle.machine_model.specs.Asking.{was_asked}
+use Rattle.machine_model.specs.Apart.{was_asked}
 use Rattle.machine_model.specs.Keys.{same_question}
 use Rattle.jdwp_commands.specs.declared.asked.Replied.{Replied}
 use Rattle.machine_model.specs.declared.acts.Sent.{Sent}

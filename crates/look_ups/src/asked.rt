@@ -3,7 +3,7 @@ ghost use Rattle.std.specs.Prelude.{◌≡◌, ◌∷◌, ◌++◌, [], None, fa
 ghost use Rattle.std.specs.List.{flat_map};
 ghost use Rattle.jdwp_commands.specs.declared.question.Question.{Question as AQuestion};
 ghost use Rattle.jdwp_commands.specs.declared.question.Question.TheVariants as questions;
-ghost use Rattle.machine_model.specs.Asking.{was_asked};
+ghost use Rattle.machine_model.specs.Apart.{was_asked};
 ghost use Rattle.machine_model.specs.Keys.{same_question};
 ghost use Rattle.machine_model.specs.Plans.{found_from};
 ghost use Rattle.machine_model.specs.Replying.{fails_by, filled, is_failed, is_waiting, unanswered};

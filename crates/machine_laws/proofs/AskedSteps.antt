@@ -310,6 +310,7 @@ always_steps r = by_moves {Holds = λ (messages : List Message) (m : Machine). H
       starts = tt;
       moves = λ messages m next said h moved. hand_still m.state.threads next.state.threads next.hand
           (threads_on m next said moved) (steps_on m next said h moved);
+      queues = λ messages m hand queue may h. h;
     }) r
 
 -- The step in flight --------------------------------------------------------------------------------------------------
@@ -534,6 +535,7 @@ always_wished r = by_runs {Holds = λ (messages : List Message) (m : Machine). F
       moves = λ messages m next said before h moved after.
           wished_still next.state.wishes.wanted.step m.state.threads next.state.threads next.hand
           (threads_on m next said moved) (wished_on m next said before h moved);
+      queues = λ messages m hand queue before may h. h;
     }) r
 
 -- The law -------------------------------------------------------------------------------------------------------------

@@ -23,7 +23,7 @@ use Rattle.machine_steps.proofs.Stepping.{IsAt, Moves, Skips, by_runs}
 use Rattle.machine_steps.proofs.Tables.{is_updates}
 use Rattle.machine_steps.proofs.Testing.{Passed, whole, tested}
 use Rattle.machine_laws.proofs.BindingWatches.{none_wished, due_set}
-use Rattle.machine_laws.proofs.BindingParts.{AreLike, Binding, IsBinding, Same, are_same, as_before, asks_on}
+use Rattle.machine_laws.proofs.BindingParts.{AreLike, Binding, IsBinding, Same, anew_on, are_same, as_before, asks_on}
 use Rattle.machine_laws.proofs.BindingParts.{clear_now, event_same, goes_by, is_other, itself, leaves_watches}
 use Rattle.machine_laws.proofs.BindingParts.{queues_on, still_binding, still_bound, told_same}
 use Rattle.machine_laws.proofs.BindingReplies.{answers_on, replies_on, chosen_like, notes_on, finds_on}
@@ -169,6 +169,7 @@ binding r = by_runs {Holds = λ (messages : List Message) (m : Machine). is_gone
       moves = λ messages m next said r h moved after here.
           let near = near_before m next said moved here in
           binding_on m next said near (tested placed_test r) (settling r near) (h near) moved here;
+      queues = λ messages m hand queue r may h near. anew_on hand may (h near);
     }) r
 
 pub are_bound : (messages : List Message) (m : Machine) → Run messages m → IsAtRest m → m.state.phase ≡ Attached

@@ -22,6 +22,7 @@ use Rattle.machine_model.specs.Plans.{Need, fails, has, lacks, made_with, need, 
 use Rattle.machine_model.specs.Plans.{Found, found_at, found_from, is_done, must_hear}
 use Rattle.machine_model.specs.Replying.{is_waiting, learnt}
 use Rattle.machine_model.specs.Requests.{Wishes}
+use Rattle.machine_model.specs.Runs.{MayQueue}
 use Rattle.machine_model.specs.State.{Hand, Machine, SizesRead, State, is_gone, is_some}
 use Rattle.machine_model.specs.Telling.{after_event, numbered_by}
 use Rattle.machine_model.specs.Frames.{frames_plan}
@@ -45,6 +46,7 @@ use Rattle.machine_laws.proofs.BindingSeen.{bound_still}
 use Rattle.machine_steps.proofs.RequestSteps.{parts_left}
 use Rattle.machine_steps.proofs.RestLaws.{is_free}
 use Rattle.machine_steps.proofs.Standing.{asked_in, queue_in}
+use Rattle.machine_steps.proofs.Stepping.{all_to_ask}
 use Rattle.machine_steps.proofs.Tables.{is_updates}
 use Rattle.machine_laws.proofs.BindingWatches.{WatchesSet, or_false}
 use Rattle.wish_sets.specs.Wanted.{Wanted}
@@ -375,6 +377,9 @@ lacked_other state hand parts none = all_weak (λ want. is_meek want ≡ true) (
     (λ want. and_first (wants_other want) (is_harmless (question_of want))) (lacked_by state hand parts)
     (lacked_meek state hand parts none)
 
+only_awaits : (awaits queues : Bool) → queues ≡ false → (awaits || queues) ≡ true → awaits ≡ true
+only_awaits awaits queues none is = grind (arith, none, is)
+
 pub queues_on : {state : State} (hand : Hand) → Binding state hand.parts hand.queue hand.asked
     → Binding state hand.parts (newly_lacked state hand) hand.asked
 unfolding newly_lacked
@@ -388,9 +393,6 @@ queues_on {state} hand h = record {
   bound = h.bound;
 }
   where
-    only_awaits : (awaits queues : Bool) → queues ≡ false → (awaits || queues) ≡ true → awaits ≡ true
-    only_awaits awaits queues none is = grind (arith, none, is)
-
     by_first : (first : Bool) → looks_first hand.parts ≡ first
         → (awaits_listing hand.asked || queues_listing (with_wants hand.asked [] (lacked_by state hand hand.parts)))
         ≡ true → first ≡ true
@@ -398,6 +400,33 @@ queues_on {state} hand h = record {
     by_first false front is =
         let none = queued_more hand.asked [] (lacked_by state hand hand.parts)
         (lacked_other state hand hand.parts front) refl in
+        let waits = only_awaits (awaits_listing hand.asked) _ none is in
+        sym front ∙ h.waits (or_left (awaits_listing hand.asked) (queues_listing hand.queue) waits)
+
+none_listing : (queue : List Want) → All (λ want. wants_other want ≡ true) queue → queues_listing queue ≡ false
+none_listing [] h = refl
+none_listing (want ∷ queue) h =
+    rw (not-true (is_listing (question_of want)) h.0) (none_listing queue h.1)
+
+-- what is to be asked is put anew
+pub anew_on : {m : Machine} (hand : Hand) {queue : List Want} → MayQueue m hand queue
+    → Binding m.state hand.parts hand.queue hand.asked → Binding m.state hand.parts queue hand.asked
+anew_on {m} hand {queue} may h = record {
+  watches = h.watches;
+  learnt = h.learnt;
+  waits = λ is. by_first (looks_first hand.parts) refl is;
+  ahead = h.ahead;
+  listed = h.listed;
+  noted = h.noted;
+  bound = h.bound;
+}
+  where
+    by_first : (first : Bool) → looks_first hand.parts ≡ first
+        → (awaits_listing hand.asked || queues_listing queue) ≡ true → first ≡ true
+    by_first true front is = refl
+    by_first false front is =
+        let none = none_listing queue (all_to_ask (λ want. wants_other want ≡ true) may
+        (lacked_other m.state hand hand.parts front)) in
         let waits = only_awaits (awaits_listing hand.asked) _ none is in
         sym front ∙ h.waits (or_left (awaits_listing hand.asked) (queues_listing hand.queue) waits)
 

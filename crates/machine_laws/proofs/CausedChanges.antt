@@ -204,7 +204,11 @@ fits_on m next said h _ = h
 
 fitting : {messages : List Message} {m : Machine} → Run messages m → hand_fits m.hand ≡ true
 fitting r = by_moves {Holds = λ (messages : List Message) (m : Machine). hand_fits m.hand ≡ true}
-    (record { starts = refl; moves = λ messages m next said h moved. fits_on m next said h moved }) r
+    (record {
+      starts = refl;
+      moves = λ messages m next said h moved. fits_on m next said h moved;
+      queues = λ messages m hand queue may h. h;
+    }) r
 
 -- a value is written for a `setVariable` alone, and the stop is over for a request that runs on
 pub is_to_write : {messages : List Message} {m : Machine} {hand : Hand} {rest : List Part} (write : Write)

@@ -241,7 +241,11 @@ fits_on m next said h _ = h
 
 fitting : {messages : List Message} {m : Machine} → Run messages m → hand_fits m.state m.hand ≡ true
 fitting r = by_moves {Holds = λ (messages : List Message) (m : Machine). hand_fits m.state m.hand ≡ true}
-    (record { starts = refl; moves = λ messages m next said h moved. fits_on m next said h moved }) r
+    (record {
+      starts = refl;
+      moves = λ messages m next said h moved. fits_on m next said h moved;
+      queues = λ messages m hand queue may h. h;
+    }) r
 
 -- What the client knows -----------------------------------------------------------------------------------------------
 

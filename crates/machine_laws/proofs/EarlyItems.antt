@@ -331,6 +331,8 @@ always_early r = by_runs {Holds = λ (messages : List Message) (m : Machine). Is
   starts = record { attaches = refl; unsent = refl; sized = refl };
   moves = λ messages m next said before h moved after.
       early_on m next said (tested greets_test before) (all_open before).holds.behind h moved;
+  queues = λ messages m hand queue before may h.
+      record { attaches = h.attaches; unsent = h.unsent; sized = h.sized };
 }) r
 
 -- At its turn ---------------------------------------------------------------------------------------------------------

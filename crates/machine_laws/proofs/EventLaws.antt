@@ -567,9 +567,14 @@ events_are messages m r =
         fits = fits_on m next said h.fits moved;
         told = tells_on messages m next said before h moved (left_on m next said (tested once before) moved);
       };
+      queues = λ messages m hand queue before may h. record { fits = h.fits; told = h.told };
     }) r in
     let end = by_moves {Holds = λ (messages : List Message) (m : Machine). EndTold m}
-    (record { starts = refl; moves = λ messages m next said h moved. end_on m next said h moved }) r in
+    (record {
+      starts = refl;
+      moves = λ messages m next said h moved. end_on m next said h moved;
+      queues = λ messages m hand queue may h. h;
+    }) r in
     record {
       owed = hand_owes m.hand;
       told = told.told;

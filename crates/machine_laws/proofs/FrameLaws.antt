@@ -21,6 +21,7 @@ use Rattle.machine_steps.proofs.RequestSteps.{near_before}
 use Rattle.machine_steps.proofs.Standing.{IsKept, ids_said}
 use Rattle.machine_steps.proofs.StandingReplies.{not_empty}
 use Rattle.machine_steps.proofs.StandingWalk.{kept_on}
+use Rattle.machine_steps.proofs.StandingReplies.{anew_kept}
 use Rattle.machine_steps.proofs.Stepping.{IsAt, Moves, by_runs, with_said}
 use Rattle.machine_laws.proofs.StopHands.{asked_none, calm_reply}
 use Rattle.machine_laws.proofs.StopParts.{bare_parts}
@@ -191,6 +192,11 @@ framed : {messages : List Message} {m : Machine} → Run messages m → Framed m
 framed r = by_runs {Holds = Framed} (record {
   starts = record { kept = none_yet (IsOfStop false []); things = λ near. tt; begun = λ is. cc };
   moves = λ messages m next said before h moved after. framed_on before h moved (turns m next said moved);
+  queues = λ messages m hand queue before may h. record {
+    kept = anew_kept m hand tt may h.kept;
+    things = h.things;
+    begun = h.begun;
+  };
 }) r
 
 -- The law -------------------------------------------------------------------------------------------------------------
@@ -236,6 +242,7 @@ frames_sent : {messages : List Message} {m : Machine} → Run messages m → All
 frames_sent r = by_runs {Holds = AllSent} (record {
   starts = record { all = none_sent };
   moves = λ messages m next said before h moved after. sent_on messages m next said before h moved;
+  queues = λ messages m hand queue before may h. record { all = h.all };
 }) r
   where
     none_sent : (before after : List Message) (command : TargetCommand) → [] ≡ before ++ Message.sends command ∷ after

@@ -169,4 +169,5 @@ pub far : {messages : List Message} {m : Machine} → Run messages m → is_gone
 far r = by_runs {Holds = AreFar} (record {
   starts = λ gone. tt;
   moves = λ messages m next said before f moved after gone. far_on messages m next said before f moved gone;
+  queues = λ messages m hand queue before may f. f;
 }) r

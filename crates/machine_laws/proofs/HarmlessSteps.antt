@@ -219,6 +219,7 @@ are_threaded_all r = by_moves {Holds = AreThreaded} (record {
     there = there_on m next said h.there h.passed moved;
     passed = passed_on threaded_test m next said h.passed moved;
   };
+  queues = λ messages m hand queue may h. record { well = h.well; there = h.there; passed = h.passed };
 }) r
 
 one_well : (before after : List Message) (message : Message)

@@ -614,6 +614,15 @@ all_said r = by_runs {Holds = Said} (record {
     in_order = AreInOrder.none;
   };
   moves = λ messages m next said before s moved after. said_on messages m next said before s moved;
+  queues = λ messages m hand queue before may s. record {
+    quiet = s.quiet;
+    kept = s.kept;
+    marked = s.marked;
+    ordered = s.ordered;
+    said_so = s.said_so;
+    distinct = s.distinct;
+    in_order = s.in_order;
+  };
 }) r
 
 pub is_known : (messages : List Message) (m : Machine) → Run messages m → IsKnown messages m

@@ -69,6 +69,7 @@ next_of : {messages : List Message} {m : Machine} → Run messages m → (before
 next_of Run.starts [] after message is = cc
 next_of Run.starts (first ∷ before) after message is = cc
 next_of (Run.goes r still) before after message is = next_of r before after message is
+next_of (Run.queues r may) before after message is = next_of r before after message is
 next_of (Run.moves {messages} {m} {next} {message = final} r allows) before after message is =
     by_place (is_among messages final before after message is) (λ rest are. next_of r before rest message are)
   where

@@ -344,6 +344,7 @@ standing r = by_moves {Holds = Stands} (record {
   moves = λ messages m next said h moved.
       rw (such_said sends_farewell messages said, such_said answers_farewell messages said)
       (stands_on m next said (has_such sends_farewell messages) (has_such answers_farewell messages) h moved);
+  queues = λ messages m hand queue may h. h;
 }) r
 
 -- Before a session is attached ----------------------------------------------------------------------------------------
@@ -398,6 +399,7 @@ none_fresh r = by_runs {Holds = λ (messages : List Message) (m : Machine).
           by_sent next (has_such sends_farewell messages) said (λ was. fresh_on m next said (h was) moved)
           (λ now. sent_fresh messages m next said (standing before) moved now)
           (sym (such_said sends_farewell messages said) ∙ sent);
+      queues = λ messages m hand queue before may h. h;
     }) r
   where
     by_sent : (next : Machine) (was : Bool) (said : Option Message) → (was ≡ true → is_fresh next.state.phase ≡ false)

@@ -34,6 +34,7 @@ pub mod NewsLaws
 pub mod NotingLaws
 pub mod NumberLaws
 pub mod NumbersInStops
+pub mod OrderLaws
 pub mod OutcomeLaws
 pub mod PausedAnswers
 pub mod PausedEvents

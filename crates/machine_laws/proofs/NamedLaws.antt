@@ -38,7 +38,7 @@ use Rattle.machine_steps.proofs.RequestSteps.{flying_in, flying_of, learnt_wishe
 use Rattle.machine_steps.proofs.RequestSteps.{parts_left, replied_left, told_wishes}
 use Rattle.machine_steps.proofs.RestLaws.{is_free, near_asks}
 use Rattle.machine_steps.proofs.Standing.{queue_in}
-use Rattle.machine_steps.proofs.Stepping.{IsAt, Loses, Moves, Skips, by_moves, by_runs, moved}
+use Rattle.machine_steps.proofs.Stepping.{IsAt, Loses, Moves, Skips, all_to_ask, by_moves, by_runs, moved}
 use Rattle.machine_laws.proofs.StepLaws.{as_step, step_wished}
 use Rattle.machine_laws.proofs.StopParts.{IsCalm, lacked_calm}
 use Rattle.machine_steps.proofs.Tables.{is_updates}
@@ -197,6 +197,8 @@ looked r = by_moves
       starts = λ near. tt;
       moves = λ messages m next said h moved here. let near = near_before m next said moved here in
           looked_on m next said near (h near) moved;
+      queues = λ messages m hand queue may h near.
+          all_to_ask (WantLooked hand.parts) may (lacked_looked m.state hand hand.parts);
     }) r
 
 stack_is : {thread : ThreadId} {question : Question} → AsksStack thread question → stack_of question ≡ Some thread
@@ -482,12 +484,29 @@ setting_on m next said r h (Moves.replies {effect} {replied} is flies reply stay
 setting_on m next said r h (Moves.loses late there why) near here thread depth new = cc
 setting_on m next said r h _ near here thread depth new = h thread depth new
 
+setting_anew : (m : Machine) {hand : Hand} {thread : ThreadId} {depth : Depth} (queue : List Want)
+    → IsSetting (Some hand) m.state.threads thread depth
+    → IsSetting (Some (record hand { queue = queue })) m.state.threads thread depth
+setting_anew m {hand} {thread} {depth} queue s =
+    let same : s.hand ≡ hand = same_hand s.is_held in record {
+      hand = record hand { queue = queue };
+      is_held = refl;
+      parts = ap (λ (hand : Hand). hand.parts) (sym same) ∙ s.parts;
+      to_step = subst (λ (hand : Hand). IsToStep hand.item m.state.threads (record { thread = thread; depth = depth }))
+          same s.to_step;
+    }
+  where
+    same_hand : Some hand ≡ Some s.hand → s.hand ≡ hand
+    same_hand is = cc
+
 pub setting : {messages : List Message} {m : Machine} → Run messages m → is_gone m.state.phase ≡ false → AreSetting m
 setting r = by_runs {Holds = λ (messages : List Message) (m : Machine). is_gone m.state.phase ≡ false → AreSetting m}
     (record {
       starts = λ near thread depth new. let no = wished_step thread depth nothing_wanted new.is_wished in cc;
       moves = λ messages m next said before h moved after here. let near = near_before m next said moved here in
           setting_on m next said before (h near) moved near here;
+      queues = λ messages m hand queue before may h near thread depth new.
+          setting_anew m queue (h near thread depth new);
     }) r
 
 set_at : {messages : List Message} (m next : Machine) (said : Option Message) (thread : ThreadId) (depth : Depth)

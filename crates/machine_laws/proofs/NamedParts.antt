@@ -331,4 +331,5 @@ named r = by_moves {Holds = λ (messages : List Message) (m : Machine). HandName
   moves = λ messages m next said h moved.
       hand_still m.state.threads next.state.threads next.hand (grows_on m next said moved)
       (named_on m next said h moved);
+  queues = λ messages m hand queue may h. h;
 }) r

@@ -233,7 +233,11 @@ replied_news ids w parts effect replied due h =
 
 pub quiet : {messages : List Message} {m : Machine} → Run messages m → IsQuiet m
 quiet r = by_moves {Holds = λ (messages : List Message) (m : Machine). IsQuiet m}
-    (record { starts = refl; moves = λ messages m next said h moved. quiet_on m next said h moved }) r
+    (record {
+      starts = refl;
+      moves = λ messages m next said h moved. quiet_on m next said h moved;
+      queues = λ messages m hand queue may h. h;
+    }) r
 
 telling_on : (messages : List Message) (m next : Machine) (said : Option Message) → Run messages m → IsTelling m
     → Moves m said next → IsTelling next
@@ -289,6 +293,7 @@ telling : {messages : List Message} {m : Machine} → Run messages m → IsTelli
 telling r = by_runs {Holds = λ (messages : List Message) (m : Machine). IsTelling m} (record {
   starts = tt;
   moves = λ messages m next said before h moved after. telling_on messages m next said before h moved;
+  queues = λ messages m hand queue before may h. h;
 }) r
 
 -- The law -------------------------------------------------------------------------------------------------------------

@@ -458,4 +458,5 @@ are_noted messages m r near =
     (by_runs {Holds = Noted} (record {
       starts = record { said = λ near. AreOptions.none; fits = λ near. tt };
       moves = λ messages m next said before n moved after. noted_on messages m next said before n moved;
+      queues = λ messages m hand queue before may n. record { said = n.said; fits = n.fits };
     }) r).said near

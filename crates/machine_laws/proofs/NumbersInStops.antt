@@ -337,4 +337,5 @@ none_numbered r running =
     (by_runs {Holds = λ (messages : List Message) (m : Machine). IsUnnumbered m} (record {
       starts = λ running. record { things = refl; plain = refl };
       moves = λ messages m next said before h moved after. unnumbered_on messages m next said before h moved;
+      queues = λ messages m hand queue before may h. h;
     }) r running).things

@@ -628,6 +628,8 @@ explaining : {messages : List Message} {m : Machine} → Run messages m → Expl
 explaining r = by_runs {Holds = Explains} (record {
   starts = record { explained = AreExplained.none; held = tt };
   moves = λ messages m next said before h moved now. explains_on messages m next said before h moved now;
+  queues = λ messages m hand queue before may h.
+      record { explained = h.explained; held = requeued h.held refl refl refl refl refl };
 }) r
 
 pub are_explained : (messages : List Message) (m : Machine) → Run messages m → AreExplained messages

@@ -254,6 +254,7 @@ always_ready : {messages : List Message} {m : Machine} → Run messages m → Re
 always_ready r = by_runs {Holds = λ (messages : List Message) (m : Machine). Ready messages m.hand} (record {
   starts = tt;
   moves = λ messages m next said before h moved after. ready_on messages m next said before h moved;
+  queues = λ messages m hand queue before may h. h;
 }) r
 
 -- where a stop is told that the client asked for, the success of the request was told last

@@ -11,7 +11,8 @@ use Rattle.dap_messages.specs.declared.told.Response.{Response}
 use Rattle.dap_messages.specs.declared.told.Shape.{Shape}
 use Rattle.dap_messages.specs.declared.told.StopReason.TheVariants as reasons
 use Rattle.dap_messages.specs.declared.told.Stopped.{Stopped}
-use Rattle.machine_model.specs.Due.{Load, busy, can_read, clear, due, hand_load, load_of, newly_lacked, wanted}
+use Rattle.machine_model.specs.Due.{Load, busy, can_read, clear, due, hand_load, lacked_by, load_of, newly_lacked}
+use Rattle.machine_model.specs.Due.{wanted}
 use Rattle.machine_model.specs.Events.{is_clients}
 use Rattle.machine_model.specs.Names.{Told, a_response}
 use Rattle.machine_model.specs.Replying.{ended}
@@ -36,7 +37,7 @@ use Rattle.machine_steps.proofs.RestLaws.{IsFree, is_free}
 use Rattle.machine_steps.proofs.ServedLaws.{one_more, responded_left}
 use Rattle.machine_laws.proofs.ShownStops.{paused_next, shows_stops}
 use Rattle.machine_steps.proofs.SizeLaws.{told_sizes}
-use Rattle.machine_steps.proofs.Stepping.{IsAt, Loses, Moves, gone_on, moved}
+use Rattle.machine_steps.proofs.Stepping.{IsAt, Loses, Moves, gone_on, moved, none_to_ask}
 use Rattle.machine_steps.proofs.Tables.{once, responds_once}
 use Rattle.machine_steps.proofs.Testing.{tested, whole}
 use Rattle.std.proofs.lemmas.Bool.{not-true}
@@ -344,6 +345,23 @@ telling {request = request} (Run.goes {messages} {m} r goes) near pauses_it h =
     let close = near_before m (due false m).next None (gone_on goes) near in
     let t = telling r close pauses_it h in
     let no : Act.Goes ≡ told_as m t.stopping = sym goes ∙ telling_due close t in cc
+telling {request = request} (Run.queues {m = m} {hand} {queue} r may) near pauses_it h =
+    let t = telling r near pauses_it h in
+    let same = same_held may.held t.front.in_hand in
+    let parts : hand.parts ≡ Part.Tells (a_stop t.stopping) ∷ t.rest =
+    ap (λ (hand : Hand). hand.parts) same ∙ t.front.parts in
+    record {
+      hand = record hand { queue = queue };
+      stopping = t.stopping;
+      rest = t.rest;
+      front = record { in_hand = refl; parts = parts };
+      is_request = ap (λ (hand : Hand). hand.item) same ∙ t.is_request;
+      is_pause = t.is_pause;
+      lands = ap (λ (hand : Hand). is_flying hand.effect) same ∙ t.lands;
+      silent = ap (λ (hand : Hand). has_waiting hand.asked) same ∙ t.silent;
+      no_queue = ap is_empty (none_to_ask may (ap (lacked_by m.state hand) parts));
+      none_read = t.none_read;
+    }
 telling {request = request} (Run.moves {messages} {m} {next} {message} r allows) near pauses_it h =
     by_place (last_or_not messages message it h.before h.after h.messages_are)
     (λ earlier. telling r close pauses_it earlier)

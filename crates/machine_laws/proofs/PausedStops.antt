@@ -326,7 +326,11 @@ names_on m next said h _ = h
 
 always_names : {messages : List Message} {m : Machine} → Run messages m → HandNames m.state.threads m.hand
 always_names r = by_moves {Holds = λ (messages : List Message) (m : Machine). HandNames m.state.threads m.hand}
-    (record { starts = tt; moves = λ messages m next said h moved. names_on m next said h moved }) r
+    (record {
+      starts = tt;
+      moves = λ messages m next said h moved. names_on m next said h moved;
+      queues = λ messages m hand queue may h. h;
+    }) r
 
 -- The law -------------------------------------------------------------------------------------------------------------
 

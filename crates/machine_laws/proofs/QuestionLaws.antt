@@ -6,11 +6,11 @@ use Rattle.machine_model.specs.Due.{asked_hand, behind_first, is_listed, lacked_
 use Rattle.machine_model.specs.Plans.{question_of}
 use Rattle.machine_model.specs.Questions.{AreLacked, IsLacked, is_question}
 use Rattle.machine_model.specs.Replying.{given_up, hand_replied, is_failed, is_waiting, unless_failed}
-use Rattle.machine_model.specs.Runs.{Message, Run}
+use Rattle.machine_model.specs.Runs.{MayQueue, Message, Run}
 use Rattle.machine_model.specs.State.{Hand, Machine, is_gone}
 use Rattle.machine_steps.specs.Names.{Replied, Sent, TargetCommand, Want, a_question, an_effect}
 use Rattle.machine_steps.proofs.RestLaws.{near_queue}
-use Rattle.machine_steps.proofs.Stepping.{Loses, Moves, by_runs, with_said}
+use Rattle.machine_steps.proofs.Stepping.{Loses, Moves, all_to_ask, by_runs, with_said}
 use Rattle.machine_steps.proofs.Standing.{queue_in}
 
 all_last : (P : Want → Type 0) (queue : List Want) (want : Want) → All P queue → P want → All P (queue ++ want ∷ [])
@@ -90,12 +90,11 @@ pub given_queue : (P : Want → Type 0) (held : Option Hand) → All P (queue_in
 given_queue P None = tt
 given_queue P (Some hand) = tt
 
-queued_all : {messages : List Message} (m : Machine) (hand : Hand) → Run messages m → m.hand ≡ Some hand
-    → is_gone m.state.phase ≡ false → All (IsLacked messages) (newly_lacked m.state hand)
-unfolding newly_lacked
-queued_all {messages} m hand r is near =
-    all_with (IsLacked messages) hand.asked [] (lacked_by m.state hand hand.parts) tt
-    (all_of (IsLacked messages) (lacked_by m.state hand hand.parts) [] (lacked_by m.state hand hand.parts) refl
+-- what the part in front lacks here
+lacked_now : {messages : List Message} (m : Machine) (hand : Hand) → Run messages m → m.hand ≡ Some hand
+    → is_gone m.state.phase ≡ false → All (IsLacked messages) (lacked_by m.state hand hand.parts)
+lacked_now {messages} m hand r is near =
+    all_of (IsLacked messages) (lacked_by m.state hand hand.parts) [] (lacked_by m.state hand hand.parts) refl
     (λ before after want lacked. record {
       earlier = messages;
       later = [];
@@ -108,7 +107,18 @@ queued_all {messages} m hand r is near =
       is_held = is;
       near = near;
       lacked = lacked;
-    }))
+    })
+
+queued_all : {messages : List Message} (m : Machine) (hand : Hand) → Run messages m → m.hand ≡ Some hand
+    → is_gone m.state.phase ≡ false → All (IsLacked messages) (newly_lacked m.state hand)
+unfolding newly_lacked
+queued_all {messages} m hand r is near =
+    all_with (IsLacked messages) hand.asked [] (lacked_by m.state hand hand.parts) tt (lacked_now m hand r is near)
+
+-- what is put anew is lacking now
+anew_all : {messages : List Message} (m : Machine) (hand : Hand) {queue : List Want} → Run messages m
+    → MayQueue m hand queue → All (IsLacked messages) queue
+anew_all {messages} m hand r may = all_to_ask (IsLacked messages) may (lacked_now m hand r may.held may.near)
 
 loss_aside : {m : Machine} {message : Message} {late : List TargetCommand} → Loses m message late
     → is_question message ≡ false
@@ -168,4 +178,5 @@ pub are_lacked : (messages : List Message) (m : Machine) → Run messages m → 
 are_lacked messages m r = (by_runs {Holds = Asks} (record {
   starts = record { sent = AreLacked.none; queue = tt };
   moves = λ messages m next said before h moved after. asks_on messages m next said before h moved;
+  queues = λ messages m hand queue before may h. record { sent = h.sent; queue = anew_all m hand before may };
 }) r).sent

@@ -364,6 +364,16 @@ failing Run.starts near h = none_yet h.before h.after _ h.messages_are
 failing (Run.goes {messages} {m} r goes) near h =
     let close = near_before m (due false m).next None (gone_on goes) near in
     fails_on m (due false m).next None h.depth near refl (failing r close h) (gone_on goes)
+failing (Run.queues {m = m} r may) near h =
+    let f = subst (λ (held : Option Hand). HandFails m.state.wishes h.depth held) may.held (failing r near h) in
+    record {
+      request = f.request;
+      number = f.number;
+      is_request = f.is_request;
+      steps = f.steps;
+      fails = f.fails;
+      none_due = f.none_due;
+    }
 failing (Run.moves {messages} {m} {next} {message} r allows) near h =
     by_place (last_or_not messages message it h.before h.after h.messages_are) (λ earlier. failing r close earlier)
   where

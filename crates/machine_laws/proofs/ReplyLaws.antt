@@ -12,7 +12,7 @@ use Rattle.machine_model.specs.Replying.{IsReply}
 use Rattle.machine_model.specs.Requests.{Wishes, request_in, set_to, wishes_after, effect_due}
 use Rattle.machine_model.specs.Rest.{IsAtRest}
 use Rattle.machine_model.specs.Runs.{Message, Run}
-use Rattle.machine_model.specs.State.{Machine, SizesRead, is_gone}
+use Rattle.machine_model.specs.State.{Hand, Machine, SizesRead, is_gone}
 use Rattle.machine_steps.specs.Names.{Answer, Attached, Clear, Effect, Part, Replied, Set, an_answer, an_effect}
 use Rattle.machine_steps.proofs.RequestLaws.{IsDue, Settling, settles, settling, step_of, was_due}
 use Rattle.machine_steps.proofs.RequestSteps.{Step, flying_in, is_deed, near_before, parts_left, says_aside}
@@ -193,6 +193,7 @@ unwished_none : {messages : List Message} {m : Machine} (r : Run messages m) (wi
     → has_wish (wished m.state.wishes.wanted) wish ≡ false → set_since wish r ≡ []
 unfolding set_since
 unwished_none Run.starts wish is = refl
+unwished_none (Run.queues r may) wish is = unwished_none r wish is
 unwished_none _ wish is = rw is refl
 
 pub wanted_replied : (effect : Effect) (reply : Replied) (w : Wishes) → (wishes_after effect reply w).wanted ≡ w.wanted
@@ -285,6 +286,9 @@ is_told (Run.goes {m} r is) here wish asked =
     rw asked (subst (λ (those : List Message). IsTold wish (due false m).next.state.wishes
     (flying_in (due false m).next.hand) those) (append-nil (set_since wish r))
     (told_move wish r (due false m).next None (gone_on is) here (λ near. is_told r near wish) asked))
+is_told (Run.queues {m = m} r may) here wish asked =
+    subst (λ (held : Option Hand). IsTold wish m.state.wishes (flying_in held) (set_since wish r)) may.held
+    (is_told r here wish asked)
 is_told (Run.moves {m} {next} {message} r allows) here wish asked =
     rw asked (told_move wish r next (Some message) (moved allows) here (λ near. is_told r near wish) asked)
 

@@ -712,6 +712,7 @@ pub followed : {messages : List Message} {m : Machine} → Run messages m → Is
 followed r = by_runs {Holds = IsFollowed} (record {
   starts = λ near. refl;
   moves = λ messages m next said before f moved after. followed_on messages m next said before f moved;
+  queues = λ messages m hand queue before may f. f;
 }) r
 
 -- The law -------------------------------------------------------------------------------------------------------------

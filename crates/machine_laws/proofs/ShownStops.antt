@@ -386,6 +386,13 @@ showing r = by_runs {Holds = λ (messages : List Message) (m : Machine). is_gone
           record { shown = false; configured = false; told = AreRead.none; fits = refl; is_settled = refl };
       moves = λ messages m next said before h moved after near.
           shows_on messages m next said before (h (near_before m next said moved near)) near moved;
+      queues = λ messages m hand queue before may h near. let s = h near in record {
+        shown = s.shown;
+        configured = s.configured;
+        told = s.told;
+        fits = s.fits;
+        is_settled = s.is_settled;
+      };
     }) r
 
 -- the success of a `pause` has the stop right behind it, where the client knows of none

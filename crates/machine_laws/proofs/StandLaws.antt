@@ -185,6 +185,7 @@ are_refused (Run.goes {m} r is) here wish =
     let move = gone_on is in
     refused_on r wish (due false m).next None (refused_since wish r) move here
     (are_refused r (near_before m (due false m).next None move here) wish)
+are_refused (Run.queues r may) here wish = are_refused r here wish
 are_refused (Run.moves {m} {next} {message} r allows) here wish =
     let move = moved allows in
     refused_on r wish next (Some message) (refused_since wish r) move here
@@ -214,6 +215,8 @@ are_counted r = by_runs {Holds = λ (messages : List Message) (m : Machine). is_
       moves = λ messages m next said r h moved after here.
           let near = near_before m next said moved here in
           counted_step r next said (settling r near) (step_of r next said moved here) (h near);
+      queues = λ messages m hand queue r may h near. let c = h near in
+          record { installed = c.installed; flying = c.flying };
     }) r
 
 pub are_standing : (messages : List Message) (m : Machine) (r : Run messages m) → is_gone m.state.phase ≡ false

@@ -227,7 +227,11 @@ stepping_on m next said h _ = h
 
 steps_kept : {messages : List Message} {m : Machine} → Run messages m → IsStepping m
 steps_kept r = by_moves {Holds = λ (messages : List Message) (m : Machine). IsStepping m}
-    (record { starts = refl; moves = λ messages m next said h moved. stepping_on m next said h moved }) r
+    (record {
+      starts = refl;
+      moves = λ messages m next said h moved. stepping_on m next said h moved;
+      queues = λ messages m hand queue may h. h;
+    }) r
 
 -- Which steps are wished ----------------------------------------------------------------------------------------------
 

@@ -10,7 +10,7 @@ use Rattle.machine_model.specs.Plans.{Result, asks_for, question_of}
 use Rattle.machine_model.specs.Replying.{filled, given_up, hand_replied, is_failed, is_waiting, unless_failed}
 use Rattle.machine_model.specs.Replying.{waits_for}
 use Rattle.machine_model.specs.Rows.{chosen, news_of, noted, parts_of, refused_with, stepped_by}
-use Rattle.machine_model.specs.Runs.{Message, Run}
+use Rattle.machine_model.specs.Runs.{MayQueue, Message, Run}
 use Rattle.machine_model.specs.State.{Hand, Machine, State, is_gone, is_none}
 use Rattle.machine_model.specs.Telling.{after_event, numbered_by}
 use Rattle.machine_model.proofs.IdRows.{all_joined}
@@ -22,7 +22,7 @@ use Rattle.machine_laws.proofs.BindingPlans.{asks}
 use Rattle.machine_steps.proofs.Frameless.{asks_frames, asks_stack, no_frames}
 use Rattle.machine_steps.proofs.HoldingParts.{numbered_stop, same_stop}
 use Rattle.machine_steps.proofs.Standing.{asked_in, queue_in}
-use Rattle.machine_steps.proofs.Stepping.{IsAt, Moves, by_runs}
+use Rattle.machine_steps.proofs.Stepping.{IsAt, Moves, all_to_ask, by_runs, none_to_ask}
 use Rattle.machine_steps.proofs.Tables.{decided_alike, told_alike}
 use Rattle.machine_steps.proofs.Testing.{Passed, passed, same_noted, same_numbered, same_replied, tested}
 use Rattle.machine_laws.proofs.StopParts.{IsCalm, IsCalmSent, are_bare, bare_ends, bare_parts, bare_test, ends_ahead}
@@ -203,6 +203,9 @@ asked_on {want = want} {wants} {asked} q = record {
   };
 }
 
+all_bare : (ends bare : Bool) → ends ≡ true → cond ends bare true ≡ true → bare ≡ true
+all_bare ends bare ended is = grind (arith, ended, is)
+
 -- what is lacking is to be asked
 queued_on : {state : State} (hand : Hand) → Quiet state hand.parts hand.queue hand.asked
     → bare_ends false hand.parts ≡ true → Quiet state hand.parts (newly_lacked state hand) hand.asked
@@ -218,9 +221,26 @@ queued_on {state} hand q bare = record {
     sent = c.sent;
   };
 }
-  where
-    all_bare : (ends bare : Bool) → ends ≡ true → cond ends bare true ≡ true → bare ≡ true
-    all_bare ends bare ended is = grind (arith, ended, is)
+
+-- what is to be asked is put anew
+anew_on : {m : Machine} (hand : Hand) {queue : List Want} → MayQueue m hand queue
+    → Quiet m.state hand.parts hand.queue hand.asked → bare_ends false hand.parts ≡ true
+    → Quiet m.state hand.parts queue hand.asked
+anew_on {m} hand may q bare = record {
+  idle = λ ends. (
+    none_to_ask may (lacked_none m.state hand hand.parts (all_bare (ends_ahead hand.parts) _ ends bare)),
+    (q.idle ends).1,
+  );
+  calm = λ near running. let c = q.calm near running in record {
+    looks = c.looks;
+    wants = all_to_ask IsCalm may (lacked_calm m.state hand hand.parts c.looks);
+    sent = c.sent;
+  };
+}
+
+-- what is left of the item in hand is bare where it ends the stop
+at_once : (m : Machine) {hand : Hand} → Passed bare_ends m → m.hand ≡ Some hand → bare_ends false hand.parts ≡ true
+at_once m h is = subst (λ (held : Option Hand). passed bare_ends (is_gone m.state.phase) held ≡ true) is h
 
 -- nothing is left of an item that is given up
 given_on : (state : State) (hand : Option Hand) → is_gone state.phase ≡ true → QuietHand state (option_map given_up hand)
@@ -265,10 +285,7 @@ quiet_on messages m next said r q (Moves.unfolds {hand} {choice} {rest} free at)
     instead (chosen choice m.state hand ++ rest) (in_front q at) (chosen_ends choice m.state hand rest)
     (chosen_looks choice m.state hand rest)
 quiet_on messages m next said r q (Moves.queues {hand} free is) =
-    queued_on hand (subst (λ (held : Option Hand). QuietHand m.state held) is q) (now_bare (tested bare_test r))
-  where
-    now_bare : Passed bare_ends m → bare_ends false hand.parts ≡ true
-    now_bare h = subst (λ (held : Option Hand). passed bare_ends (is_gone m.state.phase) held ≡ true) is h
+    queued_on hand (subst (λ (held : Option Hand). QuietHand m.state held) is q) (at_once m (tested bare_test r) is)
 quiet_on messages m next said r q (Moves.asks {hand} {want} {wants} free room is are) =
     subst (λ (held : Option Hand). QuietHand m.state (option_map (asked_hand want) held)) (sym is)
     (subst (λ (queue : List Want). Quiet m.state hand.parts (behind_first queue)
@@ -292,6 +309,7 @@ quiet : {messages : List Message} {m : Machine} → Run messages m → IsQuiet m
 quiet r = by_runs {Holds = λ (messages : List Message) (m : Machine). IsQuiet m} (record {
   starts = record { idle = λ ends. (refl, refl); calm = λ near running. record { looks = refl; wants = tt; sent = tt } };
   moves = λ messages m next said before q moved after. quiet_on messages m next said before q moved;
+  queues = λ messages m hand queue before may q. anew_on hand may q (at_once m (tested bare_test before) may.held);
 }) r
 
 -- What it says --------------------------------------------------------------------------------------------------------

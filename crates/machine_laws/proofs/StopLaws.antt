@@ -413,6 +413,7 @@ always_stopping r = by_runs {Holds = λ (messages : List Message) (m : Machine).
   starts = tt;
   moves = λ messages m next said before h moved after.
       said_tells messages said next.hand (stopping_on messages m next said before h moved);
+  queues = λ messages m hand queue before may h. h;
 }) r
 
 -- The law -------------------------------------------------------------------------------------------------------------

@@ -207,6 +207,7 @@ resumed : {messages : List Message} {m : Machine} → Run messages m → IsResum
 resumed r = by_runs {Holds = λ (messages : List Message) (m : Machine). IsResumed m} (record {
   starts = refl;
   moves = λ messages m next said before h moved after. resumed_on m next said h moved;
+  queues = λ messages m hand queue before may h. h;
 }) r
 
 -- Bound before the target runs on -------------------------------------------------------------------------------------

@@ -56,5 +56,7 @@ pub keeps_numbers : (here there : Machine) (thread : ThreadId) (number : â„•) â†
 keeps_numbers here there thread number Reaches.stays h = h
 keeps_numbers here there thread number (Reaches.goes {there = before} r is) h =
     kept (grows_on before there _ (gone_on is)) (keeps_numbers here before thread number r h)
+keeps_numbers here there thread number (Reaches.queues {there = before} r may) h =
+    keeps_numbers here before thread number r h
 keeps_numbers here there thread number (Reaches.moves {there = before} r allows) h =
     kept (grows_on before there _ (moved allows)) (keeps_numbers here before thread number r h)

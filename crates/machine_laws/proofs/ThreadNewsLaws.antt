@@ -439,7 +439,11 @@ telling_on messages m next said t grows moved on = by_gone (is_gone next.state.p
 
 ordered : {messages : List Message} {m : Machine} → Run messages m → IsInOrder m
 ordered r = by_moves {Holds = λ (messages : List Message) (m : Machine). IsInOrder m}
-    (record { starts = refl; moves = λ messages m next said h moved. ordered_on m next said h moved }) r
+    (record {
+      starts = refl;
+      moves = λ messages m next said h moved. ordered_on m next said h moved;
+      queues = λ messages m hand queue may h. h;
+    }) r
 
 telling : {messages : List Message} {m : Machine} → Run messages m → Telling messages m
 telling r = by_runs {Holds = Telling} (record {
@@ -454,6 +458,15 @@ telling r = by_runs {Holds = Telling} (record {
   };
   moves = λ messages m next said before t moved after. telling_on messages m next said t (grows_on m next said moved)
       moved (on_move m next said (tested free_test before) (always_early before) (ordered before) t.soon moved);
+  queues = λ messages m hand queue before may t. record {
+    final = t.final;
+    soon = t.soon;
+    first = t.first;
+    others = t.others;
+    came = t.came;
+    told = t.told;
+    left = t.left;
+  };
 }) r
 
 -- The laws ------------------------------------------------------------------------------------------------------------

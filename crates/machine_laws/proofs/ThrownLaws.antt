@@ -427,6 +427,7 @@ thrown r = by_runs
       starts = record { known = tt; front = tt };
       moves = λ messages m next said before h moved after.
           thrown_on messages said next (onward messages m next said before h moved);
+      queues = λ messages m hand queue before may h. h;
     }) r
 
 -- What an `exceptionInfo` finds ---------------------------------------------------------------------------------------
@@ -612,6 +613,7 @@ hand_thrown r = by_runs
       starts = tt;
       moves = λ messages m next said before h moved after.
           hand_still before moved next.hand refl (hand_on before h moved);
+      queues = λ messages m hand queue before may h. h;
     }) r
 
 -- The law -------------------------------------------------------------------------------------------------------------

@@ -569,6 +569,7 @@ module _ (id : ℕ) where
         };
         moves = λ messages m next said before h moved after here. let near = near_before m next said moved here in
             covered_on messages m next said before near here (h near) moved;
+        queues = λ messages m hand queue before may h. h;
       }) r
 
 -- The law -------------------------------------------------------------------------------------------------------------

@@ -327,6 +327,7 @@ writing : {messages : List Message} {m : Machine} → Run messages m → IsWriti
 writing r = by_runs {Holds = λ (messages : List Message) (m : Machine). IsWriting m} (record {
   starts = refl;
   moves = λ messages m next said before h moved after. writing_on messages m next said before h moved;
+  queues = λ messages m hand queue before may h. h;
 }) r
 
 -- The laws ------------------------------------------------------------------------------------------------------------

@@ -25,7 +25,7 @@ ghost use Rattle.machine_model.specs.Noting.{Notes};
 ghost use Rattle.machine_model.specs.Outcomes.{Outcomes};
 ghost use Rattle.machine_model.specs.Pending.{Pends, Windows};
 ghost use Rattle.machine_model.specs.PlanLaws.{Errors, Wants, Worlds};
-ghost use Rattle.machine_model.specs.Questions.{Questions};
+ghost use Rattle.machine_model.specs.Questions.{AnyOrder, Questions};
 ghost use Rattle.machine_model.specs.ReferenceNumbers.{NumbersReferences};
 ghost use Rattle.machine_model.specs.Responses.{Responses, Rests};
 ghost use Rattle.machine_model.specs.Spelling.{Spells};
@@ -183,6 +183,12 @@ pub fn at_most_sixteen_commands_are_pending()
 /// Command Information).
 pub fn nothing_is_asked_but_what_is_lacking()
     ensures { Questions }
+{}
+
+/// What the part in front of the item in hand lacks may be asked in any order, each question once, as far as there is
+/// room among the sixteen commands that may be pending (JDWP, JDWP Packets).
+pub fn questions_go_in_any_order()
+    ensures { AnyOrder }
 {}
 
 /// No question is asked for the type, the text, the length, the fields or the elements of the object 0, and none for

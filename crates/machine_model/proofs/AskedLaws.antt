@@ -1,7 +1,7 @@
 -- No question is asked twice for an item: what is lacking is new, and stands in the queue once.
 use Rattle.std.proofs.Common.{◌≡◌, ℕ, suc, Bool, true, false, cond, not, ◌||◌, List, [], ◌∷◌, ◌++◌, Option, Some, None}
 use Rattle.std.proofs.Common.{refl, ap, ◌∙◌, arith}
-use Rattle.machine_model.specs.Asking.{is_new, was_asked}
+use Rattle.machine_model.specs.Apart.{are_apart, is_new, was_asked}
 use Rattle.machine_model.specs.Due.{is_listed, with_want, with_wants}
 use Rattle.machine_model.specs.Facts.{fact_known}
 use Rattle.machine_model.specs.Keys.{same_question}
@@ -122,12 +122,6 @@ need_due sight (pairs p q rest) =
     (λ two. need_due sight (rest two))
 
 -- The queue -----------------------------------------------------------------------------------------------------------
-
--- each is new, and its question stands once
-abbrev pub are_apart : List Sent → List Want → Bool
-are_apart asked [] = true
-are_apart asked (want ∷ queue) =
-    cond (is_new want asked) (cond (is_listed (question_of want) queue) false (are_apart asked queue)) false
 
 apart_last : (asked : List Sent) (queue : List Want) (want : Want) → are_apart asked queue ≡ true
     → is_listed (question_of want) queue ≡ false → is_new want asked ≡ true → are_apart asked

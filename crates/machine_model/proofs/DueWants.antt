@@ -3,7 +3,7 @@
 use Rattle.std.proofs.Common.{◌≡◌, Bool, true, false, cond, not, ◌||◌, List, [], ◌∷◌, ◌++◌, Option, Some, None, refl}
 use Rattle.std.proofs.Common.{sym, ap, ◌∙◌, arith}
 use Rattle.jdwp_commands.specs.declared.question.Question.TheVariants as questions
-use Rattle.machine_model.specs.Asking.{was_asked}
+use Rattle.machine_model.specs.Apart.{was_asked}
 use Rattle.machine_model.specs.Due.{asked_by, lacked_by, sized_by, way}
 use Rattle.machine_model.specs.Keys.{same_question}
 use Rattle.machine_model.specs.Lookups.{plan, sight_of}

@@ -1,6 +1,7 @@
 mod CaughtExamples
 mod Examples
 mod FrameExamples
+mod QueueExamples
 mod StepExamples
 mod StopExamples
 pub mod AskedLaws

@@ -1,7 +1,8 @@
 -- What was asked for an item, by the messages since its turn.
-use Rattle.std.specs.Prelude.{◌≡◌, ◌∷◌, ◌++◌, ◌||◌, Bool, true, false, not, List, [], Option, None, Some}
+use Rattle.std.specs.Prelude.{◌≡◌, ◌∷◌, ◌++◌, Bool, true, false, List, [], Option, None, Some}
+use Rattle.machine_model.specs.Apart.{is_new}
 use Rattle.machine_model.specs.Names.{Doing, Effect, Question, Replied, Sent, Want, a_question, an_effect}
-use Rattle.machine_model.specs.Plans.{asks_for, question_of}
+use Rattle.machine_model.specs.Plans.{question_of}
 use Rattle.machine_model.specs.Replying.{filled, is_waiting}
 use Rattle.machine_model.specs.Runs.{Message}
 use Rattle.machine_model.specs.State.{has_waiting, is_flying}
@@ -11,15 +12,6 @@ abbrev pub is_aside : Message → Bool
 is_aside (Message.sends command) = false
 is_aside (Message.answers command replied) = false
 is_aside _ = true
-
--- the question was asked here
-abbrev pub was_asked : Question → List Sent → Bool
-was_asked question [] = false
-was_asked question (sent ∷ asked) = asks_for sent question || was_asked question asked
-
--- what is wanted wasn't asked here yet
-abbrev pub is_new : Want → List Sent → Bool
-is_new want asked = not (was_asked (question_of want) asked)
 
 -- Among these messages these questions were asked, in this order, each once, and have these replies; and this was the
 -- last effect, sent with nothing pending; no question was sent while an effect was pending.

@@ -91,6 +91,7 @@ unfoldable pub refused_since : (wish : Wish) {messages : List Message} {m : Mach
 refused_since wish Run.starts = false
 refused_since wish (Run.goes {m} r is) =
     cond (has_wish (wished (due false m).next.state.wishes.wanted) wish) (refused_since wish r) false
+refused_since wish (Run.queues r may) = refused_since wish r
 refused_since wish (Run.moves {next} {message} r allows) =
     cond (has_wish (wished next.state.wishes.wanted) wish) (refused_after wish message (refused_since wish r)) false
 
@@ -158,6 +159,7 @@ unfoldable pub set_since : (wish : Wish) {messages : List Message} {m : Machine}
 set_since wish Run.starts = []
 set_since wish (Run.goes {m} r is) =
     cond (has_wish (wished (due false m).next.state.wishes.wanted) wish) (set_since wish r) []
+set_since wish (Run.queues r may) = set_since wish r
 set_since wish (Run.moves {next} {message} r allows) =
     cond (has_wish (wished next.state.wishes.wanted) wish) (set_since wish r ++ about_set wish message) []
 

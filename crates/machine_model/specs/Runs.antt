@@ -1,13 +1,15 @@
 -- The machine's runs: what it says, and what may come.
 use Rattle.std.specs.Prelude.{ℕ, ◌≡◌, ◌∷◌, ◌++◌, Bool, true, false, List, [], Option, None, Some}
+use Rattle.std.specs.List.{AllByRecursion, Contains}
 use Rattle.jdwp_events.specs.Composites.{FitsComposite}
 use Rattle.jdwp_values.specs.declared.sizes.IdSizes.{IdSizes}
-use Rattle.machine_model.specs.Due.{can_read, due}
+use Rattle.machine_model.specs.Apart.{are_apart}
+use Rattle.machine_model.specs.Due.{can_read, due, lacked_by}
 use Rattle.machine_model.specs.Names.{Act, Command, Composite, Disconnect, Effect, Item, Question, Replied}
-use Rattle.machine_model.specs.Names.{Request, TargetCommand, Told, a_composite, a_question, a_raw, a_request}
+use Rattle.machine_model.specs.Names.{Request, TargetCommand, Told, Want, a_composite, a_question, a_raw, a_request}
 use Rattle.machine_model.specs.Names.{an_effect}
 use Rattle.machine_model.specs.Replying.{IsReply, SizesFor, answered, ended, is_waiting}
-use Rattle.machine_model.specs.State.{Hand, Machine, State, fresh, has_raw, is_gone, is_some, knowing}
+use Rattle.machine_model.specs.State.{Hand, Machine, State, fresh, has_raw, is_flying, is_gone, is_some, knowing}
 
 -- Messages ------------------------------------------------------------------------------------------------------------
 
@@ -89,10 +91,28 @@ pub data Allows (m : Machine) : Message → Machine → Type 0 where
       → m.waiting ≡ before ++ a_raw at body ∷ after → has_raw before ≡ false → Takes m.state composite
       → Allows m (Message.reads at body composite) (record m { waiting = before ++ a_composite at composite ∷ after })
 
--- the messages of the machine so far, and where it stands
+-- What is to be asked -------------------------------------------------------------------------------------------------
+
+-- these are to be asked for the item in hand, in this order
+abbrev pub to_ask : Machine → Hand → List Want → Machine
+to_ask m hand queue = record m { hand = Some (record hand { queue = queue }) }
+
+-- What is to be asked may be put anew at any time: some of what the part in front lacks now, in any order, each
+-- question once, and none that was asked; but not while a composite is to be read, or the reply to an effect to come.
+pub record MayQueue (m : Machine) (hand : Hand) (queue : List Want) : Type 0 where
+  pub held : m.hand ≡ Some hand
+  pub near : is_gone m.state.phase ≡ false
+  pub unread : can_read m ≡ false
+  pub still : is_flying hand.effect ≡ false
+  pub lacking : AllByRecursion (λ want. Contains (lacked_by m.state hand hand.parts) want) queue
+  pub apart : are_apart hand.asked queue ≡ true
+
+-- The messages of the machine so far, and where it stands. It asks in any order.
 pub data Run : List Message → Machine → Type 0 where
   starts : Run [] fresh
   goes : {messages : List Message} {m : Machine} → Run messages m → (due false m).act ≡ Act.Goes
       → Run messages (due false m).next
+  queues : {messages : List Message} {m : Machine} {hand : Hand} {queue : List Want} → Run messages m
+      → MayQueue m hand queue → Run messages (to_ask m hand queue)
   moves : {messages : List Message} {m next : Machine} {message : Message} → Run messages m → Allows m message next
       → Run (messages ++ message ∷ []) next

@@ -1,18 +1,18 @@
 -- Commands go behind both sides of the handshake.
-use Rattle.std.proofs.Common.{◌≡◌, Bool, true, false, cond, ◌||◌, List, [], ◌∷◌, ◌++◌, Option, Some, None, refl, sym}
-use Rattle.std.proofs.Common.{ap, ◌∙◌, option_map, arith}
+use Rattle.std.proofs.Common.{◌≡◌, Bool, true, false, cond, ◌||◌, List, [], ◌∷◌, ◌++◌, Option, Some, None, refl}
+use Rattle.std.proofs.Common.{◌∙◌, option_map, arith}
 use Rattle.machine_model.specs.Due.{asked_by, greeted_by, lacked_by, newly_lacked, passes, with_wants}
 use Rattle.machine_model.specs.Pending.{has_such, have_handshake, is_greeted, is_greets}
 use Rattle.machine_model.specs.Replying.{given_up, hand_replied, is_failed, replied_machine, replied_to, unless_failed}
 use Rattle.machine_model.specs.Rows.{chosen, gone_parts, has_response, parts_of}
-use Rattle.machine_model.specs.Runs.{Message}
+use Rattle.machine_model.specs.Runs.{MayQueue, Message, to_ask}
 use Rattle.machine_model.specs.State.{Hand, Machine, State, is_attached, is_empty, left}
 use Rattle.machine_model.proofs.Bools.{second_more}
 use Rattle.machine_steps.specs.Names.{Choice, Handshake, IdSizes, Initialized, Item, Part, Replied, TargetCommand, Want}
-use Rattle.machine_steps.specs.Names.{a_question, an_effect, Stepped}
+use Rattle.machine_steps.specs.Names.{a_question, an_effect, Sent, Stepped}
 use Rattle.machine_steps.proofs.QuietLaws.{lacking_hand}
 use Rattle.machine_steps.proofs.Testing.{same_replied}
-use Rattle.machine_steps.proofs.Stepping.{IsAt, Moves, Skips, with_said, Loses}
+use Rattle.machine_steps.proofs.Stepping.{IsAt, Moves, Skips, holds_hand, none_to_ask, of_hand, with_said, Loses}
 
 -- Lists of parts ------------------------------------------------------------------------------------------------------
 
@@ -83,14 +83,12 @@ both_queued m hand want wants h is are = grind (arith, h, is, are)
 -- what lacks anything needs the target
 lacks_there : (both : Bool) (state : State) (hand : Hand) (parts : List Part) → hand.parts ≡ parts
     → behind_both both false (behind_handshake hand.parts) ≡ true
-    → is_empty (with_wants hand.asked [] (lacked_by state hand parts)) ≡ false
-    → both ≡ true
+    → is_empty (lacked_by state hand parts) ≡ false → both ≡ true
 lacks_there both state hand (Part.Looks lookup ∷ rest) are h lacks = grind (arith, are, h)
 lacks_there both state hand (Part.Awaits Handshake ∷ rest) are h lacks =
     never state.greeting_sent state.greeting_heard lacks
   where
-    never : (sent heard : Bool) → is_empty (with_wants hand.asked [] (asked_by (greeted_by sent heard))) ≡ false
-        → both ≡ true
+    never : (sent heard : Bool) → is_empty (asked_by (greeted_by sent heard)) ≡ false → both ≡ true
     never sent heard lacks = grind (arith, lacks)
 lacks_there both state hand (Part.Awaits IdSizes ∷ rest) are h lacks = grind (arith, are, h)
 lacks_there both state hand _ are h lacks = cc
@@ -102,19 +100,50 @@ behind_true both attached behind is = rw is refl
 now_behind : (next : Machine) → has_handshake next.state ≡ true → IsBehind next
 now_behind next is = behind_true (has_handshake next.state) (is_attached next.state.phase) (hand_behind next.hand) is
 
-lacking_both : (m : Machine) (hand : Hand) → IsBehind m → m.hand ≡ Some hand
-    → is_empty (newly_lacked m.state hand) ≡ false → has_handshake m.state ≡ true
-unfolding newly_lacked
-lacking_both m hand h is lacks =
+-- what is to be asked is lacking
+some_wants : (asked : List Sent) (wants : List Want) → is_empty (with_wants asked [] wants) ≡ false
+    → is_empty wants ≡ false
+some_wants asked [] is = cc
+some_wants asked (want ∷ wants) is = refl
+
+-- where something is lacking, both sides are there
+lacked_both : (m : Machine) (hand : Hand) → IsBehind (holds_hand m hand)
+    → is_empty (lacked_by m.state hand hand.parts) ≡ false → has_handshake m.state ≡ true
+lacked_both m hand h lacks =
     lacks_there (has_handshake m.state) m.state hand hand.parts refl
-    (weaker (has_handshake m.state) (is_attached m.state.phase) (behind_handshake hand.parts) (is_empty hand.queue)
-    (ap (λ (held : Option Hand). behind_both (has_handshake m.state) (is_attached m.state.phase) (hand_behind held))
-    (sym is)
-    ∙ h)) lacks
+    (weaker (has_handshake m.state) (is_attached m.state.phase) (behind_handshake hand.parts) (is_empty hand.queue) h)
+    lacks
   where
     weaker : (both attached behind queued : Bool) → behind_both both attached (cond behind queued false) ≡ true
         → behind_both both false behind ≡ true
     weaker both attached behind queued is = grind (arith, is)
+
+lacking_both : (m : Machine) (hand : Hand) → IsBehind m → m.hand ≡ Some hand
+    → is_empty (newly_lacked m.state hand) ≡ false → has_handshake m.state ≡ true
+unfolding newly_lacked
+lacking_both m hand h is lacks =
+    lacked_both m hand (of_hand (λ (m : Machine). IsBehind m) m is h)
+    (some_wants hand.asked (lacked_by m.state hand hand.parts) lacks)
+
+-- what is to be asked is put anew
+pub behind_anew : (m : Machine) (hand : Hand) {queue : List Want} → MayQueue m hand queue
+    → IsBehind (holds_hand m hand) → IsBehind (to_ask m hand queue)
+behind_anew m hand {queue} may h = by_queue queue may
+  where
+    emptied : (both attached behind none : Bool) → behind_both both attached (cond behind none false) ≡ true
+        → behind_both both attached (cond behind true false) ≡ true
+    emptied both attached behind none is = grind (arith, is)
+
+    some_lacking : (want : Want) (wants : List Want) → MayQueue m hand (want ∷ wants) → (lacked : List Want)
+        → lacked_by m.state hand hand.parts ≡ lacked → is_empty lacked ≡ false
+    some_lacking want wants may [] is = let no : want ∷ wants ≡ [] = none_to_ask may is in cc
+    some_lacking want wants may (one ∷ others) is = refl
+
+    by_queue : (queue : List Want) → MayQueue m hand queue → IsBehind (to_ask m hand queue)
+    by_queue [] may = emptied (has_handshake m.state) (is_attached m.state.phase) (behind_handshake hand.parts)
+        (is_empty hand.queue) h
+    by_queue (want ∷ wants) may = now_behind (to_ask m hand (want ∷ wants))
+        (lacked_both m hand h (some_lacking want wants may (lacked_by m.state hand hand.parts) refl))
 
 passes_both : (sent heard : Bool) → greeted_by sent heard ≡ passes → cond sent heard false ≡ true
 passes_both sent heard is = grind (arith, is)

@@ -309,7 +309,11 @@ holding_on m next said h _ = h
 
 pub holding : {messages : List Message} {m : Machine} → Run messages m → IsHolding m
 holding r = by_moves {Holds = λ (messages : List Message) (m : Machine). IsHolding m}
-    (record { starts = refl; moves = λ messages m next said h moved. holding_on m next said h moved }) r
+    (record {
+      starts = refl;
+      moves = λ messages m next said h moved. holding_on m next said h moved;
+      queues = λ messages m hand queue may h. h;
+    }) r
 
 -- In a target that is gone --------------------------------------------------------------------------------------------
 
@@ -362,4 +366,5 @@ pub lost_held : {messages : List Message} {m : Machine} → Run messages m → I
 lost_held r = by_runs {Holds = λ (messages : List Message) (m : Machine). IsLost m} (record {
   starts = refl;
   moves = λ messages m next said before h moved after. lost_on m next said (tested free before) h moved;
+  queues = λ messages m hand queue before may h. h;
 }) r

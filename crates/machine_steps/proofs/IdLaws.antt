@@ -14,7 +14,7 @@ use Rattle.machine_model.specs.Ids.{frame, object}
 use Rattle.machine_model.specs.Plans.{question_of}
 use Rattle.machine_model.specs.Replying.{wire}
 use Rattle.machine_model.specs.Requests.{Wishes, effect_due, effect_of}
-use Rattle.machine_model.specs.Runs.{Message, Run}
+use Rattle.machine_model.specs.Runs.{MayQueue, Message, Run, to_ask}
 use Rattle.machine_model.specs.State.{Hand, State, Machine, is_empty, is_gone, is_some, fresh, is_attached}
 use Rattle.machine_steps.specs.Names.{Store, Write, Writes, to_element, to_field, to_slot, variable_write, Classes}
 use Rattle.machine_steps.specs.Names.{Clear, Deed, Does, Effect, Exit, Item, Lines, Part, Question, Sent, Set, Success}
@@ -39,9 +39,9 @@ use Rattle.machine_model.proofs.PlanIds.{OfClass, OfFrameThing, OfObject, OfShow
 use Rattle.machine_model.proofs.PlanIds.{OfThing, OfThrown}
 use Rattle.std.specs.Prelude.{zero, suc}
 use Rattle.machine_model.proofs.Bools.{always}
-use Rattle.machine_steps.proofs.StandingReplies.{queued_near, sizes_is}
+use Rattle.machine_steps.proofs.StandingReplies.{anew_kept, queued_near, sizes_is}
 use Rattle.machine_steps.proofs.StandingWalk.{kept_on}
-use Rattle.machine_steps.proofs.Stepping.{Moves, by_moves, with_said, Loses}
+use Rattle.machine_steps.proofs.Stepping.{Moves, by_moves, holds_hand, with_said, Loses}
 use Rattle.machine_steps.proofs.WishIds.{AreWished, MaySend, SetMay, find_some, nothing_wished, weak_wished, wished_may}
 use Rattle.machine_steps.proofs.StandingMoves.{sized_by}
 use Rattle.machine_steps.proofs.RequestSteps.{parts_left}
@@ -203,6 +203,16 @@ kept_next {P} t messages m next (Some message) s move =
       kept = weak_kept (P messages) (P (messages ++ message ∷ [])) k messages m s.kept;
     }) move (λ near. t.brings messages m next message s.kept move near)
 
+-- what is to be asked is put anew
+standing_anew : {P : Id → Type 0} {messages : List Message} (m : Machine) (hand : Hand) {queue : List Want}
+    → P (class 0) → MayQueue m hand queue → Standing P messages (holds_hand m hand)
+    → Standing P messages (to_ask m hand queue)
+standing_anew m hand null may s = record {
+  waits = λ near. let w = s.waits near in
+      record { waiting = w.waiting; held = w.held; threads = w.threads; things = w.things; thrown = w.thrown };
+  kept = anew_kept m hand null may s.kept;
+}
+
 pub none_yet : (P : Id → Type 0) → IsKept P [] fresh
 none_yet P = record {
   once = omega arith;
@@ -224,6 +234,7 @@ always_kept {P} t r =
     (by_moves {Holds = λ (messages : List Message) (m : Machine). Standing (P messages) messages m} (record {
       starts = record { waits = λ near. record { waiting = tt; held = tt; threads = tt; things = tt; thrown = tt }; kept = none_yet (P []) };
       moves = λ messages m next said s move. kept_next t messages m next said s move;
+      queues = λ messages m hand queue may s. standing_anew m hand (t.null messages) may s;
     }) r).kept
 
 -- What is sent --------------------------------------------------------------------------------------------------------
@@ -361,6 +372,8 @@ all_sent {P} {Good} t good r = by_moves {Holds = Sends P Good} (record {
     stands = kept_next t messages m next said h.stands move;
     sent = more messages m next said h move;
   };
+  queues = λ messages m hand queue may h.
+      record { stands = standing_anew m hand (t.null messages) may h.stands; sent = h.sent };
 }) r
   where
     none_sent : (before after : List Message) (command : TargetCommand)

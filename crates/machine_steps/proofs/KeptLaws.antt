@@ -2,16 +2,16 @@
 use Rattle.std.proofs.Common.{◌≡◌, Bool, true, false, cond, not, ◌||◌, List, [], ◌∷◌, ◌++◌, Option, Some, None, refl}
 use Rattle.std.proofs.Common.{sym, subst, option_map, arith}
 use Rattle.jdwp_commands.specs.declared.question.Question.TheVariants as questions
-use Rattle.machine_model.specs.Asking.{is_new, was_asked}
+use Rattle.machine_model.specs.Apart.{are_apart, is_new, was_asked}
 use Rattle.machine_model.specs.Due.{asked_hand, lacked_by, newly_lacked}
 use Rattle.machine_model.specs.Keys.{same_question}
 use Rattle.machine_model.specs.Replying.{IsReply, filled, given_up, hand_replied, is_end, is_failed, is_waiting}
 use Rattle.machine_model.specs.Replying.{replied_to, shows_end, unless_failed}
 use Rattle.machine_model.specs.Rows.{noted}
-use Rattle.machine_model.specs.Runs.{Message, Run}
+use Rattle.machine_model.specs.Runs.{MayQueue, Message, Run}
 use Rattle.machine_model.specs.State.{Hand, Machine, State, is_gone, is_some}
 use Rattle.machine_model.specs.Telling.{after_event, numbered_by}
-use Rattle.machine_model.proofs.AskedLaws.{apart_asked, apart_filled, are_apart, was_filled, with_apart}
+use Rattle.machine_model.proofs.AskedLaws.{apart_asked, apart_filled, was_filled, with_apart}
 use Rattle.machine_model.proofs.DueWants.{asked_kept, lacked_due, sizes_kept, waits_other}
 use Rattle.machine_model.proofs.KeyLaws.{is_one}
 use Rattle.machine_model.proofs.Bools.{both_hold, other_fails}
@@ -116,6 +116,12 @@ queued_kept m hand near h =
     let sized : sizes_kept m.state.sizes hand.asked ≡ true = grind (arith, kept, near) in
     rw (new_apart m.state hand sized, near) sized
 
+-- what is put anew is new
+anew_kept : (m : Machine) (hand : Hand) {queue : List Want} → MayQueue m hand queue
+    → hand_kept m.state (Some hand) ≡ true → hand_kept m.state (Some (record hand { queue = queue })) ≡ true
+anew_kept m hand {queue} may h =
+    let (apart, kept) = both_hold (are_apart hand.asked hand.queue) _ h in rw may.apart kept
+
 asked_hand_kept : (m : Machine) (hand : Hand) (want : Want) (others : List Want) → hand.queue ≡ want ∷ others
     → hand_kept m.state (Some hand) ≡ true → hand_kept m.state (Some (asked_hand want hand)) ≡ true
 asked_hand_kept m hand want others are h =
@@ -163,7 +169,11 @@ kept_on m next said h _ = h
 
 pub always_kept : {messages : List Message} {m : Machine} → Run messages m → IsKept m
 always_kept r = by_moves {Holds = λ (messages : List Message) (m : Machine). IsKept m}
-    (record { starts = refl; moves = λ messages m next said h moved. kept_on m next said h moved }) r
+    (record {
+      starts = refl;
+      moves = λ messages m next said h moved. kept_on m next said h moved;
+      queues = λ messages m hand queue may h. anew_kept m hand may h;
+    }) r
 
 -- what is to be asked next is new
 pub next_new : (m : Machine) (hand : Hand) (want : Want) (others : List Want) → IsKept m → m.hand ≡ Some hand

@@ -8,7 +8,8 @@ use Rattle.machine_model.specs.Replying.{pending_of}
 use Rattle.machine_model.specs.Runs.{Message, Run}
 use Rattle.machine_model.specs.State.{Machine, is_gone}
 use Rattle.machine_steps.specs.Names.{TargetCommand, a_question, an_effect}
-use Rattle.machine_steps.proofs.HandshakeLaws.{IsGreeted, behind_on, greeted_on, handshake_said, has_handshake}
+use Rattle.machine_steps.proofs.HandshakeLaws.{IsGreeted, behind_anew, behind_on, greeted_on, handshake_said}
+use Rattle.machine_steps.proofs.HandshakeLaws.{has_handshake}
 use Rattle.machine_steps.proofs.QuietLaws.{quiet_on}
 use Rattle.machine_steps.proofs.RestLaws.{near_asks, no_late}
 use Rattle.machine_steps.proofs.Stepping.{Moves, by_runs, moved, with_said}
@@ -92,6 +93,12 @@ all_open r =
         few = omega arith;
       };
       moves = λ messages m next said before o moved after. open_on messages m next said (no_late after) o moved;
+      queues = λ messages m hand queue before may o. record {
+        holds = record { quiet = o.holds.quiet; late = o.holds.late; behind = behind_anew m hand may o.holds.behind };
+        greeted = record { sent = o.greeted.sent; heard = o.greeted.heard };
+        pending = o.pending;
+        few = o.few;
+      };
     }) r
 
 -- counts

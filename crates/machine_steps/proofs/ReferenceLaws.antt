@@ -342,5 +342,6 @@ references_are messages m r = record {
   are = by_runs {Holds = λ (messages : List Message) (m : Machine). AreOf messages m.state.numbers} (record {
     starts = ReferencesAre.none;
     moves = λ messages m next said r h moved after. references_on messages m next said (holding r) h moved;
+    queues = λ messages m hand queue r may h. h;
   }) r;
 }

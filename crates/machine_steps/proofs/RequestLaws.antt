@@ -219,6 +219,8 @@ settling r = by_runs {Holds = λ (messages : List Message) (m : Machine). Near m
   starts = λ near. record { awaited = tt; tidy = new_is_tidy; followed = refl; set = λ needs. cc };
   moves = λ messages m next said r h moved after here.
       settling_on m next said (h (near_before m next said moved here)) moved (step_of r next said moved here) here;
+  queues = λ messages m hand queue r may h near. let s = h near in
+      record { awaited = s.awaited; tidy = s.tidy; followed = s.followed; set = s.set };
 }) r
 
 -- The law -------------------------------------------------------------------------------------------------------------

@@ -60,7 +60,11 @@ late_gone m before after command h is = grind (arith, h, is, some_late before af
 
 pub no_late : {messages : List Message} {m : Machine} → Run messages m → late_at_end m ≡ true
 no_late r = by_moves {Holds = λ (messages : List Message) (m : Machine). late_at_end m ≡ true}
-    (record { starts = refl; moves = λ messages m next said h moved. late_on m next said h moved }) r
+    (record {
+      starts = refl;
+      moves = λ messages m next said h moved. late_on m next said h moved;
+      queues = λ messages m hand queue may h. h;
+    }) r
 
 -- What is pending -----------------------------------------------------------------------------------------------------
 

@@ -239,6 +239,8 @@ owing r = by_runs {Holds = Owes} (record {
   starts = record { answered = []; requests = refl; responses = AreAnswered.none };
   moves = λ messages m next said before h moved after.
       owes_on messages m next said h (left_on m next said (tested once before) moved);
+  queues = λ messages m hand queue before may h.
+      record { answered = h.answered; requests = h.requests; responses = h.responses };
 }) r
 
 pub are_served : (messages : List Message) (m : Machine) → Run messages m → AreServed messages m

@@ -197,7 +197,11 @@ sized_on m next said h _ = h
 
 pub always_sized : {messages : List Message} {m : Machine} → Run messages m → IsSized m
 always_sized r = by_moves {Holds = λ (messages : List Message) (m : Machine). IsSized m}
-    (record { starts = refl; moves = λ messages m next said h moved. sized_on m next said h moved }) r
+    (record {
+      starts = refl;
+      moves = λ messages m next said h moved. sized_on m next said h moved;
+      queues = λ messages m hand queue may h. h;
+    }) r
 
 -- At rest -------------------------------------------------------------------------------------------------------------
 

@@ -9,6 +9,7 @@ use Rattle.jdwp_values.specs.Classes.{field_row, method_row}
 use Rattle.jdwp_values.specs.declared.class.Field.{Field}
 use Rattle.jdwp_values.specs.declared.class.Method.{Method}
 use Rattle.jdwp_values.specs.declared.id.ClassId.{ClassId}
+use Rattle.machine_model.specs.Apart.{are_apart, is_new, was_asked}
 use Rattle.machine_model.specs.Due.{asked_by, asked_hand, lacked_by, lacking_more, load_of, newly_lacked, queued}
 use Rattle.machine_model.specs.Due.{is_listed, way, with_want, with_wants, asked_now, behind_first, Load, clear}
 use Rattle.machine_model.specs.Due.{greeted_by, queueing, sized_by as due_sized}
@@ -20,7 +21,7 @@ use Rattle.machine_model.specs.Replying.{replied_machine, is_failed, IsReply, en
 use Rattle.machine_model.specs.Replying.{hand_replied, is_waiting, knows_fact, learnt, pending_in, shows_end, sizes_in}
 use Rattle.machine_model.specs.Replying.{told_by, unanswered, unless_failed, unanswered_effect, waits_for}
 use Rattle.machine_model.specs.Replying.{still_unlisted, with_heard}
-use Rattle.machine_model.specs.Runs.{Message}
+use Rattle.machine_model.specs.Runs.{MayQueue, Message, to_ask}
 use Rattle.machine_model.specs.Spelling.{listed, all_sizes, first_sizes, sizes_by, sizes_replied}
 use Rattle.machine_model.specs.State.{Hand, Machine, SizesRead, State, is_attached, is_gone, is_none, is_some}
 use Rattle.machine_model.proofs.IdRows.{all_front, all_joined, all_weak}
@@ -30,7 +31,7 @@ use Rattle.machine_model.proofs.PlanIds.{put_all, put_key, reply_heard}
 use Rattle.machine_model.specs.Keys.{same_question}
 use Rattle.machine_steps.specs.Names.{Answer, Guard, Handshake, IdSizes, Part, Phase, Question, Replied, Sent}
 use Rattle.machine_steps.specs.Names.{TargetCommand, Want, a_question, an_effect}
-use Rattle.machine_steps.proofs.Stepping.{Loses}
+use Rattle.machine_steps.proofs.Stepping.{Loses, all_to_ask, holds_hand}
 use Rattle.machine_steps.proofs.Testing.{same_replied}
 use Rattle.machine_steps.proofs.StandingMoves.{in_any_order, looks_stand, sized_by}
 use Rattle.machine_steps.proofs.Standing.{IsKept, Kept, KeptHand, Near, asked_in, by_command, by_sent, by_want, one_if}
@@ -40,6 +41,7 @@ use Rattle.jdwp_commands.specs.declared.listed.LoadedClass.{LoadedClass}
 use Rattle.machine_model.specs.Classes.{classes_in, with_listed}
 use Rattle.std.specs.Prelude.{fold}
 use Rattle.machine_model.proofs.Bools.{second_holds}
+use Rattle.std.proofs.lemmas.Bool.{not-true}
 use Rattle.machine_steps.proofs.RestLaws.{near_queue}
 use Rattle.machine_steps.proofs.SizeLaws.{good_answer}
 
@@ -186,6 +188,67 @@ queued_kept {P} {messages} m {hand} null kept load is =
         replies = n.replies;
       };
     }
+
+-- a queue in which each question is new takes that of the sizes once, and not where it was asked
+apart_few : (asked : List Sent) (queue : List Want) → are_apart asked queue ≡ true → total by_sent asked ≤ 1
+    → total by_want queue + total by_sent asked ≤ 1
+apart_few asked [] apart few = omega (arith, few)
+apart_few asked (want ∷ queue) apart few =
+    by_sizes (is_sizes (question_of want)) refl (is_new want asked) refl (is_listed (question_of want) queue) refl apart
+    (λ others. apart_few asked queue others few)
+  where
+    none_asked : (asked : List Sent) → was_asked questions.IdSizes asked ≡ false → total by_sent asked ≡ 0
+    none_asked [] is = refl
+    none_asked (sent ∷ asked) is = grind (arith, is, none_asked asked)
+
+    by_sizes : (one : Bool) → is_sizes (question_of want) ≡ one → (new : Bool) → is_new want asked ≡ new
+        → (listed : Bool) → is_listed (question_of want) queue ≡ listed
+        → cond new (cond listed false (are_apart asked queue)) false ≡ true
+        → (are_apart asked queue ≡ true → total by_want queue + total by_sent asked ≤ 1)
+        → one_if (is_sizes (question_of want)) + total by_want queue + total by_sent asked ≤ 1
+    by_sizes false other true once false alone others rest =
+        let none : one_if (is_sizes (question_of want)) ≡ 0 = ap one_if other in
+        let fit = rest others in omega (arith, none, fit)
+    by_sizes true is true once false alone others rest =
+        let same = sizes_is (question_of want) is in
+        let one : one_if (is_sizes (question_of want)) ≡ 1 = ap one_if is in
+        let none = none_listed queue (ap (λ (q : Question). is_listed q queue) (sym same) ∙ alone) in
+        let first = none_asked asked (not-true (was_asked questions.IdSizes asked)
+        (ap (λ (q : Question). not (was_asked q asked)) (sym same) ∙ once)) in
+        omega (arith, one, none, first)
+    by_sizes one is new once listed alone others rest = cc
+
+-- what is to be asked is put anew
+pub anew_kept : {P : Id → Type 0} {messages : List Message} (m : Machine) (hand : Hand) {queue : List Want}
+    → P (class 0) → MayQueue m hand queue → IsKept P messages (holds_hand m hand)
+    → IsKept P messages (to_ask m hand queue)
+anew_kept {P} {messages} m hand {queue} null may k =
+    let n = k.near may.near in
+    let wants = all_to_ask (IsWanted P (is_some m.state.sizes)) may (lacked_all hand hand.parts null n) in
+    let late : total by_command m.late ≡ 0 = ap (total by_command) (k.none_late may.near) in
+    let few = by_sizes (is_some m.state.sizes) refl wants in
+    record {
+      once = omega (arith, late, few);
+      sizes = k.sizes;
+      none_late = k.none_late;
+      near = λ near. record {
+        classes = n.classes;
+        wanted = n.wanted;
+        order = n.order;
+        parts = n.parts;
+        wants = wants;
+        replies = n.replies;
+      };
+    }
+  where
+    by_sizes : (sized : Bool) → is_some m.state.sizes ≡ sized → All (IsWanted P sized) queue
+        → length (all_sizes messages) + total by_want queue + total by_sent hand.asked ≤ 1
+    by_sizes true sized wants = let zero = none_of P queue wants in let old = k.once in omega (arith, zero, old)
+    by_sizes false sized wants =
+        let none = none_known (all_sizes messages) (ap is_some (sym (k.sizes may.near)) ∙ sized) in
+        let old = k.once in
+        let all = apart_few hand.asked queue may.apart (omega (arith, old)) in
+        omega (arith, none, all)
 
 asked_first : (P : Id → Type 0) (sized : Bool) (want : Want) → IsWanted P sized want
     → IsAsked P sized (record { want = want; reply = None })

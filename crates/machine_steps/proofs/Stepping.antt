@@ -1,10 +1,12 @@
 -- One induction over runs: what each move keeps holds of every run.
 use Rattle.std.proofs.Common.{◌≡◌, ℕ, Bool, true, false, cond, List, [], ◌∷◌, ◌++◌, Option, Some, None, refl, ap, subst}
-use Rattle.std.proofs.Common.{option_map}
+use Rattle.std.proofs.Common.{option_map, sym}
+use Rattle.std.proofs.lemmas.List.Elements.{All-contains, All-from_recursion}
+use Rattle.std.specs.List.{AllByRecursion as All, Contains}
 use Rattle.machine_model.specs.Due.{Due, Load, Picked, Way, after_deed, asked_first, asked_next, asked_now, begun}
-use Rattle.machine_model.specs.Due.{can_read, clear, due, due_by, gated, guarded, hand_due, is_full, lacking_more, lets}
-use Rattle.machine_model.specs.Due.{load_of, looked, next_item, part_due, pick, queued, queued_next, queueing}
-use Rattle.machine_model.specs.Due.{responded, sent, updated, waiting, wanted, wanted_in, way}
+use Rattle.machine_model.specs.Due.{can_read, clear, due, due_by, gated, guarded, hand_due, is_full, lacked_by}
+use Rattle.machine_model.specs.Due.{lacking_more, lets, load_of, looked, next_item, part_due, pick, queued, queued_next, queueing}
+use Rattle.machine_model.specs.Due.{responded, sent, updated, wanted, wanted_in, way}
 use Rattle.machine_model.specs.Due.Way.{passes, greets as greets_way}
 use Rattle.machine_model.specs.Lookups.{finished, found_for}
 use Rattle.machine_model.specs.Outcomes.{result_of}
@@ -14,7 +16,8 @@ use Rattle.machine_model.specs.Replying.{pending_in, replied_machine, shows_end}
 use Rattle.machine_model.specs.Requests.{effect_due}
 use Rattle.machine_model.specs.Rest.{request_in}
 use Rattle.machine_model.specs.Rows.{chosen, noted}
-use Rattle.machine_model.specs.Runs.{Allows, Message, Run, Takes, greeting_heard, heard, said, with_item}
+use Rattle.machine_model.specs.Runs.{Allows, MayQueue, Message, Run, Takes, greeting_heard, heard, said, to_ask}
+use Rattle.machine_model.specs.Runs.{with_item}
 use Rattle.machine_model.specs.State.{Hand, Machine, fresh, has_raw, is_gone, is_some, knowing, left}
 use Rattle.machine_model.specs.Telling.{after_event, event_told, numbered_by, outcome_told, response_to}
 use Rattle.machine_steps.specs.Names.{Act, Composite, Deed, Does, Effect, Event, Finding, Guard, Item, Lookup, Note}
@@ -118,11 +121,17 @@ abbrev pub with_said : List Message → Option Message → List Message
 with_said messages None = messages
 with_said messages (Some message) = messages ++ message ∷ []
 
--- an invariant of runs
+-- this item is in hand
+abbrev pub holds_hand : Machine → Hand → Machine
+holds_hand m hand = record m { hand = Some hand }
+
+-- An invariant of runs. One that doesn't look at what is to be asked is the same where that is put anew.
 pub record Keeps (Holds : List Message → Machine → Type 0) : Type 0 where
   pub starts : Holds [] fresh
   pub moves : (messages : List Message) (m next : Machine) (said : Option Message) → Holds messages m
       → Moves m said next → Holds (with_said messages said) next
+  pub queues : (messages : List Message) (m : Machine) (hand : Hand) (queue : List Want) → MayQueue m hand queue
+      → Holds messages (holds_hand m hand) → Holds messages (to_ask m hand queue)
 
 -- The parts ----------------------------------------------------------------------------------------------------------
 
@@ -285,12 +294,21 @@ pub record KeepsIn (Holds : List Message → Machine → Type 0) : Type 0 where
   pub starts : Holds [] fresh
   pub moves : (messages : List Message) (m next : Machine) (said : Option Message) → Run messages m → Holds messages m
       → Moves m said next → Run (with_said messages said) next → Holds (with_said messages said) next
+  pub queues : (messages : List Message) (m : Machine) (hand : Hand) (queue : List Want) → Run messages m
+      → MayQueue m hand queue → Holds messages (holds_hand m hand) → Holds messages (to_ask m hand queue)
+
+-- what holds of a machine holds of it with the item that it has in hand
+pub of_hand : (Holds : Machine → Type 0) (m : Machine) {hand : Hand} → m.hand ≡ Some hand → Holds m
+    → Holds (holds_hand m hand)
+of_hand Holds m is h = subst (λ (held : Option Hand). Holds (record m { hand = held })) is h
 
 pub by_runs : {Holds : List Message → Machine → Type 0} → KeepsIn Holds → {messages : List Message} {m : Machine}
     → Run messages m → Holds messages m
 by_runs k Run.starts = k.starts
 by_runs k (Run.goes {messages} {m} r is) =
     k.moves messages m (due false m).next None r (by_runs k r) (gone_on is) (Run.goes r is)
+by_runs {Holds} k (Run.queues {messages} {m} {hand} {queue} r may) =
+    k.queues messages m hand queue r may (of_hand (Holds messages) m may.held (by_runs k r))
 by_runs k (Run.moves {messages} {m} {next} {message} r allows) =
     k.moves messages m next (Some message) r (by_runs k r) (moved allows) (Run.moves r allows)
 
@@ -300,4 +318,32 @@ pub by_moves : {Holds : List Message → Machine → Type 0} → Keeps Holds →
 by_moves k r = by_runs (record {
   starts = k.starts;
   moves = λ messages m next said before h moved after. k.moves messages m next said h moved;
+  queues = λ messages m hand queue before may h. k.queues messages m hand queue may h;
 }) r
+
+-- What is to be asked ------------------------------------------------------------------------------------------------
+
+-- what holds of all that the part in front lacks holds of what is to be asked
+pub all_to_ask : (P : Want → Type 0) {m : Machine} {hand : Hand} {queue : List Want} → MayQueue m hand queue
+    → All P (lacked_by m.state hand hand.parts) → All P queue
+all_to_ask P {m} {hand} {queue} may all = each queue may.lacking
+  where
+    lacked : List Want
+    lacked = lacked_by m.state hand hand.parts
+
+    each : (queue : List Want) → All (λ want. Contains lacked want) queue → All P queue
+    each [] among = tt
+    each (want ∷ queue) among = (
+      All-contains P lacked want (All-from_recursion P lacked all) among.0,
+      each queue among.1,
+    )
+
+-- where nothing is lacking nothing is to be asked
+pub none_to_ask : {m : Machine} {hand : Hand} {queue : List Want} → MayQueue m hand queue
+    → lacked_by m.state hand hand.parts ≡ [] → queue ≡ []
+none_to_ask {m} {hand} {queue} may none = by_queue queue (all_to_ask (λ want. ⊥) may
+    (subst (λ (wants : List Want). All (λ want. ⊥) wants) (sym none) tt))
+  where
+    by_queue : (queue : List Want) → All (λ want. ⊥) queue → queue ≡ []
+    by_queue [] never = refl
+    by_queue (want ∷ queue) never = absurd never.0

@@ -125,4 +125,8 @@ pub tested : {test : Bool → List Part → Bool} → IsTest test → {messages 
     → Run messages m → Passed test m
 tested {test} t r =
     by_moves {Holds = λ (messages : List Message) (m : Machine). Passed test m}
-    (record { starts = refl; moves = λ messages m next said h moved. passed_on t m next said h moved }) r
+    (record {
+      starts = refl;
+      moves = λ messages m next said h moved. passed_on t m next said h moved;
+      queues = λ messages m hand queue may h. h;
+    }) r

@@ -181,4 +181,5 @@ pub are_kept : {messages : List Message} {m : Machine} → Run messages m → Ar
 are_kept r = by_moves {Holds = AreKept} (record {
   starts = record { dropped = []; kept = refl; of_gone = λ _. refl };
   moves = λ messages m next said h moves. kept_on messages m next said moves h (defers_by m next said moves);
+  queues = λ messages m hand queue may h. record { dropped = h.dropped; kept = h.kept; of_gone = h.of_gone };
 }) r

@@ -208,6 +208,7 @@ pub all_early : {messages : List Message} {m : Machine} → Run messages m → I
 all_early r = by_runs {Holds = IsEarly} (record {
   starts = λ _. tt;
   moves = λ messages m next said before h moves after. early_on messages m next said before h moves after;
+  queues = λ messages m hand queue before may h. h;
 }) r
 
 -- Under ids -----------------------------------------------------------------------------------------------------------

@@ -71,7 +71,8 @@ closes_on messages m next said h moves =
         closes ∙ sym (closes_last false (requests_of messages) request)
 
 pub closes_so : {messages : List Message} {m : Machine} → Run messages m → Closes messages m
-closes_so r = by_moves {Holds = Closes} (record { starts = refl; moves = closes_on }) r
+closes_so r = by_moves {Holds = Closes}
+    (record { starts = refl; moves = closes_on; queues = λ messages m hand queue may h. h }) r
 
 -- where no request comes, it stays as it was
 same_closing : {messages others : List Message} {m next : Machine} → Run messages m → Run others next

@@ -3,14 +3,14 @@ use Rattle.std.proofs.Common.{◌≡◌, Bool, true, false, cond, not, ◌||◌,
 use Rattle.std.proofs.Common.{subst, arith}
 use Rattle.std.specs.List.{list_any}
 use Rattle.jdwp_commands.specs.declared.question.Question.{Question}
-use Rattle.machine_model.specs.Asking.{is_new, was_asked}
+use Rattle.machine_model.specs.Apart.{are_apart, is_new, was_asked}
 use Rattle.machine_model.specs.Due.{is_listed, with_want, with_wants}
 use Rattle.machine_model.specs.Keys.{same_question}
 use Rattle.machine_model.specs.Plans.{question_of}
 use Rattle.machine_model.specs.Replying.{is_waiting}
 use Rattle.machine_model.specs.declared.acts.Sent.{Sent}
 use Rattle.machine_model.specs.declared.acts.Want.{Want}
-use Rattle.machine_model.proofs.AskedLaws.{all_due, apart_asked, are_apart, with_apart}
+use Rattle.machine_model.proofs.AskedLaws.{all_due, apart_asked, with_apart}
 use Rattle.machine_model.proofs.KeyLaws.{same_back}
 use Rattle.look_ups.specs.Asking.{want_of}
 use Rattle.talk_look_ups.specs.Asking.{reason_of}

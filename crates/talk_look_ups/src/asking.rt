@@ -28,7 +28,7 @@ pub struct Asking {
 
 impl Model for Asking {
     ghost use Rattle.std.specs.Prelude.{◌≡◌, true};
-    ghost use Rattle.machine_model.proofs.AskedLaws.{are_apart};
+    ghost use Rattle.machine_model.specs.Apart.{are_apart};
     ghost use Rattle.talk_look_ups.specs.Asking.{Questions};
 
     ghost Value = { Questions };

@@ -5,7 +5,7 @@ use Rattle.std.proofs.Common.{arith}
 use Rattle.jdwp_commands.specs.declared.asked.Replied.{Replied}
 use Rattle.jdwp_commands.specs.declared.question.Question.{Question}
 use Rattle.jdwp_commands.specs.declared.question.Question.TheVariants as questions
-use Rattle.machine_model.specs.Asking.{was_asked}
+use Rattle.machine_model.specs.Apart.{was_asked}
 use Rattle.machine_model.specs.Due.{lacked_by}
 use Rattle.machine_model.specs.Keys.{same_question}
 use Rattle.machine_model.specs.Replying.{filled, hand_replied, is_waiting, told_by}

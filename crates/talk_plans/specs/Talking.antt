@@ -3,7 +3,7 @@ use Rattle.std.specs.Prelude.{◌≡◌, ◌∷◌, ◌||◌, not, Bool, true, f
 use Rattle.jdwp_commands.specs.declared.asked.Replied.{Replied}
 use Rattle.jdwp_commands.specs.declared.question.Question.{Question}
 use Rattle.jdwp_commands.specs.declared.question.Question.TheVariants as questions
-use Rattle.machine_model.specs.Asking.{was_asked}
+use Rattle.machine_model.specs.Apart.{was_asked}
 use Rattle.machine_model.specs.Due.{Due, Load, clear, due_as, due_by, gated, hand_due, hand_load, lets}
 use Rattle.machine_model.specs.Due.{part_due}
 use Rattle.machine_model.specs.declared.acts.Act.{Act}
