@@ -22,7 +22,7 @@ use Rattle.clap.proofs.SimpleLemmas.{is_false, is_nil}
 use Rattle.command_words.specs.Forms.{Form, Part, bare_app, form_app, form_of, names_of, rule_for, rules_of}
 use Rattle.command_words.specs.Words.{HasAll, IsBare}
 use Rattle.command_words.specs.declared.forms.Kind.{Kind}
-use Rattle.command_words.specs.declared.forms.Kind.TheVariants.{Serve, Script, Replay, Record}
+use Rattle.command_words.specs.declared.forms.Kind.TheVariants.{Serve, Script, Replay, Generate, Record}
 
 -- no two of these names are one
 abbrev apart : List (List ℕ) → Bool
@@ -42,6 +42,7 @@ unfolding clap_on_literals
 all_fit Serve = refl
 all_fit Script = refl
 all_fit Replay = refl
+all_fit Generate = refl
 all_fit Record = refl
 
 -- a rule of one value that has to be there

@@ -1,2 +1,3 @@
 pub mod ArgLaws
 pub mod WordLaws
+pub mod NumberLaws

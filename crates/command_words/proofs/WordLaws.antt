@@ -9,12 +9,13 @@ use Rattle.clap.specs.Kinds.{Kinds, or_else}
 use Rattle.clap.specs.Simple.{App, argument_words, built, entered, names_of as names_of_app}
 use Rattle.clap.specs.Walk.{Walk, finished, nothing_held, settled, walk, walk_from}
 use Rattle.command_words.specs.Forms.{Form, form_app, form_fault, form_given, form_of, kind_in, kind_named, kinds, names_of, value, words_with}
-use Rattle.command_words.specs.Words.{IsValue, Names, said, usage_words}
+use Rattle.command_words.specs.Words.{IsNumbered, IsValue, Names, said, usage_words}
 use Rattle.command_words.specs.declared.forms.Kind.{Kind}
 use Rattle.command_words.specs.declared.forms.Kind.TheVariants as kind
 use Rattle.command_words.specs.declared.words.Addresses.{Addresses}
+use Rattle.command_words.specs.declared.words.ScriptNumber.{ScriptNumber}
 use Rattle.command_words.specs.declared.words.Task.{Task}
-use Rattle.command_words.specs.declared.words.Task.TheVariants.{Serve, Script, Replay, Record}
+use Rattle.command_words.specs.declared.words.Task.TheVariants.{Serve, Script, Replay, Generate, Record}
 
 serve_words : (addresses : Addresses) → usage_words (Serve addresses)
     ≡ codes "serve" ∷ codes "--listen" ∷ addresses.listen ∷ codes "--target" ∷ addresses.target ∷ []
@@ -25,6 +26,10 @@ script_words file = refl
 
 replay_words : (log : List ℕ) → usage_words (Replay log) ≡ codes "replay" ∷ log ∷ []
 replay_words log = refl
+
+generate_words : (number : ScriptNumber) (file : List ℕ) → usage_words (Generate number file)
+    ≡ codes "generate" ∷ number.digits ∷ codes "--out" ∷ file ∷ []
+generate_words number file = refl
 
 record_words : (addresses : Addresses) (file : List ℕ) → usage_words (Record addresses file)
     ≡ codes "record" ∷ codes "--listen" ∷ addresses.listen ∷ codes "--target" ∷ addresses.target ∷ codes "--out" ∷ file ∷ []
@@ -163,6 +168,11 @@ file_given : (name sign : List ℕ) (b : ℕ) (bs : List ℕ) → nat_eq b 45 �
 unfolding form_fault form_given clap_on_literals
 file_given name sign b bs file = (simp file refl, simp file refl)
 
+number_given : (b c : ℕ) (bs cs : List ℕ) → nat_eq b 45 ≡ false → nat_eq c 45 ≡ false
+    → Gives (form_of kind.Generate) ((b ∷ bs) ∷ codes "--out" ∷ (c ∷ cs) ∷ []) ((b ∷ bs) ∷ (c ∷ cs) ∷ [])
+unfolding form_fault form_given clap_on_literals
+number_given b c bs cs number out = (simp (number, out) refl, simp (number, out) refl)
+
 serve_taken : (listen target : List ℕ) → IsValue listen → IsValue target
     → Gives (form_of kind.Serve) (codes "--listen" ∷ listen ∷ codes "--target" ∷ target ∷ []) (listen ∷ target ∷ [])
 serve_taken [] target h k = absurd h
@@ -178,6 +188,12 @@ record_taken (b ∷ bs) (c ∷ cs) [] h k l = absurd l
 record_taken (b ∷ bs) (c ∷ cs) (d ∷ ds) h k l =
     record_given b c d bs cs ds (ne_eqb b 45 h) (ne_eqb c 45 k) (ne_eqb d 45 l)
 
+generate_taken : (digits out : List ℕ) → IsValue digits → IsValue out
+    → Gives (form_of kind.Generate) (digits ∷ codes "--out" ∷ out ∷ []) (digits ∷ out ∷ [])
+generate_taken [] out h k = absurd h
+generate_taken (b ∷ bs) [] h k = absurd k
+generate_taken (b ∷ bs) (c ∷ cs) h k = number_given b c bs cs (ne_eqb b 45 h) (ne_eqb c 45 k)
+
 file_taken : (name sign file : List ℕ) → IsValue file
     → Gives (record { name = name; parts = value (codes "file") sign ∷ [] }) (file ∷ []) (file ∷ [])
 file_taken name sign [] h = absurd h
@@ -186,14 +202,19 @@ file_taken name sign (b ∷ bs) h = file_given name sign b bs (ne_eqb b 45 h)
 -- words that are taken and give a task's values are the task
 named : (task : Task) → kind_named (form_of (said task).0).name ≡ Some (said task).0
     → Gives (form_of (said task).0) (words_with (form_of (said task).0).parts (said task).1) (said task).1
-    → Names (usage_words task) task
-named task is (taken, values) = (is, record { taken = taken; task_is = record { kind_is = refl; values = values } })
+    → IsNumbered task → Names (usage_words task) task
+named task is (taken, values) number =
+    (is, record { taken = taken; task_is = record { kind_is = refl; values = values; number = number } })
 
 -- the words in the form of the usage line are taken
-pub usage_taken : (task : Task) → AllByRecursion IsValue (said task).1 → Names (usage_words task) task
-usage_taken (Serve addresses) (listen, (target, _)) =
-    named (Serve addresses) refl (serve_taken addresses.listen addresses.target listen target)
-usage_taken (Script file) (h, _) = named (Script file) refl (file_taken (codes "script") (codes "FILE") file h)
-usage_taken (Replay log) (h, _) = named (Replay log) refl (file_taken (codes "replay") (codes "LOG") log h)
-usage_taken (Record addresses file) (listen, (target, (out, _))) =
-    named (Record addresses file) refl (record_taken addresses.listen addresses.target file listen target out)
+pub usage_taken : (task : Task) → AllByRecursion IsValue (said task).1 → IsNumbered task → Names (usage_words task) task
+usage_taken (Serve addresses) (listen, (target, _)) number =
+    named (Serve addresses) refl (serve_taken addresses.listen addresses.target listen target) number
+usage_taken (Script file) (h, _) number =
+    named (Script file) refl (file_taken (codes "script") (codes "FILE") file h) number
+usage_taken (Replay log) (h, _) number =
+    named (Replay log) refl (file_taken (codes "replay") (codes "LOG") log h) number
+usage_taken (Generate script file) (digits, (out, _)) number =
+    named (Generate script file) refl (generate_taken script.digits file digits out) number
+usage_taken (Record addresses file) (listen, (target, (out, _))) number =
+    named (Record addresses file) refl (record_taken addresses.listen addresses.target file listen target out) number

@@ -8,7 +8,7 @@ use Rattle.clap.specs.declared.builder.action.ArgAction.TheVariants.{Set}
 use Rattle.command_words.specs.declared.forms.Part.{Part as CodePart}
 use Rattle.command_words.specs.declared.forms.Part.TheVariants.{Option as an_option, Value as a_value}
 use Rattle.command_words.specs.declared.forms.Kind.{Kind}
-use Rattle.command_words.specs.declared.forms.Kind.TheVariants.{Serve, Script, Replay, Record}
+use Rattle.command_words.specs.declared.forms.Kind.TheVariants.{Serve, Script, Replay, Generate, Record}
 
 -- a value that a command has to be given: the name of it, and what stands for it in the usage line
 pub record Part : Type 0 where
@@ -41,6 +41,10 @@ form_of Serve = record {
 }
 form_of Script = record { name = codes "script"; parts = value (codes "file") (codes "FILE") ∷ [] }
 form_of Replay = record { name = codes "replay"; parts = value (codes "file") (codes "LOG") ∷ [] }
+form_of Generate = record {
+  name = codes "generate";
+  parts = value (codes "number") (codes "N") ∷ option (codes "out") (codes "FILE") ∷ [];
+}
 form_of Record = record {
   name = codes "record";
   parts = option (codes "listen") (codes "A") ∷ option (codes "target") (codes "B") ∷ option (codes "out") (codes "FILE")
@@ -49,7 +53,7 @@ form_of Record = record {
 
 -- the commands, in the order of the usage line
 abbrev pub kinds : List Kind
-kinds = Serve ∷ Script ∷ Replay ∷ Record ∷ []
+kinds = Serve ∷ Script ∷ Replay ∷ Generate ∷ Record ∷ []
 
 -- the first of these commands that has this name
 abbrev pub kind_in : List Kind → List ℕ → Option Kind

@@ -8,6 +8,7 @@ pub enum Kind {
     Serve,
     Script,
     Replay,
+    Generate,
     Record,
 }
 
@@ -19,7 +20,13 @@ pub enum Part<'a> {
 }
 
 /// The commands, in the order of the usage line.
-pub(crate) const KINDS: [Kind; 4] = [Kind::Serve, Kind::Script, Kind::Replay, Kind::Record];
+pub(crate) const KINDS: [Kind; 5] = [
+    Kind::Serve,
+    Kind::Script,
+    Kind::Replay,
+    Kind::Generate,
+    Kind::Record,
+];
 
 /// The words of a command: its name, and the values that it has to be given.
 pub(crate) fn form_of<'a>(kind: Kind) -> (&'a str, &'a [Part<'a>])
@@ -30,6 +37,7 @@ pub(crate) fn form_of<'a>(kind: Kind) -> (&'a str, &'a [Part<'a>])
         Kind::Serve => ("serve", &[Part::Option("listen"), Part::Option("target")]),
         Kind::Script => ("script", &[Part::Value("file")]),
         Kind::Replay => ("replay", &[Part::Value("file")]),
+        Kind::Generate => ("generate", &[Part::Value("number"), Part::Option("out")]),
         Kind::Record => (
             "record",
             &[
@@ -52,5 +60,6 @@ pub(crate) fn kind_in<'a>(kinds: &'a [Kind], name: &str) -> Option<&'a Kind>
 pub fn usage() -> &'static str
     ensures { result.now ≡ usage_line }
 {
-    "usage: bridge serve --listen A --target B, script FILE, replay LOG, record --listen A --target B --out FILE\n"
+    "usage: bridge serve --listen A --target B, script FILE, replay LOG, generate N --out FILE, \
+        record --listen A --target B --out FILE\n"
 }

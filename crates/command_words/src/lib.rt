@@ -2,7 +2,8 @@
 #![tactic(auto)]
 
 mod forms;
+mod numbers;
 mod words;
 
 pub use forms::usage;
-pub use words::{Addresses, Task, WordsFault, read_words};
+pub use words::{Addresses, ScriptNumber, Task, WordsFault, read_words};

@@ -3,10 +3,11 @@ ghost use Rattle.std.specs.Prelude.{◌≡◌, ℕ, List, true, is_some, map, co
 ghost use Rattle.clap.specs.Words.{FailsBy, first_value, found_of, kind_of, rule_of};
 ghost use Rattle.clap.specs.declared.error.kind.ErrorKind.TheVariants.{OutOfMemory};
 ghost use Rattle.command_words.specs.Forms.{form_fault, form_given, form_of, rule_of_part};
-ghost use Rattle.command_words.specs.Words.{HasAll, IsBare, IsTask, Reads, ReadsBehind};
+ghost use Rattle.command_words.specs.Words.{HasAll, IsBare, IsNumberOf, IsTaskOf, Reads, ReadsBehind};
 ghost use Rattle.command_words.specs.declared.words.WordsFault.TheVariants.{NoMemory as out_of_memory, Refused};
 
 use crate::forms::{KINDS, Kind, Part, form_of, kind_in};
+use crate::numbers::number_in;
 use clap::error::ErrorKind;
 use clap::{Arg, ArgAction, ArgMatches, Command, Error};
 use std::alloc::{AllocError, Global};
@@ -19,13 +20,22 @@ pub struct Addresses {
     pub target: Text,
 }
 
+/// The number of a script, from 1 to 1,000, and its digits as they were given: 4 at most.
+#[derive(Debug, Drop)]
+pub struct ScriptNumber {
+    pub digits: Text,
+    pub number: u32,
+}
+
 /// What the words ask for: a session between these addresses, one of the script in this file, the session log of this
-/// file once more, or a session between these addresses that is recorded in this file.
+/// file once more, a session of the script of this number whose log goes to this file, or a session between these
+/// addresses that is recorded in this file.
 #[derive(Debug, Drop)]
 pub enum Task {
     Serve(Addresses),
     Script(Word),
     Replay(Word),
+    Generate(ScriptNumber, Word),
     Record(Addresses, Word),
 }
 
@@ -59,8 +69,8 @@ impl From<AllocError> for WordsFault {
 }
 
 /// Reads the words of the program: the command's name, and what that command is given. `Refused` comes exactly where
-/// there is no name, the name is unknown, or `clap` refuses the rest for another cause than memory; `NoMemory` comes where
-/// memory is refused.
+/// there is no name, the name is unknown, `clap` refuses the rest for another cause than memory, or the number of a script
+/// isn't 1 to 4 decimal digits with a value from 1 to 1,000; `NoMemory` comes where memory is refused.
 pub fn read_words(alloc: Global, words: &[Word]) -> Result<Task, WordsFault>
     ensures { Reads words.now result }
 {
@@ -79,25 +89,40 @@ fn read_behind(alloc: Global, kind: Kind, words: &[Word]) -> Result<Task, WordsF
 {
     let texts = texts_of(alloc, words)?;
     match matches_of(alloc, kind, texts.as_slice()) {
-        Ok(matches) => Ok(task_of(alloc, kind, &matches)?),
+        Ok(matches) => task_of(alloc, kind, &matches),
         Err(error) => Err(fault_of(&error)),
     }
 }
 
-// The task of a command that was given what it has to be given.
-fn task_of(alloc: Global, kind: Kind, matches: &ArgMatches) -> Result<Task, NoMemory>
+// The task of a command that was given what it has to be given; `Refused` where that is no number of a script.
+fn task_of(alloc: Global, kind: Kind, matches: &ArgMatches) -> Result<Task, WordsFault>
     requires { HasAll kind (first_value (found_of matches.now)) }
-    ensures { IfOk result (λ task. IsTask kind (first_value (found_of matches.now)) task) }
+    ensures { IsTaskOf kind (first_value (found_of matches.now)) result }
 {
     Ok(match kind {
         Kind::Serve => Task::Serve(addresses_of(alloc, matches)?),
         Kind::Script => Task::Script(value_of(alloc, matches, "file")?),
         Kind::Replay => Task::Replay(value_of(alloc, matches, "file")?),
+        Kind::Generate => Task::Generate(
+            number_of(alloc, matches)?,
+            value_of(alloc, matches, "out")?,
+        ),
         Kind::Record => Task::Record(
             addresses_of(alloc, matches)?,
             value_of(alloc, matches, "out")?,
         ),
     })
+}
+
+fn number_of(alloc: Global, matches: &ArgMatches) -> Result<ScriptNumber, WordsFault>
+    requires { is_some (first_value (found_of matches.now) (codes "number")) ≡ true }
+    ensures { IsNumberOf (first_value (found_of matches.now) (codes "number")) result }
+{
+    let digits = value_of(alloc, matches, "number")?;
+    match number_in(digits.as_bytes()) {
+        Some(number) => Ok(ScriptNumber { digits, number }),
+        None => Err(WordsFault::Refused),
+    }
 }
 
 fn addresses_of(alloc: Global, matches: &ArgMatches) -> Result<Addresses, NoMemory>

@@ -1,2 +1,3 @@
 pub mod BodyLaws
 pub mod TellLaws
+pub mod RunLaws

@@ -1,11 +1,13 @@
 ghost use Rattle.std.specs.Prelude.{◌≡◌, IfOk};
+ghost use Rattle.run_logs.specs.Runs.{entries_of};
 ghost use Rattle.session_summaries.specs.Summaries.{summary_of};
 
 use crate::entries::{said_by_client, told_to_client};
 use crate::requests::count_requests;
 use crate::told::sum_told;
+use run_logs::Run;
 use std::alloc::Global;
-use wire_core::{Entry, NoMemory};
+use wire_core::NoMemory;
 
 /// How many requests a session log has, up to a `disconnect`, how many responses, events and stops are told in it, and
 /// the sum of the values that it shows for variables named `n` (DAP specification, Base Protocol, ProtocolMessage).
@@ -19,8 +21,8 @@ pub struct Summary {
 }
 
 /// The summary of a session log. `NoMemory` comes where memory is refused, or a number has no room in 64 bits.
-pub fn summary_of(alloc: Global, log: &[Entry]) -> Result<Summary, NoMemory>
-    ensures { IfOk result (λ summary. summary ≡ summary_of log.now) }
+pub fn summary_of(alloc: Global, log: &[Run]) -> Result<Summary, NoMemory>
+    ensures { IfOk result (λ summary. summary ≡ summary_of (entries_of log.now)) }
 {
     let said = said_by_client(alloc, log)?;
     let told = told_to_client(alloc, log)?;

@@ -1,8 +1,5 @@
-use Rattle.std.proofs.Common.{◌≡◌, ◌∙◌, ℕ, ◌+◌, ap, arith, drop, sym}
-use Rattle.session_summaries.specs.declared.requests.Said.{Said}
+use Rattle.std.proofs.Common.{◌∙◌, ◌+◌, ap, arith, sym}
 use Rattle.session_summaries.specs.declared.requests.Said.TheVariants.{Request, Last, Passed, Nothing}
-use Rattle.session_summaries.specs.Bodies.{bodies_within}
-use Rattle.session_summaries.specs.Requests.{counted, requests_in}
 use Rattle.session_summaries.proofs.BodyLaws.{requests_at}
 use Rattle.session_summaries.proofs.requests.count_requests.Goals as goal
 use Rattle.session_summaries.proofs.requests.count_requests.Goals.{in-Request, in-Passed}

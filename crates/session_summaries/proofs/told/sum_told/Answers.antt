@@ -1,4 +1,4 @@
-use Rattle.std.proofs.Common.{◌≡◌, ◌∙◌, ◌+◌, ap, drop, sym, None, Some}
+use Rattle.std.proofs.Common.{◌∙◌, ◌+◌, ap, drop, sym, None, Some}
 use Rattle.session_summaries.specs.Bodies.{bodies_within}
 use Rattle.session_summaries.specs.Told.{told_in, with_told}
 use Rattle.session_summaries.proofs.BodyLaws.{none_last, told_at_step, told_joined}
