@@ -22,7 +22,8 @@ LOG = os.path.join(TOP, "build.log")
 UNPROVED = os.path.join(CRATES, "bridge_cmd", "out", "unproved")
 # How long it may take to be compiled, in seconds.
 COMPILED = 3600
-USAGE = "usage: bridge serve --listen A --target B, script FILE, replay LOG, record --listen A --target B --out FILE\n"
+USAGE = "usage: bridge serve --listen A --target B, script FILE, replay LOG, generate N --out FILE, " \
+        "record --listen A --target B --out FILE\n"
 PATIENCE = 60
 # What may go wrong around a script, and in what it compares.
 TROUBLES = (OSError, EOFError, ValueError, LookupError, subprocess.SubprocessError)

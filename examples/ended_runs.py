@@ -48,6 +48,20 @@ REFUSED_WORDS = (
     ["replay", "--log"],
     ["replay", "log", "log"],
     ["replay", "--help"],
+    ["generate"],
+    ["generate", "1"],
+    ["generate", "--out", "log"],
+    ["generate", "0", "--out", "log"],
+    ["generate", "1001", "--out", "log"],
+    ["generate", "00001", "--out", "log"],
+    ["generate", "", "--out", "log"],
+    ["generate", "+1", "--out", "log"],
+    ["generate", "-1", "--out", "log"],
+    ["generate", "1.0", "--out", "log"],
+    ["generate", "0x1", "--out", "log"],
+    ["generate", "1", "2", "--out", "log"],
+    ["generate", "1", "--out", "log", "--out", "log"],
+    ["generate", "--help"],
 )
 # Words that are taken: the links that they name can't be opened.
 TAKEN_WORDS = (

@@ -7,20 +7,26 @@ use Rattle.run_outcomes.specs.Lines.{Prints, status_of, text_of}
 use Rattle.file_wires.specs.PlayedWires.{IsLogOf}
 use Rattle.command_words.specs.Words.{AreRefused, Names}
 use Rattle.run_outcomes.specs.declared.printing.Outcome.{Outcome}
-use Rattle.run_outcomes.specs.declared.printing.Outcome.TheVariants.{Misused, NotOpened, Ended}
+use Rattle.run_outcomes.specs.declared.printing.Outcome.TheVariants.{Misused, NotOpened, Summed, Ended}
 use Rattle.command_words.specs.declared.words.Addresses.{Addresses}
-use Rattle.command_words.specs.declared.words.Task.TheVariants.{Serve, Script, Replay, Record}
+use Rattle.command_words.specs.declared.words.ScriptNumber.{ScriptNumber}
+use Rattle.command_words.specs.declared.words.Task.TheVariants.{Serve, Script, Replay, Generate, Record}
 use Rattle.bridge_runs.specs.Recording.{Records}
+use Rattle.bridge_runs.specs.Writing.{IsWritten}
 use Rattle.bridge_serve.specs.Serving.{Blames, Idles, Keeps}
+use Rattle.generated_scripts.specs.Generated.{generated}
 use Rattle.script_files.specs.Reading.{script_of}
 use Rattle.script_rows.specs.declared.script.Script.{Script as TheScript}
 use Rattle.script_text.specs.Reading.{reading_of}
+use Rattle.script_text.specs.Texts.{log_text}
 use Rattle.script_text.specs.declared.log.SessionLog.{SessionLog}
 use Rattle.wire_core.specs.Files.{Store}
 use Rattle.wire_core.specs.Output.{Printed}
 use Rattle.wire_core.specs.Outside.{Outside, Connects, FailsToConnect}
 use Rattle.wire_core.specs.declared.outside.Entry.{Entry}
 use Rattle.session_model.specs.Session.{IsSession}
+use Rattle.session_summaries.specs.Lines.{summary_text}
+use Rattle.session_summaries.specs.Summaries.{summary_of}
 use Rattle.session_endings.specs.declared.ending.Ending.{Ending}
 use Rattle.session_endings.specs.declared.ending.Ending.TheVariants.{NoMemory}
 use Rattle.session_endings.specs.declared.ending.Limits.{Limits}
@@ -67,9 +73,23 @@ IsServedOf script log = IsPlayedUnder (script_limits script) script log
 abbrev pub Plays : List ℕ → Store → Store → Outcome → Type 0
 Plays name old new outcome = OfFile script_of IsServedOf name old new outcome
 
+-- a log is written, and the outcome has its summary; or there is no memory for the text of either, and the files stay
+pub data IsSummedUp (name : List ℕ) (log : SessionLog) (old : Store) : Store → Outcome → Type 0 where
+  is_kept : {new : Store} {outcome : Outcome}
+      → IsWritten (Summed (summary_text (summary_of (entries_of log.runs)))) name (log_text log) old new outcome
+      → IsSummedUp name log old new outcome
+  forgets : IsSummedUp name log old old (Ended NoMemory)
+
+-- The log of a session of the script of a number is kept in the file of this name, and summed up. Where memory runs out
+-- the files stay.
+pub data Generates (number : ℕ) (name : List ℕ) (old : Store) : Store → Outcome → Type 0 where
+  generates : {log : SessionLog} {new : Store} {outcome : Outcome} → IsServedOf (generated number) log
+      → IsSummedUp name log old new outcome → Generates number name old new outcome
+  forgets : Generates number name old old (Ended NoMemory)
+
 -- What the words make of the wires and the files, and the outcome: where they are refused nothing is done; else a
--- session is served, or the links are not opened; or a script is played; or a session log is replayed; or a session is
--- recorded. Want of memory may come before anything is done.
+-- session is served, or the links are not opened; or a script is played; or a session log is replayed; or a session of
+-- a number is summed up; or a session is recorded. Want of memory may come before anything is done.
 pub data Does : List (List ℕ) → Outside → Outside → Store → Store → Outcome → Type 0 where
   misused : {words : List (List ℕ)} {o : Outside} {s : Store} → AreRefused words → Does words o o s s Misused
   forgets : {words : List (List ℕ)} {o : Outside} {s : Store} → Does words o o s s (Ended NoMemory)
@@ -82,6 +102,9 @@ pub data Does : List (List ℕ) → Outside → Outside → Store → Store → 
       → Names words (Script name) → Plays name old new outcome → Does words o o old new outcome
   replays : {words : List (List ℕ)} {name : List ℕ} {o : Outside} {old new : Store} {outcome : Outcome}
       → Names words (Replay name) → Replays name old new outcome → Does words o o old new outcome
+  generates : {words : List (List ℕ)} {number : ScriptNumber} {name : List ℕ} {o : Outside} {old new : Store}
+      {outcome : Outcome} → Names words (Generate number name) → Generates number.number name old new outcome
+      → Does words o o old new outcome
   records : {words : List (List ℕ)} {addresses : Addresses} {name : List ℕ} {old new : Outside} {s s' : Store}
       {outcome : Outcome} → Names words (Record addresses name) → Records addresses name old new s s' outcome
       → Does words old new s s' outcome

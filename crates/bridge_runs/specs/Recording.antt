@@ -1,5 +1,6 @@
 -- A session that is recorded: what it does over the wires, and what becomes of the file of its log.
-use Rattle.std.specs.Prelude.{ℕ, ◌≡◌, List, Some, Ok, Err}
+use Rattle.std.specs.Prelude.{ℕ, ◌≡◌, List, Some}
+use Rattle.bridge_runs.specs.Writing.{IsWritten}
 use Rattle.bridge_serve.specs.Serving.{Keeps}
 use Rattle.command_words.specs.declared.words.Addresses.{Addresses}
 use Rattle.recorded_sessions.specs.Records.{IsRecord}
@@ -7,14 +8,12 @@ use Rattle.recorded_sessions.specs.declared.recording.Recorded.{Recorded}
 use Rattle.run_outcomes.specs.FileRuns.{limits_of, usual_limits}
 use Rattle.run_outcomes.specs.Lines.{status_of_ending}
 use Rattle.run_outcomes.specs.declared.printing.Outcome.{Outcome}
-use Rattle.run_outcomes.specs.declared.printing.Outcome.TheVariants.{Ended, NotOpened, NotUsed}
+use Rattle.run_outcomes.specs.declared.printing.Outcome.TheVariants.{Ended, NotOpened}
 use Rattle.script_text.specs.Texts.{log_text}
 use Rattle.script_text.specs.declared.log.SessionLog.{SessionLog}
-use Rattle.session_endings.specs.declared.ending.Ending.{Ending}
 use Rattle.session_endings.specs.declared.ending.Ending.TheVariants.{NoMemory}
-use Rattle.wire_core.specs.Files.{Asks, Store, Writes}
+use Rattle.wire_core.specs.Files.{Store}
 use Rattle.wire_core.specs.Outside.{Connects, FailsToConnect, Outside}
-use Rattle.wire_core.specs.declared.files.FileRefusal.TheVariants.{Failed}
 
 -- the log of what was recorded under the standard limits
 pub record IsLogOf (r : Recorded) (log : SessionLog) : Type 0 where
@@ -22,18 +21,10 @@ pub record IsLogOf (r : Recorded) (log : SessionLog) : Type 0 where
   pub runs_are : log.runs ≡ r.runs
   pub ending_told : log.ending ≡ Some (status_of_ending r.ending)
 
--- A text is put under a name, and the outcome is how the session ended; or it can't be; or there is no memory for that, and
--- the files stay.
-pub data IsWritten (ending : Ending) (name text : List ℕ) (old new : Store) : Outcome → Type 0 where
-  is_written : Asks old new name → Writes old new name text (Ok (record {}))
-      → IsWritten ending name text old new (Ended ending)
-  is_not_written : Asks old new name → Writes old new name text (Err Failed) → IsWritten ending name text old new NotUsed
-  forgets : new.files ≡ old.files → IsWritten ending name text old new (Ended NoMemory)
-
 -- the log of what was recorded is written, or there is no memory for its text
 pub data IsKeptIn (name : List ℕ) (r : Recorded) (old : Store) : Store → Outcome → Type 0 where
   is_kept : {log : SessionLog} {new : Store} {outcome : Outcome} → IsLogOf r log
-      → IsWritten r.ending name (log_text log) old new outcome → IsKeptIn name r old new outcome
+      → IsWritten (Ended r.ending) name (log_text log) old new outcome → IsKeptIn name r old new outcome
   forgets : IsKeptIn name r old old (Ended NoMemory)
 
 -- The links are not opened; or a session is served over wires that were opened under these addresses, and what was recorded

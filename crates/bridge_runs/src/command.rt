@@ -2,9 +2,10 @@
 ghost use Rattle.std.specs.Prelude.{◌≡◌, []};
 ghost use Rattle.std.specs.List.{AllByRecursion};
 ghost use Rattle.bridge_runs.specs.Command.{Does, Runs};
-ghost use Rattle.command_words.specs.Words.{IsValue, Names, said, usage_words};
+ghost use Rattle.command_words.specs.Words.{IsNumbered, IsValue, Names, said, usage_words};
 ghost use Rattle.command_words.specs.declared.words.Task.{Task as TheTask};
 
+use crate::generate::generate;
 use crate::record::record_to;
 use crate::replay::replay;
 use crate::script::play;
@@ -19,7 +20,10 @@ use wire_core::{Files, Output, Wires, Word};
 /// connects to a Java machine at B, accepts an editor at A, serves a session between them, and prints a line. `script
 /// FILE` reads the script in the file FILE, serves a session between its client and its target, and prints the log of
 /// this session. `replay LOG` reads the session log in the file LOG, serves a session over what came in it, and prints
-/// the log of this session. It is printed once all else is done.
+/// the log of this session. `generate N --out FILE` serves a session between the client and the target of the script of
+/// the number N, writes the log of this session to the file FILE, and prints its summary. `record --listen A --target B
+/// --out FILE` serves a session as `serve` does, writes its log to the file FILE, and prints a line. It is printed once all
+/// else is done.
 pub fn bridge_main<W: Wires, F: Files, O: Output>(
     alloc: Global,
     words: &[Word],
@@ -33,8 +37,10 @@ pub fn bridge_main<W: Wires, F: Files, O: Output>(
         (record { wires = W.outside wires.old; files = F.store files.old; printed = O.printed out.old })
         (record { wires = W.outside wires.new; files = F.store files.new; printed = O.printed out.new }) result }
 
-    // The words of each task in the form of the usage line are taken, where no value is empty or begins with a hyphen.
-    ensures usage { (task : TheTask) → AllByRecursion IsValue (said task).1 → Names (usage_words task) task }
+    // The words of each task in the form of the usage line are taken, where no value is empty or begins with a hyphen,
+    // and the number of a script is one.
+    ensures usage { (task : TheTask) → AllByRecursion IsValue (said task).1 → IsNumbered task
+        → Names (usage_words task) task }
 {
     let outcome = run(alloc, words, wires, files);
     tell(alloc, outcome, out)
@@ -52,6 +58,7 @@ fn run<W: Wires, F: Files>(alloc: Global, words: &[Word], wires: &mut W, files: 
         },
         Ok(Task::Script(name)) => play(alloc, name, files),
         Ok(Task::Replay(name)) => replay(alloc, name, files),
+        Ok(Task::Generate(number, out)) => generate(alloc, number.number, out, files),
         Ok(Task::Record(addresses, out)) => record_to(alloc, addresses, out, wires, files),
         Err(WordsFault::Refused) => Outcome::Misused,
         Err(WordsFault::NoMemory) => Outcome::Ended(Ending::NoMemory),

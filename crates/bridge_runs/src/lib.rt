@@ -2,10 +2,12 @@
 #![tactic(auto)]
 
 mod command;
+mod generate;
 mod laws;
 mod record;
 mod replay;
 mod script;
+mod writing;
 
 pub use command::bridge_main;
 pub use laws::a_record_is_a_session;

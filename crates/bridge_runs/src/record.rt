@@ -1,14 +1,15 @@
 //! Records a session.
 ghost use Rattle.std.specs.Prelude.{◌≡◌, []};
-ghost use Rattle.bridge_runs.specs.Recording.{IsKeptIn, IsLogOf, IsWritten, Records};
+ghost use Rattle.bridge_runs.specs.Recording.{IsKeptIn, IsLogOf, Records};
 
+use crate::writing::write;
 use command_words::Addresses;
 use recorded_sessions::{Recorded, record};
 use run_outcomes::{Outcome, status_of_ending};
 use script_text::{SessionLog, print_log};
 use session_endings::{Ending, Limits};
 use std::alloc::Global;
-use wire_core::{FileRefusal, Files, NoMemory, Wires, Word};
+use wire_core::{Files, NoMemory, Wires, Word};
 
 /// Connects the wires under these addresses, serves a session over them, and writes its log to the file of this name, in
 /// one write, over what was there. The outcome is that of the session, `NotUsed` where the file can't be written, or the
@@ -43,7 +44,7 @@ fn keep<F: Files>(alloc: Global, recorded: Recorded, out: Word, files: &mut F) -
     let ending = recorded.ending;
     let log = log_of(recorded);
     match print_log(alloc, &log) {
-        Ok(text) => write(ending, out, text.as_slice(), files),
+        Ok(text) => write(Outcome::Ended(ending), out, text.as_slice(), files),
         Err(NoMemory) => Outcome::Ended(Ending::NoMemory),
     }
 }
@@ -59,17 +60,5 @@ fn log_of(recorded: Recorded) -> SessionLog
         waiting: limits.waiting,
         runs: recorded.runs,
         ending: Some(status_of_ending(recorded.ending)),
-    }
-}
-
-fn write<F: Files>(ending: Ending, out: Word, text: &[u8], files: &mut F) -> Outcome
-    requires { (F.store files.old).asked ≡ [] }
-    ensures { IsWritten ending out text.now (F.store files.old) (F.store files.new) result }
-{
-    match files.write(out, text) {
-        Ok(()) => Outcome::Ended(ending),
-        Err(FileRefusal::NoMemory) => Outcome::Ended(Ending::NoMemory),
-        Err(FileRefusal::Failed) => Outcome::NotUsed,
-        Err(FileRefusal::TooLong) => Outcome::NotUsed,
     }
 }

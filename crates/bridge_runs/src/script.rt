@@ -43,8 +43,8 @@ fn script_limits(script: &Script) -> Limits
     }
 }
 
-// Serves a session over the wires of a script, under its limits, and gives the log of that session.
-fn served_of(alloc: Global, script: Script) -> Result<SessionLog, NoMemory>
+/// Serves a session over the wires of a script, under its limits, and gives the log of that session.
+pub(crate) fn served_of(alloc: Global, script: Script) -> Result<SessionLog, NoMemory>
     requires { AreLimits (script_limits script) }
     ensures { IfOk result (IsServedOf script) }
 {

@@ -11,7 +11,7 @@ use jdwp_packets::PacketFault;
 use script_text::ScriptFault;
 use session_endings::{ClientFault, Ending, TargetFault};
 use std::alloc::{AllocError, Global};
-use wire_core::{Blob, OutRefusal, Output};
+use wire_core::{Blob, OutRefusal, Output, Text};
 
 // The status where a line was not printed, and the one where memory ran out, which stays whatever happens to its line.
 const NOT_PRINTED: u8 = 9;
@@ -20,7 +20,8 @@ pub(crate) const OUT_OF_MEMORY: u8 = 70;
 
 /// What a run comes to: its words are refused; a link was not opened; a file was not read or written; one is too long, or
 /// has this fault in this line, counted from 1; a session was served of what a file says, and this is the text of its log;
-/// or a session ended so, for want of memory maybe before it began.
+/// the log of a session was written, and these are the lines of its summary; or a session ended so, for want of memory
+/// maybe before it began.
 #[derive(Debug, Drop)]
 pub enum Outcome {
     Misused,
@@ -29,6 +30,7 @@ pub enum Outcome {
     TooLong,
     BadLine { line: u32, kind: ScriptFault },
     Logged(Blob),
+    Summed(Text),
     Ended(Ending),
 }
 
@@ -44,6 +46,7 @@ pub fn tell<O: Output>(alloc: Global, outcome: Outcome, out: &mut O) -> u8
         Outcome::TooLong => print_line(out, "ended 10 script line 0 TooLong\n", 10),
         Outcome::BadLine { line, kind } => print_made(out, faulty_line(alloc, line, kind), 10),
         Outcome::Logged(text) => print(out, text.as_slice(), 0),
+        Outcome::Summed(lines) => print_line(out, lines.as_str(), 0),
         Outcome::Ended(ending) => tell_ending(alloc, ending, out),
     }
 }

@@ -1,3 +1,4 @@
+use Rattle.command_words.proofs.NumberLaws.{named_few}
 use Rattle.bridge_runs.specs.Command.{Does}
 use Rattle.bridge_runs.proofs.command.run.Goals as goal
 
@@ -19,6 +20,18 @@ returns-in-Ok-Script g c = Does.plays (rw c.in-Ok-Script.field-0-is at c.in-Ok-S
 
 pub returns-in-Ok-Replay : goal.returns-in-Ok-Replay
 returns-in-Ok-Replay g c = Does.replays (rw c.in-Ok-Replay.field-0-is at c.in-Ok-Replay.ensures) c.replay.ensures
+
+pub generate-requires-clause-from_one : goal.generate-requires-clause-from_one
+generate-requires-clause-from_one g c =
+    (named_few _ _ _ (rw c.in-Ok-Generate.field-0-is at c.in-Ok-Generate.ensures)).0
+
+pub generate-requires-clause-few : goal.generate-requires-clause-few
+generate-requires-clause-few g c =
+    (named_few _ _ _ (rw c.in-Ok-Generate.field-0-is at c.in-Ok-Generate.ensures)).1
+
+pub returns-in-Ok-Generate : goal.returns-in-Ok-Generate
+returns-in-Ok-Generate g c =
+    Does.generates (rw c.in-Ok-Generate.field-0-is at c.in-Ok-Generate.ensures) c.generate.ensures
 
 pub returns-in-Ok-Record : goal.returns-in-Ok-Record
 returns-in-Ok-Record g c = Does.records (rw c.in-Ok-Record.field-0-is at c.in-Ok-Record.ensures) c.record_to.ensures

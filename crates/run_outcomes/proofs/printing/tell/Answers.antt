@@ -25,6 +25,10 @@ pub returns-in-Logged : goal.returns-in-Logged
 unfolding text_of
 returns-in-Logged g c = rw c.in-Logged.is (rw c.as_slice.ensures at c.print.ensures)
 
+pub returns-in-Summed : goal.returns-in-Summed
+unfolding text_of
+returns-in-Summed g c = rw c.in-Summed.is (rw c.as_str.ensures at c.print_line-in-Summed.ensures)
+
 pub returns-in-Ended : goal.returns-in-Ended
 unfolding text_of
 returns-in-Ended g c = rw c.in-Ended.is c.tell_ending.ensures

@@ -1,5 +1,5 @@
-use Rattle.bridge_runs.specs.Recording.{IsWritten}
-use Rattle.bridge_runs.proofs.record.write.Goals as goal
+use Rattle.bridge_runs.specs.Writing.{IsWritten}
+use Rattle.bridge_runs.proofs.writing.write.Goals as goal
 
 pub returns-in-Ok : goal.returns-in-Ok
 returns-in-Ok g c = IsWritten.is_written c.write.ensures.asks c.in-Ok.ensures.writes
