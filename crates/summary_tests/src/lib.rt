@@ -4,6 +4,5 @@
 
 #[cfg(test)]
 mod scripts;
-
 #[cfg(test)]
 mod sums;

@@ -6,6 +6,7 @@ use std::test::Fail;
 use wire_core::{Blob, Entry, List, NoMemory, Side};
 
 // What a client says and is told, and the lines of the summary.
+#[derive(Drop)]
 struct Row<'a> {
     said: &'a [&'a str],
     told: &'a [&'a str],
@@ -27,7 +28,7 @@ fn framed(alloc: Global, body: &str) -> Result<Blob, Fail> {
 fn log_of(alloc: Global, row: &Row) -> Result<List<Run>, Fail> {
     let mut log = List::new(alloc);
     for body in row.said {
-        log.push(Run::One(Entry::In(Side::Client, framed(alloc, body)?)))?;
+        log.push(Run::One(Entry::In(Side::Client, framed(alloc, *body)?)))?;
         log.push(Run::Quiets(1_099_511_627_776))?;
     }
     log.push(Run::One(Entry::Out(Side::Target, framed(alloc, "{}")?)))?;
@@ -37,7 +38,7 @@ fn log_of(alloc: Global, row: &Row) -> Result<List<Run>, Fail> {
 // What is told, behind that.
 fn add_told(alloc: Global, row: &Row, log: &mut List<Run>) -> Result<(), Fail> {
     for body in row.told {
-        log.push(Run::One(Entry::Out(Side::Client, framed(alloc, body)?)))?;
+        log.push(Run::One(Entry::Out(Side::Client, framed(alloc, *body)?)))?;
     }
     log.push(Run::One(Entry::Shut(Side::Client)))?;
     Ok(())
