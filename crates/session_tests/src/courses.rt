@@ -24,17 +24,21 @@ use wire_core::{Cut, Entry, List, MemoryWires, Side, Step};
 /// - `ending`, and how the session ends: where it has no such line the client has left.
 pub(crate) fn check(alloc: Global, text: &str) -> Result<(), Fail> {
     for (number, session) in text.split("\nsession").enumerate().skip(1) {
-        let mut course = Course::new(alloc)?;
         let (stages, lines) = session.split_once('\n').ok_or("a session on one line")?;
-        for name in stages.split_whitespace() {
-            course.add_lines(alloc, stage(name).ok_or("no stage has this name")?)?;
-        }
-        course.add_lines(alloc, lines)?;
-        if let Some(other) = course.run(alloc)? {
+        if let Some(other) = Course::of(alloc, stages, lines)?.run(alloc)? {
             return Err(format!(in alloc; "session {number}: {other}")?.into());
         }
     }
     Ok(())
+}
+
+/// Wires in memory with the outside of a session that begins with the stages of these names and goes on with these lines.
+pub(crate) fn wires_in(alloc: Global, stages: &str, lines: &str) -> Result<MemoryWires, Fail>
+    ensures client { IfOk result (λ wires. IsOpen Client (outside_of wires)) }
+    ensures target { IfOk result (λ wires. IsOpen Target (outside_of wires)) }
+{
+    let Course { steps, cuts, .. } = Course::of(alloc, stages, lines)?;
+    wires_of(alloc, steps, cuts)
 }
 
 // A session, as its lines say it.
@@ -62,6 +66,16 @@ impl Course {
             sent: Vec::new(alloc),
             ending: "Left".to_string(alloc)?,
         })
+    }
+
+    // The session that begins with the stages of these names and goes on with these lines.
+    fn of(alloc: Global, stages: &str, lines: &str) -> Result<Course, Fail> {
+        let mut course = Course::new(alloc)?;
+        for name in stages.split_whitespace() {
+            course.add_lines(alloc, stage(name).ok_or("no stage has this name")?)?;
+        }
+        course.add_lines(alloc, lines)?;
+        Ok(course)
     }
 
     fn add_lines(&mut self, alloc: Global, lines: &str) -> Result<(), Fail> {

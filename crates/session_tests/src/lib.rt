@@ -15,4 +15,6 @@ mod links;
 #[cfg(test)]
 mod messages;
 #[cfg(test)]
+mod records;
+#[cfg(test)]
 mod stages;
