@@ -189,6 +189,7 @@ pub deed_last : {messages : List Message} {m : Machine} → Run messages m → D
 deed_last r = by_runs {Holds = λ (messages : List Message) (m : Machine). DeedLast m.hand} (record {
   starts = tt;
   moves = λ messages m next said before d moved after. deed_on m next said (tested first_test before) moved d;
+  queues = λ messages m hand queue before may d. d;
 }) r
 
 -- behind a deed nothing is looked up

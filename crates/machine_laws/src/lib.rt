@@ -20,8 +20,9 @@ pub use laws::{
     responses_list_the_breakpoints_that_are_asked_for, starts_and_ends_of_threads_are_told,
     steps_are_over_where_a_stop_is_told, stops_are_told_of_what_stops_the_target,
     the_client_knows_whether_a_stop_is_in_hand, the_first_error_decides,
-    the_handshake_goes_out_for_an_attach, the_receiver_is_asked_for_by_its_name, the_target_is_changed_as_the_first_request_asks,
-    the_target_is_left_once_for_a_disconnect, the_target_runs_on_at_rest,
-    the_target_runs_on_with_the_step_that_was_asked_for, threads_keep_their_numbers,
-    values_are_set_by_writes_in_a_stop, what_is_known_is_what_messages_say,
+    the_handshake_goes_out_for_an_attach, the_receiver_is_asked_for_by_its_name,
+    the_target_is_changed_as_the_first_request_asks, the_target_is_left_once_for_a_disconnect,
+    the_target_runs_on_at_rest, the_target_runs_on_with_the_step_that_was_asked_for,
+    threads_keep_their_numbers, values_are_set_by_writes_in_a_stop,
+    what_is_known_is_what_messages_say,
 };
