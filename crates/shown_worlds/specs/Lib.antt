@@ -1,0 +1,10 @@
+pub mod Facts
+pub mod Paging
+pub mod ThreadRows
+pub mod FrameRows
+pub mod ValueRows
+pub mod FieldRows
+pub mod ChildRows
+pub mod ExpressionRows
+pub mod WriteRows
+pub mod Laws
