@@ -1,22 +1,19 @@
 -- A class, and those above it.
-use Rattle.std.proofs.Common.{◌≡◌, ◌<◌, ◌≤◌, ◌∷◌, ◌++◌, ℕ, zero, suc, Bool, true, false, cond, List, [], map, refl, sym, ap, subst, ◌∙◌}
-use Rattle.std.proofs.Common.{append-nil, append_assoc, arith, length, lt_of_le_of_lt, lt_irrefl, ◌||◌}
-use Rattle.std.specs.Prelude.{bytes_eq, find, filter, if◌then◌else◌, not, ok_or, Option, Some, None, option_and_then, option_map}
-use Rattle.std.specs.Prelude.{◌==◌, is_some, Result, Ok, Err}
-use Rattle.std.specs.List.{AllByRecursion, flat_map, list_any}
-use Rattle.std.specs.Option.{option_map_or, option_or}
+use Rattle.std.proofs.Common.{◌≡◌, ◌<◌, ◌≤◌, ◌∷◌, ◌++◌, ℕ, zero, suc, Bool, true, false, List, [], map, refl, sym, ap}
+use Rattle.std.proofs.Common.{subst, ◌∙◌, append-nil, append_assoc, arith, length, ◌||◌}
+use Rattle.std.specs.Prelude.{if◌then◌else◌, ok_or, Option, Some, None, option_and_then, option_map, ◌==◌, is_some}
+use Rattle.std.specs.Prelude.{Result, Ok, Err}
+use Rattle.std.specs.List.{AllByRecursion, list_any}
+use Rattle.std.specs.Option.{option_map_or}
 use Rattle.std.specs.Result.{result_unwrap_or}
 use Rattle.std.proofs.lemmas.Bool.{eqb-true}
-use Rattle.std.proofs.lemmas.List.Folds.{find-append}
 use Rattle.jdwp_commands.specs.declared.answer.Answer.TheVariants as answers
 use Rattle.jdwp_values.specs.declared.class.Field.{Field}
 use Rattle.jdwp_values.specs.declared.id.ClassId.{ClassId}
-use Rattle.machine_model.specs.Children.{above_plan, chain, fields_plan, is_static, own_fields}
-use Rattle.machine_model.specs.Expressions.{field_from, field_named, found_or}
+use Rattle.machine_model.specs.Children.{above_plan, chain, fields_plan}
 use Rattle.machine_model.specs.Facts.{above_in, fields_in}
-use Rattle.machine_model.specs.Plans.{Plan, answer_in, chained, gives, of_world}
-use Rattle.shown_worlds.specs.FieldRows.{FieldOf, of_class, upwards, with_above}
-use Rattle.shown_worlds.specs.FieldRows as shown
+use Rattle.machine_model.specs.Plans.{answer_in, chained, gives, of_world}
+use Rattle.shown_worlds.specs.FieldRows.{upwards, with_above}
 use Rattle.shown_worlds.proofs.PlanLemmas.{said_chained}
 use Rattle.shown_worlds.proofs.RowLemmas.{found_all, found_passes}
 use Rattle.shown_worlds.proofs.ValueLaws.{not_null}
@@ -61,7 +58,8 @@ no_fields w class is =
     ∙ ap (λ (o : Option WorldClass). result_unwrap_or (if is_some o
     then Ok (fields_of w (class_id (suc class))) else Err invalid_class) []) is
 
-above_heard : (r : Result ClassId ℕ) → above_in (answer_in (told answers.Superclass r)) ≡ result_unwrap_or r (class_id 0)
+above_heard : (r : Result ClassId ℕ) → above_in (answer_in (told answers.Superclass r))
+    ≡ result_unwrap_or r (class_id 0)
 above_heard (Ok found) = refl
 above_heard (Err code) = refl
 
@@ -82,7 +80,8 @@ above_there w class found is =
 -- so many classes stand above null, this one too
 abbrev pub IsHigh : World → ℕ → ℕ → Type 0
 IsHigh w zero class = class ≡ 0
-IsHigh w (suc n) class = (row : WorldClass) × (class_in w (class_id class) ≡ Some row) × (0 < class) × IsHigh w n row.above.0
+IsHigh w (suc n) class = (row : WorldClass) × (class_in w (class_id class) ≡ Some row) ×
+    (0 < class) × IsHigh w n row.above.0
 
 one_row : (a b : WorldClass) → ◌≡◌ {A = Option WorldClass} (Some a) (Some b) → a ≡ b
 one_row a b h = cc
@@ -169,11 +168,13 @@ not_met w n class (other ∷ met) high all =
         absurd (omega (arith, same, all.0.1))
     by_test false is rest = rest
 
-pub higher_on : (w : World) (n : ℕ) (met : List ℕ) → AllByRecursion (Higher w (suc n)) met → AllByRecursion (Higher w n) met
+pub higher_on : (w : World) (n : ℕ) (met : List ℕ) → AllByRecursion (Higher w (suc n)) met
+    → AllByRecursion (Higher w n) met
 higher_on w n [] all = tt
 higher_on w n (class ∷ met) all = ((all.0.0, omega (arith, all.0.1), all.0.2), higher_on w n met all.1)
 
-pub all_push : {A : Type 0} (P : A → Type 0) (xs : List A) (y : A) → AllByRecursion P xs → P y → AllByRecursion P (xs ++ y ∷ [])
+pub all_push : {A : Type 0} (P : A → Type 0) (xs : List A) (y : A) → AllByRecursion P xs → P y
+    → AllByRecursion P (xs ++ y ∷ [])
 all_push P [] y all p = (p, tt)
 all_push P (x ∷ xs) y all p = (all.0, all_push P xs y all.1 p)
 

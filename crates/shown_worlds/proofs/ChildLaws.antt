@@ -1,8 +1,8 @@
 -- Children with their values; a frame's.
-use Rattle.std.proofs.Common.{◌≡◌, ◌∷◌, ◌++◌, ℕ, zero, suc, Bool, List, [], map, take, drop, length, refl, sym, ap, subst, ◌∙◌}
+use Rattle.std.proofs.Common.{◌≡◌, ◌∷◌, ◌++◌, ℕ, zero, suc, Bool, List, [], map, take, drop, length, refl, sym, ap}
+use Rattle.std.proofs.Common.{subst, ◌∙◌}
 use Rattle.std.specs.Prelude.{codes, filter, Option, Some, None, option_and_then, option_map, zip}
 use Rattle.std.proofs.lemmas.List.{drop-map, map-append, take-map}
-use Rattle.jdwp_commands.specs.declared.listed.Slot.{Slot}
 use Rattle.jdwp_values.specs.declared.class.Variable.{Variable}
 use Rattle.jdwp_values.specs.declared.value.Value.{Value}
 use Rattle.jdwp_values.specs.declared.value.Value.TheVariants as values
@@ -10,23 +10,22 @@ use Rattle.machine_model.specs.Children.{Child, Place, at_index, in_field, in_sl
 use Rattle.machine_model.specs.Children.{object_named, of_this, of_variable, this_plan, variables_plan, visible_at}
 use Rattle.machine_model.specs.Children.{by_slot, first_byte, visible_plan, with_this}
 use Rattle.machine_model.specs.Frames.{count_from}
-use Rattle.machine_model.specs.Plans.{Plan, both, each, made_with, of_world, two_of}
-use Rattle.machine_model.specs.Values.{Valued, is_signature, seen_plan}
+use Rattle.machine_model.specs.Plans.{Plan, both, of_world, two_of}
+use Rattle.machine_model.specs.Values.{is_signature, seen_plan}
 use Rattle.machine_model.specs.Variables.{child_plan, locals_page, locals_valued, shown_plan, slots_of, slots_plan}
 use Rattle.machine_model.specs.Variables.{values_known, with_known}
 use Rattle.machine_model.specs.Variables as machine
 use Rattle.machine_model.specs.Writing.{slot_store}
 use Rattle.machine_model.specs.declared.parts.Store.{Store}
-use Rattle.machine_model.specs.declared.parts.ShownVariable.{ShownVariable}
 use Rattle.shown_worlds.specs.ChildRows as shown
 use Rattle.shown_worlds.specs.Facts.{if_null, variables}
-use Rattle.shown_worlds.specs.Paging.{page}
 use Rattle.shown_worlds.specs.ValueRows.{Placed}
 use Rattle.shown_worlds.specs.ValueRows as values_shown
 use Rattle.shown_worlds.proofs.FrameLaws.{page_map, paged}
 use Rattle.shown_worlds.proofs.LocalLaws.{slots_same, slots_there, this_there, variables_there}
-use Rattle.shown_worlds.proofs.PlanLemmas.{all_alike, and_then_alike, map_map, said_both, said_chained, said_each, said_made}
-use Rattle.shown_worlds.proofs.ValueLaws.{placed, seen_there, signature_at}
+use Rattle.shown_worlds.proofs.PlanLemmas.{all_alike, and_then_alike, map_map, said_both, said_chained, said_each}
+use Rattle.shown_worlds.proofs.PlanLemmas.{said_made}
+use Rattle.shown_worlds.proofs.ValueLaws.{seen_there, signature_at}
 use Rattle.slot_values.specs.declared.slot.SlotValue.{SlotValue}
 use Rattle.stop_refs.specs.declared.thing.FrameThing.{FrameThing}
 use Rattle.world_model.specs.Objects.{reference_in}
@@ -61,7 +60,8 @@ zip_all : {A B C : Type 0} (f : A → Option B) (g : A × B → Option C) (items
     ≡ all_of (λ a. option_and_then (λ b. g (a, b)) (f a)) items
 zip_all f g [] = refl
 zip_all f g (a ∷ others) =
-    zip_step (λ ys. all_of g (zip (a ∷ others) ys)) (λ b. g (a, b)) (λ ys. all_of g (zip others ys)) (λ y ys. refl) (f a)
+    zip_step (λ ys. all_of g (zip (a ∷ others) ys)) (λ b. g (a, b)) (λ ys. all_of g (zip others ys)) (λ y ys. refl)
+    (f a)
     (all_of f others) (all_of (λ a. option_and_then (λ b. g (a, b)) (f a)) others) (zip_all f g others)
 
 all_map : {A B C : Type 0} (f : A → B) (g : B → Option C) (items : List A)
@@ -109,7 +109,8 @@ children_said w types read store children sound =
     (all_of (λ (child : Child). read child.place) children)
     ∙ zip_all (λ (child : Child). read child.place)
     (λ (two : Child × Value). of_world (living_reply w) (child_plan types two)) children
-    ∙ all_alike (λ (child : Child). option_and_then (λ value. of_world (living_reply w) (child_plan types (child, value)))
+    ∙ all_alike (λ (child : Child). option_and_then (λ value. of_world (living_reply w)
+    (child_plan types (child, value)))
     (read child.place)) (λ child. shown.child_shown w types (row_of w read store child))
     (λ child. and_then_alike (λ value. of_world (living_reply w) (child_plan types (child, value)))
     (λ value. option_map (shown.shown_as child.name)
@@ -123,7 +124,8 @@ AreRead w read children valued =
     of_world (living_reply w) valued ≡ option_map (zip children) (all_of (λ (child : Child). read child.place) children)
 
 -- a page of children
-pub page_said : (w : World) (types : Bool) (read : Place → Option Value) (store : Place → Option Store) (start count : ℕ)
+pub page_said : (w : World) (types : Bool) (read : Place → Option Value) (store : Place → Option Store)
+    (start count : ℕ)
     (children : List Child) (valued : List Child → Plan (List (Child × Value))) → IsSound w
     → AreRead w read (machine.page start count children) (valued (machine.page start count children))
     → option_and_then (λ found. of_world (living_reply w) (shown_plan types found))
@@ -245,17 +247,26 @@ variables_same w frame slots (v ∷ others) =
 abbrev pub heard : World → FrameThing → List Child
 heard w frame = visible_at frame.at.index (variables w frame.at.class frame.at.method)
 
+pub scope_same : (w : World) (frame : FrameThing) (slots : List SlotValue)
+    → map (local_row w frame slots) (heard w frame) ≡ map (shown.variable_in frame slots) (shown.scope_of w frame)
+scope_same w frame slots =
+    variables_same w frame slots (by_slot (filter (is_visible frame.at.index) (variables w frame.at.class frame.at.method)))
+    ∙ ap (map (shown.variable_in frame slots)) (slots_same
+    (filter (is_visible frame.at.index) (variables w frame.at.class frame.at.method)))
+
+pub visible_there : (w : World) (frame : FrameThing)
+    → of_world (living_reply w) (visible_plan frame) ≡ Some (heard w frame)
+visible_there w frame =
+    said_made (living_reply w) (visible_at frame.at.index) (variables_plan frame.at.class frame.at.method)
+    ∙ ap (option_map (visible_at frame.at.index)) (variables_there w frame.at.class frame.at.method)
+
 pub locals_same : (w : World) (frame : FrameThing) (slots : List SlotValue) (value : Value)
     → map (local_row w frame slots) (with_this (value, heard w frame))
     ≡ shown.receiver_if value (referred value) ++ map (shown.variable_in frame slots) (shown.scope_of w frame)
 locals_same w frame slots value =
     map-append (local_row w frame slots) (of_this value (object_named value)) (heard w frame)
     ∙ ap (λ l. l ++ map (local_row w frame slots) (heard w frame)) (receiver_same w frame slots value)
-    ∙ ap (λ l. shown.receiver_if value (referred value) ++ l)
-    (variables_same w frame slots (by_slot
-    (filter (is_visible frame.at.index) (variables w frame.at.class frame.at.method)))
-    ∙ ap (map (shown.variable_in frame slots)) (slots_same
-    (filter (is_visible frame.at.index) (variables w frame.at.class frame.at.method))))
+    ∙ ap (λ l. shown.receiver_if value (referred value) ++ l) (scope_same w frame slots)
 
 with_one : {A B C : Type 0} (f : A × B → C) (o : Option A) (b : B)
     → option_map f (two_of o (Some b)) ≡ option_map (λ a. f (a, b)) o
@@ -269,12 +280,11 @@ locals_there w frame =
     said_made (living_reply w) with_this (both (this_plan frame) (visible_plan frame))
     ∙ ap (option_map with_this) (said_both (living_reply w) (this_plan frame) (visible_plan frame)
     ∙ ap (λ o. two_of o (of_world (living_reply w) (visible_plan frame))) (this_there w frame)
-    ∙ ap (two_of (shown.this_of w frame))
-    (said_made (living_reply w) (visible_at frame.at.index) (variables_plan frame.at.class frame.at.method)
-    ∙ ap (option_map (visible_at frame.at.index)) (variables_there w frame.at.class frame.at.method)))
+    ∙ ap (two_of (shown.this_of w frame)) (visible_there w frame))
     ∙ with_one with_this (shown.this_of w frame) (heard w frame)
 
-locals_by_this : (w : World) (types : Bool) (frame : FrameThing) (row : WorldFrame) (start count : ℕ) (this : Option Value)
+locals_by_this : (w : World) (types : Bool) (frame : FrameThing) (row : WorldFrame) (start count : ℕ)
+    (this : Option Value)
     → IsSound w → shown.frame_row w frame ≡ Some row
     → option_and_then (λ found. of_world (living_reply w) (shown_plan types found))
     (option_and_then (λ children. of_world (living_reply w) (locals_valued frame (machine.page start count children)))

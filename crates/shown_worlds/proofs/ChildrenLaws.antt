@@ -1,17 +1,15 @@
 -- The children of a container, a page of them.
 use Rattle.std.proofs.Common.{◌≡◌, ℕ, zero, suc, Bool, List, [], refl, ap, ◌∙◌}
-use Rattle.std.specs.Prelude.{Option, Some, None, option_and_then, option_map}
+use Rattle.std.specs.Prelude.{Option, Some, option_and_then, option_map}
 use Rattle.dap_messages.specs.declared.requests.Filter.{Filter}
 use Rattle.dap_messages.specs.declared.requests.Filter.TheVariants.{Both, Indexed, Named}
 use Rattle.jdwp_values.specs.declared.value.Value.{Value}
 use Rattle.machine_model.specs.Children.{Child}
 use Rattle.machine_model.specs.Plans.{Plan, chained, each, gives, of_world}
-use Rattle.machine_model.specs.State.{State}
 use Rattle.machine_model.specs.Values.{by_id}
-use Rattle.machine_model.specs.Variables.{children_plan, elements_page, fields_page, if_indexed, if_named, locals_page, page_plan}
-use Rattle.machine_model.specs.Variables.{shown_plan}
+use Rattle.machine_model.specs.Variables.{children_plan, elements_page, fields_page, if_indexed, if_named, locals_page}
+use Rattle.machine_model.specs.Variables.{page_plan, shown_plan}
 use Rattle.machine_model.specs.declared.parts.Finding.TheVariants as found
-use Rattle.machine_model.specs.declared.parts.ShownVariable.{ShownVariable}
 use Rattle.shown_worlds.specs.ChildRows as shown
 use Rattle.shown_worlds.specs.Laws.{IsLive, ShowsChildren}
 use Rattle.shown_worlds.proofs.ChildLaws.{locals_shown}

@@ -1,9 +1,8 @@
 -- The elements of an array.
-use Rattle.std.proofs.Common.{◌≡◌, ◌<◌, ◌≤◌, ◌+◌, ◌-◌, ◌∷◌, ◌++◌, ◌||◌, ℕ, zero, suc, Bool, true, false, List, [], map, take, drop}
+use Rattle.std.proofs.Common.{◌≡◌, ◌<◌, ◌≤◌, ◌+◌, ◌-◌, ◌∷◌, ◌||◌, ℕ, zero, suc, Bool, false, List, [], map, take, drop}
 use Rattle.std.proofs.Common.{length, refl, sym, ap, ◌∙◌, arith, get_or}
-use Rattle.std.specs.Prelude.{codes, decimal, if◌then◌else◌, int_lt, nat_abs, nat_lt, ok_or, pos, zip, ◌==◌, Option, Some, None}
+use Rattle.std.specs.Prelude.{if◌then◌else◌, int_lt, nat_lt, ok_or, pos, zip, ◌==◌, Option, Some, None}
 use Rattle.std.specs.Prelude.{option_and_then, option_map, slice_get}
-use Rattle.std.specs.List.{range_with_len}
 use Rattle.std.specs.Result.{result_ok}
 use Rattle.std.proofs.lemmas.Bool.{le-ltb}
 use Rattle.std.proofs.lemmas.List.{drop_more}
@@ -13,19 +12,18 @@ use Rattle.jdwp_commands.specs.declared.region.Region.{Region}
 use Rattle.jdwp_values.specs.declared.tag.Tag.{Tag}
 use Rattle.jdwp_values.specs.declared.value.Value.{Value}
 use Rattle.jdwp_values.specs.declared.value.Value.TheVariants as values
-use Rattle.machine_model.specs.Children.{Child, Place, at_index, elements_of, in_field, in_slot, index_name, is_known, of_index}
+use Rattle.machine_model.specs.Children.{Child, Place, at_index, elements_of, in_field, in_slot, index_name, is_known}
 use Rattle.machine_model.specs.Frames.{count_from}
-use Rattle.machine_model.specs.Plans.{each, made_with, must_say, of_world}
-use Rattle.machine_model.specs.Values.{element_of, length_plan}
+use Rattle.machine_model.specs.Plans.{each, made_with, of_world}
+use Rattle.machine_model.specs.Values.{length_plan}
 use Rattle.machine_model.specs.Variables.{elements_page, elements_plan, elements_valued, shown_plan, values_in}
 use Rattle.machine_model.specs.Writing.{element_store}
 use Rattle.machine_model.specs.declared.parts.Store.TheVariants as stores
 use Rattle.shown_worlds.specs.ChildRows as shown
-use Rattle.shown_worlds.specs.Paging.{page}
 use Rattle.shown_worlds.proofs.ChildLaws.{and_then_of_map, children_said, row_of}
 use Rattle.shown_worlds.proofs.FactLaws.{object}
 use Rattle.shown_worlds.proofs.FrameLaws.{paged}
-use Rattle.shown_worlds.proofs.LocalLaws.{ok_ok_or, ok_then, same_map}
+use Rattle.shown_worlds.proofs.LocalLaws.{ok_ok_or, ok_then}
 use Rattle.shown_worlds.proofs.PlanLemmas.{must_said, said_chained, said_made}
 use Rattle.shown_worlds.proofs.RowLemmas.{found_all}
 use Rattle.shown_worlds.proofs.ValueLaws.{length_there}
@@ -57,7 +55,8 @@ asked_from items start count within =
     ap (λ b. if b then None else Some (take (suc count) (drop start items))) (guard (length items) start count within)
 
 -- an array of a sound world has a kind
-kind_there : (w : World) (n : ℕ) (row : WorldArray) → IsSound w → array_in w (object n) ≡ Some row → IsArray (program_of w) row
+kind_there : (w : World) (n : ℕ) (row : WorldArray) → IsSound w → array_in w (object n) ≡ Some row
+    → IsArray (program_of w) row
 kind_there w n row sound is =
     found_all (IsArray (program_of w)) (λ (r : WorldArray). r.id.0 == n) w.arrays sound.values.arrays row is
 
@@ -154,7 +153,8 @@ elements_said : (w : World) (types : Bool) (n : ℕ) (row : WorldArray) (start c
     → array_in w (object (suc n)) ≡ Some row → start + count ≤ length row.values
     → option_and_then (λ pairs. of_world (living_reply w) (shown_plan types pairs))
     (of_world (living_reply w) (elements_valued (suc n) start count))
-    ≡ all_of (shown.child_shown w types) (take count (shown.elements_in w (object (suc n)) start (drop start row.values)))
+    ≡ all_of (shown.child_shown w types) (take count (shown.elements_in w (object (suc n)) start
+    (drop start row.values)))
 elements_said w types n row start count sound is within =
     ap (option_and_then (λ pairs. of_world (living_reply w) (shown_plan types pairs)))
     (said_made (living_reply w) (zip (elements_of (suc n) start count)) (elements_plan (suc n) start count)
@@ -178,7 +178,8 @@ elements_counted : (w : World) (types : Bool) (n : ℕ) (row : WorldArray) (star
     → array_in w (object (suc n)) ≡ Some row → found ≤ length row.values - start
     → option_and_then (λ pairs. of_world (living_reply w) (shown_plan types pairs))
     (of_world (living_reply w) (elements_valued (suc n) start found))
-    ≡ all_of (shown.child_shown w types) (take found (shown.elements_in w (object (suc n)) start (drop start row.values)))
+    ≡ all_of (shown.child_shown w types) (take found (shown.elements_in w (object (suc n)) start
+    (drop start row.values)))
 elements_counted w types n row start count zero sound is within = none_said w types (suc n) start
 elements_counted w types n row start count (suc found) sound is within =
     elements_said w types n row start (suc found) sound is (omega (arith, within))
@@ -196,7 +197,8 @@ elements_by w types n start count (Some row) sound is =
     (counted_le (length row.values) start count)
     ∙ ap (all_of (shown.child_shown w types))
     (ap (λ i. take (count_from (length row.values) start count)
-    (shown.elements_in w (object (suc n)) i (drop start row.values))) (let zero_on : start ≡ 0 + start = omega arith in zero_on)
+    (shown.elements_in w (object (suc n)) i (drop start row.values)))
+    (let zero_on : start ≡ 0 + start = omega arith in zero_on)
     ∙ ap (take (count_from (length row.values) start count)) (sym (elements_dropped w (suc n) 0 start row.values))
     ∙ ap (λ total. take (count_from total start count) (drop start (shown.elements_in w (object (suc n)) 0 row.values)))
     (sym (elements_many w (suc n) 0 row.values))

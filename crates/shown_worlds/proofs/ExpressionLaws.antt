@@ -1,8 +1,8 @@
 -- The value of an expression.
-use Rattle.std.proofs.Common.{◌≡◌, ◌<◌, ◌≤◌, ◌+◌, ◌∷◌, ℕ, zero, suc, Bool, true, false, List, [], length, map, refl, sym, ap, ◌∙◌, arith}
-use Rattle.std.proofs.Common.{drop, get_or, take}
-use Rattle.std.specs.Prelude.{bytes_eq, codes, filter, find, if◌then◌else◌, nat_lt, Option, Some, None, option_and_then}
-use Rattle.std.specs.Prelude.{option_map, pos, slice_get, Result, Ok, Err}
+use Rattle.std.proofs.Common.{◌≡◌, ◌∷◌, ℕ, zero, suc, Bool, true, false, List, [], length, refl, sym, ap, ◌∙◌, arith}
+use Rattle.std.proofs.Common.{take}
+use Rattle.std.specs.Prelude.{bytes_eq, codes, filter, find, if◌then◌else◌, nat_lt, Option, Some, None}
+use Rattle.std.specs.Prelude.{option_and_then, option_map, pos, slice_get, Ok, Err}
 use Rattle.std.proofs.lemmas.Bool.{ltb-false, ltb-true}
 use Rattle.std.proofs.lemmas.List.{drop_more}
 use Rattle.std.proofs.lemmas.Option.{slice_get-get_or, slice_get_past}
@@ -19,17 +19,16 @@ use Rattle.jdwp_values.specs.declared.class.Variable.{Variable}
 use Rattle.jdwp_values.specs.declared.id.ClassId.{ClassId}
 use Rattle.jdwp_values.specs.declared.value.Value.{Value}
 use Rattle.jdwp_values.specs.declared.value.Value.TheVariants as values
-use Rattle.machine_model.specs.Children.{by_slot, first_byte, is_visible, object_named, reach, this_plan, variables_plan}
-use Rattle.machine_model.specs.Expressions.{as_length, as_this, class_field, element_hop, element_if, field_from, field_hop}
-use Rattle.machine_model.specs.Expressions.{field_value, head_in, hop_on, hops_on, index_on, length_hop, length_if, missing}
-use Rattle.machine_model.specs.Expressions.{name_on, named_head, named_in, on_value, one_of, shown_value, this_by, value_plan}
-use Rattle.machine_model.specs.Expressions.{variable_named}
+use Rattle.machine_model.specs.Children.{first_byte, is_visible, reach, this_plan, variables_plan}
+use Rattle.machine_model.specs.Expressions.{as_length, as_this, class_field, element_hop, element_if, field_from}
+use Rattle.machine_model.specs.Expressions.{field_hop, field_value, head_in, hop_on, hops_on, index_on, length_hop}
+use Rattle.machine_model.specs.Expressions.{length_if, missing, name_on, named_head, named_in, on_value, one_of}
+use Rattle.machine_model.specs.Expressions.{shown_value, this_by, value_plan, variable_named}
 use Rattle.machine_model.specs.Expressions as machine
-use Rattle.machine_model.specs.Plans.{Plan, chained, gives, made_with, of_world}
-use Rattle.machine_model.specs.State.{State}
-use Rattle.machine_model.specs.Values.{Declared, Valued, by_id, class_plan, element_of, is_signature, length_plan, seen_plan}
+use Rattle.machine_model.specs.Plans.{Plan, of_world}
+use Rattle.machine_model.specs.Values.{Declared, Valued, by_id, class_plan, element_of, is_signature, length_plan}
+use Rattle.machine_model.specs.Values.{seen_plan}
 use Rattle.machine_model.specs.Variables.{elements_plan, field_values, slots_plan}
-use Rattle.machine_model.specs.declared.parts.Finding.{Finding}
 use Rattle.machine_model.specs.declared.parts.Finding.TheVariants as found
 use Rattle.shown_worlds.specs.ChildRows as children
 use Rattle.shown_worlds.specs.ExpressionRows as shown
@@ -37,7 +36,6 @@ use Rattle.shown_worlds.specs.Facts.{if_null, variables}
 use Rattle.shown_worlds.specs.FieldRows as rows
 use Rattle.shown_worlds.specs.Laws.{IsLive, ShowsValues}
 use Rattle.shown_worlds.specs.ValueRows.{Placed}
-use Rattle.shown_worlds.specs.ValueRows as values_shown
 use Rattle.shown_worlds.proofs.ElementLaws.{elements_there}
 use Rattle.shown_worlds.proofs.FactLaws.{class_there, object}
 use Rattle.shown_worlds.proofs.FieldLaws.{values_there}
@@ -48,10 +46,8 @@ use Rattle.shown_worlds.proofs.ValueLaws.{length_there, placed, seen_there, sign
 use Rattle.stop_refs.specs.declared.thing.FrameThing.{FrameThing}
 use Rattle.world_model.specs.Objects.{array_in, class_of}
 use Rattle.world_model.specs.Replies.{living_reply}
-use Rattle.world_model.specs.Scans.{all_of}
 use Rattle.world_model.specs.Sound.{IsSound}
 use Rattle.world_model.specs.Storing.{referred}
-use Rattle.world_model.specs.Threads.{slot_value}
 use Rattle.world_model.specs.declared.rows.WorldArray.{WorldArray}
 use Rattle.world_model.specs.declared.rows.WorldFrame.{WorldFrame}
 use Rattle.world_model.specs.declared.world.World.{World}
@@ -90,7 +86,8 @@ value_there w n (Some it) =
 
 class_field_there : (w : World) (name : List ℕ) (n : ℕ) (class : ClassId) → IsLive w
     → Finds w (class_field name n class)
-    (shown.field_found w (object n) (find (λ (it : rows.FieldOf). bytes_eq it.field.name name) (rows.object_fields w class)))
+    (shown.field_found w (object n) (find (λ (it : rows.FieldOf). bytes_eq it.field.name name)
+    (rows.object_fields w class)))
 class_field_there w name n class live =
     ap (option_map (found_as w))
     (said_chained (living_reply w) (field_from reach [] name class.0) (field_value n)
@@ -107,7 +104,8 @@ field_hop_there w name n live =
     ∙ by_class (class_of w (object n))
   where
     by_class : (class : Option ClassId)
-        → option_map (found_as w) (option_and_then (λ (c : ClassId). of_world (living_reply w) (class_field name n c)) class)
+        → option_map (found_as w) (option_and_then (λ (c : ClassId). of_world (living_reply w)
+        (class_field name n c)) class)
         ≡ option_and_then (λ (c : ClassId). shown.field_found w (object n)
         (find (λ (it : rows.FieldOf). bytes_eq it.field.name name) (rows.object_fields w c))) class
     by_class None = refl
@@ -123,7 +121,8 @@ length_as w (Some row) = refl
 
 length_by : (w : World) (n : ℕ) (is : Bool) → IsSound w
     → Finds w (length_if is n) (if is then option_map
-    (λ (row : WorldArray). shown.sought (Some (codes "I")) (values.Int (pos (length row.values)))) (array_in w (object n))
+    (λ (row : WorldArray). shown.sought (Some (codes "I")) (values.Int (pos (length row.values))))
+    (array_in w (object n))
     else Some (Err no_such_name))
 length_by w n false sound = missing_there w no_such_name
 length_by w n true sound =
@@ -150,7 +149,8 @@ element_by w n i row true sound is within =
 
 element_hop_there : (w : World) (n i : ℕ) → IsSound w
     → Finds w (element_hop i (suc n)) (option_map
-    (λ (row : WorldArray). shown.element_found w (object (suc n)) (slice_get row.values i)) (array_in w (object (suc n))))
+    (λ (row : WorldArray). shown.element_found w (object (suc n)) (slice_get row.values i))
+    (array_in w (object (suc n))))
 element_hop_there w n i sound =
     ap (option_map (found_as w))
     (said_chained (living_reply w) (length_plan (suc n)) (λ total. element_if (nat_lt i total) i (suc n))
@@ -276,7 +276,8 @@ head_by w frame name None live =
     ∙ by_this (children.this_of w frame)
   where
     by_this : (this : Option Value)
-        → option_map (found_as w) (option_and_then (λ (this : Value). of_world (living_reply w) (name_on name this)) this)
+        → option_map (found_as w) (option_and_then (λ (this : Value). of_world (living_reply w)
+        (name_on name this)) this)
         ≡ option_and_then (shown.name_on w name) this
     by_this None = refl
     by_this (Some this) = name_there w name this live
@@ -317,7 +318,8 @@ shown_there : (w : World) (types : Bool) (s : Option machine.Sought) → IsSound
 unfolding of_world
 shown_there w types None sound = refl
 shown_there w types (Some (Ok v)) sound =
-    said_made (living_reply w) found.Value (seen_plan types v) ∙ ap (option_map found.Value) (seen_there w types v sound)
+    said_made (living_reply w) found.Value (seen_plan types v)
+    ∙ ap (option_map found.Value) (seen_there w types v sound)
 shown_there w types (Some (Err failure)) sound = refl
 
 pub shows_values : ShowsValues

@@ -3,17 +3,15 @@ use Rattle.std.proofs.Common.{◌≡◌, ℕ, List, [], refl, ap, ◌∙◌}
 use Rattle.std.specs.Prelude.{Option, Some, None, option_and_then, option_map, ok_or, Result, Ok, Err}
 use Rattle.std.specs.Result.{result_ok, result_unwrap_or}
 use Rattle.jdwp_commands.specs.declared.answer.Answer.TheVariants as answers
-use Rattle.jdwp_values.specs.declared.class.Field.{Field}
 use Rattle.jdwp_values.specs.declared.class.LineTable.{LineTable}
 use Rattle.jdwp_values.specs.declared.class.Method.{Method}
-use Rattle.jdwp_values.specs.declared.class.Variable.{Variable}
 use Rattle.jdwp_values.specs.declared.id.ClassId.{ClassId}
 use Rattle.jdwp_values.specs.declared.id.MethodId.{MethodId}
 use Rattle.jdwp_values.specs.declared.id.ObjectId.{ObjectId}
 use Rattle.jdwp_values.specs.declared.tag.TypeTag.{TypeTag}
-use Rattle.machine_model.specs.Facts.{lines_in, methods_in, signature_in, source_in, variables_in}
+use Rattle.machine_model.specs.Facts.{lines_in, methods_in, signature_in, source_in}
 use Rattle.machine_model.specs.Frames.{lines_plan, methods_plan, signature_plan, source_plan}
-use Rattle.machine_model.specs.Plans.{answer_in, must_say, of_world, said_of}
+use Rattle.machine_model.specs.Plans.{answer_in, must_say, of_world}
 use Rattle.machine_model.specs.Values.{class_in, class_plan, type_plan}
 use Rattle.shown_worlds.specs.Facts.{line_table, methods, signature, source, type_of}
 use Rattle.shown_worlds.proofs.PlanLemmas.{and_then_some, said_chained}

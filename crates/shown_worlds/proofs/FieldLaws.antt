@@ -1,8 +1,8 @@
 -- The fields of an object.
-use Rattle.std.proofs.Common.{◌≡◌, ◌<◌, ◌∷◌, ◌++◌, ◌||◌, ℕ, zero, suc, Bool, true, false, cond, List, [], map, take, drop, length}
-use Rattle.std.proofs.Common.{refl, sym, ap, subst, ◌∙◌, append-nil, arith, le_refl, lt_of_le_of_lt, pos, negsuc, ℤ, not}
-use Rattle.std.specs.Prelude.{bytes_eq, codes, filter, find, if◌then◌else◌, ok_or, Option, Some, None, option_and_then, option_map}
-use Rattle.std.specs.Prelude.{zip, ◌==◌, ◌^◌, Result, Ok, Err}
+use Rattle.std.proofs.Common.{◌≡◌, ◌∷◌, ◌++◌, ◌||◌, ℕ, zero, suc, Bool, true, false, cond, List, [], map, take, drop}
+use Rattle.std.proofs.Common.{length, refl, sym, ap, subst, ◌∙◌, arith, lt_of_le_of_lt, pos, negsuc, ℤ, not}
+use Rattle.std.specs.Prelude.{bytes_eq, codes, filter, if◌then◌else◌, ok_or, Option, Some, None, option_and_then}
+use Rattle.std.specs.Prelude.{option_map, zip, ◌==◌}
 use Rattle.std.specs.List.{AllByRecursion, flat_map, list_any}
 use Rattle.std.specs.Result.{result_ok}
 use Rattle.std.proofs.lemmas.List.{drop-map, take-map}
@@ -14,13 +14,14 @@ use Rattle.jdwp_values.specs.declared.class.Field.{Field}
 use Rattle.jdwp_values.specs.declared.id.ClassId.{ClassId}
 use Rattle.jdwp_values.specs.declared.id.FieldId.{FieldId}
 use Rattle.jdwp_values.specs.declared.value.Value.{Value}
-use Rattle.machine_model.specs.Children.{Child, FieldOf, Place, at_index, chain, chain_fields, class_fields, field_plan, fields_named}
-use Rattle.machine_model.specs.Children.{fields_plan, in_field, in_slot, is_known, name_plan, names_met, object_fields, of_classes}
-use Rattle.machine_model.specs.Children.{of_field, of_fields, own_fields, reach, with_class, with_name}
+use Rattle.machine_model.specs.Children.{Child, FieldOf, Place, at_index, chain, chain_fields, class_fields}
+use Rattle.machine_model.specs.Children.{field_plan, fields_named, fields_plan, in_field, in_slot, is_known, name_plan}
+use Rattle.machine_model.specs.Children.{names_met, object_fields, of_classes, of_field, of_fields, own_fields, reach}
+use Rattle.machine_model.specs.Children.{with_class, with_name}
 use Rattle.machine_model.specs.Children as machine
 use Rattle.machine_model.specs.Frames.{count_from, signature_plan}
-use Rattle.machine_model.specs.Plans.{chained, each, gives, made_with, must_say, of_world}
-use Rattle.machine_model.specs.Values.{class_plan, is_signature}
+use Rattle.machine_model.specs.Plans.{chained, each, of_world}
+use Rattle.machine_model.specs.Values.{class_plan}
 use Rattle.machine_model.specs.Variables.{field_values, fields_of, fields_page, fields_valued, shown_plan, values_in}
 use Rattle.machine_model.specs.Variables as variables
 use Rattle.machine_model.specs.Writing.{field_store}
@@ -30,9 +31,9 @@ use Rattle.shown_worlds.specs.Facts.{signature}
 use Rattle.shown_worlds.specs.FieldRows.{of_class, upwards, with_above}
 use Rattle.shown_worlds.specs.FieldRows as rows
 use Rattle.shown_worlds.specs.Laws.{IsLive}
-use Rattle.shown_worlds.proofs.ChainLaws.{Stands, chain_alone, chain_high, class_id, ends_high, fields_known, fields_there}
-use Rattle.shown_worlds.proofs.ChainLaws.{heard_fields, ids, no_fields, no_more, not_there, own_id}
-use Rattle.shown_worlds.proofs.ChildLaws.{AreRead, and_then_of_map, page_said, row_of}
+use Rattle.shown_worlds.proofs.ChainLaws.{Stands, chain_alone, chain_high, class_id, ends_high, fields_known}
+use Rattle.shown_worlds.proofs.ChainLaws.{fields_there, heard_fields, ids, no_fields, no_more, not_there, own_id}
+use Rattle.shown_worlds.proofs.ChildLaws.{AreRead, page_said, row_of}
 use Rattle.shown_worlds.proofs.FactLaws.{class_there, object, signature_there}
 use Rattle.shown_worlds.proofs.FrameLaws.{map_then}
 use Rattle.shown_worlds.proofs.LocalLaws.{ok_ok_or, ok_then, same_map}
@@ -59,7 +60,8 @@ read_field w n (in_slot slot tag) = None
 read_field w n (at_index i) = None
 
 each_said : (w : World) (there : Option WorldObject) (field : FieldId) (fields : List FieldId)
-    → option_and_then (λ (o : WorldObject). result_ok (ok_or (all_of (field_value w o) (field ∷ fields)) not_implemented))
+    → option_and_then (λ (o : WorldObject). result_ok (ok_or
+    (all_of (field_value w o) (field ∷ fields)) not_implemented))
     there
     ≡ all_of (λ (f : FieldId). option_and_then (λ (o : WorldObject). field_value w o f) there) (field ∷ fields)
 each_said w None field fields = refl
@@ -246,7 +248,8 @@ pub record Heard (w : World) (class : ClassId) : Type 0 where
   pub said : of_world (living_reply w) (chain_fields class) ≡ Some classes
   pub fields : flat classes ≡ rows.object_fields w class
 
-chain_heard : (w : World) (class : ClassId) (met : List ℕ) → of_world (living_reply w) (chain reach [] class.0) ≡ Some met
+chain_heard : (w : World) (class : ClassId) (met : List ℕ)
+    → of_world (living_reply w) (chain reach [] class.0) ≡ Some met
     → of_world (living_reply w) (chain_fields class) ≡ Some (map (heard w) met)
 chain_heard w class met is =
     said_chained (living_reply w) (chain reach [] class.0) (each class_fields)
@@ -267,7 +270,8 @@ heard_by : (w : World) (class : ℕ) (found : Option WorldClass) → IsLive w �
 heard_by w class (Some row) live is =
     heard_high w (class_id class) live (ends_high w w.classes (class_id class)
     (subst (λ (c : ℕ). ends w.classes w.classes (class_id c) ≡ true) (own_id w class row is)
-    (found_all (λ (r : WorldClass). ends w.classes w.classes r.id ≡ true) (λ (r : WorldClass). r.id.0 == class) w.classes
+    (found_all (λ (r : WorldClass). ends w.classes w.classes r.id ≡ true)
+    (λ (r : WorldClass). r.id.0 == class) w.classes
     live.sound.program.chains row is)))
 heard_by w zero None live is =
     heard_high w (class_id 0) live (record { height = 0; high = refl; within = omega arith })
@@ -307,7 +311,8 @@ named_there : (w : World) (live : IsLive w) (class : ClassId)
 named_there w live class =
     ap (option_and_then (λ (l : List (ℕ × List Field)). of_world (living_reply w) (fields_named l)))
     (classes_heard w class live).said
-    ∙ each_has (living_reply w) field_plan (child_of w) (field_there w) (of_classes [] (classes_heard w class live).classes)
+    ∙ each_has (living_reply w) field_plan (child_of w) (field_there w)
+    (of_classes [] (classes_heard w class live).classes)
 
 pub children_there : (w : World) (live : IsLive w) (n : ℕ)
     → of_world (living_reply w) (object_fields n)
@@ -330,7 +335,8 @@ pub children_same : (w : World) (live : IsLive w) (n : ℕ) (class : ClassId)
     → map (row_of w (read_field w n) (field_store n)) (heard_children w live class)
     ≡ shown.fields_in w (object n) [] (rows.object_fields w class)
 children_same w live n class =
-    map_then (child_of w) (row_of w (read_field w n) (field_store n)) (of_classes [] (classes_heard w class live).classes)
+    map_then (child_of w) (row_of w (read_field w n) (field_store n))
+    (of_classes [] (classes_heard w class live).classes)
     ∙ classes_row w n (classes_heard w class live).classes [] [] (λ name. refl)
     ∙ ap (shown.fields_in w (object n) []) (classes_heard w class live).fields
 

@@ -1,9 +1,8 @@
 -- Frames of a thread, a page of them.
-use Rattle.std.proofs.Common.{◌≡◌, ◌<◌, ◌≤◌, ◌+◌, ◌-◌, ◌^◌, ℕ, ℤ, zero, suc, Bool, true, false, List, [], ◌∷◌, ◌++◌, map, refl, sym}
-use Rattle.std.proofs.Common.{ap, subst, ◌∙◌, arith, length, take, drop, min, not, ◌&&◌, le_refl}
-use Rattle.std.specs.Prelude.{codes, count_by, filter, find, nat_eq, nat_lt, unwrap_or, ◌==◌, ◌||◌, int_lt, nat_abs, pos, negsuc, if◌then◌else◌}
+use Rattle.std.proofs.Common.{◌≡◌, ◌<◌, ◌≤◌, ◌-◌, ◌^◌, ℕ, ℤ, zero, suc, Bool, true, false, List, [], ◌∷◌, ◌++◌, map}
+use Rattle.std.proofs.Common.{refl, sym, ap, subst, ◌∙◌, arith, length, take, drop, min, not, ◌&&◌}
+use Rattle.std.specs.Prelude.{codes, count_by, find, nat_lt, unwrap_or, ◌==◌, ◌||◌, int_lt, pos, negsuc, if◌then◌else◌}
 use Rattle.std.specs.Prelude.{Option, Some, None, option_map, option_and_then, ok_or, is_some, Result, Ok, Err}
-use Rattle.std.specs.List.{AllByRecursion}
 use Rattle.std.specs.Option.{option_map_or}
 use Rattle.std.specs.Result.{result_ok}
 use Rattle.std.proofs.lemmas.Bool.{eqb-true, le-ltb, lt-ltb}
@@ -18,12 +17,11 @@ use Rattle.jdwp_commands.specs.declared.question.Question.TheVariants as questio
 use Rattle.jdwp_values.specs.Lossy.{lossy}
 use Rattle.jdwp_values.specs.declared.class.LineTable.{LineTable}
 use Rattle.jdwp_values.specs.declared.class.Method.{Method}
-use Rattle.jdwp_values.specs.declared.id.MethodId.{MethodId}
 use Rattle.jdwp_values.specs.declared.id.ThreadId.{ThreadId}
-use Rattle.machine_model.specs.Frames.{count_from, count_in, counted_plan, frame_plan, frame_shown, frames_from, frames_in}
-use Rattle.machine_model.specs.Frames.{frames_plan, line_at, lines_plan, method_name, methods_plan, path_of, shown_plan}
+use Rattle.machine_model.specs.Frames.{count_from, count_in, counted_plan, frame_plan, frame_shown, frames_from}
+use Rattle.machine_model.specs.Frames.{frames_in, frames_plan, line_at, lines_plan, methods_plan, path_of, shown_plan}
 use Rattle.machine_model.specs.Frames.{signature_plan, source_plan, spot_by}
-use Rattle.machine_model.specs.Plans.{asking, both, chained, each, gives, made_with, must_say, of_world, two_of}
+use Rattle.machine_model.specs.Plans.{asking, both, each, of_world, two_of}
 use Rattle.machine_model.specs.State.{State}
 use Rattle.machine_model.specs.declared.acts.Want.{Want}
 use Rattle.machine_model.specs.declared.parts.Finding.TheVariants as found
@@ -31,7 +29,7 @@ use Rattle.machine_model.specs.declared.parts.ShownFrame.{ShownFrame}
 use Rattle.machine_model.specs.declared.parts.Spot.{Spot}
 use Rattle.shown_worlds.specs.Facts.{line_table, methods, signature, source}
 use Rattle.shown_worlds.specs.FrameRows as shown
-use Rattle.shown_worlds.specs.Laws.{IsLive, ShowsFrames}
+use Rattle.shown_worlds.specs.Laws.{ShowsFrames}
 use Rattle.shown_worlds.specs.Paging.{most_shown, page, so_many}
 use Rattle.shown_worlds.proofs.FactLaws.{lines_there, methods_there, signature_there, source_there}
 use Rattle.shown_worlds.proofs.PlanLemmas.{each_has, living, must_said, said_both, said_chained, said_made}
@@ -39,7 +37,7 @@ use Rattle.shown_worlds.proofs.RowLemmas.{found_all, found_passes}
 use Rattle.value_views.specs.Names.{class_name}
 use Rattle.wish_sets.specs.Places.{key_by}
 use Rattle.world_model.specs.Classes.{and_then}
-use Rattle.world_model.specs.Codes.{invalid_thread, not_implemented, told}
+use Rattle.world_model.specs.Codes.{invalid_thread, not_implemented}
 use Rattle.world_model.specs.Requests.{frames_under}
 use Rattle.world_model.specs.Replies.{living_reply}
 use Rattle.world_model.specs.Sound.{IsSound}
@@ -78,7 +76,8 @@ page_map f start count items =
     ∙ ap (take most_shown) (so_many_map f count (drop start items))
     ∙ take-map f most_shown (so_many count (drop start items))
 
-pub map_then : {A B C : Type 0} (f : A → B) (g : B → C) (items : List A) → map g (map f items) ≡ map (λ a. g (f a)) items
+pub map_then : {A B C : Type 0} (f : A → B) (g : B → C) (items : List A)
+    → map g (map f items) ≡ map (λ a. g (f a)) items
 map_then f g [] = refl
 map_then f g (a ∷ others) = ap (λ l. g (f a) ∷ l) (map_then f g others)
 
@@ -95,7 +94,8 @@ spot_found state (Some key) None = refl
 spot_found state (Some key) (Some line) = refl
 
 key_found : (signature : List ℕ) (source : Option (List ℕ))
-    → key_by signature source ≡ option_and_then (λ file. option_map (λ path. record { package_path = path; file = file })
+    → key_by signature source ≡ option_and_then (λ file. option_map
+    (λ path. record { package_path = path; file = file })
     (package_in signature)) source
 key_found signature None = refl
 key_found signature (Some file) = refl
@@ -131,7 +131,8 @@ frame_same w state thread row =
     }) (ap (λ key. spot_by state key (line_at row.index (line_table w row.class row.method)))
     (key_found (signature w row.class) (source w row.class))
     ∙ spot_found state (shown.source_of w row.class) (line_at row.index (line_table w row.class row.method))
-    ∙ ap (λ line. option_and_then (λ k. option_map (shown.spot_at (path_of state) k) line) (shown.source_of w row.class))
+    ∙ ap (λ line. option_and_then (λ k. option_map (shown.spot_at (path_of state) k) line)
+    (shown.source_of w row.class))
     (line_found row.index (line_table w row.class row.method)))
 
 facts_there : (w : World) (frame : Frame)
@@ -265,7 +266,8 @@ counted_there : (w : World) (state : State) (thread : ThreadId) (start levels : 
     ≡ Some (found.Frames (length (shown.frames_of w thread))
     (map (shown.frame_of (path_of state) w thread) (page start levels (shown.frames_of w thread))))
 counted_there w state thread start levels may =
-    said_chained (living_reply w) (frames_from thread start (count_from (length (threads.frames_of w thread)) start levels))
+    said_chained (living_reply w) (frames_from thread start
+    (count_from (length (threads.frames_of w thread)) start levels))
     (shown_plan state thread (length (threads.frames_of w thread)))
     ∙ ap (option_and_then (λ frames. of_world (living_reply w)
     (shown_plan state thread (length (threads.frames_of w thread)) frames)))

@@ -13,3 +13,4 @@ pub mod ChildrenLaws
 pub mod SearchLaws
 pub mod ExpressionLaws
 pub mod WriteLaws
+mod ShownExample

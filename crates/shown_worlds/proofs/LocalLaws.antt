@@ -1,25 +1,22 @@
 -- A frame's receiver and its variables.
-use Rattle.std.proofs.Common.{◌≡◌, ◌∷◌, ◌++◌, ℕ, zero, suc, Bool, true, false, cond, List, [], map, refl, sym, ap, ◌∙◌}
-use Rattle.std.specs.Prelude.{int_lt, filter, filter_map, if◌then◌else◌, Option, Some, None, option_and_then, option_map}
-use Rattle.std.specs.Prelude.{ok_or, pos, zip, ◌==◌, Result, Ok, Err}
+use Rattle.std.proofs.Common.{◌≡◌, ◌∷◌, ℕ, cond, List, [], refl, ap, ◌∙◌}
+use Rattle.std.specs.Prelude.{int_lt, if◌then◌else◌, Option, Some, None, option_and_then, option_map, ok_or, pos, ◌==◌}
+use Rattle.std.specs.Prelude.{Result, Ok, Err}
 use Rattle.std.specs.Result.{result_ok, result_unwrap_or}
 use Rattle.jdwp_commands.specs.declared.answer.Answer.TheVariants as answers
 use Rattle.jdwp_commands.specs.declared.listed.Slot.{Slot}
 use Rattle.jdwp_values.specs.declared.class.Variable.{Variable}
 use Rattle.jdwp_values.specs.declared.id.ClassId.{ClassId}
 use Rattle.jdwp_values.specs.declared.id.MethodId.{MethodId}
-use Rattle.jdwp_values.specs.declared.value.Value.{Value}
-use Rattle.machine_model.specs.Children.{Child, by_slot, is_visible, listed_variables, of_this, of_variable, put_variable}
-use Rattle.machine_model.specs.Children.{this_in, this_plan, variables_plan}
+use Rattle.machine_model.specs.Children.{by_slot, listed_variables, put_variable, this_in, this_plan, variables_plan}
 use Rattle.machine_model.specs.Facts.{variables_in}
-use Rattle.machine_model.specs.Plans.{answer_in, must_say, of_world}
+use Rattle.machine_model.specs.Plans.{answer_in, of_world}
 use Rattle.machine_model.specs.Variables.{slots_plan, values_in}
-use Rattle.shown_worlds.specs.ChildRows.{frame_row, in_slots, into_slots, is_in_scope, scope_of, this_of}
+use Rattle.shown_worlds.specs.ChildRows.{frame_row, in_slots, into_slots, this_of}
 use Rattle.shown_worlds.specs.Facts.{variables}
 use Rattle.shown_worlds.specs.FrameRows.{may_look}
 use Rattle.shown_worlds.proofs.FrameLaws.{by_may}
 use Rattle.shown_worlds.proofs.PlanLemmas.{must_said}
-use Rattle.slot_values.specs.declared.slot.SlotValue.{SlotValue}
 use Rattle.stop_refs.specs.declared.thing.FrameThing.{FrameThing}
 use Rattle.world_model.specs.Classes as rows
 use Rattle.world_model.specs.Codes.{invalid_object, not_implemented, told}
@@ -73,7 +70,8 @@ this_there w frame =
     ∙ this_known w (frame_row w frame)
 
 slots_known : (slots : List Slot) (row : WorldFrame)
-    → option_and_then (λ (r : WorldFrame). result_ok (ok_or (all_of (slot_value r.slots) slots) not_implemented)) (Some row)
+    → option_and_then (λ (r : WorldFrame). result_ok (ok_or (all_of (slot_value r.slots) slots) not_implemented))
+    (Some row)
     ≡ all_of (slot_value row.slots) slots
 slots_known slots row = ok_ok_or (all_of (slot_value row.slots) slots) not_implemented
 

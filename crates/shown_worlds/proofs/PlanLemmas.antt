@@ -1,12 +1,12 @@
 -- What plans come to in a world, by their parts.
-use Rattle.std.proofs.Common.{◌≡◌, List, [], ◌∷◌, Bool, false, map, refl, ap, ◌∙◌}
+use Rattle.std.proofs.Common.{◌≡◌, List, [], ◌∷◌, false, map, refl, ap, ◌∙◌}
 use Rattle.std.specs.Prelude.{ℕ, Option, Some, None, option_map, option_and_then, Result, Ok, Err, if◌then◌else◌}
 use Rattle.std.specs.Result.{result_ok}
 use Rattle.jdwp_commands.specs.declared.answer.Answer.{Answer}
 use Rattle.jdwp_commands.specs.declared.asked.Replied.{Replied}
 use Rattle.jdwp_commands.specs.declared.asked.Replied.TheVariants.{Error as an_error}
 use Rattle.jdwp_commands.specs.declared.question.Question.{Question}
-use Rattle.machine_model.specs.Plans.{Plan, both, chained, each, gives, made_with, must_say, of_world, pairs, said_of}
+use Rattle.machine_model.specs.Plans.{Plan, both, chained, each, gives, made_with, must_say, of_world, pairs, said_of, tried_of, tries}
 use Rattle.machine_model.specs.Plans.{two_of, wants}
 use Rattle.world_model.specs.Codes.{told, vm_dead}
 use Rattle.world_model.specs.Replies.{living_reply, reply_of}
@@ -56,6 +56,7 @@ said_chained world (gives a) go = refl
 said_chained world (wants want rest) go =
     and_then_then (λ heard. of_world world (chained (rest heard) go)) (λ heard. of_world world (rest heard))
     (λ a. of_world world (go a)) (λ heard. said_chained world (rest heard) go) (said_of world want)
+said_chained world (tries question rest) go = said_chained world (rest (tried_of question (world question))) go
 said_chained world (pairs p q rest) go =
     and_then_then (λ two. of_world world (chained (rest two) go)) (λ two. of_world world (rest two))
     (λ a. of_world world (go a)) (λ two. said_chained world (rest two) go)
@@ -68,6 +69,7 @@ said_made world f (gives a) = refl
 said_made world f (wants want rest) =
     and_then_map (λ heard. of_world world (made_with f (rest heard))) (λ heard. of_world world (rest heard)) f
     (λ heard. said_made world f (rest heard)) (said_of world want)
+said_made world f (tries question rest) = said_made world f (rest (tried_of question (world question)))
 said_made world f (pairs p q rest) =
     and_then_map (λ two. of_world world (made_with f (rest two))) (λ two. of_world world (rest two)) f
     (λ two. said_made world f (rest two)) (two_of (of_world world p) (of_world world q))

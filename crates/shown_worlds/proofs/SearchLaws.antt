@@ -1,20 +1,21 @@
 -- The first field of a name, from a class upwards.
-use Rattle.std.proofs.Common.{◌≡◌, ◌<◌, ◌≤◌, ◌∷◌, ◌++◌, ℕ, zero, suc, Bool, true, false, cond, List, [], length, map, refl, sym, ap, subst, ◌∙◌}
-use Rattle.std.proofs.Common.{arith, lt_of_le_of_lt}
+use Rattle.std.proofs.Common.{◌≡◌, ◌<◌, ◌≤◌, ◌∷◌, ◌++◌, ℕ, zero, suc, Bool, true, false, cond, List, [], length, map}
+use Rattle.std.proofs.Common.{refl, sym, ap, subst, ◌∙◌, arith, lt_of_le_of_lt}
 use Rattle.std.specs.Prelude.{bytes_eq, filter, find, not, ◌==◌, Option, Some, None, option_and_then, option_map}
 use Rattle.std.specs.List.{AllByRecursion, flat_map, list_any}
 use Rattle.std.specs.Option.{option_or}
 use Rattle.std.proofs.lemmas.List.Folds.{find-append}
 use Rattle.jdwp_values.specs.declared.class.Field.{Field}
 use Rattle.jdwp_values.specs.declared.id.ClassId.{ClassId}
-use Rattle.machine_model.specs.Children.{above_plan, fields_plan, own_fields, reach}
+use Rattle.machine_model.specs.Children.{above_plan, fields_plan, reach}
 use Rattle.machine_model.specs.Expressions.{field_from, field_named, found_or}
 use Rattle.machine_model.specs.Plans.{Plan, chained, gives, of_world}
 use Rattle.shown_worlds.specs.FieldRows.{FieldOf, of_class, upwards, with_above}
 use Rattle.shown_worlds.specs.FieldRows as rows
 use Rattle.shown_worlds.specs.Laws.{IsLive}
-use Rattle.shown_worlds.proofs.ChainLaws.{Higher, IsHigh, Stands, above_there, all_push, class_id, ends_high, fields_known}
-use Rattle.shown_worlds.proofs.ChainLaws.{fields_there, heard_fields, higher_on, no_fields, no_more, not_met, not_there, own_id}
+use Rattle.shown_worlds.proofs.ChainLaws.{Higher, IsHigh, Stands, above_there, all_push, class_id, ends_high}
+use Rattle.shown_worlds.proofs.ChainLaws.{fields_known, fields_there, heard_fields, higher_on, no_fields, no_more}
+use Rattle.shown_worlds.proofs.ChainLaws.{not_met, not_there, own_id}
 use Rattle.shown_worlds.proofs.FieldLaws.{own_same}
 use Rattle.shown_worlds.proofs.PlanLemmas.{said_chained}
 use Rattle.shown_worlds.proofs.RowLemmas.{found_all}
@@ -39,7 +40,8 @@ found_here name class [] = refl
 found_here name class (f ∷ others) = by_test (bytes_eq f.name name) (found_here name class others)
   where
     by_test : (b : Bool)
-        → field_of (find (is_called name) (map (of_class class) others)) ≡ find (λ (f : Field). bytes_eq f.name name) others
+        → field_of (find (is_called name) (map (of_class class) others))
+        ≡ find (λ (f : Field). bytes_eq f.name name) others
         → field_of (cond b (Some (of_class class f))
         (find (is_called name) (map (of_class class) others)))
         ≡ cond b (Some f) (find (λ (f : Field). bytes_eq f.name name) others)

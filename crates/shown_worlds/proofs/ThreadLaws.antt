@@ -1,32 +1,27 @@
 -- Threads, and what they throw.
 use Rattle.std.proofs.Common.{◌≡◌, ℕ, zero, suc, Bool, true, false, List, [], ◌∷◌, ◌++◌, map, refl, ap, ◌∙◌}
-use Rattle.std.specs.Prelude.{codes, nat_eq, Option, Some, None, option_map, ok_or}
-use Rattle.std.specs.List.{AllByRecursion, IsDistinct}
+use Rattle.std.specs.Prelude.{codes, Option, Some, None, option_map, ok_or}
+use Rattle.std.specs.List.{AllByRecursion}
 use Rattle.jdwp_commands.specs.declared.answer.Answer.TheVariants as answers
-use Rattle.jdwp_commands.specs.declared.question.Question.TheVariants as questions
 use Rattle.jdwp_values.specs.declared.id.ClassId.{ClassId}
-use Rattle.jdwp_values.specs.declared.id.ObjectId.{ObjectId}
 use Rattle.jdwp_values.specs.declared.id.ThreadId.{ThreadId}
 use Rattle.jdwp_values.specs.declared.tag.TypeTag.{TypeTag}
-use Rattle.machine_model.specs.Exceptions.{exception_plan, heard_plan, mode_of, name_by, named_plan, text_by, text_plan}
+use Rattle.machine_model.specs.Exceptions.{exception_plan, mode_of, name_by, named_plan, text_by, text_plan}
 use Rattle.machine_model.specs.Frames.{signature_plan}
 use Rattle.machine_model.specs.Lookups.{name_plan, named_by, names_plan, threads_plan}
 use Rattle.machine_model.specs.Plans.{answer_in, chained, each, gives, joined, made_with, of_world}
 use Rattle.machine_model.specs.Values.{by_id, type_plan}
-use Rattle.machine_model.specs.State.{State}
-use Rattle.machine_model.specs.declared.parts.Finding.{Finding}
 use Rattle.machine_model.specs.declared.parts.Finding.TheVariants as found
 use Rattle.machine_model.specs.declared.parts.NamedThread.{NamedThread}
 use Rattle.machine_model.specs.declared.parts.Thrown.{Thrown}
 use Rattle.shown_worlds.specs.Facts.{if_null, signature, type_of}
-use Rattle.shown_worlds.specs.Laws.{IsLive, ShowsThreads, ShowsThrown}
-use Rattle.shown_worlds.specs.ThreadRows.{break_mode, named, thrown_name, world_thrown, world_thrown_text, world_threads}
+use Rattle.shown_worlds.specs.Laws.{ShowsThreads, ShowsThrown}
+use Rattle.shown_worlds.specs.ThreadRows.{break_mode, named, thrown_name, world_thrown, world_threads}
 use Rattle.shown_worlds.proofs.FactLaws.{object, signature_there, type_there}
-use Rattle.shown_worlds.proofs.PlanLemmas.{each_has, living, map_alike, map_map, said_made}
+use Rattle.shown_worlds.proofs.PlanLemmas.{each_has, living, said_made}
 use Rattle.shown_worlds.proofs.RowLemmas.{IsOwn, distinct_behind, own_keys}
 use Rattle.value_views.specs.Names.{class_name}
 use Rattle.world_model.specs.Codes.{invalid_object, invalid_thread, told}
-use Rattle.world_model.specs.Kept.{program_of, values_of}
 use Rattle.world_model.specs.Objects.{class_of, tag_of_type}
 use Rattle.world_model.specs.Replies.{living_reply}
 use Rattle.world_model.specs.Sound.{IsSound}

@@ -1,24 +1,20 @@
 -- How values are shown.
-use Rattle.std.proofs.Common.{◌≡◌, ◌<◌, ◌^◌, ◌∷◌, ◌++◌, ℕ, zero, suc, Bool, true, false, List, [], refl, sym, ap, ◌∙◌, arith, length}
-use Rattle.std.specs.Prelude.{chars, codes, nat_lt, ◌==◌, if◌then◌else◌, Option, Some, None, option_and_then, option_map}
+use Rattle.std.proofs.Common.{◌≡◌, ◌<◌, ◌^◌, ◌∷◌, ℕ, zero, suc, Bool, true, false, List, [], refl, ap, ◌∙◌, arith}
+use Rattle.std.proofs.Common.{length}
+use Rattle.std.specs.Prelude.{chars, codes, ◌==◌, if◌then◌else◌, Option, Some, None, option_and_then, option_map}
 use Rattle.std.specs.Prelude.{ok_or, Result, Ok, Err}
-use Rattle.std.specs.List.{AllByRecursion}
 use Rattle.std.specs.Result.{result_ok}
 use Rattle.std.proofs.lemmas.Bool.{lt-ltb, ne_eqb}
 use Rattle.jdwp_commands.specs.declared.answer.Answer.TheVariants as answers
 use Rattle.jdwp_values.specs.Lossy.{lossy}
-use Rattle.jdwp_values.specs.Parts.{tag_of_value}
-use Rattle.jdwp_values.specs.Tags.{byte_of_tag}
-use Rattle.jdwp_values.specs.declared.id.ObjectId.{ObjectId}
 use Rattle.jdwp_values.specs.declared.value.Value.{Value}
 use Rattle.jdwp_values.specs.declared.value.Value.TheVariants as values
-use Rattle.machine_model.specs.Plans.{Plan, both, gives, made_with, must_say, of_world, two_of}
-use Rattle.machine_model.specs.Values.{Declared, Valued, array_plan, array_seen, by_id, childless, declared_plan, element_of}
-use Rattle.machine_model.specs.Values.{element_plan, is_signature, length_in, length_plan, null_plan, object_plan, object_seen}
-use Rattle.machine_model.specs.Values.{primitive_seen, seen_plan, string_plan, string_seen, text_in, text_plan, type_if, type_plan}
-use Rattle.machine_model.specs.Values.{typed}
+use Rattle.machine_model.specs.Plans.{Plan, both, of_world, two_of}
+use Rattle.machine_model.specs.Values.{Declared, Valued, array_plan, array_seen, by_id, childless, declared_plan}
+use Rattle.machine_model.specs.Values.{element_of, element_plan, is_signature, length_in, length_plan, null_plan}
+use Rattle.machine_model.specs.Values.{object_plan, object_seen, primitive_seen, seen_plan, string_plan, string_seen}
+use Rattle.machine_model.specs.Values.{text_in, text_plan, type_if, type_plan, typed}
 use Rattle.machine_model.specs.Values.{behind_bracket as behind}
-use Rattle.machine_model.specs.declared.parts.Seen.{Seen}
 use Rattle.shown_worlds.specs.ChildRows.{behind_bracket, element_signature}
 use Rattle.shown_worlds.specs.Facts.{if_null, type_of}
 use Rattle.shown_worlds.specs.ValueRows as shown
@@ -33,9 +29,9 @@ use Rattle.value_views.specs.Texts.{known_text, reference_text, value_text}
 use Rattle.value_views.specs.declared.known.Known.{Known}
 use Rattle.value_views.specs.declared.known.Known.TheVariants as knowns
 use Rattle.world_model.specs.Classes.{and_then}
-use Rattle.world_model.specs.Codes.{not_implemented, told}
+use Rattle.world_model.specs.Codes.{not_implemented}
 use Rattle.world_model.specs.Kept.{program_of}
-use Rattle.world_model.specs.Objects.{array_at, array_in, object_fault, string_in}
+use Rattle.world_model.specs.Objects.{array_in, object_fault, string_in}
 use Rattle.world_model.specs.Objects.{length_in as length_there_in, text_in as text_there_in}
 use Rattle.world_model.specs.Replies.{living_reply}
 use Rattle.world_model.specs.Sound.{IsArray, IsSound}

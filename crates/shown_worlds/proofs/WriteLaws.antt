@@ -1,33 +1,32 @@
 -- What is written.
-use Rattle.std.proofs.Common.{◌≡◌, ◌<◌, ◌∷◌, ◌++◌, ℕ, zero, suc, Bool, true, false, cond, List, [], length, map, refl, sym, ap, ◌∙◌}
-use Rattle.std.proofs.Common.{get_or}
+use Rattle.std.proofs.Common.{◌≡◌, ◌∷◌, ◌++◌, ℕ, zero, suc, Bool, true, false, cond, List, [], length, map, refl, sym}
+use Rattle.std.proofs.Common.{ap, ◌∙◌, get_or}
 use Rattle.std.specs.Prelude.{bytes_eq, find, if◌then◌else◌, nat_lt, Option, Some, None, option_and_then, option_map}
 use Rattle.std.specs.Prelude.{slice_get, Result, Ok, Err}
 use Rattle.std.specs.Str.Parse.{digits_value}
 use Rattle.std.proofs.lemmas.Bool.{ltb-false, ltb-true}
 use Rattle.std.proofs.lemmas.Option.{slice_get-get_or, slice_get_past}
-use Rattle.dap_messages.specs.Telling.{bad_index, no_such_name, not_writable}
-use Rattle.jdwp_values.specs.Tags.{is_reference, tag_of}
+use Rattle.dap_messages.specs.Telling.{no_such_name}
+use Rattle.jdwp_values.specs.Tags.{tag_of}
 use Rattle.jdwp_values.specs.declared.id.ClassId.{ClassId}
 use Rattle.jdwp_values.specs.declared.tag.Tag.{Tag}
 use Rattle.jdwp_values.specs.declared.value.Value.{Value}
 use Rattle.jdwp_values.specs.declared.value.Value.TheVariants as values
-use Rattle.machine_model.specs.Children.{Child, Place, first_byte, locals_plan, object_fields, of_index, with_this}
-use Rattle.machine_model.specs.Plans.{Plan, chained, gives, made_with, of_world}
-use Rattle.machine_model.specs.State.{State}
-use Rattle.machine_model.specs.Values.{by_id, declared_plan, length_plan, type_if}
-use Rattle.machine_model.specs.Writing.{Writing, child_named, child_written, digits_of, element_by, element_store}
-use Rattle.machine_model.specs.Writing.{element_written, field_store, field_written, index_written, is_index_name, local_written}
-use Rattle.machine_model.specs.Writing.{object_size, slot_store, value_failure, value_for, value_or, write_by, write_with}
-use Rattle.machine_model.specs.declared.parts.Finding.{Finding}
+use Rattle.machine_model.specs.Children.{Child, Place, first_byte, locals_plan, object_fields, of_index, visible_plan}
+use Rattle.machine_model.specs.Children.{with_this}
+use Rattle.machine_model.specs.Plans.{chained, gives, of_world}
+use Rattle.machine_model.specs.Values.{by_id, declared_plan, length_plan}
+use Rattle.machine_model.specs.Writing.{Writing, child_named, child_written, element_by, element_store}
+use Rattle.machine_model.specs.Writing.{element_written, field_store, field_written, index_written, is_index_name}
+use Rattle.machine_model.specs.Writing.{is_this, object_size, slot_store, sought_in, value_failure, value_for, value_or}
+use Rattle.machine_model.specs.Writing.{write_by, write_with}
 use Rattle.machine_model.specs.declared.parts.Finding.TheVariants as found
 use Rattle.machine_model.specs.declared.parts.Store.{Store}
 use Rattle.shown_worlds.specs.ChildRows as children
-use Rattle.shown_worlds.specs.Facts.{if_null, variables}
 use Rattle.shown_worlds.specs.FieldRows as rows
 use Rattle.shown_worlds.specs.Laws.{IsLive, ShowsWrites}
 use Rattle.shown_worlds.specs.WriteRows as shown
-use Rattle.shown_worlds.proofs.ChildLaws.{heard, local_row, locals_same, locals_there, read_local, row_of}
+use Rattle.shown_worlds.proofs.ChildLaws.{heard, locals_same, locals_there, read_local, row_of, scope_same, visible_there}
 use Rattle.shown_worlds.proofs.FactLaws.{object}
 use Rattle.shown_worlds.proofs.FieldLaws.{children_same, children_there, heard_children, read_field}
 use Rattle.shown_worlds.proofs.PlanLemmas.{living, map_alike, said_chained, said_made}
@@ -38,7 +37,7 @@ use Rattle.stop_refs.specs.declared.thing.Thing.TheVariants as things
 use Rattle.value_views.specs.Reads.{write_value}
 use Rattle.value_views.specs.Texts.{value_text}
 use Rattle.value_views.specs.declared.fault.WriteFault.{WriteFault}
-use Rattle.value_views.specs.declared.fault.WriteFault.TheVariants.{BadText, NotWritable}
+use Rattle.value_views.specs.declared.fault.WriteFault.TheVariants.{BadText}
 use Rattle.value_views.specs.declared.known.Known.TheVariants.{Plain}
 use Rattle.world_model.specs.Objects.{array_in, class_of, reference_in}
 use Rattle.world_model.specs.Replies.{living_reply}
@@ -109,7 +108,8 @@ found_row row name (child ∷ others) same =
     (found_row row name others same)
   where
     by_test : (a b : Bool) → a ≡ b
-        → option_map row (child_named name others) ≡ find (λ (c : children.Child). bytes_eq c.name name) (map row others)
+        → option_map row (child_named name others) ≡ find (λ (c : children.Child). bytes_eq c.name name)
+        (map row others)
         → option_map row (cond a (Some child) (child_named name others))
         ≡ cond b (Some (row child)) (find (λ (c : children.Child). bytes_eq c.name name) (map row others))
     by_test true true is rest = refl
@@ -127,10 +127,19 @@ named_there w writing read store name list =
 
 -- Containers ----------------------------------------------------------------------------------------------------------
 
-local_there : (w : World) (writing : Writing) (frame : FrameThing) (name : List ℕ)
-    → of_world (living_reply w) (local_written writing frame name)
-    ≡ option_and_then (shown.name_written (wish_of writing) name) (children.locals w frame)
-local_there w writing frame name =
+local_there : (w : World) (writing : Writing) (frame : FrameThing) (name : List ℕ) (this : Bool)
+    → of_world (living_reply w) (chained (sought_in frame this)
+    (λ list. child_written writing (slot_store frame) (child_named name list)))
+    ≡ option_and_then (shown.name_written (wish_of writing) name) (shown.sought w frame this)
+local_there w writing frame name false =
+    let slots = shown.slots_in (children.frame_row w frame) in
+    said_chained (living_reply w) (visible_plan frame)
+    (λ list. child_written writing (slot_store frame) (child_named name list))
+    ∙ ap (option_and_then (λ (list : List Child). of_world (living_reply w)
+    (child_written writing (slot_store frame) (child_named name list)))) (visible_there w frame)
+    ∙ named_there w writing (read_local slots) (slot_store frame) name (heard w frame)
+    ∙ ap (shown.name_written (wish_of writing) name) (scope_same w frame slots)
+local_there w writing frame name true =
     said_chained (living_reply w) (locals_plan frame)
     (λ list. child_written writing (slot_store frame) (child_named name list))
     ∙ ap (option_and_then (λ (list : List Child). of_world (living_reply w)
@@ -142,7 +151,8 @@ local_there w writing frame name =
         (child_written writing (slot_store frame) (child_named name list)))
         (option_map (λ this. with_this (this, heard w frame)) this)
         ≡ option_and_then (shown.name_written (wish_of writing) name) (option_map (λ this.
-        children.receiver_if this (referred this) ++ map (children.variable_in frame row.slots) (children.scope_of w frame))
+        children.receiver_if this (referred this) ++ map (children.variable_in frame row.slots)
+        (children.scope_of w frame))
         this)
     by_this row None = refl
     by_this row (Some this) =
@@ -154,7 +164,8 @@ local_there w writing frame name =
         (child_written writing (slot_store frame) (child_named name list)))
         (option_map (λ this. with_this (this, heard w frame))
         (option_and_then (λ (row : WorldFrame). reference_in w row.this) there))
-        ≡ option_and_then (shown.name_written (wish_of writing) name) (option_and_then (children.locals_in w frame) there)
+        ≡ option_and_then (shown.name_written (wish_of writing) name)
+        (option_and_then (children.locals_in w frame) there)
     by_row None = refl
     by_row (Some row) = by_this row (reference_in w row.this)
 
@@ -250,7 +261,7 @@ write_there : (w : World) (writing : Writing) (thing : Thing) (name : List ℕ) 
     → of_world (living_reply w) (write_by writing thing name) ≡ shown.world_write w (wish_of writing) thing name
 unfolding of_world
 write_there w writing (things.Frame frame) name live = refl
-write_there w writing (things.Locals frame) name live = local_there w writing frame name
+write_there w writing (things.Locals frame) name live = local_there w writing frame name (is_this name)
 write_there w writing (things.Object id) name live = in_object w writing name id.0 live
 write_there w writing (things.Array id) name live = in_array w writing name id.0 live
 

@@ -1,13 +1,11 @@
 -- What a world shows of a frame's variables, of an object's fields and of an array's elements (DAP specification,
 -- Variables request).
-use Rattle.std.specs.Prelude.{ℕ, ℤ, pos, ◌+◌, ◌==◌, ◌&&◌, ◌++◌, nat_le, nat_lt, int_lt, bytes_eq, Bool, true, false, not}
+use Rattle.std.specs.Prelude.{ℕ, pos, ◌+◌, ◌==◌, ◌&&◌, ◌++◌, nat_le, nat_lt, int_lt, bytes_eq, Bool, not}
 use Rattle.std.specs.Prelude.{if◌then◌else◌, List, [], ◌∷◌, codes, decimal, filter, map, Option, Some, None}
 use Rattle.std.specs.Prelude.{option_and_then, option_map}
 use Rattle.std.specs.List.{list_any}
-use Rattle.std.specs.Option.{option_map_or}
 use Rattle.dap_messages.specs.declared.requests.Filter.{Filter}
 use Rattle.dap_messages.specs.declared.requests.Filter.TheVariants.{Both, Indexed, Named}
-use Rattle.jdwp_commands.specs.declared.listed.Slot.{Slot}
 use Rattle.jdwp_values.specs.Lossy.{lossy}
 use Rattle.jdwp_values.specs.declared.class.Variable.{Variable}
 use Rattle.jdwp_values.specs.declared.id.ObjectId.{ObjectId}
@@ -136,7 +134,8 @@ fields w id = option_map (λ class. fields_in w id [] (object_fields w class)) (
 abbrev pub element_name : ℕ → List ℕ
 element_name i = codes "[" ++ decimal i ++ codes "]"
 
--- the signature of an array's elements stands behind `[` (JNI specification, Types and Data Structures, Type Signatures)
+-- the signature of an array's elements stands behind `[` (JNI specification, Types and Data Structures, Type
+-- Signatures)
 abbrev pub behind_bracket : List ℕ → List ℕ
 behind_bracket [] = []
 behind_bracket (byte ∷ bytes) = if byte == 91 then bytes else []

@@ -93,8 +93,8 @@ abbrev pub this_if : Value → Option ObjectId → Sought
 this_if value None = Err no_such_name
 this_if value (Some id) = if_null id.0 (Err no_such_name) (sought (Some []) value)
 
--- a name is that of a variable in scope, else of a field of the receiver (Java Language Specification, Names, Scope of a
--- Declaration)
+-- a name is that of a variable in scope, else of a field of the receiver (Java Language Specification, Names, Scope of
+-- a Declaration)
 abbrev pub variable_found : World → FrameThing → List ℕ → Option Variable → Option Sought
 variable_found w frame name None = option_and_then (name_on w name) (this_of w frame)
 variable_found w frame name (Some v) =

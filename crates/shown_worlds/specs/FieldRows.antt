@@ -1,7 +1,7 @@
 -- The fields that an object has in a world: those of its class, and of each class above it (JDWP, ReferenceType command
 -- set, Fields; JDWP, ClassType command set, Superclass).
-use Rattle.std.specs.Prelude.{ℕ, ℤ, pos, negsuc, ◌/◌, ◌%◌, ◌==◌, Bool, not, List, [], ◌∷◌, filter, map, Option, Some, None}
-use Rattle.std.specs.Prelude.{option_and_then}
+use Rattle.std.specs.Prelude.{ℤ, pos, negsuc, ◌/◌, ◌%◌, ◌==◌, Bool, not, List, [], ◌∷◌, filter, map, Option, Some}
+use Rattle.std.specs.Prelude.{None, option_and_then}
 use Rattle.std.specs.List.{flat_map}
 use Rattle.jdwp_values.specs.declared.class.Field.{Field}
 use Rattle.jdwp_values.specs.declared.id.ClassId.{ClassId}

@@ -36,4 +36,5 @@ break_mode caught = if caught then Always else Unhandled
 
 -- what is told of it by `exceptionInfo`: nothing where it isn't there (DAP specification, ExceptionInfo request)
 abbrev pub world_thrown : World → Thrown → Option Finding
-world_thrown w thrown = option_map (λ name. found.Exception name (break_mode thrown.caught)) (thrown_name w thrown.object)
+world_thrown w thrown = option_map (λ name. found.Exception name (break_mode thrown.caught))
+    (thrown_name w thrown.object)

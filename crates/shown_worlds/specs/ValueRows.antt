@@ -1,7 +1,7 @@
 -- How a world shows a value: its text, its type where the client asked for types, and what children it has (DAP
 -- specification, Types, Variable).
-use Rattle.std.specs.Prelude.{ℕ, ◌++◌, ◌∷◌, nat_lt, Bool, true, false, if◌then◌else◌, List, [], chars, codes}
-use Rattle.std.specs.Prelude.{length, take, Option, Some, None, option_and_then, option_map}
+use Rattle.std.specs.Prelude.{ℕ, ◌++◌, ◌∷◌, nat_lt, Bool, true, false, if◌then◌else◌, List, [], chars, codes, length}
+use Rattle.std.specs.Prelude.{take, Option, Some, None, option_and_then, option_map}
 use Rattle.std.specs.Fmt.{digits}
 use Rattle.std.specs.List.{flat_map}
 use Rattle.jdwp_values.specs.Lossy.{lossy}
@@ -12,7 +12,6 @@ use Rattle.jdwp_values.specs.declared.value.Value.{Value}
 use Rattle.jdwp_values.specs.declared.value.Value.TheVariants as values
 use Rattle.machine_model.specs.declared.parts.Seen.{Seen}
 use Rattle.shown_worlds.specs.Facts.{if_null, type_of}
-use Rattle.stop_refs.specs.declared.thing.Thing.{Thing}
 use Rattle.stop_refs.specs.declared.thing.Thing.TheVariants as things
 use Rattle.value_views.specs.Names.{class_name}
 use Rattle.value_views.specs.Quotes.{quoted_char}

@@ -1,6 +1,7 @@
 -- What `setVariable` writes in a world, and where (DAP specification, SetVariable request).
-use Rattle.std.specs.Prelude.{ℕ, ◌==◌, ◌-◌, ◌++◌, ◌&&◌, bytes_eq, Bool, if◌then◌else◌, List, [], codes, drop, find, length}
-use Rattle.std.specs.Prelude.{nat_lt, slice_get, take, Option, Some, None, option_and_then, option_map, Result, Ok, Err}
+use Rattle.std.specs.Prelude.{ℕ, ◌-◌, ◌++◌, ◌&&◌, bytes_eq, Bool, true, false, if◌then◌else◌, List, [], codes, drop, find, length, map}
+use Rattle.std.specs.Prelude.{nat_lt, slice_get, take, Option, Some, None, option_and_then, option_map, Result, Ok}
+use Rattle.std.specs.Prelude.{Err}
 use Rattle.std.specs.Char.{is_ascii_digit}
 use Rattle.std.specs.List.{list_all}
 use Rattle.std.specs.Str.Parse.{digits_value}
@@ -13,9 +14,12 @@ use Rattle.jdwp_values.specs.declared.value.Value.{Value}
 use Rattle.machine_model.specs.declared.parts.Finding.{Finding}
 use Rattle.machine_model.specs.declared.parts.Finding.TheVariants as found
 use Rattle.machine_model.specs.declared.parts.Store.{Store}
-use Rattle.shown_worlds.specs.ChildRows.{Child, element_in, element_name, fields, kind_byte, locals}
+use Rattle.shown_worlds.specs.ChildRows.{Child, element_in, element_name, fields, frame_row, kind_byte, locals, scope_of}
+use Rattle.shown_worlds.specs.ChildRows.{variable_in}
 use Rattle.shown_worlds.specs.Facts.{if_null}
 use Rattle.shown_worlds.specs.ValueRows.{leaf, type_if}
+use Rattle.slot_values.specs.declared.slot.SlotValue.{SlotValue}
+use Rattle.stop_refs.specs.declared.thing.FrameThing.{FrameThing}
 use Rattle.stop_refs.specs.declared.thing.Thing.{Thing}
 use Rattle.stop_refs.specs.declared.thing.Thing.TheVariants as things
 use Rattle.value_views.specs.Reads.{write_value}
@@ -24,7 +28,7 @@ use Rattle.value_views.specs.declared.fault.WriteFault.{WriteFault}
 use Rattle.value_views.specs.declared.fault.WriteFault.TheVariants.{BadText}
 use Rattle.value_views.specs.declared.known.Known.TheVariants.{Plain}
 use Rattle.world_model.specs.Objects.{array_in}
-use Rattle.world_model.specs.declared.rows.WorldArray.{WorldArray}
+use Rattle.world_model.specs.declared.rows.WorldFrame.{WorldFrame}
 use Rattle.world_model.specs.declared.world.World.{World}
 
 -- How it is asked for: whether types are shown, how many bytes an object's id takes, and the text of the value.
@@ -92,10 +96,22 @@ array_written w wish name id =
 abbrev pub unless_null : ObjectId → Option Finding → Option Finding
 unless_null id other = if_null id.0 (Some (found.NoValue no_such_name)) other
 
+-- the values in the slots of a frame
+abbrev pub slots_in : Option WorldFrame → List SlotValue
+slots_in None = []
+slots_in (Some row) = row.slots
+
+-- The variables among which a name is sought are those that are in scope; and where the name is that of the receiver, it
+-- stands before them, so that there has to be such a frame.
+abbrev pub sought : World → FrameThing → Bool → Option (List Child)
+sought w frame true = locals w frame
+sought w frame false = Some (map (variable_in frame (slots_in (frame_row w frame))) (scope_of w frame))
+
 -- what is written to the child of a container that has a name, or why nothing is; a frame itself has no children
 abbrev pub world_write : World → Wish → Thing → List ℕ → Option Finding
 world_write w wish (things.Frame frame) name = Some (found.NoValue no_such_name)
-world_write w wish (things.Locals frame) name = option_and_then (name_written wish name) (locals w frame)
+world_write w wish (things.Locals frame) name =
+    option_and_then (name_written wish name) (sought w frame (bytes_eq (codes "this") name))
 world_write w wish (things.Object id) name =
     unless_null id (option_and_then (name_written wish name) (fields w id))
 world_write w wish (things.Array id) name = unless_null id (array_written w wish name id)
