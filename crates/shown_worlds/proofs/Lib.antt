@@ -13,4 +13,5 @@ pub mod ChildrenLaws
 pub mod SearchLaws
 pub mod ExpressionLaws
 pub mod WriteLaws
+pub mod FailureLaws
 mod ShownExample

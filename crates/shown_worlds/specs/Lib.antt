@@ -8,3 +8,4 @@ pub mod ChildRows
 pub mod ExpressionRows
 pub mod WriteRows
 pub mod Laws
+pub mod Failures

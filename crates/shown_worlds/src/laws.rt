@@ -1,5 +1,6 @@
 //! What each look-up shows of a target's world. Each law is the contract of a function that does nothing.
 
+ghost use Rattle.shown_worlds.specs.Failures.{Fails};
 ghost use Rattle.shown_worlds.specs.Laws.{ShowsChildren, ShowsFrames, ShowsThreads, ShowsThrown};
 ghost use Rattle.shown_worlds.specs.Laws.{ShowsValues, ShowsWrites};
 
@@ -53,4 +54,11 @@ pub fn evaluate_shows_the_value_in_the_world()
 /// ObjectReference and ArrayReference).
 pub fn set_variable_writes_to_the_child_in_the_world()
     ensures { ShowsWrites }
+{}
+
+/// Where the target's world lives and what was replied is what it replies, `threads` meets no error. `stackTrace` meets
+/// one where the thread has ended, with the code 10, or where it runs, with the code 99 (JDWP, Error Constants,
+/// INVALID_THREAD; JDWP, ThreadReference command set, Frames and FrameCount).
+pub fn frames_fail_where_the_thread_has_ended_or_runs()
+    ensures { Fails }
 {}

@@ -5,7 +5,8 @@
 mod laws;
 
 pub use laws::{
-    evaluate_shows_the_value_in_the_world, set_variable_writes_to_the_child_in_the_world,
-    stack_traces_show_the_frames_of_the_world, threads_are_those_of_the_world,
-    variables_show_the_children_of_the_world, what_was_thrown_is_named_as_in_the_world,
+    evaluate_shows_the_value_in_the_world, frames_fail_where_the_thread_has_ended_or_runs,
+    set_variable_writes_to_the_child_in_the_world, stack_traces_show_the_frames_of_the_world,
+    threads_are_those_of_the_world, variables_show_the_children_of_the_world,
+    what_was_thrown_is_named_as_in_the_world,
 };
