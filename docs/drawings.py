@@ -34,7 +34,7 @@ ROWS = [
     [(0.5, PROVED, "talk_plans", "what is done for a request"), (0.25, PROVED, "script_rows", "lines of scripts"),
      (0.25, PROVED, "script_worlds", "worlds of scripts")],
     [(1, PROVED, "talk_bodies", "what is told"), (1, PROVED, "talk_look_ups", "threads, frames, classes"),
-     (0.8, MODEL, "summary_laws", "what a summary is of")],
+     (0.8, MODEL, "summary_laws", "what a summary is of"), (0.8, MODEL, "shown_worlds", "what a world shows")],
     [(1, PROVED, "talk_rows", "the parts of a request"), (0.9, PROVED, "talk_events", "stops and news"),
      (1.1, PROVED, "message_bodies", "bodies judged and spelled"), (1, MODEL, "session_laws", "laws of sessions"),
      (1, MODEL, "joint_model", "beside an obeying target")],

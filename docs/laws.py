@@ -17,6 +17,7 @@ FIRST = {
     "session_laws": "Of every session, by its bytes",
     "machine_laws": "Of every run of the machine, and of every look-up",
     "joint_model": "Of the machine beside a target that obeys JDWP",
+    "shown_worlds": "Of what look-ups show of a target's world",
     "scripted_joints": "Of the machine beside a scripted target",
 }
 HEAD = """\
