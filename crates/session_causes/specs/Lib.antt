@@ -1,0 +1,4 @@
+pub mod Deciding
+pub mod Laws
+pub mod Memory
+pub mod Outside
