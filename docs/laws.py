@@ -15,6 +15,7 @@ PAGE = os.path.join(TOP, "docs", "LAWS.md")
 # The crates that come first, each with its heading; the others follow by name.
 FIRST = {
     "session_laws": "Of every session, by its bytes",
+    "session_causes": "Of every ending, by its first cause",
     "machine_laws": "Of every run of the machine, and of every look-up",
     "joint_model": "Of the machine beside a target that obeys JDWP",
     "shown_worlds": "Of what look-ups show of a target's world",
