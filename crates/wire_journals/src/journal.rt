@@ -38,7 +38,7 @@ fn entry(alloc: Global, buffer: &[u8], happening: Happening) -> Result<Entry, No
 }
 
 impl Journal {
-    ghost use Rattle.wire_journals.specs.Journals.{outside_in, IsNewJournal};
+    ghost use Rattle.wire_journals.specs.Journals.{asked_in_vain, outside_in, HasRoom, IsNewJournal};
 
     /// The journal of wires with both sides open, of which nothing was asked yet.
     pub fn new(alloc: Global) -> Result<Journal, NoMemory>
@@ -100,6 +100,15 @@ impl Journal {
         }
         self.open_faults = raise(self.open_faults);
         Err(OpenFailed)
+    }
+
+    /// Opens nothing, whatever names are asked for, and counts that as a fault.
+    pub fn open_nothing(&mut self, listen: Option<Text>, target: Text)
+        ensures outside { outside_in self.new ≡ asked_in_vain listen target (outside_in self.old) }
+        ensures links { self.new.links ≡ self.old.links }
+    {
+        self.asked = Some(Names { listen, target });
+        self.open_faults = raise(self.open_faults);
     }
 
     // Shuts the client's side, which is not logged.
@@ -171,6 +180,28 @@ impl Journal {
         self.log.add(entry(alloc, buffer, happening)?, kept)?;
         self.links = links;
         Ok(())
+    }
+
+    /// Makes room for an entry beside the failures; `NoMemory` comes where memory is refused. In either case nothing else
+    /// changes.
+    pub fn make_room(&mut self) -> Result<(), NoMemory>
+        ensures same { outside_in self.new ≡ outside_in self.old }
+        ensures kept { self.new.links ≡ self.old.links }
+        ensures room { OnOk result (HasRoom self.new) }
+    {
+        let room = self.links.open_count() + 1;
+        self.log.reserve(room)
+    }
+
+    /// Logs what went out, for which there is room.
+    pub fn sent(&mut self, side: Side, bytes: Blob)
+        requires { HasRoom self.old }
+        ensures log { Adds (outside_in self.old) (outside_in self.new) (Out side bytes ∷ []) }
+        ensures links { Keeps (outside_in self.old) (outside_in self.new) }
+        ensures waits { SameWaits (outside_in self.old) (outside_in self.new) }
+        ensures kept { self.new.links ≡ self.old.links }
+    {
+        self.log.add_reserved(Entry::Out(side, bytes));
     }
 
     /// Logs what went out. `NoMemory` comes where memory is refused; then nothing changes.
