@@ -1,0 +1,5 @@
+pub mod Requests
+pub mod Lines
+pub mod Answers
+pub mod Messages
+pub mod Conversing
