@@ -1,2 +1,4 @@
 pub mod MessageLaws
 pub mod RequestLaws
+pub mod PhaseLaws
+mod Examples

@@ -3,3 +3,4 @@ pub mod Lines
 pub mod Answers
 pub mod Messages
 pub mod Conversing
+pub mod Phases

@@ -1,7 +1,7 @@
 -- The requests of a dump (DAP specification, Requests).
 use Rattle.std.specs.Prelude.{ℕ, Bool, true, false, List, [], codes}
 use Rattle.serde_json.specs.Data.{Data, array, boolean, number, object, string, unsigned}
-use Rattle.serde_json.specs.Data.{Items, item, no_items, Members, member, no_members}
+use Rattle.serde_json.specs.Data.{item, no_items, member, no_members}
 use Rattle.request_frames.specs.Requests.{request_frame}
 use Rattle.dump_client.specs.declared.due.Due.{Due}
 use Rattle.dump_client.specs.declared.due.Due.TheVariants as due

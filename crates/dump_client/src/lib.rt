@@ -4,9 +4,11 @@
 mod answers;
 mod conversation;
 mod due;
+mod laws;
 mod lines;
 mod messages;
 
 pub use answers::Heading;
 pub use conversation::Conversation;
 pub use due::Due;
+pub use laws::{a_request_waits_for_its_response, values_are_asked_for_in_a_pause};
