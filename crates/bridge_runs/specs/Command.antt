@@ -102,7 +102,7 @@ pub data Does : List (List ℕ) → Outside → Outside → Store → Store → 
       → Names words (Script name) → Plays name old new outcome → Does words o o old new outcome
   replays : {words : List (List ℕ)} {name : List ℕ} {o : Outside} {old new : Store} {outcome : Outcome}
       → Names words (Replay name) → Replays name old new outcome → Does words o o old new outcome
-  generates : {words : List (List ℕ)} {number : ScriptNumber} {name : List ℕ} {o : Outside} {old new : Store}
+  generates : {words : List (List ℕ)} (number : ScriptNumber) {name : List ℕ} {o : Outside} {old new : Store}
       {outcome : Outcome} → Names words (Generate number name) → Generates number.number name old new outcome
       → Does words o o old new outcome
   records : {words : List (List ℕ)} {addresses : Addresses} {name : List ℕ} {old new : Outside} {s s' : Store}

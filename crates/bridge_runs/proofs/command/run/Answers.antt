@@ -31,7 +31,7 @@ generate-requires-clause-few g c =
 
 pub returns-in-Ok-Generate : goal.returns-in-Ok-Generate
 returns-in-Ok-Generate g c =
-    Does.generates (rw c.in-Ok-Generate.field-0-is at c.in-Ok-Generate.ensures) c.generate.ensures
+    Does.generates _ (rw c.in-Ok-Generate.field-0-is at c.in-Ok-Generate.ensures) c.generate.ensures
 
 pub returns-in-Ok-Record : goal.returns-in-Ok-Record
 returns-in-Ok-Record g c = Does.records (rw c.in-Ok-Record.field-0-is at c.in-Ok-Record.ensures) c.record_to.ensures
