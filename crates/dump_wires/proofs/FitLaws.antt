@@ -1,9 +1,9 @@
 -- What the wires of a dump tell, where those inside are as the desk takes them for.
-use Rattle.std.proofs.Common.{◌≡◌, Bool, true, false, not, ◌&&◌, ◌||◌, ◌⊎◌, inl, inr, refl, sym, ap, subst, ◌∙◌}
+use Rattle.std.proofs.Common.{◌≡◌, Bool, true, false, not, ◌&&◌, ◌||◌, inl, inr, refl, sym, ap, subst}
 use Rattle.dump_wires.specs.Desks.{outside_of}
 use Rattle.dump_wires.specs.Talking.{fits, outside_over, told_if}
 use Rattle.dump_wires.specs.declared.desk.Desk.{Desk}
-use Rattle.wire_core.specs.Outside.{Closes, Happens, HasOpen, Hears, IsOpen, Outside, StaysOpen}
+use Rattle.wire_core.specs.Outside.{HasOpen, IsOpen, Outside}
 use Rattle.wire_core.specs.declared.outside.Side.{Side}
 use Rattle.wire_core.specs.declared.outside.Side.TheVariants.{Client, Target}
 

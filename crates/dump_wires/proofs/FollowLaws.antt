@@ -1,19 +1,18 @@
 -- How the desk goes on with each call.
-use Rattle.std.proofs.Common.{◌≡◌, ℕ, ◌≤◌, ◌<◌, ◌⊎◌, inl, inr, Bool, true, false, List, [], ◌∷◌, ◌++◌, Option, Some, None}
-use Rattle.std.proofs.Common.{option_map, take, length, refl, sym, ap, ◌∙◌, subst, Result, Ok, Err, OnOk, OnErr}
+use Rattle.std.proofs.Common.{◌≡◌, ℕ, ◌⊎◌, inl, inr, Bool, true, false, List, [], ◌∷◌, ◌++◌, Option, Some}
+use Rattle.std.proofs.Common.{take, refl, sym, ap, ◌∙◌, subst, Result, Ok, Err, OnOk, OnErr}
 use Rattle.std.proofs.lemmas.List.{append-nil}
-use Rattle.dump_client.specs.Conversing.{asked, heard, request_due}
 use Rattle.dump_wires.proofs.FitLaws.{client_none, fits_still, target_there}
-use Rattle.dump_wires.specs.Desks.{Comes, FailsTarget, Hands, HearsAs, OpensNothing, Passes, Refuses, Takes, Turns}
-use Rattle.dump_wires.specs.Desks.{Withholds, blamed, entries_in, links_of, outside_of}
+use Rattle.dump_wires.specs.Desks.{FailsTarget, HearsAs, OpensNothing, Passes, Refuses, Takes, Turns}
+use Rattle.dump_wires.specs.Desks.{blamed, entries_in, links_of, outside_of}
 use Rattle.dump_wires.specs.Follows.{nothing_more, same_counts}
 use Rattle.dump_wires.specs.Talking.{FailsBy, Follows, IsTold, Talks, fits}
 use Rattle.dump_wires.specs.declared.desk.Desk.{Desk}
 use Rattle.wire_core.specs.Links.{link_after}
-use Rattle.wire_core.specs.Outside.{Adds, Counts, FailsToSend, Happens, Hears, IsOpen, Link, Outside, Rose, Sends}
+use Rattle.wire_core.specs.Outside.{Adds, Counts, FailsToSend, Happens, Hears, IsOpen, Link, Outside, Sends}
 use Rattle.wire_core.specs.Outside.{broken_send, entry_of}
 use Rattle.wire_core.specs.declared.outside.Entry.{Entry}
-use Rattle.wire_core.specs.declared.outside.Entry.TheVariants.{In, Out, Shut, Failed, Quiet}
+use Rattle.wire_core.specs.declared.outside.Entry.TheVariants.{In, Out, Failed, Quiet}
 use Rattle.wire_core.specs.declared.outside.Happening.{Happening}
 use Rattle.wire_core.specs.declared.outside.Happening.TheVariants.{Bytes, Shut as ends, Failed as fails}
 use Rattle.wire_core.specs.declared.outside.Happening.TheVariants.{Quiet as nothing}

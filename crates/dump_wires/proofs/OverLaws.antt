@@ -1,5 +1,5 @@
 -- What each call makes of what the wires of a dump tell.
-use Rattle.std.proofs.Common.{◌≡◌, ℕ, ◌≤◌, ◌<◌, ◌+◌, ◌⊎◌, inl, inr, Bool, true, false, not, ◌&&◌, ◌||◌, List, Option, Some, None}
+use Rattle.std.proofs.Common.{◌≡◌, ℕ, ◌≤◌, ◌<◌, ◌⊎◌, inl, inr, Bool, true, false, not, ◌&&◌, ◌||◌, List, Option, Some, None}
 use Rattle.std.proofs.Common.{[], ◌∷◌, if◌then◌else◌, length, arith, refl, sym, ap, ◌∙◌, subst}
 use Rattle.dump_wires.proofs.FitLaws.{client_none, has_desk, has_fits, open_fits, over, target_there}
 use Rattle.dump_wires.proofs.FollowLaws.{fits_alone, fits_failed, fits_heard, fits_passed, fits_taken}
@@ -9,10 +9,9 @@ use Rattle.dump_wires.specs.Talking.{fits, outside_over, told_if}
 use Rattle.dump_wires.specs.declared.desk.Desk.{Desk}
 use Rattle.wire_core.specs.Links.{Counts as LinkCounts, Keeps, IsPossible, first_open, is_open_in}
 use Rattle.wire_core.specs.Outside.{Adds, Closes, Counts, FailsToConnect, FailsToReach, FailsToSend, Happens, HasOpen}
-use Rattle.wire_core.specs.Outside.{Hears, IsOpen, Outside, Rose, SameWaits}
+use Rattle.wire_core.specs.Outside.{Hears, IsOpen, Outside, SameWaits}
 use Rattle.wire_core.specs.Outside.{Sends, last_count, raised}
 use Rattle.wire_core.specs.declared.links.Links.{Links}
-use Rattle.wire_core.specs.declared.outside.Entry.{Entry}
 use Rattle.wire_core.specs.declared.outside.Entry.TheVariants.{Out, Failed}
 use Rattle.wire_core.specs.declared.outside.Happening.{Happening}
 use Rattle.wire_core.specs.declared.outside.Happening.TheVariants.{Bytes, Shut as ends, Failed as fails}

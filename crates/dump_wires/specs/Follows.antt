@@ -1,14 +1,14 @@
 -- That a desk goes on: without a call, and over calls one behind the other.
-use Rattle.std.proofs.Common.{◌≡◌, ℕ, ◌≤◌, ◌<◌, ◌⊎◌, inl, inr, Bool, false, List, [], ◌∷◌, ◌++◌, Option, Some, None, option_map}
+use Rattle.std.proofs.Common.{◌≡◌, ℕ, ◌≤◌, inl, inr, List, [], ◌∷◌, ◌++◌, Option, Some, None, option_map}
 use Rattle.std.proofs.Common.{refl, sym, ap, ◌∙◌, append_assoc, arith, le_refl, le_trans, subst}
 use Rattle.std.proofs.lemmas.Bool.{cases_lt}
 use Rattle.std.proofs.lemmas.List.{append-nil}
 use Rattle.dump_client.specs.Conversing.{asked, heard}
 use Rattle.dump_client.specs.declared.conversation.Conversation.{Conversation}
-use Rattle.dump_wires.specs.Desks.{entries_in, outside_of}
+use Rattle.dump_wires.specs.Desks.{entries_in}
 use Rattle.dump_wires.specs.Talking.{FailsBy, Follows, IsTold, Talks}
 use Rattle.dump_wires.specs.declared.desk.Desk.{Desk}
-use Rattle.wire_core.specs.Outside.{Adds, Counts, Outside, Rose, last_count}
+use Rattle.wire_core.specs.Outside.{Adds, Counts, Outside, Rose}
 use Rattle.wire_core.specs.declared.outside.Entry.{Entry}
 use Rattle.wire_core.specs.declared.outside.Entry.TheVariants.{In, Out, Shut, Failed, Quiet}
 use Rattle.wire_core.specs.declared.outside.Side.TheVariants.{Client, Target}
