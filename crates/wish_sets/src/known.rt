@@ -36,6 +36,23 @@ fn is_known(known: &IndexMap<ClassId, KnownClass>, classes: &Classes, class: Cla
     }
 }
 
+/// Whether these classes are known as they are found now, so that nothing changes where they are made known.
+pub(crate) fn are_known(
+    known: &IndexMap<ClassId, KnownClass>,
+    classes: &Classes,
+    those: &[ClassId],
+) -> bool
+    ensures { IsTrue result
+        → all_known (found_in classes.now) those.now known.now.entries ≡ known.now.entries }
+{
+    for class in those {
+        if !is_known(known, classes, *class) {
+            return false;
+        }
+    }
+    true
+}
+
 // What was known of a class is known again; where it was new, the last class goes.
 fn take_back(known: &mut IndexMap<ClassId, KnownClass>, class: ClassId, before: Option<KnownClass>)
     ensures { known.new.entries ≡ put_back same_class class before known.old.entries }

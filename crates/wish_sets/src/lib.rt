@@ -36,5 +36,6 @@ pub use laws::{
     the_next_change_is_new, what_stands_is_tidy,
 };
 pub use names::{key_file, key_package};
+pub use standing::add_entry;
 pub use wish::{Depth, StepWish, Wish};
 pub use wishes::Wishes;

@@ -132,9 +132,10 @@ fn id_place(found: &[EntryAt], id: u64) -> Option<usize>
     Some(found.len())
 }
 
-// Adds an entry, by its id, where none has it.
+/// Adds an entry, by its id, where none has it; `NoMemory` comes where memory is refused (DAP specification, Events,
+/// Stopped, hitBreakpointIds).
 #[tactic(auto, using(crate::proofs::StandingLaws::no_id_place, crate::proofs::StandingLaws::at_its_id))]
-fn add_entry(found: &mut Vec<EntryAt>, entry: EntryAt) -> Result<(), NoMemory>
+pub fn add_entry(found: &mut Vec<EntryAt>, entry: EntryAt) -> Result<(), NoMemory>
     ensures { OnOk result (found.new.items ≡ insert_key (on (λ other. other.id) nat_cmp) found.old.items entry) }
 {
     if let Some(at) = id_place(found, entry.id) {

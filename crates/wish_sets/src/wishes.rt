@@ -1,5 +1,5 @@
 //! What is wished of the target, and what stands.
-ghost use Rattle.std.specs.Prelude.{◌≡◌, ◌<◌, ◌^◌, ◌∷◌, [], Some, None, true, option_map, IfOk, OnOk, OnErr};
+ghost use Rattle.std.specs.Prelude.{◌≡◌, ◌<◌, ◌^◌, ◌∷◌, [], Some, None, true, option_map, IfOk, IsTrue, OnOk, OnErr};
 ghost use Rattle.std.specs.Option.{option_copied};
 ghost use Rattle.std.specs.Result.{result_map_both};
 ghost use Rattle.wish_sets.specs.Wanted.{with_class, with_exceptions, with_functions, with_known, with_lines};
@@ -12,13 +12,13 @@ ghost use Rattle.wish_sets.specs.Slots.{change_shown, place_shown};
 ghost use Rattle.wish_sets.specs.Wished.{is_watched, is_listed, is_named};
 
 use crate::asked::{is_listed, is_named, watches};
-use crate::bound::{Bound, has_id, of_id};
+use crate::bound::{Bound, has_id, of_id, of_location};
 use crate::change::{Change, Settled};
 use crate::cursor::Cursor;
 use crate::entry::{EntryAt, EntryState, FunctionEntry, LineEntry, VerifiedEntry};
 use crate::fixed::{fixed_slots, want_step, want_thrown};
 use crate::forming::form;
-use crate::known::{is_nothing, know_all, put_back};
+use crate::known::{are_known, is_nothing, know_all, put_back};
 use crate::owners::{Owners, owner};
 use crate::share::{Entries, Shift, functions_shift, lines_shift};
 use crate::slot::{Slot, late, settle, unset};
@@ -248,6 +248,15 @@ impl Wishes {
         Ok(())
     }
 
+    /// Whether these classes are known as they are found now: then nothing changes where they are made known. It takes no
+    /// memory.
+    pub fn knows(&self, classes: &Classes, those: &[ClassId]) -> bool
+        ensures { IsTrue result
+            → rewished (with_known (found_in classes.now) those.now self.now.wanted) self.now ≡ self.now }
+    {
+        are_known(&self.wants.classes, classes, those)
+    }
+
     /// The next change: the first request that is installed and no longer wished, as a Clear; else the first wish that
     /// is neither installed nor refused, as a Set. `None` exactly where what is installed is what is wished less what
     /// was refused. It takes no memory.
@@ -322,7 +331,7 @@ impl Wishes {
     pub fn entries_at(&self, alloc: Global, at: &Location) -> Result<List<EntryAt>, NoMemory>
         ensures { IfOk result (λ found. found ≡ entries_at self.now.wanted at.now) }
     {
-        entries_at(alloc, self.bound.all.as_slice(), *at)
+        entries_at(alloc, of_location(&self.bound.by_location, *at), *at)
     }
 
     /// The entries that are verified, breakpoints of sources and of functions, in order of their ids, each id once.
